@@ -1,17 +1,20 @@
 -- Whether a line has a bracket in front, behind its prefixes: its bytes say it, where no tab is in these.
-use Rattle.std.proofs.Common.{◌≡◌, ◌∙◌, ℕ, zero, suc, ◌+◌, ◌-◌, ◌<◌, ◌≤◌, List, [], ◌∷◌, ◌++◌, Bool, true, false, cond, ap, arith, drop, length, refl, sym, take}
+use Rattle.std.proofs.Common.{◌≡◌, ◌∙◌, ℕ, zero, suc, ◌+◌, ◌<◌, ◌≤◌, List, [], ◌∷◌, ◌++◌, Bool, true, false, cond, ap, arith, drop, length, refl, sym, take}
 use Rattle.std.specs.List.{list_all, prefix_len}
 use Rattle.std.specs.Prelude.{◌==◌, ◌&&◌, ◌||◌, not, replicate}
 use Rattle.std.proofs.lemmas.Bool.{eqb-true, false≢true}
+use Rattle.std.proofs.lemmas.List.{length-take-le}
+use Rattle.std.proofs.lemmas.List.Sums.{prefix_len-le-length}
 use Rattle.markdown_base.specs.declared.configuration.Constructs.{Constructs}
 use Rattle.markdown_base.specs.Virtual.{tab_width}
 use Rattle.mdconstructs_lines.specs.Lines.{expanded, is_in_line, line_bytes, seat_bytes}
-use Rattle.mdconstructs_lines.proofs.PlaceLemmas.{expanded_is_virtual, seat_some}
+use Rattle.mdconstructs_lines.proofs.PlaceLemmas.{expanded_is_virtual, expanded_least, seat_some}
 use Rattle.mdconstructs_containers.specs.declared.spans.RowAt.{RowAt}
 use Rattle.mdconstructs_containers.specs.Letters.{is_plain}
 use Rattle.mdconstructs_containers.specs.Rows.{Row, rest_of}
 use Rattle.mdconstructs_labels.specs.Tails.{begins_with, is_white}
-use Rattle.mdconstructs_definitions.specs.Held.{HasText, HaveTexts}
+use Rattle.mdconstructs_definitions.specs.Costs.{bytes_in}
+use Rattle.mdconstructs_definitions.specs.Held.{HasText}
 use Rattle.mdconstructs_definitions.specs.Laws.{begins_with_bracket}
 use Rattle.mdconstructs_definitions.specs.Sections.{defined_in, lines_defined, paragraph_of, text_in}
 use Rattle.mdconstructs_definitions.specs.Seen.{AreThese, begins_defining}
@@ -111,6 +114,38 @@ module _ (t : ℕ) (some : 0 < t) (most : t ≤ 16) where
   pub front-says : (number start n : ℕ) (rest : List ℕ) → list_all is_plain (take n rest) ≡ true → begins_with_bracket (drop n rest) ≡ begins_with_bracket (drop n (line_bytes t number 1 start rest))
   front-says number start n rest plain = sym (front-bracket n 1 rest plain) ∙ ap (λ l. begins_with_bracket (drop n l)) (expanded_is_virtual t some most number 1 start rest)
 
+  white-in-line : (bs : List ℕ) → prefix_len is_white bs ≤ prefix_len is_in_line bs
+  white-in-line [] = omega (arith)
+  white-in-line (b ∷ bs) = by (b == 10) (b == 13) refl refl (white-in-line bs)
+    where
+      by : (x y : Bool) → (b == 10) ≡ x → (b == 13) ≡ y → prefix_len is_white bs ≤ prefix_len is_in_line bs → cond (is_white b) (1 + prefix_len is_white bs) 0 ≤ cond (not x && not y) (1 + prefix_len is_in_line bs) 0
+      by true y e f h = let none : cond (is_white b) (1 + prefix_len is_white bs) 0 ≡ 0 = ap (λ c. cond (is_white c) (1 + prefix_len is_white bs) 0) (eqb-true b 10 e) in omega (arith, none)
+      by false true e f h = let none : cond (is_white b) (1 + prefix_len is_white bs) 0 ≡ 0 = ap (λ c. cond (is_white c) (1 + prefix_len is_white bs) 0) (eqb-true b 13 f) in omega (arith, none)
+      by false false e f h = either (is_white b)
+        where
+          either : (w : Bool) → cond w (1 + prefix_len is_white bs) 0 ≤ 1 + prefix_len is_in_line bs
+          either true = omega (arith, h)
+          either false = omega (arith)
+
+  plain-white : (n : ℕ) (bs : List ℕ) → list_all is_plain (take n bs) ≡ true → n ≤ length bs → n + prefix_len is_white (drop n bs) ≤ prefix_len is_in_line bs
+  plain-white zero bs plain h = omega (arith, white-in-line bs)
+  plain-white (suc n) [] plain h = absurd (omega (arith, h))
+  plain-white (suc n) (b ∷ bs) plain h = by (b == 9) (b == 10) (b == 13) (λ p. plain-white n bs p (omega (arith, h))) plain
+    where
+      by : (x y z : Bool) → (list_all is_plain (take n bs) ≡ true → n + prefix_len is_white (drop n bs) ≤ prefix_len is_in_line bs) → ((not x && (not y && not z)) && list_all is_plain (take n bs)) ≡ true
+          → suc n + prefix_len is_white (drop n bs) ≤ cond (not y && not z) (1 + prefix_len is_in_line bs) 0
+      by true y z more p = absurd (false≢true p)
+      by false true z more p = absurd (false≢true p)
+      by false false true more p = absurd (false≢true p)
+      by false false false more p = omega (arith, more p)
+
+  -- what is looked at is in the line
+  pub front-costs : (number start n : ℕ) (rest : List ℕ) → list_all is_plain (take n rest) ≡ true → n ≤ length rest → n + prefix_len is_white (drop n rest) ≤ length (line_bytes t number 1 start rest)
+  front-costs number start n rest plain h =
+      let k = prefix_len is_in_line rest in
+      let size = ap (λ (l : List ℕ). length l) (expanded_is_virtual t some most number 1 start rest) in
+      omega (arith, plain-white n rest plain h, expanded_least t 1 (take k rest) some most, length-take-le k rest (prefix_len-le-length is_in_line rest), size)
+
 -- ---- lines of a part
 
 pub begins-same : (t : ℕ) (bytes : List ℕ) (x : RowAt) (r : Row) → HasText t bytes x r
@@ -151,3 +186,9 @@ bare-defined on (r ∷ rs) bare = by on.definition (lines_defined (text_in (para
     by : (b : Bool) (n : ℕ) → n ≡ 0 → 0 ≡ cond b n 0
     by true n e = sym e
     by false n e = refl
+
+-- if it has, there is a first line
+pub some-begins : (t : ℕ) (bytes : List ℕ) (xs : List RowAt) (all : List Row) → AreThese t bytes xs all → begins_defining all ≡ true → 1 ≤ bytes_in t bytes (take 1 xs)
+some-begins t bytes [] [] these e = absurd (false≢true e)
+some-begins t bytes [] (r ∷ rs) these e = absurd these.rows
+some-begins t bytes (x ∷ xs) all these e = omega (arith)

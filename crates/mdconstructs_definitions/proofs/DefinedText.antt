@@ -13,22 +13,22 @@ use Rattle.mdconstructs_definitions.specs.Sections.{defined_in, lines_defined, l
 use Rattle.mdconstructs_definitions.proofs.SectionLemmas.{few-lines, no-ten, ten-back, tens, tens-in}
 use Rattle.mdconstructs_definitions.proofs.Shorter.{definitions-shorter, left-begins}
 
-tens-both : (xs ys : List ℕ) → tens (xs ++ ys) ≡ tens xs + tens ys
+pub tens-both : (xs ys : List ℕ) → tens (xs ++ ys) ≡ tens xs + tens ys
 tens-both xs ys = ap (λ (l : List ℕ). length l) (filter-append (λ c. c == 10) xs ys) ∙ length-append (filter (λ c. c == 10) xs) (filter (λ c. c == 10) ys)
 
-tens-rest : (r : Row) → tens (rest_of r) ≡ 0
+pub tens-rest : (r : Row) → tens (rest_of r) ≡ 0
 tens-rest r = ap (λ (l : List ℕ). length l) (ten-back r.columns (text_of r.line) (no-ten r.line))
 
 -- two ways to cut a text before a line ending: the first front has none
-record Later (u v x w : List ℕ) : Type 0 where
-  more : List ℕ
-  front : x ≡ u ++ 10 ∷ more
-  back : v ≡ more ++ 10 ∷ w
+pub record Later (u v x w : List ℕ) : Type 0 where
+  pub more : List ℕ
+  pub front : x ≡ u ++ 10 ∷ more
+  pub back : v ≡ more ++ 10 ∷ w
 
-heads : (a b : ℕ) (xs ys : List ℕ) → a ∷ xs ≡ b ∷ ys → (a ≡ b) × (xs ≡ ys)
+pub heads : (a b : ℕ) (xs ys : List ℕ) → a ∷ xs ≡ b ∷ ys → (a ≡ b) × (xs ≡ ys)
 heads a b xs ys e = (cc, cc)
 
-two-cuts : (u v x w : List ℕ) → tens u ≡ 0 → u ++ 10 ∷ v ≡ x ++ 10 ∷ w → ((x ≡ u) × (w ≡ v)) ⊎ Later u v x w
+pub two-cuts : (u v x w : List ℕ) → tens u ≡ 0 → u ++ 10 ∷ v ≡ x ++ 10 ∷ w → ((x ≡ u) × (w ≡ v)) ⊎ Later u v x w
 two-cuts [] v [] w none e = inl (refl, sym (heads 10 10 v w e).1)
 two-cuts [] v (b ∷ x) w none e = let h = heads 10 b v (x ++ 10 ∷ w) e in inr (record { more = x; front = ap (λ c. c ∷ x) (sym h.0); back = h.1 })
 two-cuts (a ∷ u) v [] w none e = let h = heads a 10 (u ++ 10 ∷ v) w e in absurd (omega (arith, none, ap (λ c. tens (c ∷ u)) (sym h.0)))
@@ -57,7 +57,7 @@ front-lines (r ∷ q ∷ qs) x w e =
           later.front ∙ ap (λ l. rest_of r ++ 10 ∷ l) (next ∙ ap (λ n. text_in (take n (q ∷ qs))) one) ∙ ap (λ n. text_in (take n (r ∷ q ∷ qs))) (sym on)
     ]
 
-lines-some : (text : List ℕ) → 0 < length text → lines_of text ≡ suc (tens text)
+pub lines-some : (text : List ℕ) → 0 < length text → lines_of text ≡ suc (tens text)
 lines-some [] h = absurd (omega (arith, h))
 lines-some (b ∷ bs) h = refl
 

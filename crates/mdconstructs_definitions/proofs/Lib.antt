@@ -14,6 +14,7 @@ pub mod KnownRows
 pub mod LaidParts
 pub mod Linked
 pub mod Longer
+pub mod MarksCosts
 pub mod MarksCursor
 pub mod MarksFits
 pub mod MarksLoop
@@ -25,6 +26,7 @@ pub mod PartTexts
 pub mod PlainDefinitions
 pub mod PlainLetters
 pub mod RowTexts
+pub mod SectionCosts
 pub mod SectionCuts
 pub mod SectionFacts
 pub mod SectionFrames

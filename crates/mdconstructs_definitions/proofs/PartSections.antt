@@ -1,7 +1,7 @@
 -- A part with its sections, as it is written, by the values of the code.
-use Rattle.std.proofs.Common.{◌≡◌, ℕ, suc, ◌+◌, ◌-◌, ◌*◌, ◌^◌, ◌<◌, ◌≤◌, Bool, true, false, cond, List, [], ◌∷◌, ◌++◌, length, take, drop, map, min, refl, sym, ap, ◌∙◌, subst, arith, append_assoc, length-drop}
-use Rattle.std.specs.Prelude.{◌==◌, ◌&&◌, ◌||◌, None, reverse}
-use Rattle.std.specs.List.{flat_map, list_any}
+use Rattle.std.proofs.Common.{◌≡◌, ℕ, suc, ◌+◌, ◌-◌, ◌*◌, ◌^◌, ◌<◌, ◌≤◌, Bool, true, false, cond, List, [], ◌∷◌, ◌++◌, length, take, drop, min, refl, sym, ap, ◌∙◌, subst, arith, append_assoc, length-drop}
+use Rattle.std.specs.Prelude.{◌||◌, None, reverse}
+use Rattle.std.specs.List.{flat_map}
 use Rattle.std.proofs.lemmas.Bool.{false≢true}
 use Rattle.std.proofs.lemmas.Grind.{flat_map-append}
 use Rattle.std.proofs.lemmas.List.{append-nil, map-append, take-append-drop, take_rest}
@@ -26,7 +26,7 @@ use Rattle.mdconstructs_containers.specs.Prefixes.{columns_of, containers_of, go
 use Rattle.mdconstructs_containers.specs.Rest.{AreLeft, ending_to, exits_to}
 use Rattle.mdconstructs_containers.specs.Rows.{Row, closed, has_none}
 use Rattle.mdconstructs_containers.specs.SeatPlaces.{AreSeatsAt, events_of}
-use Rattle.mdconstructs_containers.specs.Skeleton.{Frame, Part, begun_all, chained_from, frames_at, further, going_on_at, parts, prefixes_marks, shared, standing}
+use Rattle.mdconstructs_containers.specs.Skeleton.{Frame, Part, begun_all, chained_from, frames_at, further, going_on_at, prefixes_marks, shared, standing}
 use Rattle.mdconstructs_containers.specs.Spans.{AreRowsIn}
 use Rattle.mdconstructs_containers.specs.Stretches.{AreFurther}
 use Rattle.mdconstructs_containers.specs.Views.{begun_of}
@@ -43,11 +43,11 @@ use Rattle.mdconstructs_containers.proofs.RowFacts.{every_front}
 use Rattle.mdconstructs_containers.proofs.StretchLemmas.{row_bytes, row_seats}
 use Rattle.mdconstructs_containers.proofs.WrittenLemmas.{plain_append, write_end, write_plain}
 use Rattle.mdconstructs_definitions.specs.Labelled.{is_one_of}
-use Rattle.mdconstructs_definitions.specs.Sectioned.{HasEnd, HasText, HaveText, IsBegun, IsSectionOf, inside_from}
+use Rattle.mdconstructs_definitions.specs.Sectioned.{HasEnd, TextIsFilled, TextsAreFilled, IsBegun, IsSectionOf, inside_from}
 use Rattle.mdconstructs_definitions.specs.Sections.{Section, cut, sections}
 use Rattle.mdconstructs_definitions.specs.Skeleton.{all_rows, behind_marks, inside_marks, labels_of_section, letters_of_section, section_marks}
 use Rattle.mdconstructs_definitions.specs.Within.{AreWithin, last_of, rest_sections, within_marks}
-use Rattle.mdconstructs_definitions.proofs.Within.{Begins, behind-sections, behind-within, part-begins, within-next}
+use Rattle.mdconstructs_definitions.proofs.Within.{behind-sections, behind-within, part-begins, within-next}
 
 -- ---- the sections of a part
 
@@ -150,8 +150,8 @@ module _ (t : ℕ) (bytes : List ℕ) (some : 0 < t) (limit : t * length bytes +
       by true e = first_behind r rs paid.1 e
       by false e = after_further rs paid.2
 
-  pub part-texts : HaveText (r ∷ rs) → HaveText (all_rows (part_of r rs))
-  part-texts h = (h.0, every_front HasText (cond r.is_blank 0 (further rs)) rs h.1)
+  pub part-texts : TextsAreFilled (r ∷ rs) → TextsAreFilled (all_rows (part_of r rs))
+  part-texts h = (h.0, every_front TextIsFilled (cond r.is_blank 0 (further rs)) rs h.1)
 
   module _ (open_now : List Container) (oe : open_now ≡ open_behind stack r) where
     -- its lines

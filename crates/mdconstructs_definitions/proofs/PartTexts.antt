@@ -1,5 +1,5 @@
 -- Lines of a document behind which a paragraph is open have text.
-use Rattle.std.proofs.Common.{◌≡◌, ℕ, suc, ◌+◌, ◌≤◌, Bool, true, false, cond, List, [], ◌∷◌, arith, drop, length, sym, subst, ◌∙◌}
+use Rattle.std.proofs.Common.{◌≡◌, ℕ, suc, ◌+◌, ◌≤◌, Bool, true, false, cond, List, [], ◌∷◌, arith, drop, length, sym, subst}
 use Rattle.std.specs.Prelude.{◌&&◌}
 use Rattle.std.proofs.lemmas.Bool.{false≢true}
 use Rattle.markdown_base.specs.declared.configuration.Constructs.{Constructs}
@@ -8,7 +8,7 @@ use Rattle.mdconstructs_flow_read.specs.LeafBlocks.{Line}
 use Rattle.mdconstructs_flow_read.specs.LineKinds.{indent, is_blank_line, unindented}
 use Rattle.mdconstructs_containers.specs.Rows.{nothing_known, rest_of}
 use Rattle.mdconstructs_definitions.specs.Rows.{Known, known_after, row_of, rows, rows_from}
-use Rattle.mdconstructs_definitions.specs.Sectioned.{HaveText}
+use Rattle.mdconstructs_definitions.specs.Sectioned.{TextsAreFilled}
 use Rattle.mdconstructs_definitions.proofs.PlainLetters.{open-not-blank}
 
 -- a line that is not blank has text behind its white space
@@ -20,7 +20,7 @@ some-filled (b ∷ bs) h = by (is_white b) h (some-filled bs)
     by true e rest = let on : 1 + indent bs ≡ suc (indent bs) = omega arith in subst (λ (n : ℕ). 1 ≤ length (drop n (b ∷ bs))) (sym on) (rest e)
     by false e rest = omega arith
 
-texts-from : (on : Constructs) (k : Known) (n : ℕ) (ls : List Line) → HaveText (rows_from on k n ls)
+texts-from : (on : Constructs) (k : Known) (n : ℕ) (ls : List Line) → TextsAreFilled (rows_from on k n ls)
 texts-from on k n [] = tt
 texts-from on k n (l ∷ ls) =
     let row = row_of on k n l in (
@@ -28,5 +28,5 @@ texts-from on k n (l ∷ ls) =
       texts-from on (known_after on k row) (suc n) ls,
     )
 
-pub all-texts : (on : Constructs) (ls : List Line) → HaveText (rows on ls)
+pub all-texts : (on : Constructs) (ls : List Line) → TextsAreFilled (rows on ls)
 all-texts on ls = texts-from on (record { before = nothing_known on; text = [] }) 1 ls

@@ -1,25 +1,29 @@
 -- The lines of a section, as its parts are written.
-use Rattle.std.proofs.Common.{◌≡◌, ℕ, suc, List, [], ◌∷◌, ◌++◌, length, drop, take, refl, sym, ap, ◌∙◌, subst}
+use Rattle.std.proofs.Common.{◌≡◌, ◌≤◌, ℕ, zero, suc, arith, List, [], ◌∷◌, ◌++◌, length, drop, take, refl, sym, ap, ◌∙◌, subst}
 use Rattle.std.specs.Prelude.{None, cond, false}
 use Rattle.markdown_base.specs.declared.event.Event.{Event}
 use Rattle.mdconstructs_flow_read.specs.LeafEvents.{Mark}
 use Rattle.mdconstructs_lines.specs.Containers.{Container}
-use Rattle.mdconstructs_lines.specs.Lines.{line_at}
+use Rattle.mdconstructs_lines.specs.Lines.{line_at, line_bytes}
 use Rattle.mdconstructs_containers.specs.declared.prefixes.At.{At}
 use Rattle.mdconstructs_containers.specs.declared.spans.RowAt.{RowAt}
+use Rattle.mdconstructs_containers.specs.Costs.{columns_in}
 use Rattle.mdconstructs_containers.specs.Prefixes.{columns_of}
+use Rattle.mdconstructs_containers.specs.Parts.{open_behind}
+use Rattle.mdconstructs_containers.specs.Rest.{AreLeft}
 use Rattle.mdconstructs_containers.specs.Rows.{Row, has_none}
 use Rattle.mdconstructs_containers.specs.SeatPlaces.{events_of}
 use Rattle.mdconstructs_containers.specs.Skeleton.{Part}
-use Rattle.mdconstructs_containers.specs.Spans.{IsPlaced}
+use Rattle.mdconstructs_containers.specs.Spans.{AreRowsIn, IsPlaced, IsRowIn}
 use Rattle.mdconstructs_containers.specs.Stretches.{AreFurther, IsOutside}
 use Rattle.mdconstructs_containers.specs.Written.{Written}
 use Rattle.mdconstructs_containers.proofs.WrittenLemmas.{write_plain}
 use Rattle.mdconstructs_labels.specs.declared.definitions.Definition.{Definition}
+use Rattle.mdconstructs_definitions.specs.Costs.{bytes_in, bytes_of}
 use Rattle.mdconstructs_definitions.specs.Cursor.{AreLines}
 use Rattle.mdconstructs_definitions.specs.Definitions.{definitions_marks, places_in}
-use Rattle.mdconstructs_definitions.specs.Sections.{text_in}
-use Rattle.mdconstructs_definitions.specs.Sectioned.{AreFirst, IsBegun, IsSectionOf}
+use Rattle.mdconstructs_definitions.specs.Sections.{Section, text_in}
+use Rattle.mdconstructs_definitions.specs.Sectioned.{AreFirst, AreInLines, IsBegun, IsSectionOf}
 use Rattle.mdconstructs_definitions.specs.Seen.{AreThese, rows_by}
 use Rattle.mdconstructs_definitions.specs.Skeleton.{all_rows}
 use Rattle.mdconstructs_definitions.proofs.PlainDefinitions.{plain-definitions, plain-places}
@@ -72,3 +76,37 @@ module _ (t : ℕ) (bytes : List ℕ) (stack : List Container) where
 pub write-definitions : (bytes : List ℕ) (old new : List Event) (ds : List Definition) (rs : List Row) (rest all : List Mark) → new ≡ old ++ events_of (definitions_marks bytes ds (places_in bytes rs))
     → Written old None false (definitions_marks bytes ds (places_in bytes rs) ++ rest) all → Written new None false rest all
 write-definitions bytes old new ds rs rest all e w = write_plain old new None false (definitions_marks bytes ds (places_in bytes rs)) rest all (plain-definitions bytes ds (places_in bytes rs) (plain-places bytes rs)) e w
+
+-- ---- the bytes of lines
+
+module _ (t : ℕ) (bytes : List ℕ) (stack : List Container) where
+  row-bytes : (others : List Container) (number start : ℕ) (x : RowAt) (r : Row) → IsRowIn t bytes others number start x r → suc x.span.size ≡ bytes_of t bytes x
+  row-bytes others number start x r row = ap suc (row.placed.size_is ∙ (λ k. length (line_bytes t (sym row.placed.number_is k) 1 (sym row.placed.start_is k) (drop (sym row.placed.start_is k) bytes))))
+
+  further-bytes : (number start : ℕ) (xs : List RowAt) (rs : List Row) → AreFurther t bytes stack number start xs rs → columns_in xs ≡ bytes_in t bytes xs
+  further-bytes number start [] [] are = refl
+  further-bytes number start [] (r ∷ rs) are = absurd are
+  further-bytes number start (x ∷ xs) [] are = absurd are
+  further-bytes number start (x ∷ xs) (r ∷ rs) are = omega (arith, row-bytes stack number start x r are.0, further-bytes (suc number) x.span.next xs rs are.2)
+
+  module _ (x : RowAt) (xs : List RowAt) (p : Part) (s : IsSectionOf t bytes stack x xs p) where
+    pub section-bytes : columns_in xs ≡ bytes_in t bytes xs
+    section-bytes = further-bytes (suc s.left.number) x.span.next xs p.more s.further
+
+    pub rows-bytes : (rows : List RowAt) → rows ≡ x ∷ xs → columns_in rows ≡ bytes_in t bytes rows
+    rows-bytes rows e = ap columns_in e ∙ omega (arith, row-bytes s.before s.left.number s.left.start x p.first s.left.are.0, section-bytes) ∙ ap (bytes_in t bytes) (sym e)
+
+  rows-in-bytes : (n : ℕ) (others : List Container) (number start : ℕ) (xs : List RowAt) (rs : List Row) → AreRowsIn t bytes others number start xs rs → columns_in (take n xs) ≡ bytes_in t bytes (take n xs)
+  rows-in-bytes zero others number start xs rs are = refl
+  rows-in-bytes (suc n) others number start [] rs are = refl
+  rows-in-bytes (suc n) others number start (x ∷ xs) [] are = absurd are
+  rows-in-bytes (suc n) others number start (x ∷ xs) (r ∷ rs) are = omega (arith, row-bytes others number start x r are.0, rows-in-bytes n (open_behind others r) (suc number) x.span.next xs rs are.1)
+
+  -- the first of the lines that are left
+  pub left-bytes : (n : ℕ) (xs : List RowAt) (rs : List Row) → AreLeft bytes t stack xs rs → columns_in (take n xs) ≡ bytes_in t bytes (take n xs)
+  left-bytes n xs rs left = rows-in-bytes n stack left.number left.start xs rs left.are
+
+  -- lines of sections are some
+  pub in-some : (xs : List RowAt) (s : Section) (ss : List Section) → AreInLines t bytes stack xs (s ∷ ss) → 1 ≤ bytes_in t bytes xs
+  in-some [] s ss are = absurd are
+  in-some (x ∷ xs) s ss are = omega (arith)

@@ -36,7 +36,7 @@ rows-front (suc n) [] (r ∷ rs) h = absurd h
 rows-front (suc n) (x ∷ xs) [] h = absurd h
 rows-front (suc n) (x ∷ xs) (r ∷ rs) h = (h.0, rows-front n xs rs h.1)
 
-rows-back : (n : ℕ) (xs : List RowAt) (all : List Row) → AreRows xs all → AreRows (drop n xs) (drop n all)
+pub rows-back : (n : ℕ) (xs : List RowAt) (all : List Row) → AreRows xs all → AreRows (drop n xs) (drop n all)
 rows-back zero xs all h = h
 rows-back (suc n) [] [] h = tt
 rows-back (suc n) [] (r ∷ rs) h = absurd h

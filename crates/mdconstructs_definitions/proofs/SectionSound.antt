@@ -8,7 +8,7 @@ use Rattle.mdconstructs_containers.specs.Rows.{Row, is_paragraph}
 use Rattle.mdconstructs_containers.specs.Skeleton.{Part, further, parts_in}
 use Rattle.mdconstructs_containers.proofs.RowFacts.{every_behind, every_front}
 use Rattle.mdconstructs_labels.specs.Definitions.{definitions}
-use Rattle.mdconstructs_definitions.specs.Sectioned.{AreSectionsOf, AreSound, HasText, HaveText, IsSound}
+use Rattle.mdconstructs_definitions.specs.Sectioned.{AreSectionsOf, AreSound, TextIsFilled, TextsAreFilled, IsSound}
 use Rattle.mdconstructs_definitions.specs.Sections.{Section, before_defined, cut, defined_in, defining, in_same, lines, lines_defined, paragraph_of, sections_in, text_in, undefined}
 use Rattle.mdconstructs_definitions.specs.Skeleton.{all_rows}
 use Rattle.mdconstructs_definitions.proofs.Covered.{cut-lines}
@@ -20,14 +20,14 @@ plain-sound around [] = tt
 plain-sound around (p ∷ ps) = (tt, plain-sound around ps)
 
 -- the first of some lines is text, if it is directly behind definitions
-first-sound : (x : Bool) (p : Part) → HasText p.first → IsSound p (lines (x && is_paragraph p.first.leaf))
+first-sound : (x : Bool) (p : Part) → TextIsFilled p.first → IsSound p (lines (x && is_paragraph p.first.leaf))
 first-sound x p h = by (x && is_paragraph p.first.leaf) refl
   where
     by : (b : Bool) → (x && is_paragraph p.first.leaf) ≡ b → IsSound p (lines b)
     by false e = tt
     by true e = h (and-right x (is_paragraph p.first.leaf) e)
 
-undefined-sound : (x : Bool) (around : Part) (rs : List Row) → HaveText rs → AreSound (undefined x around rs)
+undefined-sound : (x : Bool) (around : Part) (rs : List Row) → TextsAreFilled rs → AreSound (undefined x around rs)
 undefined-sound x around [] h = tt
 undefined-sound x around (r ∷ rs) h =
     let n = cond r.is_blank 0 (further rs) in
@@ -43,7 +43,7 @@ module _ (on : Constructs) where
       by false = refl
 
   -- definitions begin in text, and their lines have all of them
-  defining-sound : (around : Part) (behind : List Row) (d : ℕ) → defined_in on behind ≡ d → HaveText behind → AreSound (defining (definitions (text_in (paragraph_of behind))) around (take d behind))
+  defining-sound : (around : Part) (behind : List Row) (d : ℕ) → defined_in on behind ≡ d → TextsAreFilled behind → AreSound (defining (definitions (text_in (paragraph_of behind))) around (take d behind))
   defining-sound around behind zero e h = tt
   defining-sound around [] (suc d) e h = tt
   defining-sound around (r ∷ rs) (suc d) e h = (((h.0 (text (is_paragraph r.leaf) refl)).0, own), tt)
@@ -55,7 +55,7 @@ module _ (on : Constructs) where
       own : definitions (text_in (paragraph_of (r ∷ rs))) ≡ definitions (text_in (r ∷ take d rs))
       own = sym (paragraph-defined on (r ∷ rs) (omega (arith, e))) ∙ ap (λ n. definitions (text_in (take n (r ∷ rs)))) e
 
-  sections-sound : (b : ℕ) (x : Bool) (around : Part) (rs : List Row) → HaveText rs → AreSound (sections_in on b x around rs)
+  sections-sound : (b : ℕ) (x : Bool) (around : Part) (rs : List Row) → TextsAreFilled rs → AreSound (sections_in on b x around rs)
   sections-sound zero x around rs h = tt
   sections-sound (suc b) x around [] h = tt
   sections-sound (suc b) x around (r ∷ rs) h =
@@ -66,12 +66,12 @@ module _ (on : Constructs) where
       let front = undefined x around (take n all) in
       let middle = defining (definitions (text_in (paragraph_of behind))) around (take d behind) in
       let back = sections_in on b true around (drop d behind) in
-      let left : HaveText behind = every_behind HasText n all h in
-      every-append (λ (s : Section). IsSound s.part s.inside) front (middle ++ back) (undefined-sound x around (take n all) (every_front HasText n all h))
-      (every-append (λ (s : Section). IsSound s.part s.inside) middle back (defining-sound around behind d refl left) (sections-sound b true around (drop d behind) (every_behind HasText d behind left)))
+      let left : TextsAreFilled behind = every_behind TextIsFilled n all h in
+      every-append (λ (s : Section). IsSound s.part s.inside) front (middle ++ back) (undefined-sound x around (take n all) (every_front TextIsFilled n all h))
+      (every-append (λ (s : Section). IsSound s.part s.inside) middle back (defining-sound around behind d refl left) (sections-sound b true around (drop d behind) (every_behind TextIsFilled d behind left)))
 
   -- the sections of a part that is no blank line
-  pub part-sections : (p : Part) → HaveText (all_rows p) → AreSectionsOf p (sections_in on (suc (length p.more)) false p (all_rows p))
+  pub part-sections : (p : Part) → TextsAreFilled (all_rows p) → AreSectionsOf p (sections_in on (suc (length p.more)) false p (all_rows p))
   part-sections p h = record {
     within = sections-within on (suc (length p.more)) false p (all_rows p);
     lines = cut-lines on (suc (length p.more)) false p (all_rows p) (omega arith);

@@ -1,4 +1,5 @@
 pub mod Blocks
+pub mod Costs
 pub mod Cursor
 pub mod Definitions
 pub mod Examples

@@ -29,11 +29,11 @@ abbrev pub IsFilled : Row → Type 0
 IsFilled r = 1 ≤ length (unindented (rest_of r))
 
 -- a line behind which a paragraph is open has text
-abbrev pub HasText : Row → Type 0
-HasText r = is_paragraph r.leaf ≡ true → (r.is_blank ≡ false) × IsFilled r
+abbrev pub TextIsFilled : Row → Type 0
+TextIsFilled r = is_paragraph r.leaf ≡ true → (r.is_blank ≡ false) × IsFilled r
 
-abbrev pub HaveText : List Row → Type 0
-HaveText rs = AllByRecursion HasText rs
+abbrev pub TextsAreFilled : List Row → Type 0
+TextsAreFilled rs = AllByRecursion TextIsFilled rs
 
 -- the first of these lines has
 abbrev pub BeginsFilled : List Row → Type 0

@@ -26,7 +26,7 @@ pub fn front_of<L: Ledger>(
     ensures definitions { IfOk result (λ f. f.definitions.items ≡ definitions text.now) }
     ensures rest { IfOk result (λ f. drop f.end text.now ≡ rest text.now) }
     ensures inside { IfOk result (λ f. f.end ≤ length text.now) }
-    ensures turns { IfOk result (λ _. turns.new ≤ turns.old + 16 * length text.now + 16) }
+    ensures turns { turns.new ≤ turns.old + 16 * length text.now + 16 }
 {
     let mut definitions = Vec::new(alloc);
     let mut next = 0;

@@ -1,10 +1,11 @@
 //! The text of lines of a paragraph.
 
-ghost use Rattle.std.specs.Prelude.{◌≡◌, ◌≤◌, ◌+◌, List, IfOk, drop, length, ◌&&◌, nat_le, take};
+ghost use Rattle.std.specs.Prelude.{◌≡◌, ◌≤◌, ◌+◌, ◌*◌, List, IfOk, drop, length, ◌&&◌, nat_le, take};
 ghost use Rattle.std.specs.List.{list_all};
 ghost use Rattle.mdconstructs_lines.specs.Lines.{line_bytes};
 ghost use Rattle.mdconstructs_containers.specs.Letters.{is_plain};
 ghost use Rattle.mdconstructs_containers.specs.Rows.{Row as RowOf};
+ghost use Rattle.mdconstructs_definitions.specs.Costs.{bytes_in, bytes_of};
 ghost use Rattle.mdconstructs_definitions.specs.Held.{HaveTexts};
 ghost use Rattle.mdconstructs_definitions.specs.Laws.{begins_with_bracket};
 ghost use Rattle.mdconstructs_definitions.specs.Sections.{text_in};
@@ -29,7 +30,8 @@ pub fn hold_lines<L: Ledger>(
 ) -> Result<(), AllocError>
     ghost all: { List RowOf }
     requires { HaveTexts tab bytes.now rows.now all }
-    ensures { IfOk result (λ _. text.new.items ≡ text_in all) }
+    ensures text { IfOk result (λ _. text.new.items ≡ text_in all) }
+    ensures turns { turns.new ≤ turns.old + 4 * bytes_in tab bytes.now rows.now }
 {
     let tab_size = tab.get();
     prove!(tab_size >= 1);
@@ -86,7 +88,8 @@ pub(crate) fn has_bracket<L: Ledger>(
 ) -> Result<bool, AllocError>
     requires inside { at.now.span.start ≤ length bytes.now }
     requires within { let s = at.now.span in at.now.row.columns ≤ length (line_bytes tab s.number 1 s.start (drop s.start bytes.now)) }
-    ensures { let s = at.now.span in IfOk result (λ is. is ≡ begins_with_bracket (drop at.now.row.columns (line_bytes tab s.number 1 s.start (drop s.start bytes.now)))) }
+    ensures value { let s = at.now.span in IfOk result (λ is. is ≡ begins_with_bracket (drop at.now.row.columns (line_bytes tab s.number 1 s.start (drop s.start bytes.now)))) }
+    ensures turns { turns.new ≤ turns.old + 6 * bytes_of tab bytes.now at.now }
 {
     let tab_size = tab.get();
     prove!(tab_size >= 1);

@@ -1,6 +1,6 @@
 //! The events of link reference definitions, from the places of their lines.
 
-ghost use Rattle.std.specs.Prelude.{◌≡◌, ◌≤◌, ◌<◌, ◌+◌, ◌^◌, ◌++◌, ℕ, List, Some, IfOk, cond, drop, false, length, map, nat_lt, take, true};
+ghost use Rattle.std.specs.Prelude.{◌≡◌, ◌≤◌, ◌<◌, ◌+◌, ◌*◌, ◌^◌, ◌++◌, ℕ, List, Some, IfOk, cond, drop, false, length, map, nat_lt, take, true};
 ghost use Rattle.markdown_base.specs.declared.event.Name.TheVariants.{DefinitionDestinationLiteral, DefinitionDestinationLiteralMarker, DefinitionDestinationRaw, DefinitionDestinationString};
 ghost use Rattle.std.specs.List.{flat_map, prefix_len};
 ghost use Rattle.markdown_base.specs.Virtual.{IsWithinLimit};
@@ -13,6 +13,7 @@ ghost use Rattle.mdconstructs_containers.specs.Views.{open_of};
 ghost use Rattle.mdconstructs_labels.specs.Definitions.{definition_at, definitions as definitions_of, end, end_of};
 ghost use Rattle.mdconstructs_labels.specs.Tails.{begins_with};
 ghost use Rattle.mdconstructs_containers.specs.declared.spans.RowAt.{RowAt as RowAtOf};
+ghost use Rattle.mdconstructs_definitions.specs.Costs.{left_to_write, to_write};
 ghost use Rattle.mdconstructs_definitions.specs.Cursor.{AreLines, FitsDefinition, FitsDestination, FitsGap, FitsMarks, FitsTitle, Goes, HasColumn, HaveLines, IsBegin, IsCursor, IsHeld, columns_left, label_marks, left_at, title_length, title_marks};
 ghost use Rattle.mdconstructs_definitions.specs.Definitions.{between, definition_marks, definitions_marks, destination_marks, ending_marks, further_line, gap_marks, is_byte, leaf, line_marks, marked, parts_marks, places_in, seats_of, span, string, string_lines, text_of};
 ghost use Rattle.mdconstructs_definitions.specs.Sections.{text_in};
@@ -67,6 +68,8 @@ fn write_leaf<L: Ledger>(
     ensures place { IfOk result (λ c. c.at.place ≡ place_after tab bytes.now cursor.at.place columns) }
     ensures row { IfOk result (λ c. c.row ≡ cursor.row) }
     ensures column { IfOk result (λ c. c.at.columns ≡ cursor.at.columns + columns) }
+    ensures paid { IfOk result (λ c. (xs : List RowAtOf) → columns ≤ columns_left cursor.at.columns (drop cursor.row xs) → left_to_write xs c + 2 * columns ≡ left_to_write xs cursor) }
+    ensures turns { turns.new ≤ turns.old + columns }
 {
     let at = cursor.at;
     let place = span(events, bytes, tab, name, at.place, columns, turns)?;
@@ -96,6 +99,8 @@ fn write_line_ending<L: Ledger>(
     ensures events { IfOk result (λ _. events.new.items ≡ events.old.items ++ events_of (flat_map (ending_marks bytes.now) (take 1 (left_at tab bytes.now (map open_of stack.now) rows.now cursor)))) }
     ensures goes { IfOk result (λ c. Goes tab bytes.now (map open_of stack.now) rows.now cursor 1 c) }
     ensures line { IfOk result (λ c. IsHeld tab bytes.now (drop c.row rows.now) line.new.items) }
+    ensures paid { IfOk result (λ c. turns.new + left_to_write rows.now c + 8 ≤ turns.old + left_to_write rows.now cursor) }
+    ensures turns { turns.new ≤ turns.old + left_to_write rows.now cursor }
 {
     let row = cursor.row + 1;
     let next = &rows[row];
@@ -126,6 +131,8 @@ fn write_gap<L: Ledger>(
     requires gap { FitsGap size (left_at tab bytes.now (map open_of stack.now) rows.now cursor) }
     ensures events { IfOk result (λ _. events.new.items ≡ events.old.items ++ events_of (gap_marks bytes.now (take size (left_at tab bytes.now (map open_of stack.now) rows.now cursor)))) }
     ensures goes { IfOk result (λ c. Goes tab bytes.now (map open_of stack.now) rows.now cursor size c) }
+    ensures paid { IfOk result (λ c. turns.new + left_to_write rows.now c ≤ turns.old + left_to_write rows.now cursor) }
+    ensures turns { turns.new ≤ turns.old + left_to_write rows.now cursor }
 {
     let name = Name::SpaceOrTab;
     let left = left_in(rows, cursor);
@@ -155,6 +162,8 @@ fn write_further<L: Ledger>(
     ensures goes { IfOk result (λ c. (stack : List ContainerOf) → (xs : List RowAtOf) → IsCursor tab bytes.now stack xs cursor → size ≤ columns_left cursor.at.columns (drop cursor.row xs) → Goes tab bytes.now stack xs cursor size c) }
     ensures row { IfOk result (λ c. c.row ≡ cursor.row) }
     ensures column { IfOk result (λ c. c.at.columns ≡ cursor.at.columns + size) }
+    ensures paid { IfOk result (λ c. (xs : List RowAtOf) → size ≤ columns_left cursor.at.columns (drop cursor.row xs) → left_to_write xs c + 2 * size ≡ left_to_write xs cursor) }
+    ensures turns { turns.new ≤ turns.old + 2 * size + 1 }
 {
     let part = front(behind(line, cursor.at.columns), size);
     let white = indent(part, turns);
@@ -180,6 +189,8 @@ fn write_further_lines<L: Ledger>(
     requires line { IsHeld tab bytes.now (drop cursor.row rows.now) line.old.items }
     ensures events { IfOk result (λ _. events.new.items ≡ events.old.items ++ events_of (line_marks bytes.now false (string_lines (take size (left_at tab bytes.now (map open_of stack.now) rows.now cursor))))) }
     ensures goes { IfOk result (λ c. Goes tab bytes.now (map open_of stack.now) rows.now cursor size c) }
+    ensures paid { IfOk result (λ c. turns.new + left_to_write rows.now c ≤ turns.old + left_to_write rows.now cursor + 1) }
+    ensures turns { turns.new ≤ turns.old + left_to_write rows.now cursor + 2 }
 {
     let mut here = cursor;
     let mut rest = size;
@@ -211,6 +222,8 @@ fn write_lines<L: Ledger>(
     requires size { size ≤ length (left_at tab bytes.now (map open_of stack.now) rows.now cursor) }
     ensures events { IfOk result (λ _. events.new.items ≡ events.old.items ++ events_of (line_marks bytes.now true (string_lines (take size (left_at tab bytes.now (map open_of stack.now) rows.now cursor))))) }
     ensures goes { IfOk result (λ c. Goes tab bytes.now (map open_of stack.now) rows.now cursor size c) }
+    ensures paid { IfOk result (λ c. turns.new + left_to_write rows.now c ≤ turns.old + left_to_write rows.now cursor + 1) }
+    ensures turns { turns.new ≤ turns.old + left_to_write rows.now cursor + 1 }
 {
     let left = left_in(rows, cursor);
     if size <= left {
@@ -241,6 +254,8 @@ fn write_string<L: Ledger>(
     requires size { size ≤ length (left_at tab bytes.now (map open_of stack.now) rows.now cursor) }
     ensures events { IfOk result (λ _. events.new.items ≡ events.old.items ++ events_of (string bytes.now name (take size (left_at tab bytes.now (map open_of stack.now) rows.now cursor)))) }
     ensures goes { IfOk result (λ c. Goes tab bytes.now (map open_of stack.now) rows.now cursor size c) }
+    ensures paid { IfOk result (λ c. turns.new + left_to_write rows.now c ≤ turns.old + left_to_write rows.now cursor + 1) }
+    ensures turns { turns.new ≤ turns.old + left_to_write rows.now cursor + 1 }
 {
     if size == 0 {
         return Ok(cursor);
@@ -270,6 +285,8 @@ fn write_marked<L: Ledger>(
     requires marks { FitsMarks size (left_at tab bytes.now (map open_of stack.now) rows.now cursor) }
     ensures events { let places = take size (left_at tab bytes.now (map open_of stack.now) rows.now cursor) in IfOk result (λ _. events.new.items ≡ events.old.items ++ events_of (span bytes.now all places (marked bytes.now mark inside places))) }
     ensures goes { IfOk result (λ c. Goes tab bytes.now (map open_of stack.now) rows.now cursor size c) }
+    ensures paid { IfOk result (λ c. turns.new + left_to_write rows.now c ≤ turns.old + left_to_write rows.now cursor + 1) }
+    ensures turns { turns.new ≤ turns.old + left_to_write rows.now cursor + 1 }
 {
     enter(events, all, cursor.at.place)?;
     let first = write_leaf(events, bytes, tab, cursor, mark, 1, turns)?;
@@ -299,6 +316,8 @@ fn write_raw<L: Ledger>(
     requires some { 1 ≤ size }
     ensures events { let places = take size (left_at tab bytes.now (map open_of stack.now) rows.now cursor) in IfOk result (λ _. events.new.items ≡ events.old.items ++ events_of (span bytes.now DefinitionDestinationRaw places (string bytes.now DefinitionDestinationString places))) }
     ensures goes { IfOk result (λ c. Goes tab bytes.now (map open_of stack.now) rows.now cursor size c) }
+    ensures paid { IfOk result (λ c. turns.new + left_to_write rows.now c ≤ turns.old + left_to_write rows.now cursor + 1) }
+    ensures turns { turns.new ≤ turns.old + left_to_write rows.now cursor + 1 }
 {
     let inside = Name::DefinitionDestinationString;
     enter(events, Name::DefinitionDestinationRaw, cursor.at.place)?;
@@ -327,6 +346,8 @@ fn write_target<L: Ledger>(
     requires marks { is_marked ≡ begins_with 60 (text_of (left_at tab bytes.now (map open_of stack.now) rows.now cursor)) }
     ensures events { let places = take size (left_at tab bytes.now (map open_of stack.now) rows.now cursor) in IfOk result (λ _. events.new.items ≡ events.old.items ++ events_of (cond is_marked (span bytes.now DefinitionDestinationLiteral places (marked bytes.now DefinitionDestinationLiteralMarker DefinitionDestinationString places)) (span bytes.now DefinitionDestinationRaw places (string bytes.now DefinitionDestinationString places)))) }
     ensures goes { IfOk result (λ c. Goes tab bytes.now (map open_of stack.now) rows.now cursor size c) }
+    ensures paid { IfOk result (λ c. turns.new + left_to_write rows.now c ≤ turns.old + left_to_write rows.now cursor + 1) }
+    ensures turns { turns.new ≤ turns.old + left_to_write rows.now cursor + 1 }
 {
     if !is_marked {
         let raw = write_raw(events, bytes, tab, stack, rows, cursor, size, line, turns)?;
@@ -359,6 +380,8 @@ fn write_destination<L: Ledger>(
     requires marks { is_marked ≡ begins_with 60 (text_of (left_at tab bytes.now (map open_of stack.now) rows.now cursor)) }
     ensures events { IfOk result (λ _. events.new.items ≡ events.old.items ++ events_of (destination_marks bytes.now (take size (left_at tab bytes.now (map open_of stack.now) rows.now cursor)))) }
     ensures goes { IfOk result (λ c. Goes tab bytes.now (map open_of stack.now) rows.now cursor size c) }
+    ensures paid { IfOk result (λ c. turns.new + left_to_write rows.now c ≤ turns.old + left_to_write rows.now cursor + 1) }
+    ensures turns { turns.new ≤ turns.old + left_to_write rows.now cursor + 1 }
 {
     let name = Name::DefinitionDestination;
     enter(events, name, cursor.at.place)?;
@@ -387,6 +410,8 @@ fn write_label<L: Ledger>(
     requires colon { 1 ≤ prefix_len is_byte (drop (end label) (left_at tab bytes.now (map open_of stack.now) rows.now cursor)) }
     ensures events { IfOk result (λ _. events.new.items ≡ events.old.items ++ events_of (label_marks bytes.now label (left_at tab bytes.now (map open_of stack.now) rows.now cursor))) }
     ensures goes { IfOk result (λ c. Goes tab bytes.now (map open_of stack.now) rows.now cursor (end label + 1) c) }
+    ensures paid { IfOk result (λ c. turns.new + left_to_write rows.now c ≤ turns.old + left_to_write rows.now cursor + 1) }
+    ensures turns { turns.new ≤ turns.old + left_to_write rows.now cursor + 1 }
 {
     let all = Name::DefinitionLabel;
     let mark = Name::DefinitionLabelMarker;
@@ -419,6 +444,8 @@ fn write_title<L: Ledger>(
     requires title { FitsTitle title from (left_at tab bytes.now (map open_of stack.now) rows.now cursor) }
     ensures events { IfOk result (λ _. events.new.items ≡ events.old.items ++ events_of (title_marks bytes.now title from (left_at tab bytes.now (map open_of stack.now) rows.now cursor))) }
     ensures goes { IfOk result (λ c. Goes tab bytes.now (map open_of stack.now) rows.now cursor (title_length title from) c) }
+    ensures paid { IfOk result (λ c. turns.new + left_to_write rows.now c ≤ turns.old + left_to_write rows.now cursor + 1) }
+    ensures turns { turns.new ≤ turns.old + left_to_write rows.now cursor + 1 }
 {
     let Some(title) = title else {
         return Ok(cursor);
@@ -481,6 +508,8 @@ fn write_parts<L: Ledger>(
     requires marks { is_marked ≡ begins_with 60 (text_of (drop definition.destination.from (left_at tab bytes.now (map open_of stack.now) rows.now cursor))) }
     ensures events { IfOk result (λ _. events.new.items ≡ events.old.items ++ events_of (parts_marks bytes.now definition (take definition.size (left_at tab bytes.now (map open_of stack.now) rows.now cursor)))) }
     ensures goes { IfOk result (λ c. Goes tab bytes.now (map open_of stack.now) rows.now cursor definition.size c) }
+    ensures paid { IfOk result (λ c. turns.new + left_to_write rows.now c ≤ turns.old + left_to_write rows.now cursor + 3) }
+    ensures turns { turns.new ≤ turns.old + left_to_write rows.now cursor + 3 }
 {
     let size = definition.destination.size;
     let title = definition.title;
@@ -525,6 +554,8 @@ fn write_definition<L: Ledger>(
     requires marks { is_marked ≡ begins_with 60 (text_of (drop definition.destination.from (left_at tab bytes.now (map open_of stack.now) rows.now cursor))) }
     ensures events { IfOk result (λ _. events.new.items ≡ events.old.items ++ events_of (definition_marks bytes.now definition (left_at tab bytes.now (map open_of stack.now) rows.now cursor))) }
     ensures goes { IfOk result (λ c. Goes tab bytes.now (map open_of stack.now) rows.now cursor definition.size c) }
+    ensures paid { IfOk result (λ c. turns.new + left_to_write rows.now c ≤ turns.old + left_to_write rows.now cursor + 3) }
+    ensures turns { turns.new ≤ turns.old + left_to_write rows.now cursor + 3 }
 {
     enter(events, Name::Definition, cursor.at.place)?;
     let end = write_parts(
@@ -553,6 +584,8 @@ fn write_next<L: Ledger>(
     ensures events { let places = left_at tab bytes.now (map open_of stack.now) rows.now cursor in IfOk result (λ _. events.new.items ≡ events.old.items ++ events_of (definition_marks bytes.now definition places ++ flat_map (ending_marks bytes.now) (between definition.size (definition.size + 1) places))) }
     ensures at { IfOk result (λ c. IsCursor tab bytes.now (map open_of stack.now) rows.now c) }
     ensures left { IfOk result (λ c. left_at tab bytes.now (map open_of stack.now) rows.now c ≡ drop (definition.size + 1) (left_at tab bytes.now (map open_of stack.now) rows.now cursor)) }
+    ensures paid { IfOk result (λ c. turns.new + left_to_write rows.now c ≤ turns.old + left_to_write rows.now cursor + 3) }
+    ensures turns { turns.new ≤ turns.old + left_to_write rows.now cursor + 3 }
 {
     let is_marked = text[definition.destination.from] == b'<';
     let end = write_definition(
@@ -599,6 +632,7 @@ pub fn write_definitions<L: Ledger>(
     requires text { text.now ≡ text_in (rows_by tab bytes.now rows.now) }
     requires definitions { definitions.now ≡ definitions_of text.now }
     ensures events { IfOk result (λ _. (all : List RowOf) → AreLines tab bytes.now (map open_of stack.now) rows.now all → events.new.items ≡ events.old.items ++ events_of (definitions_marks bytes.now definitions.now (places_in bytes.now all))) }
+    ensures turns { turns.new ≤ turns.old + to_write begin.columns rows.now + 4 * length definitions.now }
 {
     let tab_size = tab.get();
     prove!(tab_size >= 1);

@@ -1,12 +1,12 @@
 //! The skeleton of a document with link reference definitions, part by part.
 
-ghost use Rattle.std.specs.Prelude.{◌≡◌, ◌≤◌, ◌<◌, ◌-◌, ◌++◌, ◌∷◌, ◌||◌, false, None, ℕ, List, [], IfOk, drop, length, map, slice_index_or};
+ghost use Rattle.std.specs.Prelude.{◌≡◌, ◌≤◌, ◌<◌, ◌+◌, ◌-◌, ◌*◌, ◌++◌, ◌∷◌, ◌||◌, false, None, ℕ, List, [], IfOk, drop, length, map, slice_index_or, take};
 ghost use Rattle.std.specs.List.{flat_map};
 ghost use Rattle.markdown_base.specs.Virtual.{virtual, IsWithinLimit};
 ghost use Rattle.mdconstructs_flow_read.specs.LeafEvents.{Mark};
 ghost use Rattle.mdconstructs_containers.specs.declared.ahead.Ahead.{Ahead};
 ghost use Rattle.mdconstructs_containers.specs.Ahead.{ahead_of};
-ghost use Rattle.mdconstructs_containers.specs.Costs.{ArePaid, FirstIsNotLazy};
+ghost use Rattle.mdconstructs_containers.specs.Costs.{ArePaid, FirstIsNotLazy, IsEnough, columns_in};
 ghost use Rattle.mdconstructs_containers.specs.Frames.{frame_of};
 ghost use Rattle.mdconstructs_containers.specs.Over.{AreEarlier};
 ghost use Rattle.mdconstructs_containers.specs.Rest.{AreLeft};
@@ -18,7 +18,7 @@ ghost use Rattle.mdconstructs_containers.specs.Views.{open_of};
 ghost use Rattle.mdconstructs_containers.specs.Written.{Written};
 ghost use Rattle.mdconstructs_labels.specs.Defined.{defines};
 ghost use Rattle.mdconstructs_definitions.specs.Labelled.{AreDefined, is_one_of};
-ghost use Rattle.mdconstructs_definitions.specs.Sectioned.{HaveText};
+ghost use Rattle.mdconstructs_definitions.specs.Sectioned.{TextsAreFilled};
 ghost use Rattle.mdconstructs_definitions.specs.Sections.{sections};
 ghost use Rattle.mdconstructs_definitions.specs.Skeleton.{labels_of_section, letters, letters_of_section, sections_marks, skeleton, written_labels};
 ghost use Rattle.mdconstructs_definitions.specs.Within.{rest_sections};
@@ -77,7 +77,7 @@ fn write_part<L: Ledger>(
     requires ahead { ahead ≡ ahead_of given.1 }
     requires lazy { FirstIsNotLazy (given.0 ∷ given.1) }
     requires paid { ArePaid (given.0 ∷ given.1) }
-    requires texts { HaveText (given.0 ∷ given.1) }
+    requires texts { TextsAreFilled (given.0 ∷ given.1) }
     requires stood { IsStood stood (map open_of stack.old.items) }
     requires spans { HasSpans frames.old.items stood (map open_of stack.old.items) }
     requires passed { AreEarlier first.now.span.number passed.from passed.to (map open_of stack.old.items) }
@@ -90,6 +90,8 @@ fn write_part<L: Ledger>(
     ensures events { IfOk result (λ p. (all : List Mark) → Written skeleton.old.events.items None false (rest_sections bytes.now (map frame_of frames.old.items) end (sections on.now (given.0 ∷ given.1))) all → Written skeleton.new.events.items None false (rest_sections bytes.now (map frame_of frames.new.items) p.end (sections on.now (drop p.lines given.1))) all) }
     ensures letters { IfOk result (λ p. skeleton.new.letters.items ++ flat_map (letters_of_section on.now) (sections on.now (drop p.lines given.1)) ≡ skeleton.old.letters.items ++ flat_map (letters_of_section on.now) (sections on.now (given.0 ∷ given.1))) }
     ensures labels { IfOk result (λ p. (label : List ℕ) → (defines skeleton.new.labels label || is_one_of (flat_map labels_of_section (sections on.now (drop p.lines given.1))) label) ≡ (defines skeleton.old.labels label || is_one_of (flat_map labels_of_section (sections on.now (given.0 ∷ given.1))) label)) }
+    ensures paid { IfOk result (λ p. (budget : ℕ) → IsEnough turns.old budget (length frames.old.items) stood.containers passed.from passed.to (length stack.old.items) (given.0 ∷ given.1) → IsEnough turns.new (budget + 149 * first.now.span.size + 136 + 131 * columns_in (take p.lines behind.now)) (length frames.new.items) p.stood.containers p.passed.from p.passed.to (length stack.new.items) (drop p.lines given.1)) }
+    ensures turns { (budget : ℕ) → IsEnough turns.old budget (length frames.old.items) stood.containers passed.from passed.to (length stack.old.items) (given.0 ∷ given.1) → turns.new ≤ budget + 149 * first.now.span.size + 136 + 131 * columns_in behind.now }
 {
     let tab_size = tab.get();
     prove!(tab_size >= 1);
@@ -151,10 +153,11 @@ fn skeleton_by<L: Ledger>(
     requires aheads { (d : Ahead) → (k : ℕ) → k < length rows.now → slice_index_or aheads.now k d ≡ ahead_of (drop (length rows.now - k) all) }
     requires first { FirstIsNotLazy all }
     requires paid { ArePaid all }
-    requires texts { HaveText all }
+    requires texts { TextsAreFilled all }
     ensures events { IfOk result (λ s. s.events.items ≡ chained_from 0 None (sections_marks bytes.now (sections on.now all))) }
     ensures letters { IfOk result (λ s. s.letters.items ≡ flat_map (letters_of_section on.now) (sections on.now all)) }
     ensures labels { IfOk result (λ s. AreDefined s.labels (flat_map labels_of_section (sections on.now all))) }
+    ensures turns { turns.new ≤ turns.old + 150 * columns_in rows.now }
 {
     let mut skeleton = Skeleton {
         events: Vec::new(alloc),
@@ -213,7 +216,10 @@ fn skeleton_by<L: Ledger>(
 }
 
 /// The skeleton of a document, as `skeleton_with_definitions`.
-fn skeleton_counted<L: Ledger>(
+///
+/// It is linear: each line is paid by its columns, and what is looked at of other lines is looked at once, but for the text of a paragraph that may
+/// begin with definitions: that is looked at four times at most.
+pub fn skeleton_counted<L: Ledger>(
     alloc: Global,
     bytes: &[u8],
     tab: TabSize,
@@ -224,6 +230,7 @@ fn skeleton_counted<L: Ledger>(
     ensures events { IfOk result (λ s. s.events.items ≡ skeleton on.now bytes.now (virtual tab bytes.now)) }
     ensures letters { IfOk result (λ s. s.letters.items ≡ letters on.now (virtual tab bytes.now)) }
     ensures labels { IfOk result (λ s. AreDefined s.labels (written_labels on.now (virtual tab bytes.now))) }
+    ensures turns { turns.new ≤ turns.old + 1857 * length (virtual tab bytes.now) + 1857 }
 {
     let tab_size = tab.get();
     prove!(tab_size >= 1);

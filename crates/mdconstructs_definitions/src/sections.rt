@@ -1,6 +1,6 @@
 //! The sections of a part: its lines, cut before and behind the definitions with which a paragraph in it begins.
 
-ghost use Rattle.std.specs.Prelude.{◌≡◌, ◌≤◌, ◌<◌, ◌+◌, ◌-◌, ◌++◌, ◌&&◌, ℕ, List, IfOk, cond, drop, false, length, slice_index_or};
+ghost use Rattle.std.specs.Prelude.{◌≡◌, ◌≤◌, ◌<◌, ◌+◌, ◌-◌, ◌*◌, ◌++◌, ◌&&◌, ℕ, List, IfOk, cond, drop, false, length, slice_index_or, take};
 ghost use Rattle.std.specs.List.{prefix_len};
 ghost use Rattle.mdconstructs_containers.specs.declared.ahead.Ahead.{Ahead as AheadOf};
 ghost use Rattle.mdconstructs_containers.specs.Ahead.{AreRows, ahead_of};
@@ -8,6 +8,7 @@ ghost use Rattle.mdconstructs_containers.specs.Rows.{Row as RowOf};
 ghost use Rattle.mdconstructs_containers.specs.Skeleton.{Part};
 ghost use Rattle.mdconstructs_labels.specs.declared.definitions.Definition.{Definition as DefinitionOf};
 ghost use Rattle.mdconstructs_labels.specs.Definitions.{definitions};
+ghost use Rattle.mdconstructs_definitions.specs.Costs.{bytes_in, text_rows};
 ghost use Rattle.mdconstructs_definitions.specs.Sections.{Section as SectionOf, defined_in, defining, lines, paragraph_of, sections_in, text_in, undefined};
 ghost use Rattle.mdconstructs_definitions.specs.Seen.{AreHeld, AreSections, AreSome, AreThese, IsFound, begins_defining, begins_text_at, inside_of, is_text_at};
 
@@ -107,7 +108,8 @@ fn begins_defining<L: Ledger>(
     turns: &mut Turns<L>,
 ) -> Result<bool, AllocError>
     requires { AreHeld tab bytes.now rows.now }
-    ensures { IfOk result (λ is. (all : List RowOf) → AreThese tab bytes.now rows.now all → is ≡ begins_defining all) }
+    ensures value { IfOk result (λ is. (all : List RowOf) → AreThese tab bytes.now rows.now all → is ≡ begins_defining all) }
+    ensures turns { turns.new ≤ turns.old + 6 * bytes_in tab bytes.now (take 1 rows.now) }
 {
     if rows.is_empty() {
         return Ok(false);
@@ -130,6 +132,7 @@ fn defined_in<L: Ledger>(
     requires { AreHeld tab bytes.now rows.now }
     ensures lines { IfOk result (λ d. (all : List RowOf) → AreThese tab bytes.now rows.now all → d.lines ≡ defined_in on.now all) }
     ensures definitions { IfOk result (λ d. (all : List RowOf) → AreThese tab bytes.now rows.now all → 1 ≤ d.lines → d.definitions.items ≡ definitions (text_in (paragraph_of all))) }
+    ensures turns { turns.new ≤ turns.old + (23 * bytes_in tab bytes.now (take 1 rows.now) + 21 * bytes_in tab bytes.now (text_rows rows.now)) }
 {
     if !on.definition {
         return Ok(Defined::none(alloc));
@@ -164,6 +167,7 @@ fn defined_behind<L: Ledger>(
     requires { AreHeld tab bytes.now rows.now }
     ensures lines { IfOk result (λ d. (all : List RowOf) → AreThese tab bytes.now rows.now all → d.lines ≡ cond in_paragraph 0 (defined_in on.now all)) }
     ensures definitions { IfOk result (λ d. (all : List RowOf) → AreThese tab bytes.now rows.now all → 1 ≤ d.lines → d.definitions.items ≡ definitions (text_in (paragraph_of all))) }
+    ensures turns { turns.new ≤ turns.old + cond in_paragraph 0 (23 * bytes_in tab bytes.now (take 1 rows.now) + 21 * bytes_in tab bytes.now (text_rows rows.now)) }
 {
     if in_paragraph {
         return Ok(Defined::none(alloc));
@@ -193,6 +197,8 @@ fn find_defined<L: Ledger>(
     requires { AreHeld tab bytes.now rows.now }
     ensures within { IfOk result (λ f. f.before ≤ length rows.now) }
     ensures found { IfOk result (λ f. (all : List RowOf) → AreThese tab bytes.now rows.now all → IsFound on.now f all) }
+    ensures paid { IfOk result (λ f. turns.new ≤ turns.old + 45 * bytes_in tab bytes.now (take f.before rows.now) + 45 * bytes_in tab bytes.now (text_rows (drop f.before rows.now))) }
+    ensures turns { turns.new ≤ turns.old + 45 * bytes_in tab bytes.now rows.now }
 {
     let mut before = 0;
     let mut in_paragraph = false;
@@ -258,7 +264,8 @@ fn push_lines<L: Ledger>(
     requires some { AreSome rows.now }
     requires len { length aheads.now ≡ length rows.now }
     requires aheads { (all : List RowOf) → AreRows rows.now all → (d : AheadOf) → (k : ℕ) → k < length rows.now → slice_index_or aheads.now k d ≡ ahead_of (drop (length rows.now - k) all) }
-    ensures { IfOk result (λ _. (all : List RowOf) → AreRows rows.now all → (around : Part) → (before : List SectionOf) → AreSections sections.old.items before → AreSections sections.new.items (before ++ undefined is_behind around all)) }
+    ensures sections { IfOk result (λ _. (all : List RowOf) → AreRows rows.now all → (around : Part) → (before : List SectionOf) → AreSections sections.old.items before → AreSections sections.new.items (before ++ undefined is_behind around all)) }
+    ensures turns { turns.new ≤ turns.old + length rows.now }
 {
     let mut behind = begins_behind(is_behind, rows);
     let mut i = 0;
@@ -282,13 +289,16 @@ fn push_undefined<L: Ledger>(
     turns: &mut Turns<L>,
 ) -> Result<(), AllocError>
     requires { AreSome rows.now }
-    ensures { IfOk result (λ _. (all : List RowOf) → AreRows rows.now all → (around : Part) → (before : List SectionOf) → AreSections sections.old.items before → AreSections sections.new.items (before ++ undefined is_behind around all)) }
+    ensures sections { IfOk result (λ _. (all : List RowOf) → AreRows rows.now all → (around : Part) → (before : List SectionOf) → AreSections sections.old.items before → AreSections sections.new.items (before ++ undefined is_behind around all)) }
+    ensures turns { turns.new ≤ turns.old + 2 * length rows.now }
 {
     let aheads = aheads_of(alloc, rows, turns)?;
     push_lines(sections, rows, aheads.as_slice(), is_behind, turns)
 }
 
 /// The sections of a part, which is no blank line, by its lines. Fails only for want of memory.
+///
+/// It is linear: the text of a paragraph is looked at once, and what is left of it behind its definitions once more, as nothing is defined there.
 pub fn sections_of<L: Ledger>(
     alloc: Global,
     bytes: &[u8],
@@ -299,7 +309,8 @@ pub fn sections_of<L: Ledger>(
     turns: &mut Turns<L>,
 ) -> Result<Vec<Section>, AllocError>
     requires { AreHeld tab bytes.now rows.now }
-    ensures { IfOk result (λ ss. (all : List RowOf) → AreThese tab bytes.now rows.now all → (around : Part) → AreSections ss.items (sections_in on.now (length all) false around all)) }
+    ensures sections { IfOk result (λ ss. (all : List RowOf) → AreThese tab bytes.now rows.now all → (around : Part) → AreSections ss.items (sections_in on.now (length all) false around all)) }
+    ensures turns { turns.new ≤ turns.old + 93 * bytes_in tab bytes.now rows.now }
 {
     let mut sections = Vec::new(alloc);
     let mut is_behind = false;

@@ -1,11 +1,11 @@
 //! The skeleton of a document with link reference definitions.
 
-ghost use Rattle.std.specs.Prelude.{◌≡◌, ◌≤◌, ◌+◌, ◌-◌, ◌++◌, ◌&&◌, ◌||◌, cond, true, false, None, ℕ, List, [], ◌∷◌, IfOk, drop, is_some, length, map, not, take};
+ghost use Rattle.std.specs.Prelude.{◌≡◌, ◌≤◌, ◌+◌, ◌-◌, ◌*◌, ◌++◌, ◌&&◌, ◌||◌, cond, true, false, None, ℕ, List, [], ◌∷◌, IfOk, drop, is_some, length, map, not, take};
 ghost use Rattle.std.specs.List.{flat_map};
 ghost use Rattle.markdown_base.specs.declared.event.Name.TheVariants.{SpaceOrTab};
 ghost use Rattle.markdown_base.specs.Virtual.{IsWithinLimit, Seat, point};
 ghost use Rattle.mdconstructs_flow_read.specs.LeafEvents.{Mark};
-ghost use Rattle.mdconstructs_flow_read.specs.LeafBlocks.{bytes_of};
+ghost use Rattle.mdconstructs_flow_read.specs.LeafBlocks.{bytes_of as seats_bytes};
 ghost use Rattle.mdconstructs_flow_read.specs.LineKinds.{indent, underline_rank};
 ghost use Rattle.mdconstructs_lines.specs.Lines.{line_bytes, place_after};
 ghost use Rattle.mdconstructs_containers.specs.Costs.{HaveSizes};
@@ -20,9 +20,10 @@ ghost use Rattle.mdconstructs_containers.specs.Views.{leaf_of, open_of};
 ghost use Rattle.mdconstructs_containers.specs.Written.{Written};
 ghost use Rattle.mdconstructs_labels.specs.Defined.{defines};
 ghost use Rattle.mdconstructs_labels.specs.Definitions.{definitions};
+ghost use Rattle.mdconstructs_definitions.specs.Costs.{bytes_in, bytes_of};
 ghost use Rattle.mdconstructs_definitions.specs.Definitions.{definitions_marks, places_in};
 ghost use Rattle.mdconstructs_definitions.specs.Labelled.{IsInText, is_one_of};
-ghost use Rattle.mdconstructs_definitions.specs.Sectioned.{AreBegun, AreFirst, AreInLines, AreLater, BeginsFilled, HasEnd, HaveText, IsBegun, IsEnd, IsFilled, IsSectionOf, AreSectionsOf, IsSound, inside_from, letters_in};
+ghost use Rattle.mdconstructs_definitions.specs.Sectioned.{AreBegun, AreFirst, AreInLines, AreLater, BeginsFilled, HasEnd, TextsAreFilled, IsBegun, IsEnd, IsFilled, IsSectionOf, AreSectionsOf, IsSound, inside_from, letters_in};
 ghost use Rattle.mdconstructs_definitions.specs.Sections.{Section as SectionOf, cut, lines, text_in};
 ghost use Rattle.mdconstructs_definitions.specs.Seen.{AreSections, inside_of};
 ghost use Rattle.mdconstructs_definitions.specs.Skeleton.{all_rows, inside_marks, labels_in, labels_of_section, letters_of_section};
@@ -39,11 +40,12 @@ use mdconstructs_containers::prefixes::At;
 use mdconstructs_containers::skeleton::{end_of_part, push_letter};
 use mdconstructs_containers::spans::{RowAt, start_of};
 use mdconstructs_containers::stretches::{prefixes_of, stretch};
+use mdconstructs_containers::texts::read_text;
 use mdconstructs_containers::writing::white;
 use mdconstructs_labels::definitions::Definition;
 use mdconstructs_labels::labels::Labels;
 use mdconstructs_lines::bytes::{behind, indent};
-use mdconstructs_lines::places::{moved, read_line};
+use mdconstructs_lines::places::moved;
 use mdconstructs_turns::Turns;
 use std::alloc::{AllocError, Global};
 use std::sync::ledger::Ledger;
@@ -78,7 +80,8 @@ fn define_labels<L: Ledger>(
     turns: &mut Turns<L>,
 ) -> Result<(), AllocError>
     requires { defined.now ≡ definitions text.now }
-    ensures { IfOk result (λ _. (label : List ℕ) → defines labels.new label ≡ (defines labels.old label || is_one_of (labels_in defined.now text.now) label)) }
+    ensures labels { IfOk result (λ _. (label : List ℕ) → defines labels.new label ≡ (defines labels.old label || is_one_of (labels_in defined.now text.now) label)) }
+    ensures turns { turns.new ≤ turns.old + length defined.now }
 {
     let mut next = 0;
     for definition in defined {
@@ -101,8 +104,9 @@ fn text_columns<L: Ledger>(
     requires within { let s = at.now.span in at.now.row.columns ≤ length (line_bytes tab s.number 1 s.start (drop s.start bytes.now)) }
     ensures value { let s = at.now.span in IfOk result (λ n. n ≡ at.now.row.columns + indent (drop at.now.row.columns (line_bytes tab s.number 1 s.start (drop s.start bytes.now)))) }
     ensures within { let s = at.now.span in IfOk result (λ n. n ≤ length (line_bytes tab s.number 1 s.start (drop s.start bytes.now))) }
+    ensures turns { turns.new ≤ turns.old + 5 * bytes_of tab bytes.now at.now }
 {
-    read_line(line, bytes, tab, at.span.start, turns)?;
+    read_text(line, bytes, tab, at.span.start, turns)?;
     let rest = behind(line.as_slice(), at.row.columns);
     Ok(at.row.columns + indent(rest, turns))
 }
@@ -119,7 +123,8 @@ fn push_begin<L: Ledger>(
     requires inside { at.now.span.start ≤ length bytes.now }
     requires columns { let s = at.now.span in HasColumns tab bytes.now (point s.number 1 s.start 0) (length (line_bytes tab s.number 1 s.start (drop s.start bytes.now))) }
     requires within { let s = at.now.span in at.now.row.columns ≤ length (line_bytes tab s.number 1 s.start (drop s.start bytes.now)) }
-    ensures { let s = at.now.span in IfOk result (λ _. letters.new.items ≡ letters.old.items ++ (place_after tab bytes.now (point s.number 1 s.start 0) (at.now.row.columns + indent (drop at.now.row.columns (line_bytes tab s.number 1 s.start (drop s.start bytes.now))))).index ∷ []) }
+    ensures letters { let s = at.now.span in IfOk result (λ _. letters.new.items ≡ letters.old.items ++ (place_after tab bytes.now (point s.number 1 s.start 0) (at.now.row.columns + indent (drop at.now.row.columns (line_bytes tab s.number 1 s.start (drop s.start bytes.now))))).index ∷ []) }
+    ensures turns { turns.new ≤ turns.old + 6 * bytes_of tab bytes.now at.now }
 {
     let columns = text_columns(bytes, tab, at, line, turns)?;
     letters.push(moved(bytes, tab, start_of(at.span), columns, turns).index)?;
@@ -141,7 +146,8 @@ fn push_line<L: Ledger>(
     requires inside { at.now.span.start ≤ length bytes.now }
     requires columns { let s = at.now.span in HasColumns tab bytes.now (point s.number 1 s.start 0) (length (line_bytes tab s.number 1 s.start (drop s.start bytes.now))) }
     requires within { let s = at.now.span in at.now.row.columns ≤ length (line_bytes tab s.number 1 s.start (drop s.start bytes.now)) }
-    ensures { let s = at.now.span in let rest = drop at.now.row.columns (line_bytes tab s.number 1 s.start (drop s.start bytes.now)) in let here = (place_after tab bytes.now (point s.number 1 s.start 0) (at.now.row.columns + indent rest)).index ∷ [] in IfOk result (λ _. letters.new.items ≡ letters.old.items ++ cond is_behind here (cond (at.now.row.is_lazy && is_some (underline_rank on.now rest)) here [])) }
+    ensures letters { let s = at.now.span in let rest = drop at.now.row.columns (line_bytes tab s.number 1 s.start (drop s.start bytes.now)) in let here = (place_after tab bytes.now (point s.number 1 s.start 0) (at.now.row.columns + indent rest)).index ∷ [] in IfOk result (λ _. letters.new.items ≡ letters.old.items ++ cond is_behind here (cond (at.now.row.is_lazy && is_some (underline_rank on.now rest)) here [])) }
+    ensures turns { turns.new ≤ turns.old + 9 * bytes_of tab bytes.now at.now }
 {
     if is_behind {
         return push_begin(letters, bytes, tab, at, line, turns);
@@ -164,7 +170,8 @@ fn push_letters<L: Ledger>(
     requires limit { IsWithinLimit tab bytes.now }
     requires rows { AreFirst tab bytes.now rows.now all }
     requires text { is_behind ≡ true → BeginsFilled all }
-    ensures { IfOk result (λ _. letters.new.items ≡ letters.old.items ++ letters_in on.now is_behind all) }
+    ensures letters { IfOk result (λ _. letters.new.items ≡ letters.old.items ++ letters_in on.now is_behind all) }
+    ensures turns { turns.new ≤ turns.old + 10 * bytes_in tab bytes.now rows.now }
 {
     let tab_size = tab.get();
     prove!(tab_size >= 1);
@@ -196,6 +203,7 @@ fn write_front<L: Ledger>(
     requires place { let s = first.now.span in begin.place ≡ place_after tab bytes.now (point s.number 1 s.start 0) begin.columns }
     ensures place { let s = first.now.span in IfOk result (λ p. p ≡ cond is_behind (place_after tab bytes.now (point s.number 1 s.start 0) (first.now.row.columns + indent (drop first.now.row.columns (line_bytes tab s.number 1 s.start (drop s.start bytes.now))))) begin.place) }
     ensures events { let s = first.now.span in IfOk result (λ _. events.new.items ≡ events.old.items ++ cond is_behind (span_at tab bytes.now SpaceOrTab begin.place (indent (drop first.now.row.columns (line_bytes tab s.number 1 s.start (drop s.start bytes.now))))) []) }
+    ensures turns { turns.new ≤ turns.old + 6 * bytes_of tab bytes.now first.now }
 {
     if !is_behind {
         return Ok(begin.place);
@@ -227,7 +235,8 @@ fn write_lines<L: Ledger>(
     requires begun { IsBegun tab bytes.now part first.now begin }
     requires text { is_behind ≡ true → first.now.row.is_blank ≡ false }
     requires end { let last = last_at first.now more.now in end ≡ end_at (not first.now.row.is_blank && holds_ending (leaf_of last.row.leaf)) last }
-    ensures { IfOk result (λ _. (rest : List Mark) → (all : List Mark) → Written events.old.items None false (inside_marks bytes.now part (lines is_behind) ++ rest) all → Written events.new.items None false rest all) }
+    ensures events { IfOk result (λ _. (rest : List Mark) → (all : List Mark) → Written events.old.items None false (inside_marks bytes.now part (lines is_behind) ++ rest) all → Written events.new.items None false rest all) }
+    ensures turns { turns.new ≤ turns.old + (6 * bytes_of tab bytes.now first.now + 8 * bytes_in tab bytes.now more.now) }
 {
     let tab_size = tab.get();
     prove!(tab_size >= 1);
@@ -269,6 +278,7 @@ fn write_text<L: Ledger>(
     ensures events { IfOk result (λ _. (rest : List Mark) → (all : List Mark) → Written skeleton.old.events.items None false (inside_marks bytes.now part (lines is_behind) ++ rest) all → Written skeleton.new.events.items None false rest all) }
     ensures letters { IfOk result (λ _. skeleton.new.letters.items ≡ skeleton.old.letters.items ++ letters_in on.now is_behind (all_rows part)) }
     ensures labels { IfOk result (λ _. (label : List ℕ) → defines skeleton.new.labels label ≡ defines skeleton.old.labels label) }
+    ensures turns { turns.new ≤ turns.old + 18 * bytes_in tab bytes.now rows.now }
 {
     write_lines(
         &mut skeleton.events,
@@ -321,6 +331,7 @@ fn write_defined<L: Ledger>(
     ensures events { IfOk result (λ _. (rest : List Mark) → (all : List Mark) → Written skeleton.old.events.items None false (definitions_marks bytes.now defined.now (places_in bytes.now (all_rows part)) ++ rest) all → Written skeleton.new.events.items None false rest all) }
     ensures letters { IfOk result (λ _. skeleton.new.letters.items ≡ skeleton.old.letters.items) }
     ensures labels { IfOk result (λ _. (label : List ℕ) → defines skeleton.new.labels label ≡ (defines skeleton.old.labels label || is_one_of (labels_in defined.now (text_in (all_rows part))) label)) }
+    ensures turns { turns.new ≤ turns.old + 21 * bytes_in tab bytes.now rows.now }
 {
     hold_lines(&mut room.text, bytes, tab, rows, &mut room.line, turns)?;
     let text = room.text.as_slice();
@@ -366,6 +377,7 @@ fn write_section<L: Ledger>(
     ensures events { IfOk result (λ _. (rest : List Mark) → (all : List Mark) → Written skeleton.old.events.items None false (inside_marks bytes.now part (inside_of inside.now) ++ rest) all → Written skeleton.new.events.items None false rest all) }
     ensures letters { IfOk result (λ _. skeleton.new.letters.items ≡ skeleton.old.letters.items ++ letters_of_section on.now (record { part = part; inside = inside_of inside.now })) }
     ensures labels { IfOk result (λ _. (label : List ℕ) → defines skeleton.new.labels label ≡ (defines skeleton.old.labels label || is_one_of (labels_of_section (record { part = part; inside = inside_of inside.now })) label)) }
+    ensures turns { turns.new ≤ turns.old + 21 * bytes_in tab bytes.now rows.now }
 {
     let tab_size = tab.get();
     prove!(tab_size >= 1);
@@ -435,9 +447,10 @@ fn go_to_section<L: Ledger>(
     requires columns { let s = next.now.span in HasColumns tab bytes.now (point s.number 1 s.start 0) (length (line_bytes tab s.number 1 s.start (drop s.start bytes.now))) }
     requires many { next.now.row.many ≤ length stack.now }
     requires sizes { HaveSizes (map open_of stack.now) }
-    ensures marks { let s = next.now.span in let t = line_bytes tab s.number 1 s.start (drop s.start bytes.now) in IfOk result (λ _. (seats : List Seat) → AreSeatsAt tab bytes.now (point s.number 1 s.start 0) seats → t ≡ bytes_of seats → events.new.items ≡ events.old.items ++ (events_of (ending_to end) ++ events_of (prefixes_marks bytes.now (going_on (take next.now.row.many (map open_of stack.now)) s.number t) seats))) }
+    ensures marks { let s = next.now.span in let t = line_bytes tab s.number 1 s.start (drop s.start bytes.now) in IfOk result (λ _. (seats : List Seat) → AreSeatsAt tab bytes.now (point s.number 1 s.start 0) seats → t ≡ seats_bytes seats → events.new.items ≡ events.old.items ++ (events_of (ending_to end) ++ events_of (prefixes_marks bytes.now (going_on (take next.now.row.many (map open_of stack.now)) s.number t) seats))) }
     ensures columns { let s = next.now.span in IfOk result (λ p. p.columns ≡ columns_of (going_on (take next.now.row.many (map open_of stack.now)) s.number (line_bytes tab s.number 1 s.start (drop s.start bytes.now)))) }
     ensures place { let s = next.now.span in IfOk result (λ p. p.place ≡ place_after tab bytes.now (point s.number 1 s.start 0) p.columns) }
+    ensures turns { turns.new ≤ turns.old + 8 * bytes_of tab bytes.now next.now }
 {
     write_ending(events, end)?;
     let front = first_of(stack, next.row.many);
@@ -463,6 +476,7 @@ fn go_on<L: Ledger>(
     requires end { HasEnd bytes.now sections.0 end }
     ensures begun { IfOk result (λ p. AreBegun tab bytes.now behind.now sections.1 p) }
     ensures events { IfOk result (λ _. (rest : List Mark) → (all : List Mark) → Written events.old.items None false (within_marks bytes.now sections.0 sections.1 ++ rest) all → Written events.new.items None false (inside_from bytes.now sections.1 rest) all) }
+    ensures turns { turns.new ≤ turns.old + 8 * bytes_in tab bytes.now (take 1 behind.now) }
 {
     let tab_size = tab.get();
     prove!(tab_size >= 1);
@@ -503,6 +517,7 @@ fn write_one<L: Ledger>(
     requires sections { AreSections (drop index sections.now) (given.0 ∷ given.1) }
     requires lines { AreInLines tab bytes.now (map open_of stack.now) left.now (given.0 ∷ given.1) }
     requires begun { AreBegun tab bytes.now left.now (given.0 ∷ given.1) begin }
+    ensures some { IfOk result (λ e. 1 ≤ e.lines) }
     ensures few { IfOk result (λ e. e.lines ≤ length left.now) }
     ensures lines { IfOk result (λ e. AreInLines tab bytes.now (map open_of stack.now) (drop e.lines left.now) given.1) }
     ensures begun { IfOk result (λ e. AreBegun tab bytes.now (drop e.lines left.now) given.1 e.next) }
@@ -510,6 +525,8 @@ fn write_one<L: Ledger>(
     ensures events { IfOk result (λ _. (rest : List Mark) → (all : List Mark) → Written skeleton.old.events.items None false (inside_from bytes.now (given.0 ∷ given.1) rest) all → Written skeleton.new.events.items None false (inside_from bytes.now given.1 rest) all) }
     ensures letters { IfOk result (λ _. skeleton.new.letters.items ≡ skeleton.old.letters.items ++ letters_of_section on.now given.0) }
     ensures labels { IfOk result (λ _. (label : List ℕ) → defines skeleton.new.labels label ≡ (defines skeleton.old.labels label || is_one_of (labels_of_section given.0) label)) }
+    ensures paid { IfOk result (λ e. turns.new ≤ turns.old + (21 * bytes_in tab bytes.now (take e.lines left.now) + 8 * bytes_in tab bytes.now (take 1 (drop e.lines left.now)))) }
+    ensures turns { turns.new ≤ turns.old + 29 * bytes_in tab bytes.now left.now }
 {
     let tab_size = tab.get();
     prove!(tab_size >= 1);
@@ -572,6 +589,7 @@ fn write_sections<L: Ledger>(
     ensures events { IfOk result (λ _. (rest : List Mark) → (all : List Mark) → Written skeleton.old.events.items None false (inside_from bytes.now given.1 rest) all → Written skeleton.new.events.items None false rest all) }
     ensures letters { IfOk result (λ _. skeleton.new.letters.items ≡ skeleton.old.letters.items ++ flat_map (letters_of_section on.now) given.1) }
     ensures labels { IfOk result (λ _. (label : List ℕ) → defines skeleton.new.labels label ≡ (defines skeleton.old.labels label || is_one_of (flat_map labels_of_section given.1) label)) }
+    ensures turns { turns.new ≤ turns.old + 38 * bytes_in tab bytes.now rows.now }
 {
     let tab_size = tab.get();
     prove!(tab_size >= 1);
@@ -613,12 +631,13 @@ pub(crate) fn fill_part<L: Ledger>(
     requires rows { rows.now ≡ first.now ∷ more.now }
     requires section { IsSectionOf tab bytes.now (map open_of stack.now) first.now more.now part }
     requires stands { part.first.is_blank ≡ false → length stack.now ≤ length part.stands }
-    requires texts { HaveText (all_rows part) }
+    requires texts { TextsAreFilled (all_rows part) }
     requires begun { IsBegun tab bytes.now part first.now begin }
     ensures end { IfOk result (λ e. HasEnd bytes.now (last_of part (cut on.now part)) e) }
     ensures events { IfOk result (λ _. (rest : List Mark) → (all : List Mark) → Written skeleton.old.events.items None false (inside_from bytes.now (cut on.now part) rest) all → Written skeleton.new.events.items None false rest all) }
     ensures letters { IfOk result (λ _. skeleton.new.letters.items ≡ skeleton.old.letters.items ++ flat_map (letters_of_section on.now) (cut on.now part)) }
     ensures labels { IfOk result (λ _. (label : List ℕ) → defines skeleton.new.labels label ≡ (defines skeleton.old.labels label || is_one_of (flat_map labels_of_section (cut on.now part)) label)) }
+    ensures turns { turns.new ≤ turns.old + 131 * bytes_in tab bytes.now rows.now }
 {
     let tab_size = tab.get();
     prove!(tab_size >= 1);

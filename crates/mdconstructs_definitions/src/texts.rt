@@ -1,7 +1,7 @@
 //! The text of a paragraph, which may begin with definitions: what its lines have behind their prefixes, joined by line feeds.
 
 ghost use Rattle.std.specs.Prelude.{◌≡◌, ◌≤◌, ◌+◌, ◌*◌, ◌++◌, ◌∷◌, ◌&&◌, ◌==◌, ◌-◌, cond, drop, filter, is_some, length, not, IfOk};
-ghost use Rattle.mdconstructs_flow_read.specs.LineKinds.{underline_rank};
+ghost use Rattle.mdconstructs_flow_read.specs.LineKinds.{indent, underline_rank};
 ghost use Rattle.mdconstructs_containers.specs.Rows.{has_none, is_paragraph};
 ghost use Rattle.mdconstructs_containers.specs.Views.{leaf_of};
 ghost use Rattle.mdconstructs_labels.specs.Tails.{begins_with};
@@ -46,7 +46,8 @@ fn is_at_bracket(t: &[u8]) -> bool
 /// Whether a text begins with `[`, behind white space. In one that does not, nothing is defined.
 pub(crate) fn begins_with_bracket<L: Ledger>(text: &[u8], turns: &mut Turns<L>) -> bool
     ensures value { result ≡ begins_with_bracket text.now }
-    ensures turns { turns.new ≤ turns.old + length text.now + 1 }
+    ensures within { indent text.now ≤ length text.now }
+    ensures turns { turns.new ≤ turns.old + indent text.now + 1 }
 {
     is_at_bracket(unindented(text, turns))
 }

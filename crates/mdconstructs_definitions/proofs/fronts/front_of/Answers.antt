@@ -51,3 +51,10 @@ returns-in-None-clause-turns g c =
     let next = c.loop-next.next in
     all-paid xs next c.args.turns.now c.loop-next.turns c.definition_counted.new.turns (omega arith) c.loop-next.invariant.3
     (subst (λ ys. c.definition_counted.new.turns ≤ c.loop-next.turns + 4 * length ys + 8) (tail next xs) c.in-None.ensures.turns)
+
+pub returns-in_err-push-in-Some-clause-turns : goal.returns-in_err-push-in-Some-clause-turns
+returns-in_err-push-in-Some-clause-turns g c =
+    let xs = c.args.text.now in
+    let next = c.loop-next.next in
+    all-paid xs next c.args.turns.now c.loop-next.turns c.definition_counted.new.turns (omega arith) c.loop-next.invariant.3
+    (subst (λ ys. c.definition_counted.new.turns ≤ c.loop-next.turns + 4 * length ys + 8) (tail next xs) c.in-Some.ensures.turns)

@@ -7,10 +7,11 @@ use Rattle.mdconstructs_flow_read.specs.LeafBlocks.{text_of}
 use Rattle.mdconstructs_definitions.specs.Held.{HaveTexts}
 use Rattle.mdconstructs_definitions.specs.Sections.{text_in}
 use Rattle.mdconstructs_definitions.proofs.HeldLemmas.{goes-on-then, next-text, none-left, text-more}
+use Rattle.mdconstructs_definitions.proofs.SectionCosts.{bytes-cut, bytes-first}
 use Rattle.mdconstructs_definitions.proofs.held.hold_lines.Goals as goal
 
 pub loop-at-init : goal.loop-at-init
-loop-at-init g c = record { left = c.requires.1; text = c.clear.ensures.items; goes_on = refl }
+loop-at-init g c = record { left = c.requires.1; text = c.clear.ensures.items; goes_on = refl; turns = omega arith }
 
 pub read_text-requires : goal.read_text-requires
 read_text-requires g c =
@@ -52,10 +53,25 @@ loop-at-preserved g c =
           ∙ sym (text-more (take i g.all) next.row)
           ∙ ap text_in (sym next.taken);
       goes_on = goes-on-then i g.all next.row next.taken;
+      turns = omega (arith, c.loop-at.invariant.turns, c.add_one.ensures, c.read_text.ensures.turns x.span.number, (bytes-first t bytes rows i x c.loop-at-test.true c.at-item.is).1);
     }
 
 pub returns : goal.returns
 returns g c =
     let i = c.loop-at.at-index in
     let none : drop i c.args.rows.now ≡ [] = drop_all i c.args.rows.now (omega arith) in
-    c.loop-at.invariant.text ∙ ap text_in (none-left c.args.tab c.args.bytes.now g.all i (subst (λ (l : List RowAt). HaveTexts c.args.tab c.args.bytes.now l (drop i g.all)) none c.loop-at.invariant.left))
+    record { turns = omega (arith, c.loop-at.invariant.turns, bytes-cut c.args.tab c.args.bytes.now i c.args.rows.now); text = c.loop-at.invariant.text ∙ ap text_in (none-left c.args.tab c.args.bytes.now g.all i (subst (λ (l : List RowAt). HaveTexts c.args.tab c.args.bytes.now l (drop i g.all)) none c.loop-at.invariant.left)) }
+
+pub returns-in_err-read_text-clause-turns : goal.returns-in_err-read_text-clause-turns
+returns-in_err-read_text-clause-turns g c =
+    let i = c.loop-at.at-index in
+    let rows = c.args.rows.now in
+    let x = c.at-item.result in
+    omega (arith, c.loop-at.invariant.turns, c.add_one.ensures, c.read_text.ensures.turns x.span.number, (bytes-first c.args.tab c.args.bytes.now rows i x c.loop-at-test.true c.at-item.is).1, bytes-cut c.args.tab c.args.bytes.now (i + 1) rows)
+
+pub returns-in_err-hold-clause-turns : goal.returns-in_err-hold-clause-turns
+returns-in_err-hold-clause-turns g c =
+    let i = c.loop-at.at-index in
+    let rows = c.args.rows.now in
+    let x = c.at-item.result in
+    omega (arith, c.loop-at.invariant.turns, c.add_one.ensures, c.read_text.ensures.turns x.span.number, (bytes-first c.args.tab c.args.bytes.now rows i x c.loop-at-test.true c.at-item.is).1, bytes-cut c.args.tab c.args.bytes.now (i + 1) rows)

@@ -25,6 +25,7 @@ loop-definition-init g c =
       next = omega arith;
       text = c.requires.text ∙ begin-text t bytes stack xs c.args.begin c.requires.begin;
       defined = c.requires.definitions;
+      paid = omega arith;
       events = refl;
     }
 
@@ -97,6 +98,7 @@ loop-definition-preserved g c =
       next = grind (arith, nat_tests);
       text = ap (λ n. drop n text) place ∙ new_text;
       defined = both.1 ∙ ap definitions (ap (drop (d.size + 1)) i.text ∙ sym (text-behind (d.size + 1) left) ∙ ap (λ p. map text_byte p) (sym c.in_ok-here.ensures.left) ∙ sym (ap (λ n. drop n text) place ∙ new_text));
+      paid = omega (arith, i.paid, c.add_one.ensures, c.in_ok-here.ensures.paid);
       events = next-written bytes d (drop (l.definition-index + 1) ds) left (left_at t bytes stack xs here) l.events.items c.write_next.new.events.items _ c.in_ok-here.ensures.left c.in_ok-here.ensures.events
           (ap (λ p. l.events.items ++ events_of (definitions_marks bytes p left)) (sym split) ∙ i.events);
     }
@@ -113,6 +115,10 @@ returns g c =
     let some : 0 < t = omega (arith, c.get-tab_size.ensures.least, c.get-tab_size.ensures.columns) in
     let none : drop l.definition-index ds ≡ [] = drop_all l.definition-index ds (omega arith) in
     record {
+      turns = omega (arith, i.paid);
       events = λ all are. sym (ap (λ p. l.events.items ++ events_of (definitions_marks bytes p (left_at t bytes stack xs l.here))) none ∙ append-nil l.events.items)
           ∙ i.events ∙ ap (λ p. c.args.events.now.items ++ events_of (definitions_marks bytes ds p)) (begin-places t bytes stack some c.requires.limit xs c.args.begin c.requires.begin all are);
     }
+
+pub returns-in_err-here-clause-turns : goal.returns-in_err-here-clause-turns
+returns-in_err-here-clause-turns g c = let i = c.loop-definition.invariant in omega (arith, i.paid, c.add_one.ensures, c.write_next.ensures.turns)

@@ -5,6 +5,7 @@ use Rattle.mdconstructs_containers.proofs.WritingLemmas.{columns_behind}
 use Rattle.mdconstructs_definitions.specs.Cursor.{Goes, columns_left, left_at}
 use Rattle.mdconstructs_definitions.specs.Definitions.{seats_of}
 use Rattle.mdconstructs_definitions.proofs.MarksCursor.{further-written, goes-on, here-of, line-rest, line-text}
+use Rattle.mdconstructs_definitions.proofs.MarksCosts.{leaf-pays}
 use Rattle.mdconstructs_definitions.proofs.marks.write_further.Goals as goal
 
 pub write_leaf-requires-2-clause-columns : goal.write_leaf-requires-2-clause-columns
@@ -37,3 +38,17 @@ returns-clause-goes g c = λ stack xs cursor w.
     let first = c.in_ok-text.ensures.goes stack xs cursor (omega (arith, small, w)) in
     let last = c.in_ok-end.ensures.goes stack xs first.at (line-rest t bytes stack xs c.args.cursor c.in_ok-text.text n (c.args.size - n) c.in_ok-text.ensures.row c.in_ok-text.ensures.column (omega (arith, small, w))) in
     subst (λ (k : ℕ). Goes t bytes stack xs c.args.cursor k c.in_ok-end.end) sum (goes-on t bytes stack xs c.args.cursor c.in_ok-text.text c.in_ok-end.end n (c.args.size - n) first last)
+
+pub returns-clause-paid : goal.returns-clause-paid
+returns-clause-paid g c = λ xs w.
+    let small : c.indent-white.result ≤ c.args.size = omega (arith, c.indent-white.ensures.within, c.front-part.ensures.len) in
+    leaf-pays xs c.args.cursor c.in_ok-end.end c.args.size (c.in_ok-end.ensures.row ∙ c.in_ok-text.ensures.row) (omega (arith, c.in_ok-end.ensures.column, c.in_ok-text.ensures.column, small)) w
+
+pub returns-clause-turns : goal.returns-clause-turns
+returns-clause-turns g c = omega (arith, c.indent-white.ensures.turns, c.indent-white.ensures.within, c.front-part.ensures.len, c.write_leaf.ensures.turns, c.write_leaf-2.ensures.turns)
+
+pub returns-in_err-text-clause-turns : goal.returns-in_err-text-clause-turns
+returns-in_err-text-clause-turns g c = omega (arith, c.indent-white.ensures.turns, c.indent-white.ensures.within, c.front-part.ensures.len, c.write_leaf.ensures.turns)
+
+pub returns-in_err-end-clause-turns : goal.returns-in_err-end-clause-turns
+returns-in_err-end-clause-turns g c = omega (arith, c.indent-white.ensures.turns, c.indent-white.ensures.within, c.front-part.ensures.len, c.write_leaf.ensures.turns, c.write_leaf-2.ensures.turns)

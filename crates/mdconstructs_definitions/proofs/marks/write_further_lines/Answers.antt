@@ -4,6 +4,7 @@ use Rattle.mdconstructs_containers.specs.Views.{open_of}
 use Rattle.mdconstructs_definitions.specs.Cursor.{Goes, IsHeld, left_at}
 use Rattle.mdconstructs_definitions.specs.Definitions.{Place, line_marks, string_lines}
 use Rattle.mdconstructs_definitions.proofs.MarksCursor.{behind-line, goes-nowhere, goes-on, has-columns, here-of, line-full, line-more, line-within, lines-last, lines-next}
+use Rattle.mdconstructs_definitions.proofs.MarksCosts.{leaf-fits}
 use Rattle.mdconstructs_definitions.proofs.marks.write_further_lines.Goals as goal
 
 pub loop-columns-init : goal.loop-columns-init
@@ -20,6 +21,7 @@ loop-columns-init g c =
       columns = c.left_in-columns.ensures;
       held = c.requires.line;
       goes = subst (λ (n : ℕ). Goes t bytes stack xs c.args.cursor n c.args.cursor) none (goes-nowhere t bytes stack xs c.args.cursor c.requires.cursor);
+      paid = omega arith;
       events = refl;
     }
 
@@ -78,6 +80,7 @@ loop-columns-preserved g c =
       columns = c.left_in-columns-in-loop-columns.ensures;
       held = c.in_ok-here.ensures.line;
       goes = subst (λ (n : ℕ). Goes t bytes stack xs c.args.cursor n next) sum (goes-on t bytes stack xs c.args.cursor l.here next (c.args.size - l.rest) (l.columns + 1) i.goes (goes-on t bytes stack xs l.here end next l.columns 1 f h));
+      paid = omega (arith, i.paid, c.add_one.ensures, c.write_further.ensures.turns, c.in_ok-end.ensures.paid xs (omega (arith, i.columns)), c.in_ok-here.ensures.paid);
       events = written ∙ i.events;
     }
 
@@ -119,3 +122,54 @@ returns-clause-goes g c =
     let w : l.rest ≤ _ = omega (arith, i.columns, c.loop-columns-test.false) in
     let sum : c.args.size - l.rest + l.rest ≡ c.args.size = omega (arith, i.fewer) in
     subst (λ (n : ℕ). Goes t bytes stack xs c.args.cursor n c.in_ok-last.last) sum (goes-on t bytes stack xs c.args.cursor l.here c.in_ok-last.last (c.args.size - l.rest) l.rest i.goes (c.in_ok-last.ensures.goes stack xs i.cursor w))
+
+pub returns-in_err-end-clause-turns : goal.returns-in_err-end-clause-turns
+returns-in_err-end-clause-turns g c =
+    let t = c.args.tab in
+    let bytes = c.args.bytes.now in
+    let stack = map open_of c.args.stack.now in
+    let xs = c.args.rows.now in
+    let l = c.loop-columns in
+    let i = c.loop-columns.invariant in
+    let line = leaf-fits xs l.here l.columns (omega (arith, i.columns)) in
+    omega (arith, i.paid, c.add_one.ensures, c.write_further.ensures.turns, line)
+
+pub returns-in_err-here-clause-turns : goal.returns-in_err-here-clause-turns
+returns-in_err-here-clause-turns g c =
+    let t = c.args.tab in
+    let bytes = c.args.bytes.now in
+    let stack = map open_of c.args.stack.now in
+    let xs = c.args.rows.now in
+    let l = c.loop-columns in
+    let i = c.loop-columns.invariant in
+    omega (arith, i.paid, c.add_one.ensures, c.write_further.ensures.turns, c.in_ok-end.ensures.paid xs (omega (arith, i.columns)), c.write_line_ending.ensures.turns)
+
+pub returns-in_err-last-clause-turns : goal.returns-in_err-last-clause-turns
+returns-in_err-last-clause-turns g c =
+    let t = c.args.tab in
+    let bytes = c.args.bytes.now in
+    let stack = map open_of c.args.stack.now in
+    let xs = c.args.rows.now in
+    let l = c.loop-columns in
+    let i = c.loop-columns.invariant in
+    omega (arith, i.paid, c.write_further-2.ensures.turns, leaf-fits xs l.here l.rest (omega (arith, i.columns, c.loop-columns-test.false)))
+
+pub returns-clause-paid : goal.returns-clause-paid
+returns-clause-paid g c =
+    let t = c.args.tab in
+    let bytes = c.args.bytes.now in
+    let stack = map open_of c.args.stack.now in
+    let xs = c.args.rows.now in
+    let l = c.loop-columns in
+    let i = c.loop-columns.invariant in
+    omega (arith, i.paid, c.write_further-2.ensures.turns, c.in_ok-last.ensures.paid xs (omega (arith, i.columns, c.loop-columns-test.false)))
+
+pub returns-clause-turns : goal.returns-clause-turns
+returns-clause-turns g c =
+    let t = c.args.tab in
+    let bytes = c.args.bytes.now in
+    let stack = map open_of c.args.stack.now in
+    let xs = c.args.rows.now in
+    let l = c.loop-columns in
+    let i = c.loop-columns.invariant in
+    omega (arith, i.paid, c.write_further-2.ensures.turns, leaf-fits xs l.here l.rest (omega (arith, i.columns, c.loop-columns-test.false)))

@@ -1,6 +1,7 @@
-use Rattle.std.proofs.Common.{◌≡◌, ◌≤◌, ◌-◌, ◌++◌, false, drop, length, map, take}
+use Rattle.std.proofs.Common.{◌≡◌, ◌≤◌, ◌+◌, ◌-◌, ◌++◌, false, drop, length, map, take}
 use Rattle.mdconstructs_containers.specs.SeatPlaces.{events_of}
 use Rattle.mdconstructs_containers.specs.Views.{open_of}
+use Rattle.mdconstructs_definitions.specs.Costs.{left_to_write}
 use Rattle.mdconstructs_definitions.specs.Cursor.{Goes, IsCursor, IsHeld, columns_left, left_at}
 use Rattle.mdconstructs_definitions.specs.Definitions.{line_marks, string_lines}
 use Rattle.mdconstructs_definitions.proofs.marks.write_further_lines.Given as goal
@@ -14,6 +15,7 @@ invariant-loop-columns g l = record {
   columns : l.columns ≡ columns_left l.here.at.columns (drop l.here.row l.rows);
   held : IsHeld l.tab l.bytes (drop l.here.row l.rows) l.line.items;
   goes : Goes l.tab l.bytes (map open_of l.stack) l.rows l.fn.cursor (l.fn.size - l.rest) l.here;
+  paid : l.turns + left_to_write l.rows l.here ≤ l.fn.turns + left_to_write l.rows l.fn.cursor;
   events : l.events.items ++ events_of (line_marks l.bytes false (string_lines (take l.rest (left_at l.tab l.bytes (map open_of l.stack) l.rows l.here))))
       ≡ l.initial.events.items ++ events_of (line_marks l.bytes false (string_lines (take l.fn.size (left_at l.tab l.bytes (map open_of l.stack) l.rows l.fn.cursor))));
 }

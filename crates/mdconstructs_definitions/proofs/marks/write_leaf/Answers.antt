@@ -1,6 +1,7 @@
 use Rattle.std.proofs.Common.{◌++◌, List, drop, refl, ap, ◌∙◌}
 use Rattle.markdown_base.specs.declared.event.Event.{Event}
 use Rattle.mdconstructs_definitions.proofs.MarksCursor.{here-of, leaf-events, leaf-goes}
+use Rattle.mdconstructs_definitions.proofs.MarksCosts.{leaf-paid}
 use Rattle.mdconstructs_definitions.proofs.marks.write_leaf.Goals as goal
 
 pub returns-clause-events : goal.returns-clause-events
@@ -10,3 +11,6 @@ returns-clause-events g c = λ stack xs cursor w.
 
 pub returns-clause-goes : goal.returns-clause-goes
 returns-clause-goes g c = λ stack xs cursor w. leaf-goes c.args.tab c.args.bytes.now stack xs c.args.cursor cursor c.args.columns w _ refl refl c.in_ok-place.ensures.place
+
+pub returns-clause-paid : goal.returns-clause-paid
+returns-clause-paid g c = λ xs w. leaf-paid xs c.args.cursor c.args.columns w

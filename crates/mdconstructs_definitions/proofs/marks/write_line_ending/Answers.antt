@@ -1,11 +1,13 @@
-use Rattle.std.proofs.Common.{◌≡◌, take, map, refl, sym, ap, ◌∙◌, subst, arith}
+use Rattle.std.proofs.Common.{◌≡◌, take, map, refl, sym, ap, ◌∙◌, subst, arith, ◌+◌, drop, length}
 use Rattle.std.proofs.lemmas.List.{length-map, take-map}
 use Rattle.markdown_base.specs.Virtual.{point}
 use Rattle.mdconstructs_containers.specs.declared.spans.RowAt.{RowAt}
 use Rattle.mdconstructs_containers.specs.Costs.{HasSize, HaveSizes}
 use Rattle.mdconstructs_containers.specs.Views.{open_of}
 use Rattle.mdconstructs_containers.proofs.RowFacts.{every_front}
-use Rattle.mdconstructs_definitions.proofs.MarksCursor.{ending-goes, ending-written, next-columns, next-held, next-inside, next-many, next-marks, next-of, next-place, next-same, next-size, next-within}
+use Rattle.mdconstructs_definitions.proofs.MarksCursor.{ending-goes, ending-written, next-columns, next-held, next-inside, next-many, next-marks, next-of, next-place, next-same, next-size, next-within, next-rows}
+use Rattle.mdconstructs_definitions.proofs.MarksCosts.{first-size, line-pays}
+use Rattle.mdconstructs_lines.specs.Lines.{line_bytes}
 use Rattle.mdconstructs_definitions.proofs.marks.write_line_ending.Goals as goal
 
 pub bounds-rows-row : goal.bounds-rows-row
@@ -101,3 +103,42 @@ returns-clause-line g c =
     let x = c.index-rows-row.result in
     let is = c.index-rows-row.is in
     next-held t bytes stack xs c.args.cursor n x is c.prefixes_of.new.line.items c.in_ok-at.ensures.line
+
+pub returns-clause-paid : goal.returns-clause-paid
+returns-clause-paid g c =
+    let t = c.args.tab in
+    let bytes = c.args.bytes.now in
+    let stack = map open_of c.args.stack.now in
+    let xs = c.args.rows.now in
+    let n = next-of t bytes stack xs c.args.cursor c.requires.cursor c.requires.end c.requires.more in
+    let same = next-same t bytes stack xs c.args.cursor n c.index-rows-row.result c.index-rows-row.is in
+    let size = first-size t bytes stack n.y n.zs n.lines in
+    let read = ap (λ (y : RowAt). length (line_bytes t y.span.number 1 y.span.start (drop y.span.start bytes))) same in
+    let pays = line-pays xs c.args.cursor (record { row = c.args.cursor.row + 1; at = c.in_ok-at.at }) n.y n.zs c.args.turns.now c.prefixes_of.new.turns (next-rows t bytes stack xs c.args.cursor n) refl (omega (arith, c.prefixes_of.ensures.turns, size, read)) in
+    pays
+
+pub returns-clause-turns : goal.returns-clause-turns
+returns-clause-turns g c =
+    let t = c.args.tab in
+    let bytes = c.args.bytes.now in
+    let stack = map open_of c.args.stack.now in
+    let xs = c.args.rows.now in
+    let n = next-of t bytes stack xs c.args.cursor c.requires.cursor c.requires.end c.requires.more in
+    let same = next-same t bytes stack xs c.args.cursor n c.index-rows-row.result c.index-rows-row.is in
+    let size = first-size t bytes stack n.y n.zs n.lines in
+    let read = ap (λ (y : RowAt). length (line_bytes t y.span.number 1 y.span.start (drop y.span.start bytes))) same in
+    let pays = line-pays xs c.args.cursor (record { row = c.args.cursor.row + 1; at = c.in_ok-at.at }) n.y n.zs c.args.turns.now c.prefixes_of.new.turns (next-rows t bytes stack xs c.args.cursor n) refl (omega (arith, c.prefixes_of.ensures.turns, size, read)) in
+    omega (arith, pays)
+
+pub returns-in_err-at-clause-turns : goal.returns-in_err-at-clause-turns
+returns-in_err-at-clause-turns g c =
+    let t = c.args.tab in
+    let bytes = c.args.bytes.now in
+    let stack = map open_of c.args.stack.now in
+    let xs = c.args.rows.now in
+    let n = next-of t bytes stack xs c.args.cursor c.requires.cursor c.requires.end c.requires.more in
+    let same = next-same t bytes stack xs c.args.cursor n c.index-rows-row.result c.index-rows-row.is in
+    let size = first-size t bytes stack n.y n.zs n.lines in
+    let read = ap (λ (y : RowAt). length (line_bytes t y.span.number 1 y.span.start (drop y.span.start bytes))) same in
+    let pays = line-pays xs c.args.cursor (record { row = c.args.cursor.row + 1; at = c.args.cursor.at }) n.y n.zs c.args.turns.now c.prefixes_of.new.turns (next-rows t bytes stack xs c.args.cursor n) refl (omega (arith, c.prefixes_of.ensures.turns, size, read)) in
+    omega (arith, pays)

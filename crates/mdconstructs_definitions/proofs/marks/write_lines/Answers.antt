@@ -3,6 +3,7 @@ use Rattle.mdconstructs_containers.specs.Views.{open_of}
 use Rattle.mdconstructs_definitions.specs.Definitions.{Place}
 use Rattle.mdconstructs_definitions.specs.Cursor.{left_at}
 use Rattle.mdconstructs_definitions.proofs.MarksCursor.{behind-line, goes-over, has-columns, has-room, here-of, line-full, line-more, lines-last, lines-next}
+use Rattle.mdconstructs_definitions.proofs.MarksCosts.{leaf-fits}
 use Rattle.mdconstructs_definitions.proofs.marks.write_lines.Goals as goal
 
 pub write_leaf-requires-clause-columns : goal.write_leaf-requires-clause-columns
@@ -135,3 +136,84 @@ returns-clause-goes g c =
     let f = c.in_ok-end.ensures.goes stack xs c.requires.cursor (omega (arith, k_is)) in
     let h = c.in_ok-next.ensures.goes in
     goes-over t bytes stack xs c.args.cursor e next c.in_ok-last.last k m c.args.size f h c.in_ok-last.ensures.goes (omega (arith, c.if-size-left.false))
+
+pub returns-then-size-left-clause-paid : goal.returns-then-size-left-clause-paid
+returns-then-size-left-clause-paid g c =
+    let t = c.args.tab in
+    let bytes = c.args.bytes.now in
+    let stack = map open_of c.args.stack.now in
+    let xs = c.args.rows.now in
+    let w : c.args.size ≤ _ = omega (arith, c.if-size-left.true, c.left_in-left.ensures) in
+    omega (arith, c.in_ok-whole.ensures.paid xs w, c.write_leaf.ensures.turns)
+
+pub returns-then-size-left-clause-turns : goal.returns-then-size-left-clause-turns
+returns-then-size-left-clause-turns g c =
+    let t = c.args.tab in
+    let bytes = c.args.bytes.now in
+    let stack = map open_of c.args.stack.now in
+    let xs = c.args.rows.now in
+    let w : c.args.size ≤ _ = omega (arith, c.if-size-left.true, c.left_in-left.ensures) in
+    omega (arith, leaf-fits xs c.args.cursor c.args.size w, c.write_leaf.ensures.turns)
+
+pub returns-in_err-whole-clause-turns : goal.returns-in_err-whole-clause-turns
+returns-in_err-whole-clause-turns g c =
+    let t = c.args.tab in
+    let bytes = c.args.bytes.now in
+    let stack = map open_of c.args.stack.now in
+    let xs = c.args.rows.now in
+    let w : c.args.size ≤ _ = omega (arith, c.if-size-left.true, c.left_in-left.ensures) in
+    omega (arith, leaf-fits xs c.args.cursor c.args.size w, c.write_leaf.ensures.turns)
+
+pub returns-in_err-end-clause-turns : goal.returns-in_err-end-clause-turns
+returns-in_err-end-clause-turns g c =
+    let t = c.args.tab in
+    let bytes = c.args.bytes.now in
+    let stack = map open_of c.args.stack.now in
+    let xs = c.args.rows.now in
+    let k_is = c.left_in-left.ensures in
+    let first = leaf-fits xs c.args.cursor c.left_in-left.result (omega (arith, k_is)) in
+    omega (arith, first, c.write_leaf-2.ensures.turns)
+
+pub returns-in_err-next-clause-turns : goal.returns-in_err-next-clause-turns
+returns-in_err-next-clause-turns g c =
+    let t = c.args.tab in
+    let bytes = c.args.bytes.now in
+    let stack = map open_of c.args.stack.now in
+    let xs = c.args.rows.now in
+    let k = c.left_in-left.result in
+    let k_is = c.left_in-left.ensures in
+    let pays = c.in_ok-end.ensures.paid xs (omega (arith, k_is)) in
+    omega (arith, pays, c.write_leaf-2.ensures.turns, c.write_line_ending.ensures.turns)
+
+pub returns-in_err-last-clause-turns : goal.returns-in_err-last-clause-turns
+returns-in_err-last-clause-turns g c =
+    let t = c.args.tab in
+    let bytes = c.args.bytes.now in
+    let stack = map open_of c.args.stack.now in
+    let xs = c.args.rows.now in
+    let k = c.left_in-left.result in
+    let k_is = c.left_in-left.ensures in
+    let pays = c.in_ok-end.ensures.paid xs (omega (arith, k_is)) in
+    omega (arith, pays, c.write_leaf-2.ensures.turns, c.in_ok-next.ensures.paid, c.write_further_lines.ensures.turns)
+
+pub returns-clause-paid : goal.returns-clause-paid
+returns-clause-paid g c =
+    let t = c.args.tab in
+    let bytes = c.args.bytes.now in
+    let stack = map open_of c.args.stack.now in
+    let xs = c.args.rows.now in
+    let k = c.left_in-left.result in
+    let k_is = c.left_in-left.ensures in
+    let pays = c.in_ok-end.ensures.paid xs (omega (arith, k_is)) in
+    omega (arith, pays, c.write_leaf-2.ensures.turns, c.in_ok-next.ensures.paid, c.in_ok-last.ensures.paid)
+
+pub returns-clause-turns : goal.returns-clause-turns
+returns-clause-turns g c =
+    let t = c.args.tab in
+    let bytes = c.args.bytes.now in
+    let stack = map open_of c.args.stack.now in
+    let xs = c.args.rows.now in
+    let k = c.left_in-left.result in
+    let k_is = c.left_in-left.ensures in
+    let pays = c.in_ok-end.ensures.paid xs (omega (arith, k_is)) in
+    omega (arith, pays, c.write_leaf-2.ensures.turns, c.in_ok-next.ensures.paid, c.write_further_lines.ensures.turns)

@@ -1,7 +1,8 @@
-use Rattle.std.proofs.Common.{drop, map, refl}
+use Rattle.std.proofs.Common.{drop, map, refl, arith}
 use Rattle.mdconstructs_containers.specs.Views.{open_of}
 use Rattle.mdconstructs_definitions.proofs.MarksCursor.{has-columns, has-room, here-of}
 use Rattle.mdconstructs_definitions.proofs.MarksParts.{inside-few, last-mark, mark-left, marked-goes, marked-written}
+use Rattle.mdconstructs_definitions.proofs.MarksCosts.{leaf-fits}
 use Rattle.mdconstructs_definitions.proofs.marks.write_marked.Goals as goal
 
 pub write_leaf-requires : goal.write_leaf-requires
@@ -65,3 +66,67 @@ returns-clause-goes g c =
     let h = c.in_ok-last.ensures.goes in
     let one = last-mark t bytes stack xs c.args.cursor c.in_ok-first.first c.in_ok-last.last c.args.size fits f h in
     marked-goes t bytes stack xs c.args.cursor c.in_ok-first.first c.in_ok-last.last c.args.size fits f h c.in_ok-end.end (c.in_ok-end.ensures.goes stack xs h.at one)
+
+pub returns-in_err-last-clause-turns : goal.returns-in_err-last-clause-turns
+returns-in_err-last-clause-turns g c =
+    let t = c.args.tab in
+    let bytes = c.args.bytes.now in
+    let stack = map open_of c.args.stack.now in
+    let xs = c.args.rows.now in
+    let fits = c.requires.marks in
+    let mark = mark-left t bytes stack xs c.args.cursor c.requires.cursor _ refl fits.first in
+    let f = c.in_ok-first.ensures.goes stack xs c.requires.cursor mark in
+    let pays = c.in_ok-first.ensures.paid xs mark in
+    omega (arith, pays, c.write_leaf.ensures.turns, c.write_string.ensures.turns)
+
+pub returns-in_err-end-clause-turns : goal.returns-in_err-end-clause-turns
+returns-in_err-end-clause-turns g c =
+    let t = c.args.tab in
+    let bytes = c.args.bytes.now in
+    let stack = map open_of c.args.stack.now in
+    let xs = c.args.rows.now in
+    let fits = c.requires.marks in
+    let mark = mark-left t bytes stack xs c.args.cursor c.requires.cursor _ refl fits.first in
+    let f = c.in_ok-first.ensures.goes stack xs c.requires.cursor mark in
+    let pays = c.in_ok-first.ensures.paid xs mark in
+    let one = last-mark t bytes stack xs c.args.cursor c.in_ok-first.first c.in_ok-last.last c.args.size fits f c.in_ok-last.ensures.goes in
+    omega (arith, pays, c.write_leaf.ensures.turns, c.in_ok-last.ensures.paid, leaf-fits xs c.in_ok-last.last 1 one, c.write_leaf-2.ensures.turns)
+
+pub returns-in_err-exit-clause-turns : goal.returns-in_err-exit-clause-turns
+returns-in_err-exit-clause-turns g c =
+    let t = c.args.tab in
+    let bytes = c.args.bytes.now in
+    let stack = map open_of c.args.stack.now in
+    let xs = c.args.rows.now in
+    let fits = c.requires.marks in
+    let mark = mark-left t bytes stack xs c.args.cursor c.requires.cursor _ refl fits.first in
+    let f = c.in_ok-first.ensures.goes stack xs c.requires.cursor mark in
+    let pays = c.in_ok-first.ensures.paid xs mark in
+    let one = last-mark t bytes stack xs c.args.cursor c.in_ok-first.first c.in_ok-last.last c.args.size fits f c.in_ok-last.ensures.goes in
+    omega (arith, pays, c.write_leaf.ensures.turns, c.in_ok-last.ensures.paid, leaf-fits xs c.in_ok-last.last 1 one, c.write_leaf-2.ensures.turns)
+
+pub returns-clause-paid : goal.returns-clause-paid
+returns-clause-paid g c =
+    let t = c.args.tab in
+    let bytes = c.args.bytes.now in
+    let stack = map open_of c.args.stack.now in
+    let xs = c.args.rows.now in
+    let fits = c.requires.marks in
+    let mark = mark-left t bytes stack xs c.args.cursor c.requires.cursor _ refl fits.first in
+    let f = c.in_ok-first.ensures.goes stack xs c.requires.cursor mark in
+    let pays = c.in_ok-first.ensures.paid xs mark in
+    let one = last-mark t bytes stack xs c.args.cursor c.in_ok-first.first c.in_ok-last.last c.args.size fits f c.in_ok-last.ensures.goes in
+    omega (arith, pays, c.write_leaf.ensures.turns, c.in_ok-last.ensures.paid, c.in_ok-end.ensures.paid xs one, c.write_leaf-2.ensures.turns)
+
+pub returns-clause-turns : goal.returns-clause-turns
+returns-clause-turns g c =
+    let t = c.args.tab in
+    let bytes = c.args.bytes.now in
+    let stack = map open_of c.args.stack.now in
+    let xs = c.args.rows.now in
+    let fits = c.requires.marks in
+    let mark = mark-left t bytes stack xs c.args.cursor c.requires.cursor _ refl fits.first in
+    let f = c.in_ok-first.ensures.goes stack xs c.requires.cursor mark in
+    let pays = c.in_ok-first.ensures.paid xs mark in
+    let one = last-mark t bytes stack xs c.args.cursor c.in_ok-first.first c.in_ok-last.last c.args.size fits f c.in_ok-last.ensures.goes in
+    omega (arith, pays, c.write_leaf.ensures.turns, c.in_ok-last.ensures.paid, leaf-fits xs c.in_ok-last.last 1 one, c.write_leaf-2.ensures.turns)

@@ -1,4 +1,4 @@
-use Rattle.std.proofs.Common.{◌≡◌, ℕ, zero, suc, ◌+◌, ◌-◌, ◌<◌, ◌≤◌, Bool, true, false, List, [], ◌∷◌, ◌++◌, length, take, drop, map, get_or, refl, sym, ap, ◌∙◌, subst, arith, length-drop, length-take}
+use Rattle.std.proofs.Common.{◌≡◌, ℕ, zero, suc, ◌+◌, ◌-◌, ◌<◌, ◌≤◌, Bool, true, false, List, [], ◌∷◌, ◌++◌, length, take, drop, map, get_or, refl, sym, ap, ◌∙◌, subst, arith, length-drop, ◌*◌}
 use Rattle.std.specs.Prelude.{◌||◌, None}
 use Rattle.std.specs.List.{flat_map}
 use Rattle.std.proofs.lemmas.List.{append-nil, drop_all, drop-drop, drop_more, take_rest}
@@ -11,7 +11,7 @@ use Rattle.mdconstructs_containers.specs.declared.going.Open.{Open}
 use Rattle.mdconstructs_containers.specs.declared.parts.PartEnd.{PartEnd}
 use Rattle.mdconstructs_containers.specs.declared.spans.RowAt.{RowAt}
 use Rattle.mdconstructs_containers.specs.Ahead.{ahead_of}
-use Rattle.mdconstructs_containers.specs.Costs.{ArePaid, FirstIsNotLazy}
+use Rattle.mdconstructs_containers.specs.Costs.{ArePaid, FirstIsNotLazy, IsAsked, IsEnough, columns_in}
 use Rattle.mdconstructs_containers.specs.Frames.{frame_of}
 use Rattle.mdconstructs_containers.specs.Over.{AreEarlier}
 use Rattle.mdconstructs_containers.specs.Parts.{open_behind}
@@ -30,7 +30,7 @@ use Rattle.mdconstructs_containers.proofs.RowFacts.{every_behind}
 use Rattle.mdconstructs_containers.proofs.WrittenLemmas.{write_init}
 use Rattle.mdconstructs_labels.specs.Defined.{defines}
 use Rattle.mdconstructs_definitions.specs.Labelled.{is_one_of}
-use Rattle.mdconstructs_definitions.specs.Sectioned.{HasText, HaveText}
+use Rattle.mdconstructs_definitions.specs.Sectioned.{TextIsFilled, TextsAreFilled}
 use Rattle.mdconstructs_definitions.specs.Sections.{sections}
 use Rattle.mdconstructs_definitions.specs.Skeleton.{labels_of_section, letters_of_section, sections_marks}
 use Rattle.mdconstructs_definitions.specs.Within.{rest_sections}
@@ -38,6 +38,8 @@ use Rattle.mdconstructs_definitions.proofs.PartSections.{lines-left, lines_from,
 use Rattle.mdconstructs_definitions.proofs.RowTexts.{these-in}
 use Rattle.mdconstructs_definitions.proofs.SectionLemmas.{rows-few}
 use Rattle.mdconstructs_definitions.proofs.Within.{sections-init}
+use Rattle.mdconstructs_containers.proofs.ColumnLemmas.{columns_add, columns_parts, few_columns}
+use Rattle.mdconstructs_containers.proofs.PartCosts.{asked_all}
 use Rattle.mdconstructs_definitions.proofs.parts.skeleton_by.Goals as goal
 
 abbrev no_ahead : Ahead
@@ -75,6 +77,14 @@ loop-i-init g c =
     let ss = sections c.args.on.now g.all in
     record {
       within = omega arith;
+      enough =
+          let frames = ap (λ (l : List Frame). length l) c.new-frames.ensures.items in
+          let stack = ap (λ (l : List Open). length l) c.new-stack.ensures.items in
+          record {
+            asked = 0;
+            are = asked_all g.all 0 0 0 _ c.requires.1.1.1.1.1.0 (omega (arith, stack));
+            enough = let none : c.args.turns.now + (length c.new-frames.result.items + (0 + (0 + 4 * (0 - 0)))) ≤ c.args.turns.now + 150 * 0 = omega (arith, frames) in none;
+          };
       left = subst (λ (l : List Open). AreLeft bytes c.args.tab (map open_of l) c.args.rows.now g.all) (sym c.new-stack.ensures.items) (record { number = 1; start = 0; are = c.requires.1.1.0; outside = outside_zero bytes; few = omega arith });
       lazy = c.requires.1.1.1.1.1.0;
       passed = λ k d a b. absurd (omega (arith, b));
@@ -105,9 +115,16 @@ write_part-requires g c = λ lifetimes outlives.
     let ahead = ahead_at c.args.aheads.now all (length rows) i c.loop-i-test.true c.requires.1.1.1.1.0 ∙ ap (λ (p : Row × List Row). ahead_of p.1) (sym given) in
     let lazy = subst (λ (p : Row × List Row). FirstIsNotLazy (p.0 ∷ p.1)) (sym given) (subst FirstIsNotLazy next.is c.loop-i.invariant.lazy) in
     let paid = subst (λ (p : Row × List Row). ArePaid (p.0 ∷ p.1)) (sym given) (subst ArePaid next.is (paid_behind i all c.requires.1.1.1.1.1.1.0)) in
-    let texts = subst (λ (p : Row × List Row). HaveText (p.0 ∷ p.1)) (sym given) (subst HaveText next.is (every_behind HasText i all c.requires.1.1.1.1.1.1.1)) in
+    let texts = subst (λ (p : Row × List Row). TextsAreFilled (p.0 ∷ p.1)) (sym given) (subst TextsAreFilled next.is (every_behind TextIsFilled i all c.requires.1.1.1.1.1.1.1)) in
     let passed = subst (λ (n : ℕ). AreEarlier n c.loop-i.passed.from c.loop-i.passed.to stack) (sym (number_at t bytes rows all i x c.loop-i-test.true c.index-rows-i.is c.requires.1.1.0)) c.loop-i.invariant.passed in
     (outlives, (c.requires.1.0, (take_rest rows i ∙ split, (left, (ahead, (lazy, (paid, (texts, (c.loop-i.invariant.stood, (c.loop-i.invariant.spans, passed))))))))))
+
+next-one : (n : ℕ) → 1 + n ≡ suc n
+next-one n = omega arith
+
+-- one turn more
+enough-before : (turns more budget spans containers from to opens : ℕ) (rs qs : List Row) → more ≡ turns + 1 → rs ≡ qs → IsEnough turns budget spans containers from to opens rs → IsEnough more (budget + 1) spans containers from to opens qs
+enough-before turns more budget spans containers from to opens rs qs e is h = record { asked = h.asked; are = subst (IsAsked h.asked from to opens) is h.are; enough = omega (arith, e, h.enough) }
 
 pub loop-i-preserved : goal.loop-i-preserved
 loop-i-preserved g c =
@@ -132,11 +149,18 @@ loop-i-preserved g c =
     ap (λ (p : Row × List Row). drop lines p.1) given ∙ drop-drop lines (i + 1) all ∙ ap (λ k. drop k all) on in
     let here : (lines_from (length all - length (take (length rows - i) (drop i rows))) all).0 ∷ (lines_from (length all - length (take (length rows - i) (drop i rows))) all).1 ≡ drop i all =
     ap (λ (p : Row × List Row). p.0 ∷ p.1) given ∙ sym next.is in
+    let mine = lines_from (length all - length (take (length rows - i) (drop i rows))) all in
+    let before = enough-before c.loop-i.turns c.add_one.new.self (c.args.turns.now + 150 * columns_in (take i rows)) (length c.loop-i.frames.items) c.loop-i.stood.containers c.loop-i.passed.from c.loop-i.passed.to (length c.loop-i.stack.items) (drop i all) (mine.0 ∷ mine.1) c.add_one.ensures (sym here) c.loop-i.invariant.enough in
+    let behind = c.in_ok-part.ensures.paid (c.args.turns.now + 150 * columns_in (take i rows) + 1) before in
+    let size = columns_add rows i (1 + lines) in
+    let one : columns_in (take (1 + lines) (drop i rows)) ≡ suc x.span.size + columns_in (take lines slice) = (λ k. columns_in (take (next-one lines k) (split k))) in
     let events = c.loop-i.skeleton.events.items in
     let new = c.write_part.new.skeleton in
     let f = letters_of_section c.args.on.now in
     record {
       within = omega (arith, c.in_ok-part.ensures.few, ap (λ (l : List RowAt). length l) rest, length-drop (i + 1) rows, c.loop-i-test.true);
+      enough = subst (λ (l : List Row). IsEnough c.write_part.new.turns (c.args.turns.now + 150 * columns_in (take (i + (1 + lines)) rows)) (length c.write_part.new.frames.items) c.in_ok-part.part.stood.containers c.in_ok-part.part.passed.from c.in_ok-part.part.passed.to (length c.write_part.new.stack.items) l) all_is
+          (record { asked = behind.asked; are = behind.are; enough = omega (arith, behind.enough, size, one) });
       left = subst (λ (l : List Row). AreLeft bytes t stack (drop (i + (1 + lines)) rows) l) all_is (subst (λ (l : List RowAt). AreLeft bytes t stack l (drop lines (lines_from (length all - length (take (length rows - i) (drop i rows))) all).1)) rows_is c.in_ok-part.ensures.left);
       lazy = subst FirstIsNotLazy all_is c.in_ok-part.ensures.lazy;
       passed = earlier_later x.span.number (i + (1 + lines) + 1) c.in_ok-part.part.passed.from c.in_ok-part.part.passed.to stack (omega (arith, number_at t bytes rows all i x c.loop-i-test.true c.index-rows-i.is c.requires.1.1.0)) c.in_ok-part.ensures.passed;
@@ -166,8 +190,43 @@ returns g c =
     let es = c.loop-i.skeleton.events.items in
     let wrote = c.in_ok-end_part.ensures.events ∙ ap (λ n. es ++ (events_of (exits_to (drop n fs) c.loop-i.end.place) ++ events_of (ending_to c.loop-i.end))) none_kept in
     let letters = c.loop-i.skeleton.letters.items in
+    let few = few_columns c.args.rows.now c.loop-i.i in
+    let sc = c.loop-i.stood.containers in
+    let asked = c.loop-i.invariant.enough.asked in
+    let paid : c.loop-i.turns + (length c.loop-i.frames.items + (sc + (asked + 4 * (asked - sc)))) ≤ c.args.turns.now + 150 * columns_in (take c.loop-i.i c.args.rows.now) = c.loop-i.invariant.enough.enough in
     record {
+      turns = omega (arith, paid, c.end_part.ensures.turns, few);
       events = write-end bytes es c.end_part.new.events.items fs c.loop-i.end (sections on (drop i all)) (sections_marks bytes (sections on all)) nothing wrote c.loop-i.invariant.written;
       letters = sym (append-nil letters) ∙ ap (λ l. letters ++ flat_map (letters_of_section on) l) (sym nothing) ∙ c.loop-i.invariant.letters;
       labels = λ label. sym (or-none (defines c.loop-i.skeleton.labels label)) ∙ ap (λ l. defines c.loop-i.skeleton.labels label || is_one_of (flat_map labels_of_section l) label) (sym nothing) ∙ c.loop-i.invariant.labels label;
     }
+
+pub returns-in_err-end_part-clause-turns : goal.returns-in_err-end_part-clause-turns
+returns-in_err-end_part-clause-turns g c =
+    let few = few_columns c.args.rows.now c.loop-i.i in
+    let sc = c.loop-i.stood.containers in
+    let asked = c.loop-i.invariant.enough.asked in
+    let paid : c.loop-i.turns + (length c.loop-i.frames.items + (sc + (asked + 4 * (asked - sc)))) ≤ c.args.turns.now + 150 * columns_in (take c.loop-i.i c.args.rows.now) = c.loop-i.invariant.enough.enough in
+    omega (arith, paid, c.end_part.ensures.turns, few)
+
+pub returns-in_err-part-clause-turns : goal.returns-in_err-part-clause-turns
+returns-in_err-part-clause-turns g c =
+    let i = c.loop-i.i in
+    let t = c.args.tab in
+    let bytes = c.args.bytes.now in
+    let rows = c.args.rows.now in
+    let all = g.all in
+    let x = c.index-rows-i.result in
+    let slice = take (length rows - (i + 1)) (drop (i + 1) rows) in
+    let split = line_at_index rows i x _ c.loop-i-test.true c.index-rows-i.is in
+    let next = next_of t bytes (map open_of c.loop-i.stack.items) all x slice (drop i rows) i split c.loop-i.invariant.left in
+    let many : length rows ≡ length all = rows-few rows all (these-in t bytes [] 1 0 rows all c.requires.1.1.0).rows in
+    let given = lines-left rows all i next.row c.loop-i-test.true many next.is in
+    let here : (lines_from (length all - length (take (length rows - i) (drop i rows))) all).0 ∷ (lines_from (length all - length (take (length rows - i) (drop i rows))) all).1 ≡ drop i all =
+    ap (λ (p : Row × List Row). p.0 ∷ p.1) given ∙ sym next.is in
+    let mine = lines_from (length all - length (take (length rows - i) (drop i rows))) all in
+    let before = enough-before c.loop-i.turns c.add_one.new.self (c.args.turns.now + 150 * columns_in (take i rows)) (length c.loop-i.frames.items) c.loop-i.stood.containers c.loop-i.passed.from c.loop-i.passed.to (length c.loop-i.stack.items) (drop i all) (mine.0 ∷ mine.1) c.add_one.ensures (sym here) c.loop-i.invariant.enough in
+    let behind = c.write_part.ensures.turns (c.args.turns.now + 150 * columns_in (take i rows) + 1) before in
+    let size = columns_parts rows i in
+    let one = ap columns_in split in
+    omega (arith, behind, size, one)

@@ -1,7 +1,7 @@
-use Rattle.std.proofs.Common.{◌≡◌, ◌≤◌, ◌+◌, ◌-◌, ◌++◌, ℕ, List, length, drop, map}
+use Rattle.std.proofs.Common.{◌≡◌, ◌≤◌, ◌+◌, ◌-◌, ◌++◌, ℕ, List, length, drop, map, ◌*◌, take}
 use Rattle.std.specs.Prelude.{◌||◌, false, None}
 use Rattle.std.specs.List.{flat_map}
-use Rattle.mdconstructs_containers.specs.Costs.{FirstIsNotLazy}
+use Rattle.mdconstructs_containers.specs.Costs.{FirstIsNotLazy, IsEnough, columns_in}
 use Rattle.mdconstructs_containers.specs.Frames.{frame_of}
 use Rattle.mdconstructs_containers.specs.Over.{AreEarlier}
 use Rattle.mdconstructs_containers.specs.Rest.{AreLeft}
@@ -19,6 +19,7 @@ use Rattle.mdconstructs_definitions.proofs.parts.skeleton_by.Given as goal
 abbrev pub invariant-loop-i : goal.invariant-loop-i
 invariant-loop-i g l = record {
   within : l.i ≤ length l.rows;
+  enough : IsEnough l.turns (l.fn.turns + 150 * columns_in (take l.i l.rows)) (length l.frames.items) l.stood.containers l.passed.from l.passed.to (length l.stack.items) (drop l.i g.all);
   left : AreLeft l.bytes l.tab (map open_of l.stack.items) (drop l.i l.rows) (drop l.i g.all);
   lazy : FirstIsNotLazy (drop l.i g.all);
   passed : AreEarlier (l.i + 1) l.passed.from l.passed.to (map open_of l.stack.items);

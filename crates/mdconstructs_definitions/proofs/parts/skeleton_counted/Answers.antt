@@ -9,6 +9,8 @@ use Rattle.mdconstructs_containers.specs.Spans.{AreRowsIn}
 use Rattle.mdconstructs_definitions.specs.Rows.{rows}
 use Rattle.mdconstructs_definitions.proofs.KnownRows.{all-paid, first-paid, known-in}
 use Rattle.mdconstructs_definitions.proofs.PartTexts.{all-texts}
+use Rattle.mdconstructs_containers.specs.Costs.{columns_in}
+use Rattle.mdconstructs_containers.proofs.ColumnLemmas.{all_columns, many_columns}
 use Rattle.mdconstructs_definitions.proofs.parts.skeleton_counted.Goals as goal
 
 -- what lies ahead, by equal lists
@@ -33,3 +35,29 @@ skeleton_by-requires g c = λ lifetimes outlives.
     let sizes = ap (λ (l : List Ahead). length l) c.as_slice-3.ensures.value ∙ c.in_ok-aheads.ensures.len ∙ ap (λ (l : List RowAt). length l) (sym one) in
     let ahead_of_each = same_aheads c.as_slice-2.result.now c.as_slice.result.now c.as_slice-3.result.now c.in_ok-aheads.aheads.items all one c.as_slice-3.ensures.value aheads in
     (outlives, (c.requires.limit, (subst (λ (l : List RowAt). AreRowsIn t bytes [] 1 0 l all) (sym c.as_slice-2.ensures.value) are, (sizes, (ahead_of_each, (first-paid on ls, (all-paid on ls, all-texts on ls)))))))
+
+pub returns-in_err-aheads-clause-turns : goal.returns-in_err-aheads-clause-turns
+returns-in_err-aheads-clause-turns g c =
+    let some : 0 < c.args.tab = omega (arith, c.get-tab_size.ensures.least, c.get-tab_size.ensures.columns) in
+    let columns = all_columns c.args.tab c.args.bytes.now some c.in_ok-rows.rows.items c.in_ok-rows.ensures.placed in
+    let many = many_columns c.in_ok-rows.rows.items in
+    let first = ap (λ (l : List RowAt). length l) c.as_slice.ensures.value in
+    omega (arith, columns, many, first, c.rows_with_definitions.ensures.turns, c.aheads_of.ensures.turns)
+
+pub returns-in_err-skeleton-clause-turns : goal.returns-in_err-skeleton-clause-turns
+returns-in_err-skeleton-clause-turns g c =
+    let some : 0 < c.args.tab = omega (arith, c.get-tab_size.ensures.least, c.get-tab_size.ensures.columns) in
+    let columns = all_columns c.args.tab c.args.bytes.now some c.in_ok-rows.rows.items c.in_ok-rows.ensures.placed in
+    let many = many_columns c.in_ok-rows.rows.items in
+    let first = ap (λ (l : List RowAt). length l) c.as_slice.ensures.value in
+    let second = ap columns_in c.as_slice-2.ensures.value in
+    omega (arith, columns, many, first, c.rows_with_definitions.ensures.turns, c.aheads_of.ensures.turns, second, c.skeleton_by.ensures.turns)
+
+pub returns-clause-turns : goal.returns-clause-turns
+returns-clause-turns g c =
+    let some : 0 < c.args.tab = omega (arith, c.get-tab_size.ensures.least, c.get-tab_size.ensures.columns) in
+    let columns = all_columns c.args.tab c.args.bytes.now some c.in_ok-rows.rows.items c.in_ok-rows.ensures.placed in
+    let many = many_columns c.in_ok-rows.rows.items in
+    let first = ap (λ (l : List RowAt). length l) c.as_slice.ensures.value in
+    let second = ap columns_in c.as_slice-2.ensures.value in
+    omega (arith, columns, many, first, c.rows_with_definitions.ensures.turns, c.aheads_of.ensures.turns, second, c.skeleton_by.ensures.turns)

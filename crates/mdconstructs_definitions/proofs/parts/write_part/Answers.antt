@@ -1,27 +1,20 @@
-use Rattle.std.proofs.Common.{◌≡◌, ℕ, suc, ◌+◌, ◌-◌, ◌<◌, ◌≤◌, ◌^◌, ◌*◌, true, cond, List, [], ◌∷◌, ◌++◌, length, take, drop, map, min, length-take, refl, sym, ap, ◌∙◌, subst, arith}
+use Rattle.std.proofs.Common.{◌≡◌, ℕ, suc, ◌+◌, ◌<◌, ◌≤◌, ◌*◌, true, cond, List, [], ◌∷◌, ◌++◌, length, take, drop, map, min, length-take, refl, sym, ap, ◌∙◌, subst, arith}
 use Rattle.std.specs.Prelude.{◌||◌, None, false}
 use Rattle.std.specs.List.{flat_map}
 use Rattle.std.proofs.lemmas.List.{append-nil, length-map}
-use Rattle.markdown_base.specs.declared.event.Event.{Event}
-use Rattle.markdown_base.specs.Virtual.{point}
 use Rattle.mdconstructs_flow_read.specs.LeafEvents.{Mark}
 use Rattle.mdconstructs_lines.specs.Containers.{Container, Prefix}
-use Rattle.mdconstructs_containers.specs.declared.frames.Frame.{Frame}
 use Rattle.mdconstructs_containers.specs.declared.going.Open.{Open}
 use Rattle.mdconstructs_containers.specs.declared.spans.RowAt.{RowAt}
-use Rattle.mdconstructs_containers.specs.Ahead.{ahead_of}
-use Rattle.mdconstructs_containers.specs.Costs.{FirstIsNotLazy}
+use Rattle.mdconstructs_containers.specs.Costs.{FirstIsNotLazy, IsEnough, columns_in}
 use Rattle.mdconstructs_containers.specs.Frames.{frame_of, frames_in}
 use Rattle.mdconstructs_containers.specs.Over.{AreEarlier}
-use Rattle.mdconstructs_containers.specs.Parts.{open_behind}
-use Rattle.mdconstructs_containers.specs.Rest.{AreLeft, ending_to, exits_to, rest_marks}
-use Rattle.mdconstructs_containers.specs.Rows.{Row, has_none, holds_ending}
-use Rattle.mdconstructs_containers.specs.SeatPlaces.{events_of}
+use Rattle.mdconstructs_containers.specs.Rest.{AreLeft}
+use Rattle.mdconstructs_containers.specs.Rows.{has_none}
 use Rattle.mdconstructs_containers.specs.Skeleton.{frames_at, frames_of}
 use Rattle.mdconstructs_containers.specs.Prefixes.{containers_of}
 use Rattle.mdconstructs_containers.specs.Stood.{IsStood}
-use Rattle.mdconstructs_containers.specs.Stretches.{HasFurther, InStretch, end_at, last_at}
-use Rattle.mdconstructs_containers.specs.Views.{begun_of, leaf_of, open_of}
+use Rattle.mdconstructs_containers.specs.Views.{begun_of, open_of}
 use Rattle.mdconstructs_containers.specs.Written.{Written}
 use Rattle.mdconstructs_containers.proofs.CostLemmas.{going_sizes}
 use Rattle.mdconstructs_containers.proofs.FrameFacts.{none_is}
@@ -37,7 +30,14 @@ use Rattle.mdconstructs_definitions.specs.Skeleton.{behind_marks, labels_of_sect
 use Rattle.mdconstructs_definitions.specs.Within.{last_of, rest_sections}
 use Rattle.mdconstructs_definitions.proofs.PartSections.{behind-part, labels-step, letters-step, next-not-lazy, part-begun, part-section, part-texts, stands-all, write-begin}
 use Rattle.mdconstructs_labels.specs.Defined.{defines}
+use Rattle.mdconstructs_containers.proofs.ColumnLemmas.{few_columns}
+use Rattle.mdconstructs_containers.proofs.PartCosts.{part_open, part_paid, part_turned}
+use Rattle.mdconstructs_definitions.specs.Costs.{bytes_in}
+use Rattle.mdconstructs_definitions.proofs.SectionFacts.{left-bytes}
 use Rattle.mdconstructs_definitions.proofs.parts.write_part.Goals as goal
+
+least-is : (m n : ℕ) → m ≤ n → min m n ≡ m
+least-is m n h = omega (arith, h)
 
 pub begin_part-requires : goal.begin_part-requires
 begin_part-requires g c =
@@ -218,6 +218,72 @@ returns g c =
     let n = sym c.lines_of-lines.ensures in
     let part = part_of r rs in
     record {
+      turns = λ budget before.
+          let t = c.args.tab in
+          let bytes = c.args.bytes.now in
+          let some : 0 < c.args.tab = omega (arith, c.get-tab_size.ensures.least, c.get-tab_size.ensures.columns) in
+          let limit = c.requires.1.0 in
+          let stack = map open_of c.args.stack.now.items in
+          let first = c.args.first.now in
+          let behind = c.args.behind.now in
+          let r = g.given.0 in
+          let rs = g.given.1 in
+          let left = c.requires.1.1.1.0 in
+          let ae = c.requires.1.1.1.1.0 in
+          let paid = c.requires.1.1.1.1.1.1.0 in
+          let the = the_row t bytes some limit stack first behind r rs left in
+          let small : r.columns ≤ first.span.size = omega (arith, left.are.0.placed.columns, left.are.0.is.columns) in
+          let few : first.row.many ≤ length c.args.stack.now.items = omega (arith, left.are.0.many, length-map c.args.stack.now.items open_of) in
+          let own : length c.first_of-own.result.now ≡ c.in_ok-all.all =
+          ap (λ (l : List Open). length l) (c.first_of-own.ensures ∙ ap (take c.in_ok-all.all) c.as_slice-2.ensures.value) ∙ length-take c.in_ok-all.all c.open_in.new.stack.items ∙ least-is c.in_ok-all.all (length c.open_in.new.stack.items) (c.in_ok-all.ensures.few few) in
+          let shown : length c.first_of-shown.result.now ≡ c.standing-stands.result =
+          ap (λ (l : List Open). length l) c.first_of-shown.ensures ∙ length-take c.standing-stands.result c.first_of-own.result.now ∙ least-is c.standing-stands.result (length c.first_of-own.result.now) c.standing-stands.ensures.few in
+          let turned = part_turned r rs paid first.span.number first.row the first.span.size small c.args.turns.now budget (length c.args.frames.now.items) c.args.stood.containers c.args.passed.from c.args.passed.to (length c.args.stack.now.items) before c.stood_in-went.new.turns c.stood_in-went.result.containers c.open_in.new.turns c.stood_in-went.ensures.turns c.open_in.ensures.turns
+          few c.stood_in-went.ensures.least c.in_ok-all.all c.in_ok-all.ensures.fewer (c.in_ok-all.ensures.least few) c.args.ahead ae c.passed_in-seen.result c.passed_in-seen.ensures c.standing-stands.new.turns c.standing-stands.result
+          (omega (arith, c.standing-stands.ensures.turns, own)) c.standing-stands.ensures.asked c.standing-stands.ensures.below (omega (arith, c.standing-stands.ensures.few, own)) c.stood_in-kept.new.turns c.stood_in-kept.result.containers c.stood_in-kept.ensures.turns c.stood_in-kept.ensures.least c.go_to_part.new.turns (omega (arith, c.go_to_part.ensures.turns, shown)) in
+          let line = line_size t bytes some limit stack first behind r rs left in
+          let lines = c.lines_of-lines.result in
+          let one : lines + 1 ≡ suc lines = omega arith in
+          let filled : bytes_in t bytes (take (lines + 1) c.args.rows.now) ≡ suc first.span.size + columns_in (take lines behind) =
+          (λ k. bytes_in t bytes (take (one k) (c.requires.1.1.0 k))) ∙ sym (left-bytes t bytes stack (suc lines) (first ∷ behind) (r ∷ rs) left) in
+          let more = few_columns behind lines in
+          omega (arith, turned, line, filled, more, c.begin_part.ensures.turns, c.fill_part.ensures.turns);
+      paid = λ budget before.
+          let t = c.args.tab in
+          let bytes = c.args.bytes.now in
+          let some : 0 < c.args.tab = omega (arith, c.get-tab_size.ensures.least, c.get-tab_size.ensures.columns) in
+          let limit = c.requires.1.0 in
+          let stack = map open_of c.args.stack.now.items in
+          let first = c.args.first.now in
+          let behind = c.args.behind.now in
+          let r = g.given.0 in
+          let rs = g.given.1 in
+          let left = c.requires.1.1.1.0 in
+          let ae = c.requires.1.1.1.1.0 in
+          let paid = c.requires.1.1.1.1.1.1.0 in
+          let the = the_row t bytes some limit stack first behind r rs left in
+          let small : r.columns ≤ first.span.size = omega (arith, left.are.0.placed.columns, left.are.0.is.columns) in
+          let few : first.row.many ≤ length c.args.stack.now.items = omega (arith, left.are.0.many, length-map c.args.stack.now.items open_of) in
+          let own : length c.first_of-own.result.now ≡ c.in_ok-all.all =
+          ap (λ (l : List Open). length l) (c.first_of-own.ensures ∙ ap (take c.in_ok-all.all) c.as_slice-2.ensures.value) ∙ length-take c.in_ok-all.all c.open_in.new.stack.items ∙ least-is c.in_ok-all.all (length c.open_in.new.stack.items) (c.in_ok-all.ensures.few few) in
+          let shown : length c.first_of-shown.result.now ≡ c.standing-stands.result =
+          ap (λ (l : List Open). length l) c.first_of-shown.ensures ∙ length-take c.standing-stands.result c.first_of-own.result.now ∙ least-is c.standing-stands.result (length c.first_of-own.result.now) c.standing-stands.ensures.few in
+          let line = line_size t bytes some limit stack first behind r rs left in
+          let lines = c.lines_of-lines.result in
+          let one : lines + 1 ≡ suc lines = omega arith in
+          let filled : bytes_in t bytes (take (lines + 1) c.args.rows.now) ≡ suc first.span.size + columns_in (take lines behind) =
+          (λ k. bytes_in t bytes (take (one k) (c.requires.1.1.0 k))) ∙ sym (left-bytes t bytes stack (suc lines) (first ∷ behind) (r ∷ rs) left) in
+          let more = few_columns behind lines in
+          let cost = 142 * first.span.size + 135 + 131 * columns_in (take lines behind) in
+          let enough = part_paid r rs paid first.span.number first.row the first.span.size small c.args.turns.now budget (length c.args.frames.now.items) c.args.stood.containers c.args.passed.from c.args.passed.to (length c.args.stack.now.items) before c.stood_in-went.new.turns c.stood_in-went.result.containers c.open_in.new.turns c.stood_in-went.ensures.turns c.open_in.ensures.turns
+          few c.stood_in-went.ensures.least c.in_ok-all.all c.in_ok-all.ensures.fewer (c.in_ok-all.ensures.least few) c.args.ahead ae c.passed_in-seen.result c.passed_in-seen.ensures c.standing-stands.new.turns c.standing-stands.result
+          (omega (arith, c.standing-stands.ensures.turns, own)) c.standing-stands.ensures.asked c.standing-stands.ensures.below (omega (arith, c.standing-stands.ensures.few, own)) c.stood_in-kept.new.turns c.stood_in-kept.result.containers c.stood_in-kept.ensures.turns c.stood_in-kept.ensures.least
+          (λ b. omega (arith, c.standing-stands.ensures.least b, own)) (length c.open_in.new.stack.items) c.passed_by-next_passed.result.from c.passed_by-next_passed.result.to lines (length c.go_to_part.new.frames.items) c.go_to_part.new.turns c.fill_part.new.turns cost
+          c.in_ok-all.ensures.whole c.passed_by-next_passed.ensures.from c.passed_by-next_passed.ensures.to c.lines_of-lines.ensures (omega (arith, c.in_ok-next.ensures.paid, shown)) (omega (arith, line, filled, c.begin_part.ensures.turns, c.fill_part.ensures.turns)) in
+          let stands : c.in_ok-next.next.containers ≡ c.standing-stands.result = c.in_ok-next.ensures.containers ∙ shown in
+          let wider : budget + (7 * first.span.size + 1 + cost) ≤ budget + 149 * first.span.size + 136 + 131 * columns_in (take lines behind) = omega arith in
+          subst (λ (s : ℕ). IsEnough c.fill_part.new.turns (budget + 149 * first.span.size + 136 + 131 * columns_in (take lines behind)) (length c.go_to_part.new.frames.items) s c.passed_by-next_passed.result.from c.passed_by-next_passed.result.to (length c.open_in.new.stack.items) (drop lines rs)) (sym stands)
+          (record { asked = enough.asked; are = enough.are; enough = omega (arith, enough.enough, wider) });
       passed = passed_next first.span.number c.standing-stands.result c.in_ok-all.all c.passed_by-next_passed.result.from c.passed_by-next_passed.result.to all_own all_open first.row.is_blank (has_none first.row.begun.items) all_own_is all_few
           c.passed_by-next_passed.ensures.from c.passed_by-next_passed.ensures.to
           (λ b. subst (λ (n : ℕ). AreEarlier first.span.number c.standing-stands.result n all_own) (sym (length-map c.first_of-own.result.now open_of)) (c.standing-stands.ensures.passed b));
@@ -244,3 +310,107 @@ returns g c =
       labels = λ label. subst (λ (n : ℕ). (defines c.fill_part.new.skeleton.labels label || is_one_of (flat_map labels_of_section (sections on (drop n rs))) label) ≡ (defines c.args.skeleton.now.labels label || is_one_of (flat_map labels_of_section (sections on (r ∷ rs))) label)) n
           (labels-step t bytes some limit stack first behind r rs left ahead ae on label (defines c.args.skeleton.now.labels label) (defines c.fill_part.new.skeleton.labels label) (c.in_ok-end.ensures.labels label));
     }
+
+pub returns-in_err-all-clause-turns : goal.returns-in_err-all-clause-turns
+returns-in_err-all-clause-turns g c = λ budget before.
+    let t = c.args.tab in
+    let bytes = c.args.bytes.now in
+    let some : 0 < c.args.tab = omega (arith, c.get-tab_size.ensures.least, c.get-tab_size.ensures.columns) in
+    let limit = c.requires.1.0 in
+    let stack = map open_of c.args.stack.now.items in
+    let first = c.args.first.now in
+    let behind = c.args.behind.now in
+    let r = g.given.0 in
+    let rs = g.given.1 in
+    let left = c.requires.1.1.1.0 in
+    let ae = c.requires.1.1.1.1.0 in
+    let paid = c.requires.1.1.1.1.1.1.0 in
+    let the = the_row t bytes some limit stack first behind r rs left in
+    let small : r.columns ≤ first.span.size = omega (arith, left.are.0.placed.columns, left.are.0.is.columns) in
+    let opened = part_open r rs paid first.span.number first.row the first.span.size small c.args.turns.now budget (length c.args.frames.now.items) c.args.stood.containers c.args.passed.from c.args.passed.to (length c.args.stack.now.items) before c.stood_in-went.new.turns c.stood_in-went.result.containers c.open_in.new.turns c.stood_in-went.ensures.turns c.open_in.ensures.turns in
+    omega (arith, opened)
+
+pub returns-in_err-next-clause-turns : goal.returns-in_err-next-clause-turns
+returns-in_err-next-clause-turns g c = λ budget before.
+    let t = c.args.tab in
+    let bytes = c.args.bytes.now in
+    let some : 0 < c.args.tab = omega (arith, c.get-tab_size.ensures.least, c.get-tab_size.ensures.columns) in
+    let limit = c.requires.1.0 in
+    let stack = map open_of c.args.stack.now.items in
+    let first = c.args.first.now in
+    let behind = c.args.behind.now in
+    let r = g.given.0 in
+    let rs = g.given.1 in
+    let left = c.requires.1.1.1.0 in
+    let ae = c.requires.1.1.1.1.0 in
+    let paid = c.requires.1.1.1.1.1.1.0 in
+    let the = the_row t bytes some limit stack first behind r rs left in
+    let small : r.columns ≤ first.span.size = omega (arith, left.are.0.placed.columns, left.are.0.is.columns) in
+    let few : first.row.many ≤ length c.args.stack.now.items = omega (arith, left.are.0.many, length-map c.args.stack.now.items open_of) in
+    let own : length c.first_of-own.result.now ≡ c.in_ok-all.all =
+    ap (λ (l : List Open). length l) (c.first_of-own.ensures ∙ ap (take c.in_ok-all.all) c.as_slice-2.ensures.value) ∙ length-take c.in_ok-all.all c.open_in.new.stack.items ∙ least-is c.in_ok-all.all (length c.open_in.new.stack.items) (c.in_ok-all.ensures.few few) in
+    let shown : length c.first_of-shown.result.now ≡ c.standing-stands.result =
+    ap (λ (l : List Open). length l) c.first_of-shown.ensures ∙ length-take c.standing-stands.result c.first_of-own.result.now ∙ least-is c.standing-stands.result (length c.first_of-own.result.now) c.standing-stands.ensures.few in
+    let turned = part_turned r rs paid first.span.number first.row the first.span.size small c.args.turns.now budget (length c.args.frames.now.items) c.args.stood.containers c.args.passed.from c.args.passed.to (length c.args.stack.now.items) before c.stood_in-went.new.turns c.stood_in-went.result.containers c.open_in.new.turns c.stood_in-went.ensures.turns c.open_in.ensures.turns
+    few c.stood_in-went.ensures.least c.in_ok-all.all c.in_ok-all.ensures.fewer (c.in_ok-all.ensures.least few) c.args.ahead ae c.passed_in-seen.result c.passed_in-seen.ensures c.standing-stands.new.turns c.standing-stands.result
+    (omega (arith, c.standing-stands.ensures.turns, own)) c.standing-stands.ensures.asked c.standing-stands.ensures.below (omega (arith, c.standing-stands.ensures.few, own)) c.stood_in-kept.new.turns c.stood_in-kept.result.containers c.stood_in-kept.ensures.turns c.stood_in-kept.ensures.least c.go_to_part.new.turns (omega (arith, c.go_to_part.ensures.turns, shown)) in
+    omega (arith, turned)
+
+pub returns-in_err-begin-clause-turns : goal.returns-in_err-begin-clause-turns
+returns-in_err-begin-clause-turns g c = λ budget before.
+    let t = c.args.tab in
+    let bytes = c.args.bytes.now in
+    let some : 0 < c.args.tab = omega (arith, c.get-tab_size.ensures.least, c.get-tab_size.ensures.columns) in
+    let limit = c.requires.1.0 in
+    let stack = map open_of c.args.stack.now.items in
+    let first = c.args.first.now in
+    let behind = c.args.behind.now in
+    let r = g.given.0 in
+    let rs = g.given.1 in
+    let left = c.requires.1.1.1.0 in
+    let ae = c.requires.1.1.1.1.0 in
+    let paid = c.requires.1.1.1.1.1.1.0 in
+    let the = the_row t bytes some limit stack first behind r rs left in
+    let small : r.columns ≤ first.span.size = omega (arith, left.are.0.placed.columns, left.are.0.is.columns) in
+    let few : first.row.many ≤ length c.args.stack.now.items = omega (arith, left.are.0.many, length-map c.args.stack.now.items open_of) in
+    let own : length c.first_of-own.result.now ≡ c.in_ok-all.all =
+    ap (λ (l : List Open). length l) (c.first_of-own.ensures ∙ ap (take c.in_ok-all.all) c.as_slice-2.ensures.value) ∙ length-take c.in_ok-all.all c.open_in.new.stack.items ∙ least-is c.in_ok-all.all (length c.open_in.new.stack.items) (c.in_ok-all.ensures.few few) in
+    let shown : length c.first_of-shown.result.now ≡ c.standing-stands.result =
+    ap (λ (l : List Open). length l) c.first_of-shown.ensures ∙ length-take c.standing-stands.result c.first_of-own.result.now ∙ least-is c.standing-stands.result (length c.first_of-own.result.now) c.standing-stands.ensures.few in
+    let turned = part_turned r rs paid first.span.number first.row the first.span.size small c.args.turns.now budget (length c.args.frames.now.items) c.args.stood.containers c.args.passed.from c.args.passed.to (length c.args.stack.now.items) before c.stood_in-went.new.turns c.stood_in-went.result.containers c.open_in.new.turns c.stood_in-went.ensures.turns c.open_in.ensures.turns
+    few c.stood_in-went.ensures.least c.in_ok-all.all c.in_ok-all.ensures.fewer (c.in_ok-all.ensures.least few) c.args.ahead ae c.passed_in-seen.result c.passed_in-seen.ensures c.standing-stands.new.turns c.standing-stands.result
+    (omega (arith, c.standing-stands.ensures.turns, own)) c.standing-stands.ensures.asked c.standing-stands.ensures.below (omega (arith, c.standing-stands.ensures.few, own)) c.stood_in-kept.new.turns c.stood_in-kept.result.containers c.stood_in-kept.ensures.turns c.stood_in-kept.ensures.least c.go_to_part.new.turns (omega (arith, c.go_to_part.ensures.turns, shown)) in
+    let line = line_size t bytes some limit stack first behind r rs left in
+    omega (arith, turned, line, c.begin_part.ensures.turns)
+
+pub returns-in_err-end-clause-turns : goal.returns-in_err-end-clause-turns
+returns-in_err-end-clause-turns g c = λ budget before.
+    let t = c.args.tab in
+    let bytes = c.args.bytes.now in
+    let some : 0 < c.args.tab = omega (arith, c.get-tab_size.ensures.least, c.get-tab_size.ensures.columns) in
+    let limit = c.requires.1.0 in
+    let stack = map open_of c.args.stack.now.items in
+    let first = c.args.first.now in
+    let behind = c.args.behind.now in
+    let r = g.given.0 in
+    let rs = g.given.1 in
+    let left = c.requires.1.1.1.0 in
+    let ae = c.requires.1.1.1.1.0 in
+    let paid = c.requires.1.1.1.1.1.1.0 in
+    let the = the_row t bytes some limit stack first behind r rs left in
+    let small : r.columns ≤ first.span.size = omega (arith, left.are.0.placed.columns, left.are.0.is.columns) in
+    let few : first.row.many ≤ length c.args.stack.now.items = omega (arith, left.are.0.many, length-map c.args.stack.now.items open_of) in
+    let own : length c.first_of-own.result.now ≡ c.in_ok-all.all =
+    ap (λ (l : List Open). length l) (c.first_of-own.ensures ∙ ap (take c.in_ok-all.all) c.as_slice-2.ensures.value) ∙ length-take c.in_ok-all.all c.open_in.new.stack.items ∙ least-is c.in_ok-all.all (length c.open_in.new.stack.items) (c.in_ok-all.ensures.few few) in
+    let shown : length c.first_of-shown.result.now ≡ c.standing-stands.result =
+    ap (λ (l : List Open). length l) c.first_of-shown.ensures ∙ length-take c.standing-stands.result c.first_of-own.result.now ∙ least-is c.standing-stands.result (length c.first_of-own.result.now) c.standing-stands.ensures.few in
+    let turned = part_turned r rs paid first.span.number first.row the first.span.size small c.args.turns.now budget (length c.args.frames.now.items) c.args.stood.containers c.args.passed.from c.args.passed.to (length c.args.stack.now.items) before c.stood_in-went.new.turns c.stood_in-went.result.containers c.open_in.new.turns c.stood_in-went.ensures.turns c.open_in.ensures.turns
+    few c.stood_in-went.ensures.least c.in_ok-all.all c.in_ok-all.ensures.fewer (c.in_ok-all.ensures.least few) c.args.ahead ae c.passed_in-seen.result c.passed_in-seen.ensures c.standing-stands.new.turns c.standing-stands.result
+    (omega (arith, c.standing-stands.ensures.turns, own)) c.standing-stands.ensures.asked c.standing-stands.ensures.below (omega (arith, c.standing-stands.ensures.few, own)) c.stood_in-kept.new.turns c.stood_in-kept.result.containers c.stood_in-kept.ensures.turns c.stood_in-kept.ensures.least c.go_to_part.new.turns (omega (arith, c.go_to_part.ensures.turns, shown)) in
+    let line = line_size t bytes some limit stack first behind r rs left in
+    let lines = c.lines_of-lines.result in
+    let one : lines + 1 ≡ suc lines = omega arith in
+    let filled : bytes_in t bytes (take (lines + 1) c.args.rows.now) ≡ suc first.span.size + columns_in (take lines behind) =
+    (λ k. bytes_in t bytes (take (one k) (c.requires.1.1.0 k))) ∙ sym (left-bytes t bytes stack (suc lines) (first ∷ behind) (r ∷ rs) left) in
+    let more = few_columns behind lines in
+    omega (arith, turned, line, filled, more, c.begin_part.ensures.turns, c.fill_part.ensures.turns)

@@ -8,6 +8,7 @@ use Rattle.mdconstructs_definitions.proofs.sections.push_lines.Goals as goal
 pub loop-i-init : goal.loop-i-init
 loop-i-init g c = record {
   within = omega arith;
+  turns = omega arith;
   pushed = λ all are around before are_before. pushed-init c.args.sections.now.items before all around c.args.is_behind c.begins_behind-behind.result are_before (c.begins_behind-behind.ensures ∙ ap (λ b. c.args.is_behind && b) (begins-is c.args.rows.now all are));
 }
 
@@ -32,6 +33,7 @@ loop-i-preserved g c =
     let line = line-at rows c.args.aheads.now some.all i c.index-rows-i.result n some.are c.loop-i-test.true c.index-rows-i.is (c.requires.aheads some.all some.are) c.lines_of-further.ensures in
     record {
       within = line.few;
+      turns = omega (arith, c.loop-i.invariant.turns, c.add_one.ensures);
       pushed = λ all are around before are_before.
           let here = line-at rows c.args.aheads.now all i c.index-rows-i.result n are c.loop-i-test.true c.index-rows-i.is (c.requires.aheads all are) c.lines_of-further.ensures in
           let on : i + 1 + n ≡ i + (1 + n) = omega arith in
@@ -40,7 +42,7 @@ loop-i-preserved g c =
           c.in_ok-push.ensures.items here.rest here.size next refl c.lines_inside-inside.ensures (c.loop-i.invariant.pushed all are around before are_before);
     }
 
-pub returns : goal.returns
-returns g c = λ all are around before are_before.
+pub returns-clause-sections : goal.returns-clause-sections
+returns-clause-sections g c = λ all are around before are_before.
     let none : drop c.loop-i.i all ≡ [] = drop_all c.loop-i.i all (omega (arith, rows-few c.args.rows.now all are)) in
     pushed-end c.loop-i.sections.items c.loop-i.behind (drop c.loop-i.i all) around (before ++ undefined c.args.is_behind around all) none (c.loop-i.invariant.pushed all are around before are_before)

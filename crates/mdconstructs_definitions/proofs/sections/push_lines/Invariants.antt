@@ -1,4 +1,4 @@
-use Rattle.std.proofs.Common.{◌≤◌, ◌-◌, ◌++◌, List, drop, length}
+use Rattle.std.proofs.Common.{◌≤◌, ◌-◌, ◌++◌, List, drop, length, ◌+◌}
 use Rattle.mdconstructs_containers.specs.Ahead.{AreRows}
 use Rattle.mdconstructs_containers.specs.Rows.{Row}
 use Rattle.mdconstructs_containers.specs.Skeleton.{Part}
@@ -10,6 +10,7 @@ use Rattle.mdconstructs_definitions.proofs.sections.push_lines.Given as goal
 abbrev pub invariant-loop-i : goal.invariant-loop-i
 invariant-loop-i g l = record {
   within : l.i ≤ length l.rows;
+  turns : l.turns ≤ l.fn.turns + l.i;
   pushed : (all : List Row) → AreRows l.rows all → (around : Part) → (before : List Section) → AreSections l.fn.sections.items before → Pushed l.sections.items l.behind (drop l.i all) around (before ++ undefined l.is_behind around all);
 }
 

@@ -10,7 +10,7 @@ abbrev empty : Definition
 empty = record { label = record { from = 0; size = 0 }; destination = record { from = 0; size = 0 }; title = None; size = 0 }
 
 pub loop-definition-init : goal.loop-definition-init
-loop-definition-init g c = record { within = omega arith; left = c.requires; labels = λ label. refl }
+loop-definition-init g c = record { within = omega arith; turns = omega arith; left = c.requires; labels = λ label. refl }
 
 pub slice_bounds-written_label-count : goal.slice_bounds-written_label-count
 slice_bounds-written_label-count g c =
@@ -49,6 +49,7 @@ loop-definition-preserved g c =
     let next = next-definition text all i from empty c.loop-definition-test.true c.loop-definition.invariant.left in
     record {
       within = next.most;
+      turns = omega (arith, c.loop-definition.invariant.turns, c.add_one.ensures);
       left = next.left;
       labels = λ label.
           defined-more text all i from d c.loop-definition.labels c.define.new.self c.written_label.result.now _ label next

@@ -73,7 +73,7 @@ write_sections-requires g c = λ lifetimes outlives.
             (
               c.requires.1.1.1.1.0 filled,
               (
-                subst (λ (l : List CodeSection). AreSections l (sections_in c.args.on.now (suc (length g.part.more)) false g.part (all_rows g.part))) (sym c.as_slice.ensures.value) (c.in_ok-sections.ensures (all_rows g.part) these g.part),
+                subst (λ (l : List CodeSection). AreSections l (sections_in c.args.on.now (suc (length g.part.more)) false g.part (all_rows g.part))) (sym c.as_slice.ensures.value) (c.in_ok-sections.ensures.sections (all_rows g.part) these g.part),
                 (
                   are,
                   first-begun t bytes stack c.args.first.now c.args.rows.now c.args.more.now g.part (sections_in c.args.on.now (suc (length g.part.more)) false g.part (all_rows g.part)) c.args.begin c.requires.1.1.0 are c.requires.1.1.1.1.1.1,

@@ -1,8 +1,9 @@
-use Rattle.std.proofs.Common.{◌≡◌, ◌<◌, ◌∷◌, drop, length, map, sym, ap, ◌∙◌, arith}
+use Rattle.std.proofs.Common.{◌≡◌, ◌<◌, ◌∷◌, drop, length, map, sym, ap, ◌∙◌, arith, take}
 use Rattle.std.proofs.lemmas.List.{drop_more}
 use Rattle.mdconstructs_containers.specs.declared.spans.RowAt.{RowAt}
 use Rattle.mdconstructs_containers.specs.Views.{open_of}
 use Rattle.mdconstructs_definitions.proofs.SectionGoing.{next-begun, next-columns, next-written, some-rows}
+use Rattle.mdconstructs_definitions.specs.Costs.{bytes_in}
 use Rattle.mdconstructs_definitions.proofs.skeleton.go_on.Goals as goal
 
 pub go_to_section-requires-clause-columns : goal.go_to_section-requires-clause-columns
@@ -28,3 +29,17 @@ returns-clause-events g c =
     let x = c.index-behind-0.result in
     let split : rows ≡ x ∷ drop 1 rows = drop_more rows 0 x (some-rows (length rows) c.is_empty.result c.is_empty.ensures c.if-is_empty.false) ∙ ap (λ (y : RowAt). y ∷ drop 1 rows) (sym c.index-behind-0.is) in
     next-written c.args.tab c.args.bytes.now some c.requires.1.0 (map open_of c.args.stack.now) rows x (drop 1 rows) g.sections.1 split c.requires.1.1.0 c.args.events.now.items c.go_to_section.new.events.items g.sections.0 c.args.end c.requires.1.1.1 c.in_ok-place.ensures.marks
+
+pub returns-in_err-place-clause-turns : goal.returns-in_err-place-clause-turns
+returns-in_err-place-clause-turns g c =
+    let rows = c.args.behind.now in
+    let x = c.index-behind-0.result in
+    let split : rows ≡ x ∷ drop 1 rows = drop_more rows 0 x (some-rows (length rows) c.is_empty.result c.is_empty.ensures c.if-is_empty.false) ∙ ap (λ (y : RowAt). y ∷ drop 1 rows) (sym c.index-behind-0.is) in
+    omega (arith, c.go_to_section.ensures.turns, ap (λ l. bytes_in c.args.tab c.args.bytes.now (take 1 l)) split)
+
+pub returns-clause-turns : goal.returns-clause-turns
+returns-clause-turns g c =
+    let rows = c.args.behind.now in
+    let x = c.index-behind-0.result in
+    let split : rows ≡ x ∷ drop 1 rows = drop_more rows 0 x (some-rows (length rows) c.is_empty.result c.is_empty.ensures c.if-is_empty.false) ∙ ap (λ (y : RowAt). y ∷ drop 1 rows) (sym c.index-behind-0.is) in
+    omega (arith, c.go_to_section.ensures.turns, ap (λ l. bytes_in c.args.tab c.args.bytes.now (take 1 l)) split)

@@ -1,4 +1,4 @@
-use Rattle.std.proofs.Common.{◌≡◌, ◌++◌, drop, map, take, sym, ap, ◌∙◌, subst, append_assoc}
+use Rattle.std.proofs.Common.{◌≡◌, ◌++◌, arith, drop, map, take, sym, ap, ◌∙◌, subst, append_assoc}
 use Rattle.std.proofs.lemmas.List.{take-map}
 use Rattle.mdconstructs_lines.specs.Lines.{line_bytes}
 use Rattle.mdconstructs_containers.specs.Costs.{HasSize, HaveSizes}
@@ -36,4 +36,5 @@ returns g c =
           ∙ append_assoc old (ending_at end) prefixes ∙ (λ k. old ++ (ending_same end k ++ prefixes));
       columns = c.in_ok-at.ensures.columns ∙ (λ k. columns_of (going_on (front k) s.number t));
       place = c.in_ok-at.ensures.place;
+      turns = omega (arith, c.prefixes_of.ensures.turns);
     }

@@ -6,10 +6,11 @@ use Rattle.mdconstructs_containers.specs.Rows.{Row}
 use Rattle.mdconstructs_containers.proofs.LazyLemmas.{lazy_columns, lazy_inside, lazy_within}
 use Rattle.mdconstructs_definitions.specs.Sectioned.{AreFirst, BeginsFilled, letters_in}
 use Rattle.mdconstructs_definitions.proofs.SectionLetters.{first-next, letter-is, letters-more, none-left}
+use Rattle.mdconstructs_definitions.proofs.SectionCosts.{bytes-cut, bytes-first}
 use Rattle.mdconstructs_definitions.proofs.skeleton.push_letters.Goals as goal
 
 pub loop-at-init : goal.loop-at-init
-loop-at-init g c = record { left = c.requires.1.1.0; text = c.requires.1.1.1; letters = refl }
+loop-at-init g c = record { left = c.requires.1.1.0; text = c.requires.1.1.1; turns = omega arith; letters = refl }
 
 pub push_line-requires : goal.push_line-requires
 push_line-requires g c =
@@ -44,12 +45,22 @@ loop-at-preserved g c =
     record {
       left = next.next;
       text = λ b. absurd (false≢true b);
-      letters = letters-more t bytes some c.requires.1.0 on c.loop-at.goes_first next.row (drop (i + 1) g.all) (drop i g.all) c.loop-at.letters.items c.push_line.new.letters.items _ _ next.is letter c.in_ok-push_line.ensures c.loop-at.invariant.letters;
+      turns = omega (arith, c.loop-at.invariant.turns, c.add_one.ensures, c.push_line.ensures.turns, (bytes-first t bytes rows i x c.loop-at-test.true c.at-item.is).1);
+      letters = letters-more t bytes some c.requires.1.0 on c.loop-at.goes_first next.row (drop (i + 1) g.all) (drop i g.all) c.loop-at.letters.items c.push_line.new.letters.items _ _ next.is letter c.in_ok-push_line.ensures.letters c.loop-at.invariant.letters;
     }
 
-pub returns : goal.returns
-returns g c =
+pub returns-clause-letters : goal.returns-clause-letters
+returns-clause-letters g c =
     let i = c.loop-at.at-index in
     let gone : drop i c.args.rows.now ≡ [] = drop_all i c.args.rows.now (omega arith) in
     let none = none-left c.args.tab c.args.bytes.now (drop i g.all) (subst (λ (l : List RowAt). AreFirst c.args.tab c.args.bytes.now l (drop i g.all)) gone c.loop-at.invariant.left) in
     sym (append-nil c.loop-at.letters.items) ∙ ap (λ (l : List Row). c.loop-at.letters.items ++ letters_in c.args.on.now c.loop-at.goes_first l) (sym none) ∙ c.loop-at.invariant.letters
+
+pub returns-clause-turns : goal.returns-clause-turns
+returns-clause-turns g c = omega (arith, c.loop-at.invariant.turns, bytes-cut c.args.tab c.args.bytes.now c.loop-at.at-index c.args.rows.now)
+
+pub returns-in_err-push_line-clause-turns : goal.returns-in_err-push_line-clause-turns
+returns-in_err-push_line-clause-turns g c =
+    let i = c.loop-at.at-index in
+    let rows = c.args.rows.now in
+    omega (arith, c.loop-at.invariant.turns, c.add_one.ensures, c.push_line.ensures.turns, (bytes-first c.args.tab c.args.bytes.now rows i c.at-item.result c.loop-at-test.true c.at-item.is).1, bytes-cut c.args.tab c.args.bytes.now (i + 1) rows)

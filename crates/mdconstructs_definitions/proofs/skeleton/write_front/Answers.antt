@@ -21,3 +21,9 @@ returns-clause-place g c =
     place_chain c.args.tab c.args.bytes.now start c.args.begin.place c.in_ok-place.place c.args.begin.columns (c.in_ok-columns.columns - c.args.begin.columns) c.requires.place c.in_ok-place.ensures.place
     ∙ ap (λ (n : ℕ). place_after c.args.tab c.args.bytes.now start n) on
     ∙ ap (λ b. cond b (place_after c.args.tab c.args.bytes.now start (c.args.first.now.row.columns + here)) c.args.begin.place) (sym c.if-not-is_behind.false)
+
+pub returns-in_err-place-clause-turns : goal.returns-in_err-place-clause-turns
+returns-in_err-place-clause-turns g c = omega (arith, c.text_columns.ensures.turns, c.white.ensures.turns, c.in_ok-columns.ensures.within)
+
+pub returns-clause-turns : goal.returns-clause-turns
+returns-clause-turns g c = omega (arith, c.text_columns.ensures.turns, c.white.ensures.turns, c.in_ok-columns.ensures.within)

@@ -1,4 +1,4 @@
-use Rattle.std.proofs.Common.{◌+◌, ◌-◌, ◌<◌, ◌++◌, List, drop, take, map, subst, sym, arith}
+use Rattle.std.proofs.Common.{◌+◌, ◌-◌, ◌<◌, ◌++◌, List, drop, take, map, subst, sym, arith, ap}
 use Rattle.std.specs.Prelude.{None, false}
 use Rattle.std.proofs.lemmas.List.{take_rest}
 use Rattle.mdconstructs_containers.specs.declared.spans.RowAt.{RowAt}
@@ -9,6 +9,8 @@ use Rattle.mdconstructs_definitions.specs.Sections.{Inside}
 use Rattle.mdconstructs_definitions.specs.Skeleton.{inside_marks}
 use Rattle.mdconstructs_definitions.specs.Within.{within_marks}
 use Rattle.mdconstructs_definitions.proofs.SectionLoop.{has-end, section-at, turn-of}
+use Rattle.mdconstructs_definitions.specs.Costs.{bytes_in}
+use Rattle.mdconstructs_definitions.proofs.SectionCosts.{bytes-cut}
 use Rattle.mdconstructs_definitions.proofs.skeleton.write_one.Goals as goal
 
 pub go_on-requires : goal.go_on-requires
@@ -54,3 +56,47 @@ returns-clause-events g c = λ rest all w.
     let behind = within_marks bytes g.given.0.part g.given.1 ++ rest in
     c.in_ok-next.ensures.events rest all
     (c.in_ok-end.ensures.events behind all (subst (λ (i : Inside). Written c.args.skeleton.now.events.items None false (inside_marks bytes g.given.0.part i ++ behind) all) (sym is.inside) w))
+
+pub returns-in_err-end-clause-turns : goal.returns-in_err-end-clause-turns
+returns-in_err-end-clause-turns g c =
+    let t = c.args.tab in
+    let bytes = c.args.bytes.now in
+    let left = c.args.left.now in
+    let n = c.index-sections-index.result.further + 1 in
+    let first = ap (λ l. bytes_in t bytes (take 1 l)) (take_rest left n) in
+    let cut = bytes-cut t bytes n left in
+    let one = bytes-cut t bytes 1 (drop n left) in
+    omega (arith, cut, c.write_section.ensures.turns)
+
+pub returns-in_err-next-clause-turns : goal.returns-in_err-next-clause-turns
+returns-in_err-next-clause-turns g c =
+    let t = c.args.tab in
+    let bytes = c.args.bytes.now in
+    let left = c.args.left.now in
+    let n = c.index-sections-index.result.further + 1 in
+    let first = ap (λ l. bytes_in t bytes (take 1 l)) (take_rest left n) in
+    let cut = bytes-cut t bytes n left in
+    let one = bytes-cut t bytes 1 (drop n left) in
+    omega (arith, cut, first, one, c.write_section.ensures.turns, c.go_on.ensures.turns)
+
+pub returns-clause-turns : goal.returns-clause-turns
+returns-clause-turns g c =
+    let t = c.args.tab in
+    let bytes = c.args.bytes.now in
+    let left = c.args.left.now in
+    let n = c.index-sections-index.result.further + 1 in
+    let first = ap (λ l. bytes_in t bytes (take 1 l)) (take_rest left n) in
+    let cut = bytes-cut t bytes n left in
+    let one = bytes-cut t bytes 1 (drop n left) in
+    omega (arith, cut, first, one, c.write_section.ensures.turns, c.go_on.ensures.turns)
+
+pub returns-clause-paid : goal.returns-clause-paid
+returns-clause-paid g c =
+    let t = c.args.tab in
+    let bytes = c.args.bytes.now in
+    let left = c.args.left.now in
+    let n = c.index-sections-index.result.further + 1 in
+    let first = ap (λ l. bytes_in t bytes (take 1 l)) (take_rest left n) in
+    let cut = bytes-cut t bytes n left in
+    let one = bytes-cut t bytes 1 (drop n left) in
+    omega (arith, cut, first, c.write_section.ensures.turns, c.go_on.ensures.turns)

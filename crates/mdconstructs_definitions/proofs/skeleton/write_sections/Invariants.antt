@@ -1,4 +1,4 @@
-use Rattle.std.proofs.Common.{◌≡◌, ◌≤◌, ◌+◌, ◌-◌, ◌++◌, ℕ, List, drop, length, map, take}
+use Rattle.std.proofs.Common.{◌≡◌, ◌≤◌, ◌+◌, ◌-◌, ◌++◌, ℕ, List, drop, length, map, take, ◌*◌}
 use Rattle.std.specs.Prelude.{◌||◌, None, false}
 use Rattle.std.specs.List.{flat_map}
 use Rattle.mdconstructs_flow_read.specs.LeafEvents.{Mark}
@@ -10,11 +10,13 @@ use Rattle.mdconstructs_definitions.specs.Sectioned.{AreBegun, AreInLines, HasEn
 use Rattle.mdconstructs_definitions.specs.Skeleton.{labels_of_section, letters_of_section}
 use Rattle.mdconstructs_definitions.specs.Within.{last_of}
 use Rattle.mdconstructs_definitions.proofs.SectionLoop.{section-of}
+use Rattle.mdconstructs_definitions.specs.Costs.{bytes_in}
 use Rattle.mdconstructs_definitions.proofs.skeleton.write_sections.Given as goal
 
 abbrev pub invariant-loop-k : goal.invariant-loop-k
 invariant-loop-k g l = record {
   few : l.i ≤ length l.rows;
+  turns : l.turns ≤ l.fn.turns + (30 * bytes_in l.tab l.bytes (take l.i l.rows) + 8 * bytes_in l.tab l.bytes (take 1 (drop l.i l.rows)));
   left : AreInLines l.tab l.bytes (map open_of l.stack) (drop l.i l.rows) (drop l.k g.given.1);
   begun : AreBegun l.tab l.bytes (drop l.i l.rows) (drop l.k g.given.1) l.at;
   end : HasEnd l.bytes (last_of g.given.0 (take l.k g.given.1)) l.end;

@@ -1,9 +1,10 @@
-use Rattle.std.proofs.Common.{List, map, sym, subst}
+use Rattle.std.proofs.Common.{List, map, sym, subst, ap, arith}
 use Rattle.mdconstructs_containers.specs.declared.spans.RowAt.{RowAt}
 use Rattle.mdconstructs_containers.specs.Views.{open_of}
 use Rattle.mdconstructs_definitions.specs.Sectioned.{AreFirst}
 use Rattle.mdconstructs_definitions.specs.Skeleton.{all_rows}
 use Rattle.mdconstructs_definitions.proofs.SectionFacts.{section-first}
+use Rattle.mdconstructs_definitions.specs.Costs.{bytes_in}
 use Rattle.mdconstructs_definitions.proofs.skeleton.write_text.Goals as goal
 
 pub push_letters-requires : goal.push_letters-requires
@@ -17,3 +18,12 @@ push_letters-requires g c = λ lifetimes outlives. (
     ),
   ),
 )
+
+pub returns-in_err-write_lines-clause-turns : goal.returns-in_err-write_lines-clause-turns
+returns-in_err-write_lines-clause-turns g c = omega (arith, ap (bytes_in c.args.tab c.args.bytes.now) c.requires.1.1.0, c.write_lines.ensures.turns)
+
+pub returns-in_err-push_letters-clause-turns : goal.returns-in_err-push_letters-clause-turns
+returns-in_err-push_letters-clause-turns g c = omega (arith, ap (bytes_in c.args.tab c.args.bytes.now) c.requires.1.1.0, c.write_lines.ensures.turns, c.push_letters.ensures.turns)
+
+pub returns-clause-turns : goal.returns-clause-turns
+returns-clause-turns g c = omega (arith, ap (bytes_in c.args.tab c.args.bytes.now) c.requires.1.1.0, c.write_lines.ensures.turns, c.push_letters.ensures.turns)
