@@ -5,8 +5,8 @@ usage: tools/gate.py [-C FOLDER] [COMMAND..]        `rt ci` if no command is giv
        tools/gate.py --write LOG                    puts the table of such a run from nothing, whose output is in the file LOG, into
                                                     docs/maintaining/GATE.md, under "By crate"
 
-A crate is proved, and once more if it has two edits or more, as edits are tried over a proof of their own; then come its edits and its
-tests. `rt ci` itself prints no times. A run that takes over what an earlier one kept has only what it proved anew.
+A crate is proved, and once more, from nothing, if it has two edits or more, as edits are tried over a proof of their own; then come its
+edits and its tests. `rt ci` itself prints no times. A run that takes over what an earlier one kept has only what it proved anew.
 
 Each second it looks at the prover's processes that the command has started, so the last second of each is not counted.
 An edit's check is recognized by the texts of the copy that it works on. The total is the time of the command and of each process
@@ -26,6 +26,7 @@ HERE = os.path.dirname(os.path.dirname(os.path.realpath(__file__)))
 TICKS = os.sysconf("SC_CLK_TCK")
 PAGE = f"{HERE}/docs/maintaining/GATE.md"
 PARTS = ("proof", "second", "edits", "tests")
+PROVER = ("rattle", "antt-kernel")  # with more jobs than one, the first begins others, which prove the modules
 SMALL = 300  # crates below so many seconds are one row of the page
 
 
@@ -66,7 +67,7 @@ def seen(process, session):
     none of the prover's, or of another session."""
     try:
         with open(f"/proc/{process}/comm") as it:
-            if it.read().strip() != "rattle":
+            if it.read().strip() not in PROVER:
                 return None
         with open(f"/proc/{process}/stat") as it:
             fields = it.read().rpartition(")")[2].split()
