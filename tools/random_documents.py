@@ -61,6 +61,9 @@ BREAK = rb"(?m)(?:(?:\*[ \t]*){3,}|(?:-[ \t]*){3,}|(?:_[ \t]*){3,})(?=\n[ \t>]*$
 COMMENT = rb"<!--(?=-?>|(?:(?!-->)[^\0])*?--(?:[^>]|->))"
 INFO = rb"((?:```|~~~)[^\n]*\\)(?=&)"
 DECLARATION = rb"<!(?=[a-z])"
+# a line that may begin with a title, and a run of backticks that is longer than one and begins no fence
+TITLE = rb"(?m)^([ \t>]*)(?=[\"'(])"
+RUN = rb"(?<!`)``(?!`)|(?<=[^\s>`])`{3,}|`{3,}(?=[^\n`]+`)"
 
 
 def put(by, found):
@@ -96,6 +99,10 @@ CAUSES = [
           INFO, put(rb"\1 ", INFO)),
     Cause("white space alone is between brackets behind a reference by its own label", "here", "6.3: a label has a character that is no white space",
           rb"\]\[[ \t\n]+\]", put(rb"] [ ]", rb"\]\[[ \t\n]+\]")),
+    Cause("more is behind what would be the title of a definition, in a line of its own", "here", "4.7: then it is no title",
+          rb"\]:\s*\S+[ \t]*\n[ \t>]*(?:\"[^\0]*\"|'[^\0]*'|\([^\0]*\))[ \t]*\S", put(rb"\1a", TITLE)),
+    Cause("two code spans are behind backticks that nothing closes", "here", "6.1: a backtick string of equal length ends a code span",
+          rb"`[^\0]*`[^`]+`[^\0]*`", put(rb"~", RUN)),
     Cause("a declaration begins with a small letter", "here", "4.6: `<!` and an ASCII letter", DECLARATION, put(rb"<! ", DECLARATION)),
 ]
 
