@@ -1,10 +1,11 @@
-"""Reads texts that make a parser of inline text look far ahead, or back, again and again: delimiter runs that fit badly, brackets of code
-and HTML that are never closed, references, spaces. Each is read at three lengths, each twice the one before. It prints a row for each
-text: processor seconds at each length (the least of three runs), and how many times as long the longest took as the middle one: some 2
-if the time is linear, some 4 if it is a square. A text whose reading takes longer than 20 seconds is read no further.
+"""Reads texts that make a parser of inline text look far ahead, or back, again and again: delimiter runs that fit badly, brackets, code and
+HTML that are never closed, labels, definitions, character references, spaces. Each is read by `document` at three lengths, each twice the
+one before. It prints a row for each text: processor seconds at each length (the least of three runs), and how many times as long the
+longest took as the middle one: some 2 if the time is linear, some 4 if it is a square. A text whose reading takes longer than 20 seconds is
+read no further.
 
 With --count the rows have instructions (callgrind's counts, the same in each run, less those of a run over nothing), for texts of a
-twentieth of those lengths. With --quoted each text is the paragraph of a quote in an item, in lines of 60 bytes, and `document` reads it.
+twentieth of those lengths. With --quoted each text is the paragraph of a quote in an item, in lines of 60 bytes.
 
 usage: worst.py [--count] [--quoted] [--only NAME] MDEVENTS [CMARK]. CMARK is a program that makes HTML of standard input, timed beside it.
 Texts that are bad for containers are in tools/bad_texts.py.
@@ -46,6 +47,12 @@ def quoted(text):
     return "".join(f"{'  ' if number else '- '}> a{part}\n" for number, part in enumerate(parts))
 
 
+def defined(size, behind=lambda number: ""):
+    """Definitions, each of another label, and what stands behind them all."""
+    count = size // (10 + len(behind(10_000)))
+    return "".join(f"[{10_000 + number}]: b\n" for number in range(count)) + "\na " + "".join(behind(10_000 + number) for number in range(count))
+
+
 TEXTS = {
     "openers, none closed": again("*a _b "),
     "strong openers, none closed": again("a **b"),
@@ -76,6 +83,24 @@ TEXTS = {
     "spaces within lines": again("a      "),
     "spaces before line endings": again("a     \nb"),
     "left angles": again("<"),
+    "opening brackets": again("["),
+    "opening brackets of images": again("!["),
+    "closing brackets": again("]"),
+    "brackets in brackets": lambda size: "a " + "[" * (size // 2) + "]" * (size // 2),
+    "links in brackets": lambda size: "a " + "[" * (size // 5) + "](b)" * (size // 5),
+    "links beside links": again("[a](b)"),
+    "images in images": lambda size: "a " + "![" * (size // 6) + "](b)" * (size // 6),
+    "destinations that do not end": again("[a](b"),
+    "destinations in angles that do not end": again("[a](<b"),
+    "parentheses that do not end": again("[a](("),
+    "titles that do not end": again("[a](b \"c"),
+    "labels that do not end": again("[a][b"),
+    "labels without definitions": again("[a][b]"),
+    "long labels without definitions": again(f"[{'x' * 997}][]"),
+    "references to one definition": again("[r][] ", "[r]: b\n\na "),
+    "definitions": defined,
+    "definitions, and a reference to each": lambda size: defined(size, lambda number: f"[{number}]"),
+    "definitions whose titles do not end": again("[a]: b (c\n", ""),
 }
 
 
@@ -139,8 +164,7 @@ def main(words):
         at = words.index("--only")
         only = words[at + 1]
         del words[at : at + 2]
-    options = ["--machine", "document" if in_quote else "flow", "--deep"]
-    commands = [[words[0], *options], *[[other] for other in words[1:]]]
+    commands = [[words[0], "--machine", "document", "--deep"], *[[other] for other in words[1:]]]
     lengths = [f"{length // 20 if counted else length:,}" for length in LENGTHS]
     heads = lengths + ["Times as much"]
     print(f"| Text | {' | '.join(heads * len(commands))} |")
