@@ -6,6 +6,7 @@ mod Chars
 mod CharsFound
 mod CodeTables
 mod Costs
+pub mod Ends
 mod InTurn
 pub mod PairsKeep
 mod Prelude

@@ -1,4 +1,4 @@
--- Costs of pairing: looks at runs that wait, and tries to make pairs.
+-- Costs of emphasis: looks at runs that wait, tries to make pairs, and ends of pairs that are put among events.
 use Rattle.std.specs.Prelude.{ℕ, ◌+◌, ◌-◌, ◌*◌, List, [], ◌∷◌, Option, Some, None, length}
 use Rattle.mdconstructs_attention.specs.Emphasis.{Run}
 
@@ -6,6 +6,15 @@ use Rattle.mdconstructs_attention.specs.Emphasis.{Run}
 abbrev pub markers_left : List Run → ℕ
 markers_left [] = 0
 markers_left (r ∷ rs) = r.left + markers_left rs
+
+-- how many pairs a run closes and opens
+abbrev pub ends_at : Run → ℕ
+ends_at r = length r.closed + length r.opened
+
+-- how many ends of pairs are at some runs
+abbrev pub ends_of_pairs : List Run → ℕ
+ends_of_pairs [] = 0
+ends_of_pairs (r ∷ rs) = ends_at r + ends_of_pairs rs
 
 -- the height at which a search ended: that of what it found, or the one down to which it looked in vain
 abbrev pub end_of : Option ℕ → ℕ → ℕ

@@ -2,7 +2,7 @@
 
 ghost use Rattle.mdconstructs_attention.specs.Beside.{PairsBeside};
 ghost use Rattle.mdconstructs_attention.specs.Classes.{AsciiHasItsClasses, CharsAreUtf8};
-ghost use Rattle.mdconstructs_attention.specs.LawStatements.{LeavesBalanced};
+ghost use Rattle.mdconstructs_attention.specs.LawStatements.{EndsTakeMarkers, LeavesBalanced, RunsAreFew};
 ghost use Rattle.mdconstructs_attention.specs.RunEdits.{EditsMakeEmphasis, EmphasisCanBeMade};
 
 /// Emphasis leaves a balanced list.
@@ -25,6 +25,17 @@ pub fn edits_make_emphasis()
 /// runs, balanced and without links.
 pub fn emphasis_can_be_made()
     ensures { EmphasisCanBeMade }
+{}
+
+/// Pairs have no more ends than their runs had markers, for each end takes at least one.
+pub fn ends_take_markers()
+    ensures { EndsTakeMarkers }
+{}
+
+/// The delimiter runs of a text are at most half of its events, and have at most as many markers as the document has bytes, if the events
+/// stand in order inside it. So what is linear in runs, markers and events is linear in bytes and events.
+pub fn runs_are_few()
+    ensures { RunsAreFew }
 {}
 
 /// The character with which bytes begin, or end, is the one whose UTF-8 they begin or end with.

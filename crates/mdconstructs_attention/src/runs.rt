@@ -1,6 +1,6 @@
 //! The delimiter runs of a text: its attention sequences, each with the characters beside it.
 
-ghost use Rattle.std.specs.Prelude.{◌≡◌, ◌-◌, ◌<◌, ◌^◌, map, slice_get, IfOk};
+ghost use Rattle.std.specs.Prelude.{◌≡◌, ◌+◌, ◌-◌, ◌<◌, ◌≤◌, ◌^◌, length, map, slice_get, IfOk};
 ghost use Rattle.mdconstructs_attention.specs.Runs.{is_punctuation, is_other, is_left_flanking, is_right_flanking, can_open, can_close, class_beside, is_star_byte, run_at, is_sequence, index_of_event, depth_after, runs_in};
 ghost use Rattle.mdconstructs_attention.specs.Searches.{as_run};
 
@@ -8,7 +8,10 @@ use crate::classes::{class_after, class_before};
 use crate::pairs::Delimiters;
 use markdown_base::event::{Event, Kind, Name};
 use markdown_base::util::char::Kind as Class;
+use mdconstructs_turns::Turns;
 use std::alloc::{AllocError, Global};
+use std::marker::Brand;
+use std::sync::ledger::{Blank, Ledger};
 
 /// Whether a class is punctuation.
 fn is_punctuation(class: &Class) -> bool
@@ -127,14 +130,23 @@ fn run_at(
 }
 
 /// The delimiter runs of a list of events: its attention sequences that are in no other span.
-pub fn runs_of(alloc: Global, bytes: &[u8], events: &[Event]) -> Result<Vec<Delimiters>, AllocError>
-    ensures { IfOk result (λ runs. map as_run runs.items ≡ runs_in bytes.now events.now) }
+///
+/// A turn is a look at an event. Of each run the characters at its ends are looked up in tables besides.
+pub fn runs_of_counted<L: Ledger>(
+    alloc: Global,
+    bytes: &[u8],
+    events: &[Event],
+    turns: &mut Turns<L>,
+) -> Result<Vec<Delimiters>, AllocError>
+    ensures runs { IfOk result (λ runs. map as_run runs.items ≡ runs_in bytes.now events.now) }
+    ensures turns { turns.new ≤ turns.old + length events.now }
 {
     let mut runs = Vec::new(alloc);
     let mut index = 0;
     let mut depth = 0;
     let mut before = None;
     while index + 1 < events.len() {
+        turns.add_one();
         let enter = &events[index];
         let exit = &events[index + 1];
         if depth == 0 && is_sequence(enter, exit) {
@@ -149,4 +161,27 @@ pub fn runs_of(alloc: Global, bytes: &[u8], events: &[Event]) -> Result<Vec<Deli
         }
     }
     Ok(runs)
+}
+
+/// The delimiter runs of a list of events, counted from nothing.
+fn runs_uncounted<L: Ledger>(
+    alloc: Global,
+    bytes: &[u8],
+    events: &[Event],
+    blank: Blank,
+) -> Result<Vec<Delimiters>, AllocError>
+    requires name { blank.name ≡ L.name }
+    requires parts { blank.parts ≡ L.parts }
+    requires some { 0 < blank.parts }
+    ensures { IfOk result (λ runs. map as_run runs.items ≡ runs_in bytes.now events.now) }
+{
+    let mut turns = Turns::<L>::new(blank);
+    runs_of_counted(alloc, bytes, events, &mut turns)
+}
+
+/// The delimiter runs of a list of events, as `runs_of_counted` finds them.
+pub fn runs_of(alloc: Global, bytes: &[u8], events: &[Event]) -> Result<Vec<Delimiters>, AllocError>
+    ensures { IfOk result (λ runs. map as_run runs.items ≡ runs_in bytes.now events.now) }
+{
+    runs_uncounted::<Brand>(alloc, bytes, events, Blank::new(1))
 }

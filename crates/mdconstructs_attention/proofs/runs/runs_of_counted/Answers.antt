@@ -1,10 +1,10 @@
 use Rattle.mdconstructs_attention.proofs.Prelude.{◌≡◌, ◌+◌, true, false, ◌++◌, Some, map, drop, sym, ap, ◌∙◌, arith, append-nil, ◌==◌, ◌&&◌, slice_index_or, runs_from, is_sequence, run_at, as_run, and_left, and_right}
 use Rattle.mdconstructs_attention.proofs.RunsFrom.{a-run, no-run, no-more, pushed, depth-grows, no_event}
-use Rattle.mdconstructs_attention.proofs.runs.runs_of.Goals as goal
-use Rattle.mdconstructs_attention.proofs.runs.runs_of.Goals.{else-depth-eq0-via-then-depth-eq0+else-is_sequence, else-depth-eq0-via-else-depth-eq0}
+use Rattle.mdconstructs_attention.proofs.runs.runs_of_counted.Goals as goal
+use Rattle.mdconstructs_attention.proofs.runs.runs_of_counted.Goals.{else-depth-eq0-via-then-depth-eq0+else-is_sequence, else-depth-eq0-via-else-depth-eq0}
 
 pub loop-index-preserved-then-is_sequence : goal.loop-index-preserved-then-is_sequence
-loop-index-preserved-then-is_sequence c =
+loop-index-preserved-then-is_sequence g c =
     let l = c.loop-index in
     let xs = c.args.events.now in
     let e = slice_index_or xs l.index no_event in
@@ -15,10 +15,11 @@ loop-index-preserved-then-is_sequence c =
           l.invariant.0,
       omega (arith, c.loop-index-test.true),
       omega (arith, l.invariant.2),
+      (let one = c.add_one.ensures in let so_far = l.invariant.3 in omega (arith, one, so_far)),
     )
 
 pub loop-index-preserved : goal.loop-index-preserved
-loop-index-preserved c =
+loop-index-preserved g c =
     let l = c.loop-index in
     let xs = c.args.events.now in
     let e = slice_index_or xs l.index no_event in
@@ -32,9 +33,10 @@ loop-index-preserved c =
           ∙ ap (λ rs. map as_run l.runs.items ++ rs) (sym (no-run c.args.bytes.now xs l.index l.depth l.before no_event c.loop-index-test.true none)) ∙ l.invariant.0,
       omega (arith, c.loop-index-test.true),
       (let grows = depth-grows e.kind l.depth in let is = c.depth_after-depth.ensures in omega (arith, is, grows, l.invariant.2)),
+      (let one = c.add_one.ensures in let so_far = l.invariant.3 in omega (arith, one, so_far)),
     )
 
-pub returns : goal.returns
-returns c =
+pub returns-clause-runs : goal.returns-clause-runs
+returns-clause-runs g c =
     let l = c.loop-index in
     sym (append-nil (map as_run l.runs.items)) ∙ ap (λ rs. map as_run l.runs.items ++ rs) (sym (no-more c.args.bytes.now c.args.events.now l.index l.depth l.before c.loop-index-test.false)) ∙ l.invariant.0
