@@ -1,16 +1,29 @@
 -- Inner: costs of links: what the runs that are in no pair yet may cost, and the pieces that are to be written. No public contract cites
 -- this file.
-use Rattle.std.specs.Prelude.{ℕ, ◌+◌, ◌*◌, List, length, map}
-use Rattle.mdconstructs_attention.specs.Costs.{markers_left}
+use Rattle.std.specs.Prelude.{ℕ, suc, ◌+◌, ◌*◌, List, [], ◌∷◌, length, map}
+use Rattle.mdconstructs_attention.specs.Costs.{ends_at, ends_of_pairs, markers_left}
 use Rattle.mdconstructs_attention.specs.declared.pairs.Delimiters.{Delimiters}
 use Rattle.mdconstructs_attention.specs.Emphasis.{Run}
 use Rattle.mdconstructs_attention.specs.Searches.{as_run}
 use Rattle.mdconstructs_links.specs.declared.brackets.Pieces.{Pieces}
+use Rattle.mdconstructs_links.specs.declared.pieces.Fate.{Fate}
+use Rattle.mdconstructs_links.specs.declared.pieces.Fate.TheVariants.{Paired}
+use Rattle.mdconstructs_links.specs.declared.pieces.Piece.{Piece}
 
--- what it may cost to pair some runs, and to put each into its piece
+-- how many ends of pairs a span has: those at a run with its pairs
+abbrev pub ends_in : Fate → ℕ
+ends_in (Paired d) = ends_at (as_run d)
+ends_in _ = 0
+
+-- what it costs to write pieces: a turn for each, and one for each end of a pair
+abbrev pub to_write : List Piece → ℕ
+to_write [] = 0
+to_write (p ∷ ps) = suc (ends_in p.fate + to_write ps)
+
+-- what it may cost to pair some runs, to put each into its piece, and to write the ends of their pairs
 abbrev pub pay : List Run → ℕ
-pay rs = 15 * length rs + 2 * markers_left rs
+pay rs = (15 * length rs + 3 * markers_left rs) + ends_of_pairs rs
 
 -- what there is so far may cost yet: its runs, those that are left, and its pieces
 abbrev pub to_pay : Pieces → List Delimiters → ℕ
-to_pay all left = (pay (map as_run all.runs.items) + pay (map as_run left)) + length all.pieces.items
+to_pay all left = (pay (map as_run all.runs.items) + pay (map as_run left)) + to_write all.pieces.items

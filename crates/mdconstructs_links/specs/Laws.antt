@@ -1,5 +1,5 @@
 -- What is promised of links and images.
-use Rattle.std.specs.Prelude.{◌≡◌, ℕ, false, List}
+use Rattle.std.specs.Prelude.{◌≡◌, ◌+◌, ◌*◌, ◌≤◌, ℕ, false, List, length}
 use Rattle.std.specs.List.{AllByRecursion}
 use Rattle.markdown_base.specs.declared.event.Event.{Event}
 use Rattle.markdown_base.specs.declared.event.Name.TheVariants.{LabelEnd, LabelMarker}
@@ -7,8 +7,9 @@ use Rattle.markdown_base.proofs.Orders.{AreTight, InOrder}
 use Rattle.markdown_base.specs.declared.event.Point.{Point}
 use Rattle.markdown_base.specs.Events.{IsBalanced}
 use Rattle.markdown_tokenizer.specs.Plain.{HaveNoLinks}
+use Rattle.mdconstructs_attention.specs.Costs.{markers_left}
 use Rattle.mdconstructs_attention.specs.Places.{ArePlacesInside}
-use Rattle.mdconstructs_attention.specs.Runs.{with_emphasis}
+use Rattle.mdconstructs_attention.specs.Runs.{runs_in, with_emphasis}
 use Rattle.mdconstructs_links.specs.Linked.{is_bracket, is_named, outermost_spans, with_links}
 use Rattle.mdconstructs_links.specs.Places.{Anywhere, AreBytewise}
 
@@ -35,3 +36,8 @@ LinksKeepOrder = (bytes : List ℕ) (es : List Event) (p q : Point) → IsBalanc
 -- They leave places in the document, with room behind them in their lines
 abbrev pub LinksKeepPlaces : Type 0
 LinksKeepPlaces = (bytes : List ℕ) (es : List Event) → ArePlacesInside bytes es → ArePlacesInside bytes (with_links bytes es)
+
+-- What links, images and emphasis may cost is linear in the events of a text, which stand in order inside the document, and its bytes
+abbrev pub LinksCostLittle : Type 0
+LinksCostLittle = (bytes : List ℕ) (es : List Event) (p q : Point) → ArePlacesInside bytes es → InOrder p es q
+    → (15 * length (runs_in bytes es) + 3 * markers_left (runs_in bytes es)) + 4 * length es ≤ 12 * length es + 3 * length bytes

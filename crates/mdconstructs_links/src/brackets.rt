@@ -11,7 +11,7 @@ ghost use Rattle.mdconstructs_attention.specs.Emphasis.{paired};
 ghost use Rattle.mdconstructs_attention.specs.Places.{ArePlacesInside};
 ghost use Rattle.mdconstructs_attention.specs.Runs.{runs_in};
 ghost use Rattle.mdconstructs_attention.specs.Searches.{as_run};
-ghost use Rattle.mdconstructs_links.specs.Costs.{pay, to_pay};
+ghost use Rattle.mdconstructs_links.specs.Costs.{pay, to_pay, to_write};
 ghost use Rattle.mdconstructs_links.specs.Laid.{GoesOn, IsEnded, IsMade, IsRead, IsRunRead, piece_at, placed_at, with_fate, written_of};
 ghost use Rattle.mdconstructs_links.specs.declared.pieces.Fate.TheVariants.{Waits};
 ghost use Rattle.mdconstructs_links.specs.Linked.{with_links};
@@ -20,7 +20,7 @@ ghost use Rattle.mdconstructs_links.specs.Pieces.{Fits};
 use crate::pieces::{Fate, Piece, is_bracket, is_named, is_run, is_tail, span_end, written};
 use markdown_base::event::{Event, Name};
 use mdconstructs_attention::pairs::{Delimiters, pair_counted};
-use mdconstructs_attention::runs::runs_of;
+use mdconstructs_attention::runs::runs_of_counted;
 use mdconstructs_turns::Turns;
 use std::alloc::{AllocError, Global};
 use std::sync::ledger::Ledger;
@@ -292,9 +292,9 @@ fn pieces_of<L: Ledger>(
     requires room { ArePlacesInside bytes.now events.now }
     ensures links { IfOk result (λ pieces. written_of events.now pieces.items ≡ with_links bytes.now events.now) }
     ensures fit { IfOk result (λ pieces. AllByRecursion (Fits (length events.now)) pieces.items) }
-    ensures paid { IfOk result (λ pieces. turns.new + length pieces.items ≤ turns.old + pay (runs_in bytes.now events.now) + 2 * length events.now) }
+    ensures paid { IfOk result (λ pieces. turns.new + to_write pieces.items ≤ turns.old + pay (runs_in bytes.now events.now) + 3 * length events.now) }
 {
-    let mut left = turned(runs_of(alloc, bytes, events)?);
+    let mut left = turned(runs_of_counted(alloc, bytes, events, turns)?);
     let mut all = Pieces::new(alloc);
     let mut next = 0;
     while next < events.len() {
@@ -314,7 +314,7 @@ pub(crate) fn linked<L: Ledger>(
 ) -> Result<Vec<Event>, AllocError>
     requires room { ArePlacesInside bytes.now events.now }
     ensures links { IfOk result (λ out. out.items ≡ with_links bytes.now events.now) }
-    ensures linear { OnOk result (turns.new ≤ turns.old + pay (runs_in bytes.now events.now) + 2 * length events.now) }
+    ensures linear { OnOk result (turns.new ≤ turns.old + pay (runs_in bytes.now events.now) + 3 * length events.now) }
 {
     let pieces = pieces_of(alloc, bytes, events, turns)?;
     written(alloc, events, pieces.as_slice(), turns)

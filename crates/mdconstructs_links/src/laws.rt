@@ -1,6 +1,6 @@
 //! Laws about links and images.
 
-ghost use Rattle.mdconstructs_links.specs.Laws.{IsEmphasisAlone, LinksKeepLists, LinksKeepOrder, LinksKeepPlaces, LinksKeepTight};
+ghost use Rattle.mdconstructs_links.specs.Laws.{IsEmphasisAlone, LinksCostLittle, LinksKeepLists, LinksKeepOrder, LinksKeepPlaces, LinksKeepTight};
 ghost use Rattle.mdconstructs_links.specs.LinkEdits.{LinksCanBeMade};
 
 /// Of a balanced list of events without brackets links make what emphasis makes, and nothing else.
@@ -32,4 +32,10 @@ pub fn links_keep_order()
 /// They stand inside the document, with room behind them, if the events before did.
 pub fn links_keep_places()
     ensures { LinksKeepPlaces }
+{}
+
+/// What `put_links_counted` may take at most is no more than 12 turns for each event and 3 for each byte, if the events stand in order
+/// inside the document.
+pub fn links_cost_little()
+    ensures { LinksCostLittle }
 {}

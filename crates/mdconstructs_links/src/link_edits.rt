@@ -10,7 +10,7 @@ ghost use Rattle.mdconstructs_links.specs.LinkEdits.{has_brackets, is_of_bracket
 use crate::brackets::linked;
 use markdown_base::event::{Event, Name};
 use markdown_edits::edit_map::EditMap;
-use mdconstructs_attention::emphasis::emphasize;
+use mdconstructs_attention::emphasis::emphasize_counted;
 use mdconstructs_turns::Turns;
 use std::alloc::{AllocError, Global};
 use std::marker::Brand;
@@ -45,8 +45,8 @@ fn has_brackets<L: Ledger>(events: &[Event], turns: &mut Turns<L>) -> bool
 /// Puts links, images and emphasis in place of the brackets and the delimiter runs of a list of events.
 ///
 /// If no bracket is among the events, one edit for each run does. Else one edit puts all events anew. Returns `AllocError` if it runs
-/// out of memory; then some edits were added. A turn is a look at an event or a run, or a try to make one more pair; those of
-/// `emphasize` are not counted.
+/// out of memory; then some edits were added. A turn is a look at an event, a run, a span or an end of a pair, or a try to make one more
+/// pair. Each pair lowers 12 heights besides, and std copies each event once.
 pub fn put_links_counted<L: Ledger>(
     alloc: Global,
     bytes: &[u8],
@@ -58,10 +58,10 @@ pub fn put_links_counted<L: Ledger>(
     requires balanced { IsBalanced events.now }
     requires room { ArePlacesInside bytes.now events.now }
     ensures edits { OnOk result (edits.new ≡ link_edits bytes.now events.now) }
-    ensures linear { OnOk result (turns.new ≤ turns.old + (15 * length (runs_in bytes.now events.now) + 2 * markers_left (runs_in bytes.now events.now)) + 3 * length events.now) }
+    ensures linear { OnOk result (turns.new ≤ turns.old + (15 * length (runs_in bytes.now events.now) + 3 * markers_left (runs_in bytes.now events.now)) + 4 * length events.now) }
 {
     if !has_brackets(events, turns) {
-        return emphasize(alloc, bytes, events, edits);
+        return emphasize_counted(alloc, bytes, events, edits, turns);
     }
     let all = linked(alloc, bytes, events, turns)?;
     edits.add(0, events.len(), all)

@@ -4,11 +4,12 @@ ghost use Rattle.std.specs.Prelude.{◌≡◌, ◌+◌, ◌≤◌, ◌<◌, ◌+
 ghost use Rattle.std.specs.List.{AllByRecursion, between, flat_map};
 ghost use Rattle.mdconstructs_attention.specs.Emphasis.{unlinked_event};
 ghost use Rattle.mdconstructs_attention.specs.Runs.{depth_after};
+ghost use Rattle.mdconstructs_links.specs.Costs.{ends_in, to_write};
 ghost use Rattle.mdconstructs_links.specs.Linked.{as_data, is_bracket, is_named, is_run, is_tail, last_place, span_at};
 ghost use Rattle.mdconstructs_links.specs.Pieces.{Fits, HasRoomFor, closing_events, in_fate, opening_events, put, tail_events, whole};
 
 use markdown_base::event::{Event, Kind, Name, Point};
-use mdconstructs_attention::emphasis::in_place;
+use mdconstructs_attention::emphasis::in_place_counted;
 use mdconstructs_attention::pairs::Delimiters;
 use mdconstructs_turns::Turns;
 use std::alloc::{AllocError, Global};
@@ -228,14 +229,16 @@ fn push_tail(out: &mut Vec<Event>, span: &[Event], image: bool) -> Result<(), Al
 }
 
 /// Adds what comes in the place of a span.
-fn push_fate(
+fn push_fate<L: Ledger>(
     alloc: Global,
     out: &mut Vec<Event>,
     span: &[Event],
     fate: &Fate,
+    turns: &mut Turns<L>,
 ) -> Result<(), AllocError>
     requires room { HasRoomFor fate.now }
-    ensures { OnOk result (out.new.items ≡ out.old.items ++ in_fate fate.now span.now) }
+    ensures written { OnOk result (out.new.items ≡ out.old.items ++ in_fate fate.now span.now) }
+    ensures turns { turns.new ≤ turns.old + ends_in fate.now }
 {
     match fate {
         Fate::Same | Fate::Waits => out.extend_from_slice(span),
@@ -244,7 +247,7 @@ fn push_fate(
         Fate::Ends(image, filled, last) => push_closing(out, span, *image, *filled, *last),
         Fate::Tail(image) => push_tail(out, span, *image),
         Fate::Paired(run) => {
-            let events = in_place(alloc, run)?;
+            let events = in_place_counted(alloc, run, turns)?;
             out.extend_from_slice(events.as_slice())
         }
     }
@@ -259,7 +262,7 @@ pub(crate) fn written<L: Ledger>(
 ) -> Result<Vec<Event>, AllocError>
     requires fit { AllByRecursion (Fits (length events.now)) pieces.now }
     ensures written { IfOk result (λ out. out.items ≡ flat_map (put events.now) pieces.now) }
-    ensures turns { turns.new ≤ turns.old + length pieces.now }
+    ensures turns { turns.new ≤ turns.old + to_write pieces.now }
 {
     let mut out = Vec::new(alloc);
     let mut next = 0;
@@ -271,6 +274,7 @@ pub(crate) fn written<L: Ledger>(
             &mut out,
             &events[piece.start..piece.end],
             &piece.fate,
+            turns,
         )?;
         next += 1;
     }

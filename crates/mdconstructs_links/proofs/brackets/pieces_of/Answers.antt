@@ -1,11 +1,11 @@
-use Rattle.std.proofs.Common.{◌≡◌, ◌+◌, ◌≤◌, ◌∙◌, ap, arith, drop, length, rules, subst, sym, take}
+use Rattle.std.proofs.Common.{◌≡◌, ◌+◌, ◌≤◌, ◌∙◌, ap, arith, length, rules, subst, sym, take}
 use Rattle.std.specs.List.{AllByRecursion}
 use Rattle.mdconstructs_attention.specs.Runs.{runs_in}
 use Rattle.mdconstructs_links.proofs.Reached.{start_of}
-use Rattle.mdconstructs_links.proofs.Costs.{all-paid, first-paid, length-placed}
-use Rattle.mdconstructs_links.proofs.Places.{paired-many}
+use Rattle.mdconstructs_links.proofs.Costs.{all-paid, first-paid}
+use Rattle.mdconstructs_links.proofs.Places.{paired-many, placed-pairs}
 use Rattle.mdconstructs_links.proofs.Read.{first-reached, reached-fit, reached-many, reached-more, reached-owners, reached-written}
-use Rattle.mdconstructs_links.specs.Costs.{pay}
+use Rattle.mdconstructs_links.specs.Costs.{pay, to_write}
 use Rattle.mdconstructs_links.specs.Laid.{written_of}
 use Rattle.mdconstructs_links.specs.Linked.{outermost_spans}
 use Rattle.mdconstructs_links.specs.Pieces.{Fits}
@@ -15,8 +15,8 @@ pub loop-next-init : goal.loop-next-init
 loop-next-init g c =
     let n = c.new-all.ensures in (
       omega arith,
-      first-reached c.args.bytes.now c.args.events.now c.new-all.result c.turned-left.result.items c.in_ok-runs_of.field-0.items c.requires.room n.brackets n.runs n.owners n.pieces c.in_ok-runs_of.ensures c.turned-left.ensures,
-      first-paid c.args.bytes.now c.args.events.now c.new-all.result c.turned-left.result.items c.in_ok-runs_of.field-0.items c.args.turns.now n.runs n.pieces c.in_ok-runs_of.ensures c.turned-left.ensures,
+      first-reached c.args.bytes.now c.args.events.now c.new-all.result c.turned-left.result.items c.in_ok-runs_of_counted.field-0.items c.requires.room n.brackets n.runs n.owners n.pieces c.in_ok-runs_of_counted.ensures.runs c.turned-left.ensures,
+      first-paid c.args.bytes.now c.args.events.now c.new-all.result c.turned-left.result.items c.in_ok-runs_of_counted.field-0.items c.args.turns.now c.runs_of_counted.new.turns n.runs n.pieces c.in_ok-runs_of_counted.ensures.runs c.turned-left.ensures c.runs_of_counted.ensures.turns,
     )
 
 pub step-requires-clause-many : goal.step-requires-clause-many
@@ -59,6 +59,7 @@ returns-clause-paid g c =
     let turns : c.place_runs.new.turns + length (take 0 c.pair_behind.new.runs.items) ≡ c.pair_behind.new.turns + length c.pair_behind.new.runs.items =
     ap (λ xs. c.place_runs.new.turns + length xs) (sym c.place_runs.ensures.runs) ∙ c.place_runs.ensures.turns in
     let end : l.next ≤ length c.args.events.now = l.invariant.0 in
-    let all = all-paid l.all l.left.items c.pair_behind.new.runs.items (pay (runs_in c.args.bytes.now c.args.events.now)) c.args.turns.now l.turns c.pair_behind.new.turns c.place_runs.new.turns l.next l.invariant.2 c.pair_behind.ensures.linear many turns in
-    let long = ap length c.place_runs.ensures.pieces ∙ length-placed l.all.pieces.items (drop 0 l.all.owners.items) (drop 0 c.pair_behind.new.runs.items) in
-    omega (arith, all, long, end)
+    let pairs = placed-pairs l.all.runs.items c.pair_behind.new.runs.items 0 c.in_ok-pair_behind.ensures.pairs in
+    let all = all-paid l.all l.left.items c.pair_behind.new.runs.items (length c.args.events.now + pay (runs_in c.args.bytes.now c.args.events.now)) c.args.turns.now l.turns c.pair_behind.new.turns c.place_runs.new.turns l.next l.invariant.2 c.pair_behind.ensures.linear many pairs turns in
+    let written = ap to_write c.place_runs.ensures.pieces in
+    omega (arith, all, written, end)

@@ -4,7 +4,7 @@ use Rattle.markdown_edits.specs.Edits.{added_after, edit_at}
 use Rattle.mdconstructs_attention.specs.Emphasis.{paired}
 use Rattle.mdconstructs_attention.specs.RunEdits.{edits_of}
 use Rattle.mdconstructs_attention.specs.Runs.{runs_in}
-use Rattle.mdconstructs_links.proofs.Costs.{on-ok}
+use Rattle.mdconstructs_links.proofs.Costs.{on-ok, runs-pay}
 use Rattle.mdconstructs_links.proofs.LinkEdits.{one-edit}
 use Rattle.mdconstructs_links.specs.LinkEdits.{has_brackets}
 use Rattle.mdconstructs_links.specs.Linked.{with_links}
@@ -15,7 +15,7 @@ returns-then-not-has_brackets-clause-edits g c =
     let es = c.args.events.now in
     let bytes = c.args.bytes.now in
     let none : has_brackets es ≡ false = sym c.has_brackets.ensures.brackets ∙ c.if-not-has_brackets.true in
-    on_ok_weaker c.emphasize.result (λ h. h ∙ sym (ap (λ t. cond t (edit_at 0 (length es) (with_links bytes es) ∷ []) (edits_of (paired (runs_in bytes es)))) none)) c.emphasize.ensures
+    on_ok_weaker c.emphasize_counted.result (λ h. h ∙ sym (ap (λ t. cond t (edit_at 0 (length es) (with_links bytes es) ∷ []) (edits_of (paired (runs_in bytes es)))) none)) c.emphasize_counted.ensures.edits
 
 pub returns-clause-edits : goal.returns-clause-edits
 returns-clause-edits g c =
@@ -30,10 +30,14 @@ returns-clause-edits g c =
     c.add.ensures.ok
 
 pub returns-then-not-has_brackets-clause-linear : goal.returns-then-not-has_brackets-clause-linear
-returns-then-not-has_brackets-clause-linear g c = let turns = c.has_brackets.ensures.turns in on-ok c.emphasize.result _ (omega (arith, turns))
+returns-then-not-has_brackets-clause-linear g c =
+    let turns = c.has_brackets.ensures.turns in
+    let linear = c.emphasize_counted.ensures.linear in
+    on-ok c.emphasize_counted.result _ (omega (arith, turns, linear))
 
 pub returns-clause-linear : goal.returns-clause-linear
 returns-clause-linear g c =
     let turns = c.has_brackets.ensures.turns in
     let linear = c.in_ok-all.ensures.linear in
-    on-ok c.add.result _ (omega (arith, turns, linear))
+    let pay = runs-pay c.args.bytes.now c.args.events.now in
+    on-ok c.add.result _ (omega (arith, turns, linear, pay))

@@ -31,7 +31,7 @@ returns-in_ok-push-in-None-clause-paid g c =
     let a = c.args in
     let tails = cond (nat_lt a.end a.tail) (piece_at a.end a.tail Same ∷ []) [] in
     on_ok_weaker c.push_some.result
-    (λ ps. let few = two-more old c.push_some.new.self (piece_at a.start a.end Same) (piece_at a.end a.tail Same) a.end a.tail (c.push_some.ensures.runs ∙ c.push.ensures.runs) (ps ∙ ap (λ qs. qs ++ tails) c.in_ok-push-in-None.ensures.pieces) in
+    (λ ps. let few = two-more old c.push_some.new.self (piece_at a.start a.end Same) (piece_at a.end a.tail Same) a.end a.tail (c.push_some.ensures.runs ∙ c.push.ensures.runs) (ps ∙ ap (λ qs. qs ++ tails) c.in_ok-push-in-None.ensures.pieces) refl refl in
     omega (arith, few))
     c.push_some.ensures.pieces
 

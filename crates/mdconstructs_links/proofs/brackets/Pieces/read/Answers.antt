@@ -1,4 +1,4 @@
-use Rattle.std.proofs.Common.{◌≡◌, ◌-◌, ◌∷◌, [], ◌++◌, ◌∙◌, ap, cond, length, rules, sym, take}
+use Rattle.std.proofs.Common.{◌≡◌, ◌-◌, ◌∷◌, [], ◌++◌, ◌∙◌, ap, cond, length, refl, rules, sym, take}
 use Rattle.std.proofs.lemmas.Bool.{lt-ltb}
 use Rattle.std.proofs.lemmas.Result.{on_ok_weaker}
 use Rattle.mdconstructs_links.proofs.Costs.{one-more}
@@ -47,12 +47,12 @@ returns-clause-read c =
 pub returns-then-is_bracket-clause-paid : goal.returns-then-is_bracket-clause-paid
 returns-then-is_bracket-clause-paid c =
     let p = c.push-then-is_bracket in
-    on_ok_weaker p.result (λ ps. one-more c.args.self.now p.new.self c.args.left.now.items (piece_at c.args.start c.args.end AsData) p.ensures.runs ps) p.ensures.pieces
+    on_ok_weaker p.result (λ ps. one-more c.args.self.now p.new.self c.args.left.now.items (piece_at c.args.start c.args.end AsData) p.ensures.runs ps refl) p.ensures.pieces
 
 pub returns-then-is_named-clause-paid : goal.returns-then-is_named-clause-paid
 returns-then-is_named-clause-paid c =
     let p = c.push-then-is_named in
-    on_ok_weaker p.result (λ ps. one-more c.args.self.now p.new.self c.args.left.now.items (piece_at c.args.start c.args.end AsData) p.ensures.runs ps) p.ensures.pieces
+    on_ok_weaker p.result (λ ps. one-more c.args.self.now p.new.self c.args.left.now.items (piece_at c.args.start c.args.end AsData) p.ensures.runs ps refl) p.ensures.pieces
 
 pub returns-then-is_run-clause-paid : goal.returns-then-is_run-clause-paid
 returns-then-is_run-clause-paid c = c.read_run.ensures.paid
@@ -63,5 +63,5 @@ returns-clause-paid c =
     let p = c.push_some in
     on_ok_weaker p.result
     (λ ps. one-more old p.new.self c.args.left.now.items (piece_at c.args.start c.args.end Same) p.ensures.runs
-    (ps ∙ ap (λ t. old.pieces.items ++ cond t (piece_at c.args.start c.args.end Same ∷ []) []) (lt-ltb c.args.start c.args.end c.requires.order)))
+    (ps ∙ ap (λ t. old.pieces.items ++ cond t (piece_at c.args.start c.args.end Same ∷ []) []) (lt-ltb c.args.start c.args.end c.requires.order)) refl)
     p.ensures.pieces

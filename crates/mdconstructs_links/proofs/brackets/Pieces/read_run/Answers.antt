@@ -1,4 +1,4 @@
-use Rattle.std.proofs.Common.{◌≡◌, ◌+◌, ◌≤◌, ◌∙◌, append-nil, length, rules, subst}
+use Rattle.std.proofs.Common.{◌≡◌, ◌+◌, ◌≤◌, ◌∙◌, append-nil, length, refl, rules, subst}
 use Rattle.std.proofs.lemmas.Result.{on_ok_weaker}
 use Rattle.mdconstructs_links.proofs.Costs.{one-more, run-waits}
 use Rattle.mdconstructs_links.proofs.Read.{nothing-there, read-last, read-run}
@@ -30,11 +30,11 @@ returns-in-None-clause-paid c =
     let p = c.push in
     let same = c.in-None.ensures.items ∙ append-nil c.pop.new.self.items in
     on_ok_weaker p.result
-    (λ ps. subst (λ ds. to_pay p.new.self ds ≤ to_pay old c.args.left.now.items + 1) same (one-more old p.new.self c.args.left.now.items (piece_at c.args.start c.args.end Same) p.ensures.runs ps))
+    (λ ps. subst (λ ds. to_pay p.new.self ds ≤ to_pay old c.args.left.now.items + 1) same (one-more old p.new.self c.args.left.now.items (piece_at c.args.start c.args.end Same) p.ensures.runs ps refl))
     p.ensures.pieces
 
 pub returns-in-Some-clause-paid : goal.returns-in-Some-clause-paid
 returns-in-Some-clause-paid c =
     on_ok_weaker c.wait.result
-    (λ w. run-waits c.args.self.now c.wait.new.self c.args.left.now.items c.pop.new.self.items c.in-Some.run' (piece_at c.args.start c.args.end Waits) c.in-Some.ensures.items w.1 w.0)
+    (λ w. run-waits c.args.self.now c.wait.new.self c.args.left.now.items c.pop.new.self.items c.in-Some.run' (piece_at c.args.start c.args.end Waits) c.in-Some.ensures.items w.1 w.0 refl)
     c.wait.ensures
