@@ -264,7 +264,7 @@ pub(crate) fn written<L: Ledger>(
     ensures written { IfOk result (λ out. out.items ≡ flat_map (put events.now) pieces.now) }
     ensures turns { turns.new ≤ turns.old + to_write pieces.now }
 {
-    let mut out = Vec::new(alloc);
+    let mut out = Vec::with_capacity(alloc, events.len())?;
     let mut next = 0;
     while next < pieces.len() {
         turns.add_one();
