@@ -1,5 +1,6 @@
--- Below a height that a search of its kind has seen nothing fits: this stays so.
-use Rattle.mdconstructs_attention.proofs.Prelude.{◌≡◌, ◌≢◌, ℕ, zero, suc, ◌+◌, ◌-◌, ◌==◌, ◌<◌, ◌≤◌, Bool, true, false, cond, List, [], ◌∷◌, ◌++◌, Option, Some, None, take, length, set, refl, sym, ap, ◌∙◌, arith, inl, inr, length-append, get_or-set_same, get_or-set_other, length-take-le, slice_get_within, slice_get, slice_index, ◌&&◌, ◌||◌, not, nat_tests, Run, same, may_pair, is_strong, opening, closing, last_of, may_pair_there, run_there, with_pair, with_pair_of, third, kind, AreBottoms, get-front, get-take, cases_eq}
+-- Of the runs that wait before the place of a search of its kind that found nothing, none fits: this stays so.
+use Rattle.mdconstructs_attention.proofs.Prelude.{◌≡◌, ◌≢◌, ℕ, zero, suc, ◌+◌, ◌-◌, ◌==◌, ◌<◌, ◌≤◌, Bool, true, false, cond, List, [], ◌∷◌, ◌++◌, Option, Some, None, take, length, set, refl, sym, ap, ◌∙◌, arith, inl, inr, get_or-set_same, get_or-set_other, slice_get_within, slice_get-get_or, slice_get, slice_index, ◌&&◌, ◌||◌, not, nat_tests, Run, same, may_pair, is_strong, opening, closing, last_of, may_pair_there, run_there, with_pair, with_pair_of, third, kind, AreBottoms, AreInOrder, NoneFitsBefore, cases_eq}
+use Rattle.mdconstructs_attention.proofs.Stands.{pushed-at}
 
 -- ---- the kind of a run
 
@@ -47,34 +48,36 @@ fits-there-kind : (o : Option Run) (r r' : Run) → kind r ≡ kind r' → may_p
 fits-there-kind None r r' e = refl
 fits-there-kind (Some o) r r' e = fits-kind o r r' e
 
-pub search-kind : (rs : List Run) (openers : List ℕ) (r r' : Run) (n : ℕ) → kind r ≡ kind r' → last_of rs openers r n ≡ last_of rs openers r' n
-search-kind rs openers r r' zero e = refl
-search-kind rs openers r r' (suc n) e =
-    ap (λ b. cond b (Some n) (last_of rs openers r n)) (fits-there-kind (run_there rs (slice_get openers n)) r r' e)
-    ∙ ap (cond (may_pair_there (run_there rs (slice_get openers n)) r') (Some n)) (search-kind rs openers r r' n e)
+-- ---- what a search says of each that waits
 
--- ---- other lists
+first-none : (b : Bool) (n : ℕ) (x : Option ℕ) → cond b (Some n) x ≡ None → (b ≡ false) × (x ≡ None)
+first-none true n x e = absurd (cc)
+first-none false n x e = (refl, e)
 
-pub search-alike : (rs rs' : List Run) (openers openers' : List ℕ) (r : Run) (n : ℕ)
-    → ((k : ℕ) → k < n → may_pair_there (run_there rs' (slice_get openers' k)) r ≡ may_pair_there (run_there rs (slice_get openers k)) r)
-    → last_of rs' openers' r n ≡ last_of rs openers r n
-search-alike rs rs' openers openers' r zero h = refl
-search-alike rs rs' openers openers' r (suc n) h =
-    ap (λ b. cond b (Some n) (last_of rs' openers' r n)) (h n (omega arith))
-    ∙ ap (cond (may_pair_there (run_there rs (slice_get openers n)) r) (Some n)) (search-alike rs rs' openers openers' r n (λ k lt. h k (omega (arith, lt))))
+none-fits : (rs : List Run) (openers : List ℕ) (r : Run) (n : ℕ) → last_of rs openers r n ≡ None → (k : ℕ) → k < n → may_pair_there (run_there rs (slice_get openers k)) r ≡ false
+none-fits rs openers r zero e k lt = absurd (omega (arith, lt))
+none-fits rs openers r (suc n) e k lt =
+    let here = first-none (may_pair_there (run_there rs (slice_get openers n)) r) n (last_of rs openers r n) e in
+    elim (cases_eq k n) [
+      | inl same ↦ ap (λ i. may_pair_there (run_there rs (slice_get openers i)) r) same ∙ here.0
+      | inr other ↦ none-fits rs openers r n here.1 k (omega (arith, lt, other))
+    ]
 
-none-case : (b : Bool) (n : ℕ) (x : Option ℕ) → cond b (Some n) x ≡ None → x ≡ None
-none-case true n x e = absurd (cc)
-none-case false n x e = e
+none-found : (rs : List Run) (openers : List ℕ) (r : Run) (n : ℕ) → ((k : ℕ) → k < n → may_pair_there (run_there rs (slice_get openers k)) r ≡ false) → last_of rs openers r n ≡ None
+none-found rs openers r zero h = refl
+none-found rs openers r (suc n) h =
+    ap (λ b. cond b (Some n) (last_of rs openers r n)) (h n (omega arith)) ∙ none-found rs openers r n (λ k lt. h k (omega (arith, lt)))
 
-none-below : (rs : List Run) (openers : List ℕ) (r : Run) (m d : ℕ) → last_of rs openers r (d + m) ≡ None → last_of rs openers r m ≡ None
-none-below rs openers r m zero e = ap (last_of rs openers r) (let same : m ≡ 0 + m = omega arith in same) ∙ e
-none-below rs openers r m (suc d) e =
-    let same : suc d + m ≡ suc (d + m) = omega arith in
-    none-below rs openers r m d (none-case (may_pair_there (run_there rs (slice_get openers (d + m))) r) (d + m) (last_of rs openers r (d + m)) (ap (last_of rs openers r) (sym same) ∙ e))
-
-pub none-lower : (rs : List Run) (openers : List ℕ) (r : Run) (m n : ℕ) → m ≤ n → last_of rs openers r n ≡ None → last_of rs openers r m ≡ None
-none-lower rs openers r m n le e = none-below rs openers r m (n - m) (let same : (n - m) + m ≡ n = omega (arith, le) in ap (last_of rs openers r) same ∙ e)
+-- where the next one to look at stands before the bottom, all others do
+pub none-before : (rs : List Run) (openers : List ℕ) (r : Run) (bottom at : ℕ) → 0 < at → at - 1 < length openers → slice_index openers (at - 1) < bottom → AreInOrder openers → NoneFitsBefore bottom rs openers r
+    → last_of rs openers r at ≡ None
+none-before rs openers r bottom at pos inside low order none = none-found rs openers r at (λ k lt. there k lt (slice_get openers k) refl)
+  where
+    there : (k : ℕ) → k < at → (x : Option ℕ) → slice_get openers k ≡ x → may_pair_there (run_there rs (slice_get openers k)) r ≡ false
+    there k lt None e = ap (λ y. may_pair_there (run_there rs y) r) e
+    there k lt (Some i) e =
+        let last : i ≤ slice_index openers (at - 1) = order k (at - 1) i (slice_index openers (at - 1)) (omega (arith, lt)) e (slice_get-get_or openers (at - 1) 0 inside) in
+        ap (λ y. may_pair_there (run_there rs y) r) e ∙ none k i e (omega (arith, last, low))
 
 -- ---- reads of changed lists
 
@@ -89,6 +92,13 @@ slice_get-set_same : {X : Type 0} → (xs : List X) (i : ℕ) (v : X) → i < le
 slice_get-set_same [] i v h = absurd (omega (arith, h))
 slice_get-set_same (x ∷ xs) zero v h = refl
 slice_get-set_same (x ∷ xs) (suc i) v h = slice_get-set_same xs i v (omega (arith, h))
+
+pub taken-at : (n : ℕ) (xs : List ℕ) (k m : ℕ) → slice_get (take n xs) k ≡ Some m → slice_get xs k ≡ Some m
+taken-at zero [] k m e = e
+taken-at zero (x ∷ xs) k m e = absurd (cc)
+taken-at (suc n) [] k m e = e
+taken-at (suc n) (x ∷ xs) zero m e = e
+taken-at (suc n) (x ∷ xs) (suc k) m e = taken-at n xs k m e
 
 -- ---- after a pair
 
@@ -108,42 +118,38 @@ module _ (rs : List Run) (i j : ℕ) (o c : Run) (at : slice_get rs i ≡ Some o
         | inr other ↦ ap (λ x. may_pair_there x r) (slice_get-set_other rs i m o' other)
       ]
 
-  run-after : (r : Run) (x : Option ℕ) → ((m : ℕ) → x ≡ Some m → m < j) → may_pair_there (run_there (with_pair rs i j) x) r ≡ may_pair_there (run_there rs x) r
-  run-after r None h = refl
-  run-after r (Some m) h = fits-after r m (h m refl)
-
-  pub bottoms-after-pair : (openers : List ℕ) (height : ℕ) (bottoms bottoms' : List ℕ) → ((k m : ℕ) → slice_get openers k ≡ Some m → m < j) → height ≤ length openers
-      → ((k : ℕ) → slice_index bottoms' k ≤ slice_index bottoms k) → ((k : ℕ) → slice_index bottoms' k ≤ height) → AreBottoms rs openers bottoms → AreBottoms (with_pair rs i j) (take height openers) bottoms'
-  bottoms-after-pair openers height bottoms bottoms' below within lower low h r =
-      let n = slice_index bottoms' (kind r) in
-      let long = length-take-le height openers within in (
-        omega (arith, low (kind r), long),
-        search-alike rs (with_pair rs i j) openers (take height openers) r n
-            (λ k lt. ap (λ x. may_pair_there (run_there (with_pair rs i j) x) r) (get-take height openers k (omega (arith, lt, low (kind r)))) ∙ run-after r (slice_get openers k) (below k))
-            ∙ none-lower rs openers r n (slice_index bottoms (kind r)) (lower (kind r)) (h r).1,
-      )
+  pub bottoms-after-pair : (openers : List ℕ) (height : ℕ) (bottoms : List ℕ) → ((k m : ℕ) → slice_get openers k ≡ Some m → m < j) → AreBottoms rs openers j bottoms
+      → AreBottoms (with_pair rs i j) (take height openers) j bottoms
+  bottoms-after-pair openers height bottoms below h r =
+      ((h r).0, λ k m e before. let was = taken-at height openers k m e in fits-after r m (below k m was) ∙ (h r).1 k m was before)
 
 -- ---- after a search that found nothing, and after a push
 
-pub bottoms-after-search : (rs : List Run) (openers bottoms : List ℕ) (c : Run) → kind c < length bottoms → last_of rs openers c (length openers) ≡ None → AreBottoms rs openers bottoms
-    → AreBottoms rs openers (set bottoms (kind c) (length openers))
-bottoms-after-search rs openers bottoms c inside none h r = elim (cases_eq (kind r) (kind c)) [
+pub bottoms-after-search : (rs : List Run) (openers bottoms : List ℕ) (c : Run) (j : ℕ) → kind c < length bottoms → last_of rs openers c (length openers) ≡ None → AreBottoms rs openers j bottoms
+    → AreBottoms rs openers j (set bottoms (kind c) j)
+bottoms-after-search rs openers bottoms c j inside none h r = elim (cases_eq (kind r) (kind c)) [
   | inl same ↦
-      let is : slice_index (set bottoms (kind c) (length openers)) (kind r) ≡ length openers =
-      ap (slice_index (set bottoms (kind c) (length openers))) same ∙ get_or-set_same bottoms (kind c) (length openers) 0 inside in
-      (omega (arith, is), ap (last_of rs openers r) is ∙ search-kind rs openers r c (length openers) same ∙ none)
+      let is : slice_index (set bottoms (kind c) j) (kind r) ≡ j = ap (slice_index (set bottoms (kind c) j)) same ∙ get_or-set_same bottoms (kind c) j 0 inside in (
+        omega (arith, is),
+        λ k m e before. fits-there-kind (slice_get rs m) r c same ∙ ap (λ x. may_pair_there (run_there rs x) c) (sym e) ∙ none-fits rs openers c (length openers) none k (slice_get_within openers k m e),
+      )
   | inr other ↦
-      let is : slice_index (set bottoms (kind c) (length openers)) (kind r) ≡ slice_index bottoms (kind r) = get_or-set_other bottoms (kind c) (kind r) (length openers) 0 other in
-      (omega (arith, is, (h r).0), ap (last_of rs openers r) is ∙ (h r).1)
+      let is : slice_index (set bottoms (kind c) j) (kind r) ≡ slice_index bottoms (kind r) = get_or-set_other bottoms (kind c) (kind r) j 0 other in
+      (omega (arith, is, (h r).0), λ k m e before. (h r).1 k m e (omega (arith, before, is)))
 ]
 
-pub bottoms-after-push : (rs : List Run) (openers bottoms : List ℕ) (j : ℕ) → AreBottoms rs openers bottoms → AreBottoms rs (openers ++ j ∷ []) bottoms
-bottoms-after-push rs openers bottoms j h r =
-    let n = slice_index bottoms (kind r) in
-    let long = length-append openers (j ∷ []) in (
-      omega (arith, (h r).0, long),
-      search-alike rs rs openers (openers ++ j ∷ []) r n (λ k lt. ap (λ x. may_pair_there (run_there rs x) r) (get-front openers (j ∷ []) k (omega (arith, lt, (h r).0)))) ∙ (h r).1,
-    )
+pub bottoms-after-push : (rs : List Run) (openers bottoms : List ℕ) (j : ℕ) → AreBottoms rs openers j bottoms → AreBottoms rs (openers ++ j ∷ []) j bottoms
+bottoms-after-push rs openers bottoms j h r = (
+  (h r).0,
+  λ k m e before. elim (pushed-at openers j k m e) [
+    | inl was ↦ (h r).1 k m was before
+    | inr last ↦ let low = (h r).0 in let same = last.0 in absurd (omega (arith, before, low, same))
+  ],
+)
 
-pub bottoms-at-first : (rs : List Run) (bottoms : List ℕ) → ((k : ℕ) → slice_index bottoms k ≡ 0) → AreBottoms rs [] bottoms
-bottoms-at-first rs bottoms zeros r = (omega (arith, zeros (kind r)), ap (last_of rs [] r) (zeros (kind r)))
+-- one run more was read
+pub bottoms-later : (rs : List Run) (openers bottoms : List ℕ) (j : ℕ) → AreBottoms rs openers j bottoms → AreBottoms rs openers (j + 1) bottoms
+bottoms-later rs openers bottoms j h r = let low = (h r).0 in (omega (arith, low), (h r).1)
+
+pub bottoms-at-first : (rs : List Run) (openers bottoms : List ℕ) → ((k : ℕ) → slice_index bottoms k ≡ 0) → AreBottoms rs openers 0 bottoms
+bottoms-at-first rs openers bottoms zeros r = let none = zeros (kind r) in (omega (arith, none), λ k m e before. absurd (omega (arith, before, none)))

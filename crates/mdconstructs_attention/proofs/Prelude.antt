@@ -31,14 +31,14 @@ pub use Rattle.markdown_tokenizer.proofs.Readings.Plain.{no-links-append, no-lin
 pub use Rattle.markdown_tokenizer.specs.Plain.{HaveNoLinks}
 pub use Rattle.mdconstructs_attention.specs.Beside.{AreBeside, AreUnpaired, PairsBeside}
 pub use Rattle.mdconstructs_attention.specs.Classes.{AsciiHasItsClasses, BeginWith, CharsAreUtf8, EndWith, are_sorted, char_of, class_at_end, class_of, first_char, in_ranges, last_bytes, last_char, only, shown_char}
-pub use Rattle.mdconstructs_attention.specs.Costs.{above, end_of, ends_at, ends_of_pairs, markers_left, to_pay}
+pub use Rattle.mdconstructs_attention.specs.Costs.{above, ends_at, ends_of_pairs, looks, markers_left, to_pay, waiting_from}
 pub use Rattle.mdconstructs_attention.specs.Emphasis.{Delimiter, Pair, Run, all_in_pairs, close_pairs, closes_yet, closings, data_of, events_of_runs, gave, head_events, in_lists, in_pairs, is_strong, later, look_back, markers_of, markers_of_all, may_pair, on_stack, openings, opens_yet, paired, pairs_from, run_events, same, strengths, tail_events}
 pub use Rattle.mdconstructs_attention.specs.InTurn.{Found, SoFar, Waiting, all_runs, all_waiting, close, closing, in_turn_from, last_fitting, none_read, opening, paired_in_turn, put, put_back, put_behind}
 pub use Rattle.mdconstructs_attention.specs.LawStatements.{AreFresh, EndsTakeMarkers, LeavesBalanced, RunsAreFew}
 pub use Rattle.mdconstructs_attention.specs.Places.{AllHaveRoom, AreApart, ArePlacesInside, HasRoom, Standing, markers, standing}
 pub use Rattle.mdconstructs_attention.specs.RunEdits.{EditsMakeEmphasis, EmphasisCanBeMade, HasRunsAt, edits_of, in_place, index_of}
 pub use Rattle.mdconstructs_attention.specs.Runs.{depth_after, end_before, index_of_event, is_sequence, run_at, runs_from, runs_in, text_before, text_behind}
-pub use Rattle.mdconstructs_attention.specs.Searches.{AreBottoms, IsNext, Stands, StandsAt, as_run, kind, last_of, left_of, may_pair_there, positions, run_there, third, with_pair, with_pair_of}
+pub use Rattle.mdconstructs_attention.specs.Searches.{AreBottoms, AreInOrder, IsNext, NoneFitsBefore, Stands, StandsAt, as_run, kind, last_of, left_of, may_pair_there, positions, run_there, third, with_pair, with_pair_of}
 pub use Rattle.mdconstructs_attention.specs.declared.pairs.Delimiters.{Delimiters}
 pub use Rattle.mdconstructs_attention.specs.declared.unicode.TheConstants.{PUNCTUATION, WHITE_SPACE}
 pub use Rattle.markdown_base.proofs.Facts.Bools.{and-left}

@@ -1,5 +1,5 @@
 -- What the code keeps by indices stands for the runs that wait and the runs behind them.
-use Rattle.mdconstructs_attention.proofs.Prelude.{◌≡◌, ℕ, zero, suc, ◌+◌, ◌<◌, ◌≤◌, get_or, Bool, true, false, cond, List, [], ◌∷◌, ◌++◌, Option, Some, None, take, length, set, refl, sym, ap, ◌∙◌, subst, arith, append_assoc, append-nil, length-append, inl, inr, slice_get, ◌⊎◌, ◌&&◌, nat_lt, set-append_seam, get_or-append_seam, take-append_seam, take-append-add, get_or_append_left, cases_lt, slice_get_within, slice_get-behind, Run, may_pair, is_strong, closes_yet, Waiting, SoFar, Found, opening, closing, put, put_behind, put_back, close, last_fitting, all_waiting, all_runs, last_of, may_pair_there, run_there, with_pair, with_pair_of, positions, Stands, StandsAt}
+use Rattle.mdconstructs_attention.proofs.Prelude.{◌≡◌, ℕ, zero, suc, ◌+◌, ◌<◌, ◌≤◌, get_or, Bool, true, false, cond, List, [], ◌∷◌, ◌++◌, Option, Some, None, take, length, set, refl, sym, ap, ◌∙◌, subst, arith, append_assoc, append-nil, length-append, inl, inr, slice_get, ◌⊎◌, ◌&&◌, nat_lt, set-append_seam, get_or-append_seam, take-append_seam, take-append-add, get_or_append_left, cases_lt, slice_get_within, slice_get-behind, same_Some, get_or_from_slice_get, Run, may_pair, is_strong, closes_yet, Waiting, SoFar, Found, opening, closing, put, put_behind, put_back, close, last_fitting, all_waiting, all_runs, last_of, may_pair_there, run_there, with_pair, with_pair_of, positions, AreInOrder, Stands, StandsAt}
 use Rattle.mdconstructs_attention.proofs.InTurn.{all-put_back, all-put_behind}
 
 -- the element after a list
@@ -169,6 +169,44 @@ pub openers-below : (rs : List Run) (openers : List ℕ) (closer : ℕ) (z : SoF
 openers-below rs openers closer z r rest h k d lt =
     let all = ap length h.so_far.waiting in
     subst (λ xs. get_or xs k d < closer) (sym h.so_far.waiting) (positions-below z.base z.waiting k d closer (omega (arith, lt, all)) (omega (arith, h.next)))
+
+-- an element of a list with one more at its end
+pub pushed-at : (xs : List ℕ) (p k m : ℕ) → slice_get (xs ++ p ∷ []) k ≡ Some m → (slice_get xs k ≡ Some m) ⊎ ((m ≡ p) × (k ≡ length xs))
+pushed-at [] p zero m e = let same : p ≡ m = same_Some p m e in inr (sym same, refl)
+pushed-at [] p (suc k) m e = absurd (cc)
+pushed-at (x ∷ xs) p zero m e = inl e
+pushed-at (x ∷ xs) p (suc k) m e = elim (pushed-at xs p k m e) [
+  | inl was ↦ inl was
+  | inr last ↦ inr (last.0, ap suc last.1)
+]
+
+order-more : (xs : List ℕ) (p : ℕ) → AreInOrder xs → ((k m : ℕ) → slice_get xs k ≡ Some m → m ≤ p) → AreInOrder (xs ++ p ∷ [])
+order-more xs p h low j k a b le at at' = elim (pushed-at xs p k b at') [
+  | inl was ↦
+      let inside = slice_get_within xs k b was in
+      elim (pushed-at xs p j a at) [
+        | inl was' ↦ h j k a b le was' was
+        | inr last ↦ let end = last.1 in absurd (omega (arith, le, inside, end))
+      ]
+  | inr last ↦
+      let same = last.0 in
+      elim (pushed-at xs p j a at) [
+        | inl was' ↦ let below = low j a was' in omega (arith, below, same)
+        | inr last' ↦ let same' = last'.0 in omega (arith, same, same')
+      ]
+]
+
+positions-order : (base : List Run) (ws : List Waiting) → AreInOrder (positions base ws)
+positions-order base [] = λ j k a b le at at'. absurd (cc)
+positions-order base (w ∷ ws) =
+    let p = length (base ++ all_waiting ws) in
+    order-more (positions base ws) p (positions-order base ws) (λ k m e.
+    let below = positions-below base ws k m p (slice_get_within (positions base ws) k m e) (omega arith) in
+    let same = get_or_from_slice_get (positions base ws) k m m e in
+    omega (arith, below, same))
+
+pub openers-order : (rs : List Run) (openers : List ℕ) (closer : ℕ) (z : SoFar) (r : Run) (rest : List Run) → StandsAt rs openers closer z r rest → AreInOrder openers
+openers-order rs openers closer z r rest h = subst AreInOrder (sym h.so_far.waiting) (positions-order z.base z.waiting)
 
 -- what a run makes of what it found
 abbrev closed-with : ℕ → Run → SoFar → Option Found → SoFar

@@ -39,9 +39,17 @@ third b = cond (b == 1) 1 (cond (b == 2) 2 0)
 abbrev pub kind : Run → ℕ
 kind r = (cond r.is_star 6 0 + cond r.opens 3 0) + third r.rest
 
--- for each kind a height: of the runs that wait below it, none fits a run of that kind
-abbrev pub AreBottoms : List Run → List ℕ → List ℕ → Type 0
-AreBottoms rs openers bottoms = (r : Run) → (slice_index bottoms (kind r) ≤ length openers) × (last_of rs openers r (slice_index bottoms (kind r)) ≡ None)
+-- of the runs that wait before a place, none fits
+abbrev pub NoneFitsBefore : ℕ → List Run → List ℕ → Run → Type 0
+NoneFitsBefore bottom rs openers r = (k i : ℕ) → slice_get openers k ≡ Some i → i < bottom → may_pair_there (slice_get rs i) r ≡ false
+
+-- for each kind a place, no further than runs were read: of the runs that wait before it, none fits a run of that kind
+abbrev pub AreBottoms : List Run → List ℕ → (read : ℕ) → List ℕ → Type 0
+AreBottoms rs openers read bottoms = (r : Run) → (slice_index bottoms (kind r) ≤ read) × NoneFitsBefore (slice_index bottoms (kind r)) rs openers r
+
+-- indices stand in their order
+abbrev pub AreInOrder : List ℕ → Type 0
+AreInOrder openers = (j k a b : ℕ) → j ≤ k → slice_get openers j ≡ Some a → slice_get openers k ≡ Some b → a ≤ b
 
 -- the runs with one more pair, of the runs at two indices
 abbrev pub with_pair_of : List Run → (i j : ℕ) → Option Run → Option Run → List Run

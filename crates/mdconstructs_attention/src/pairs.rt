@@ -3,8 +3,8 @@
 ghost use Rattle.std.specs.Prelude.{ℕ, slice_index, nat_lt, slice_get, Ok, true, false, cond, IfOk, ◌≡◌, ◌+◌, ◌-◌, ◌*◌, ◌<◌, ◌≤◌, ◌^◌, length, map, None, All, IfSome, OnOk, ◌++◌};
 ghost use Rattle.mdconstructs_attention.specs.Emphasis.{paired, rule_of_three, same, may_pair, is_strong, closes_yet, opens_yet};
 ghost use Rattle.mdconstructs_attention.specs.InTurn.{opening, closing};
-ghost use Rattle.mdconstructs_attention.specs.Searches.{as_run, last_of, with_pair, left_of, third, kind, AreBottoms, IsNext, HasClosed, ClosesNothing, IsTaken};
-ghost use Rattle.mdconstructs_attention.specs.Costs.{markers_left, end_of, to_pay};
+ghost use Rattle.mdconstructs_attention.specs.Searches.{as_run, last_of, with_pair, left_of, third, kind, AreBottoms, AreInOrder, NoneFitsBefore, IsNext, HasClosed, ClosesNothing, IsTaken};
+ghost use Rattle.mdconstructs_attention.specs.Costs.{markers_left, looks, to_pay};
 
 use markdown_base::event::Point;
 use mdconstructs_turns::Turns;
@@ -81,7 +81,7 @@ fn kind_of(closer: &Delimiters) -> usize
     marker + opens + third(closer.rest)
 }
 
-/// The last opener at or above the bottom that fits.
+/// The last opener that fits. None that stands before the bottom does.
 fn opener_for<L: Ledger>(
     runs: &[Delimiters],
     openers: &[usize],
@@ -90,13 +90,13 @@ fn opener_for<L: Ledger>(
     turns: &mut Turns<L>,
 ) -> Option<usize>
     requires inside { All (λ i. i < length runs.now) openers.now }
-    requires bottom { bottom ≤ length openers.now }
-    requires nothing { last_of (map as_run runs.now) openers.now (as_run closer.now) bottom ≡ None }
+    requires order { AreInOrder openers.now }
+    requires nothing { NoneFitsBefore bottom (map as_run runs.now) openers.now (as_run closer.now) }
     ensures found { result ≡ last_of (map as_run runs.now) openers.now (as_run closer.now) (length openers.now) }
-    ensures turns { turns.new + end_of result bottom ≡ turns.old + length openers.now }
+    ensures turns { turns.new ≤ turns.old + looks openers.now bottom result }
 {
     let mut at = openers.len();
-    while at > bottom {
+    while at > 0 && openers[at - 1] >= bottom {
         turns.add_one();
         at -= 1;
         if may_pair(&runs[openers[at]], closer) {
@@ -104,20 +104,6 @@ fn opener_for<L: Ledger>(
         }
     }
     None
-}
-
-/// No bottom is above this height.
-fn lower(bottoms: &mut [usize], height: usize)
-    ensures many { length bottoms.new ≡ length bottoms.old }
-    ensures lower { (k : ℕ) → slice_index bottoms.new k ≤ slice_index bottoms.old k }
-    ensures below { (k : ℕ) → slice_index bottoms.new k ≤ height }
-    ensures kept { (k : ℕ) → height - slice_index bottoms.new k ≤ height - slice_index bottoms.old k }
-{
-    for bottom in bottoms.iter_mut() {
-        if *bottom > height {
-            *bottom = height;
-        }
-    }
 }
 
 /// The run opens a pair.
@@ -182,9 +168,9 @@ fn closes_more<L: Ledger>(
 ) -> Result<bool, AllocError>
     requires next { IsNext (map as_run runs.old) openers.old.items closer }
     requires kinds { length bottoms.old ≡ 12 }
-    requires bottoms { AreBottoms (map as_run runs.old) openers.old.items bottoms.old }
+    requires bottoms { AreBottoms (map as_run runs.old) openers.old.items closer bottoms.old }
     ensures kinds { length bottoms.new ≡ 12 }
-    ensures bottoms { OnOk result (AreBottoms (map as_run runs.new) openers.new.items bottoms.new) }
+    ensures bottoms { OnOk result (AreBottoms (map as_run runs.new) openers.new.items closer bottoms.new) }
     ensures pair { result ≡ Ok true → HasClosed (map as_run runs.old) openers.old.items closer (map as_run runs.new) openers.new.items }
     ensures same { result ≡ Ok false → (map as_run runs.new ≡ map as_run runs.old) × (openers.new.items ≡ openers.old.items) }
     ensures end { result ≡ Ok false → ClosesNothing (map as_run runs.old) openers.old.items closer }
@@ -198,14 +184,13 @@ fn closes_more<L: Ledger>(
     let kind = kind_of(&runs[closer]);
     let all = &runs[..];
     let Some(at) = opener_for(all, openers.as_slice(), bottoms[kind], &all[closer], turns) else {
-        bottoms[kind] = openers.len();
+        bottoms[kind] = closer;
         return Ok(false);
     };
     let opener = openers[at];
     let waits = join(runs, opener, closer)?;
     let height = if waits { at + 1 } else { at };
     openers.truncate(height);
-    lower(bottoms, height);
     Ok(true)
 }
 
@@ -219,9 +204,9 @@ fn take_up<L: Ledger>(
 ) -> Result<(), AllocError>
     requires next { IsNext (map as_run runs.old) openers.old.items closer }
     requires kinds { length bottoms.old ≡ 12 }
-    requires bottoms { AreBottoms (map as_run runs.old) openers.old.items bottoms.old }
+    requires bottoms { AreBottoms (map as_run runs.old) openers.old.items closer bottoms.old }
     ensures kinds { length bottoms.new ≡ 12 }
-    ensures bottoms { OnOk result (AreBottoms (map as_run runs.new) openers.new.items bottoms.new) }
+    ensures bottoms { OnOk result (AreBottoms (map as_run runs.new) openers.new.items closer bottoms.new) }
     ensures taken { OnOk result (IsTaken (map as_run runs.old) openers.old.items closer (map as_run runs.new) openers.new.items) }
     ensures paid { OnOk result (turns.new + to_pay (map as_run runs.new) openers.new.items bottoms.new ≤ turns.old + to_pay (map as_run runs.old) openers.old.items bottoms.old + 14) }
     ensures turns { turns.new ≤ turns.old + to_pay (map as_run runs.old) openers.old.items bottoms.old + 1 }
@@ -235,9 +220,9 @@ fn take_up<L: Ledger>(
 
 /// Makes the pairs of all delimiter runs of a text, in linear time.
 ///
-/// A turn is a look at a run that waits, or a try to make one more pair. There are at most 14 for each run, and two for each marker; each
-/// pair lowers 12 heights besides. If it runs out of memory, some pairs were made. Each run waits once and stops waiting once. A search
-/// that finds nothing looks at no run that an earlier one of its kind has seen in vain; there are 12 kinds.
+/// A turn is a look at a run that waits, or a try to make one more pair. There are at most 14 for each run, and two for each marker. If
+/// it runs out of memory, some pairs were made. Each run waits once and stops waiting once. A search that finds nothing looks at no run
+/// that an earlier one of its kind has seen in vain; there are 12 kinds.
 pub fn pair_counted<L: Ledger>(
     alloc: Global,
     runs: &mut [Delimiters],

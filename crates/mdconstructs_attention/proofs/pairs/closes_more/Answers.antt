@@ -1,6 +1,6 @@
-use Rattle.mdconstructs_attention.proofs.Prelude.{◌≡◌, ℕ, ◌+◌, ◌*◌, ◌<◌, ◌≤◌, set, List, Some, true, cond, map, take, length, get_or, sym, ap, ◌∙◌, subst, arith, slice_get, slice_index, nat_lt, slice_get_within, get_or_from_slice_get, Run, is_strong, closes_yet, SoFar, opening, closing, put_back, as_run, left_of, with_pair, last_of, kind, AreBottoms, StandsAt, length-take-le, markers_left, end_of, above}
-use Rattle.mdconstructs_attention.proofs.Costs.{pair-takes, above-set, above-lower}
-use Rattle.mdconstructs_attention.proofs.Stands.{closer-run, openers-below, some-next, none-next, close-unable, close-unfound, close-found}
+use Rattle.mdconstructs_attention.proofs.Prelude.{◌≡◌, ℕ, ◌+◌, ◌-◌, ◌*◌, ◌<◌, ◌≤◌, set, List, Some, true, cond, map, take, length, get_or, sym, ap, ◌∙◌, subst, arith, slice_get, slice_index, nat_lt, slice_get_within, get_or_from_slice_get, Run, is_strong, closes_yet, SoFar, opening, closing, put_back, as_run, left_of, with_pair, kind, AreBottoms, AreInOrder, NoneFitsBefore, StandsAt, length-take-le, markers_left, looks, above, waiting_from}
+use Rattle.mdconstructs_attention.proofs.Costs.{pair-takes, above-set, above-fewer}
+use Rattle.mdconstructs_attention.proofs.Stands.{closer-run, openers-below, openers-order, some-next, none-next, close-unable, close-unfound, close-found}
 use Rattle.mdconstructs_attention.proofs.Bottoms.{bottoms-after-pair, bottoms-after-search}
 use Rattle.mdconstructs_attention.proofs.Steps.{next-inside, run-at, search-is, fewer, has-markers}
 use Rattle.mdconstructs_attention.proofs.pairs.closes_more.Goals as goal
@@ -75,24 +75,21 @@ returns-clause-pair g c same z r rest h =
     (subst (λ ops. StandsAt (with_pair (map as_run c.args.runs.now) next.2 c.args.closer) ops c.args.closer (put_back w z.base f.before) (closing s r) rest) (sym cut) stands) in
     (put_back w z.base f.before, closing s r, after, fewer s r.left (has-markers r.closes r.left able), λ n. close-found n r z f able next.1)
 
-pub opener_for-requires-clause-bottom : goal.opener_for-requires-clause-bottom
-opener_for-requires-clause-bottom g c =
+pub opener_for-requires-clause-order : goal.opener_for-requires-clause-order
+opener_for-requires-clause-order g c =
     let w = c.requires.next in
-    let kind-is : c.kind_of-kind.result ≡ kind w.1 = c.kind_of-kind.ensures.kind ∙ ap kind (run-at c.args.runs.now c.args.openers.now.items c.args.closer c.index-runs-closer-2.result w.0 w.1 w.2 w.3) in
-    let low = (c.requires.bottoms w.1).0 in
-    let long = ap length c.as_slice.ensures.value in
-    subst (λ k. slice_index c.args.bottoms.now k ≤ length c.as_slice.result.now) (sym kind-is) (omega (arith, low, long))
+    subst AreInOrder (sym c.as_slice.ensures.value) (openers-order (map as_run c.args.runs.now) c.args.openers.now.items c.args.closer w.0 w.1 w.2 w.3)
 
 pub opener_for-requires-clause-nothing : goal.opener_for-requires-clause-nothing
 opener_for-requires-clause-nothing g c =
     let w = c.requires.next in
     let rs = map as_run c.args.runs.now in
+    let bs = c.args.bottoms.now in
     let kind-is : c.kind_of-kind.result ≡ kind w.1 = c.kind_of-kind.ensures.kind ∙ ap kind (run-at c.args.runs.now c.args.openers.now.items c.args.closer c.index-runs-closer-2.result w.0 w.1 w.2 w.3) in
     let run-is : as_run c.index-all-closer.result ≡ w.1 = ap as_run c.index-all-closer.is ∙ run-at c.args.runs.now c.args.openers.now.items c.args.closer c.index-all-closer.result w.0 w.1 w.2 w.3 in
-    ap (λ xs. last_of rs xs (as_run c.index-all-closer.result) (slice_index c.args.bottoms.now c.kind_of-kind.result)) c.as_slice.ensures.value
-    ∙ ap (λ x. last_of rs c.args.openers.now.items x (slice_index c.args.bottoms.now c.kind_of-kind.result)) run-is
-    ∙ ap (λ k. last_of rs c.args.openers.now.items w.1 (slice_index c.args.bottoms.now k)) kind-is
-    ∙ (c.requires.bottoms w.1).1
+    subst (λ k. NoneFitsBefore (slice_index bs k) rs c.as_slice.result.now (as_run c.index-all-closer.result)) (sym kind-is)
+    (subst (λ x. NoneFitsBefore (slice_index bs (kind w.1)) rs c.as_slice.result.now x) (sym run-is)
+    (subst (λ xs. NoneFitsBefore (slice_index bs (kind w.1)) rs xs w.1) (sym c.as_slice.ensures.value) (c.requires.bottoms w.1).1))
 
 pub returns-in_default-clause-bottoms : goal.returns-in_default-clause-bottoms
 returns-in_default-clause-bottoms g c =
@@ -100,11 +97,9 @@ returns-in_default-clause-bottoms g c =
     let rs = map as_run c.args.runs.now in
     let ops = c.args.openers.now.items in
     let kind-is : c.kind_of-kind.result ≡ kind w.1 = c.kind_of-kind.ensures.kind ∙ ap kind (run-at c.args.runs.now ops c.args.closer c.index-runs-closer-2.result w.0 w.1 w.2 w.3) in
-    let len-is : c.len.result ≡ length ops = c.len.ensures ∙ sym c.as_slice.ensures.len ∙ ap length c.as_slice.ensures.value in
     let none = search-is c.args.runs.now ops c.as_slice.result.now c.args.closer c.index-all-closer.result c.opener_for.result w.0 w.1 w.2 w.3 c.index-all-closer.is c.as_slice.ensures.value c.opener_for.ensures.found ∙ c.in_default.is in
     let inside : kind w.1 < length c.args.bottoms.now = omega (arith, c.kind_of-kind.ensures.below, kind-is, c.requires.kinds) in
-    subst (λ k. AreBottoms rs ops (set c.args.bottoms.now k c.len.result)) (sym kind-is)
-    (subst (λ n. AreBottoms rs ops (set c.args.bottoms.now (kind w.1) n)) (sym len-is) (bottoms-after-search rs ops c.args.bottoms.now w.1 inside none c.requires.bottoms))
+    subst (λ k. AreBottoms rs ops c.args.closer (set c.args.bottoms.now k c.args.closer)) (sym kind-is) (bottoms-after-search rs ops c.args.bottoms.now w.1 c.args.closer inside none c.requires.bottoms)
 
 below-all : (rs : List Run) (ops : List ℕ) (closer : ℕ) (z : SoFar) (r : Run) (rest : List Run) → StandsAt rs ops closer z r rest → (k m : ℕ) → slice_get ops k ≡ Some m → m < closer
 below-all rs ops closer z r rest h k m e =
@@ -119,34 +114,32 @@ returns-clause-bottoms g c =
     let next = some-next rs ops c.args.closer w.0 w.1 w.2 w.3 c.in-Some.at (found ∙ c.in-Some.is) in
     let i-is : c.index-opener.result.now ≡ next.2 = c.index-opener.ensures ∙ get_or_from_slice_get ops c.in-Some.at next.2 c.index-opener.result.now next.3 in
     let runs = c.in_ok-waits.ensures.pair ∙ ap (λ i. with_pair rs i c.args.closer) i-is in
-    let inside = slice_get_within ops c.in-Some.at next.2 next.3 in
-    let within : c.if-waits.height ≤ length ops =
-    elim c.if-waits.branch [
-      | then-waits v ↦ omega (arith, v.height-is, inside)
-      | else-waits v ↦ omega (arith, v.height-is, inside)
-    ] in
-    let after = bottoms-after-pair rs next.2 c.args.closer next.0.last.opener w.1 next.5 (closer-run rs ops c.args.closer w.0 w.1 w.2 w.3) ops c.if-waits.height c.args.bottoms.now c.lower.new.bottoms
-    (below-all rs ops c.args.closer w.0 w.1 w.2 w.3) within c.lower.ensures.lower c.lower.ensures.below c.requires.bottoms in
-    subst (λ xs. AreBottoms xs c.truncate.new.self.items c.lower.new.bottoms) (sym runs)
-    (subst (λ xs. AreBottoms (with_pair rs next.2 c.args.closer) xs c.lower.new.bottoms) (sym c.truncate.ensures.items) after)
+    let after = bottoms-after-pair rs next.2 c.args.closer next.0.last.opener w.1 next.5 (closer-run rs ops c.args.closer w.0 w.1 w.2 w.3) ops c.if-waits.height c.args.bottoms.now (below-all rs ops c.args.closer w.0 w.1 w.2 w.3) c.requires.bottoms in
+    subst (λ xs. AreBottoms xs c.truncate.new.self.items c.args.closer c.args.bottoms.now) (sym runs)
+    (subst (λ xs. AreBottoms (with_pair rs next.2 c.args.closer) xs c.args.closer c.args.bottoms.now) (sym c.truncate.ensures.items) after)
 
--- a search in vain is paid by the height that grows
+-- a search in vain is paid by the place that it reached
 pub returns-in_default-clause-paid : goal.returns-in_default-clause-paid
 returns-in_default-clause-paid g c =
+    let w = c.requires.next in
+    let rs = map as_run c.args.runs.now in
     let ops = c.args.openers.now.items in
     let bs = c.args.bottoms.now in
     let k = c.kind_of-kind.result in
-    let m = markers_left (map as_run c.args.runs.now) in
+    let m = markers_left rs in
     let t = c.opener_for.new.turns in
-    let len-is : c.len.result ≡ length ops = c.len.ensures ∙ sym c.as_slice.ensures.len ∙ ap length c.as_slice.ensures.value in
     let inside : k < length bs = omega (arith, c.kind_of-kind.ensures.below, c.requires.kinds) in
-    let cost : t + slice_index bs k ≡ c.add_one.new.self + length c.as_slice.result.now = ap (λ x. t + end_of x (slice_index bs k)) (sym c.in_default.is) ∙ c.opener_for.ensures.turns in
+    let cost : t ≤ c.add_one.new.self + waiting_from (slice_index bs k) c.as_slice.result.now = subst (λ x. t ≤ c.add_one.new.self + looks c.as_slice.result.now (slice_index bs k) x) c.in_default.is c.opener_for.ensures.turns in
+    let same = ap (waiting_from (slice_index bs k)) c.as_slice.ensures.value in
     let one : c.add_one.new.self ≡ c.args.turns.now + 1 = c.add_one.ensures in
-    let long = ap length c.as_slice.ensures.value in
-    let same = ap (λ n. above (length ops) (set bs k n)) len-is in
-    let grown = above-set (length ops) bs k inside in
-    let paid : t + ((length ops + above (length ops) (set bs k c.len.result)) + 2 * m) ≤ c.args.turns.now + ((length ops + above (length ops) bs) + 2 * m) + 1 = omega (arith, cost, one, long, same, grown) in
+    let reached = above-set ops bs k c.args.closer inside (below-all rs ops c.args.closer w.0 w.1 w.2 w.3) in
+    let paid : t + ((length ops + above ops (set bs k c.args.closer)) + 2 * m) ≤ c.args.turns.now + ((length ops + above ops bs) + 2 * m) + 1 = omega (arith, cost, one, same, reached) in
     paid
+
+pub returns-in_default-clause-turns : goal.returns-in_default-clause-turns
+returns-in_default-clause-turns g c =
+    let paid = returns-in_default-clause-paid g c in
+    omega (arith, paid)
 
 -- a search that finds one is paid by those that wait no more, and by the markers of the pair
 pub returns-clause-paid : goal.returns-clause-paid
@@ -176,12 +169,13 @@ returns-clause-paid g c =
       | else-waits v ↦ omega (arith, v.height-is)
     ] in
     let cut : length c.truncate.new.self.items ≡ h = ap length c.truncate.ensures.items ∙ length-take-le h ops within in
-    let cost : t + c.in-Some.at ≡ c.add_one.new.self + length c.as_slice.result.now = ap (λ x. t + end_of x (slice_index bs c.kind_of-kind.result)) (sym c.in-Some.is) ∙ c.opener_for.ensures.turns in
+    let cost : t ≤ c.add_one.new.self + (length c.as_slice.result.now - c.in-Some.at) =
+    subst (λ x. t ≤ c.add_one.new.self + looks c.as_slice.result.now (slice_index bs c.kind_of-kind.result) x) c.in-Some.is c.opener_for.ensures.turns in
     let one : c.add_one.new.self ≡ c.args.turns.now + 1 = c.add_one.ensures in
     let long = ap length c.as_slice.ensures.value in
-    let same = ap (λ n. above n c.lower.new.bottoms) cut in
-    let heights = above-lower h (length ops) c.lower.new.bottoms bs within c.lower.ensures.many c.lower.ensures.kept in
-    let paid : t + ((length c.truncate.new.self.items + above (length c.truncate.new.self.items) c.lower.new.bottoms) + 2 * markers_left (map as_run c.join.new.runs))
-    ≤ c.args.turns.now + ((length ops + above (length ops) bs) + 2 * markers_left rs) + 0 =
-    omega (arith, cost, one, long, cut, same, heights, low, left, takes) in
+    let kept = ap (λ xs. above xs bs) c.truncate.ensures.items in
+    let fewer_above = above-fewer h ops bs in
+    let paid : t + ((length c.truncate.new.self.items + above c.truncate.new.self.items bs) + 2 * markers_left (map as_run c.join.new.runs))
+    ≤ c.args.turns.now + ((length ops + above ops bs) + 2 * markers_left rs) + 0 =
+    omega (arith, cost, one, long, cut, kept, fewer_above, low, inside, left, takes) in
     paid

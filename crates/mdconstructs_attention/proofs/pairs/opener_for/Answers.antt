@@ -1,4 +1,6 @@
-use Rattle.mdconstructs_attention.proofs.Prelude.{◌≡◌, ℕ, suc, ◌+◌, ◌-◌, ◌<◌, Bool, true, false, cond, List, Some, map, length, get_or, sym, ap, ◌∙◌, refl, arith, slice_get-get_or, slice_get_read, All-get_or, Delimiters, Run, may_pair, as_run, last_of}
+use Rattle.mdconstructs_attention.proofs.Prelude.{◌≡◌, ℕ, suc, ◌-◌, ◌<◌, ◌≤◌, Bool, true, false, cond, List, Some, map, length, get_or, sym, ap, ◌∙◌, refl, arith, slice_get-get_or, slice_get_read, All-get_or, Delimiters, Run, may_pair, as_run, last_of, slice_index}
+use Rattle.mdconstructs_attention.proofs.Bottoms.{none-before}
+use Rattle.mdconstructs_attention.proofs.Costs.{looks-all, waiting-step}
 use Rattle.mdconstructs_attention.proofs.Searches.{search-step}
 use Rattle.mdconstructs_attention.proofs.pairs.opener_for.Goals as goal
 
@@ -16,23 +18,30 @@ pub returns-then-may_pair-clause-found : goal.returns-then-may_pair-clause-found
 returns-then-may_pair-clause-found g c =
     let at = c.loop-at.at in
     let pos : 0 < at = omega (arith, c.loop-at-test.true) in
-    let below : at - 1 < length c.args.openers.now = omega (arith, c.loop-at.invariant.1, pos) in
-    sym (c.loop-at.invariant.2 ∙ down c.args.runs.now c.args.openers.now (as_run c.args.closer.now) at c.index-runs-openers.result true pos below (All-get_or (λ i. i < length c.args.runs.now) c.args.openers.now (at - 1) 0 below c.requires.inside) c.index-runs-openers.is (sym c.may_pair.ensures ∙ c.if-may_pair.true))
+    let below : at - 1 < length c.args.openers.now = omega (arith, c.loop-at.invariant.0, pos) in
+    sym (c.loop-at.invariant.1 ∙ down c.args.runs.now c.args.openers.now (as_run c.args.closer.now) at c.index-runs-openers.result true pos below (All-get_or (λ i. i < length c.args.runs.now) c.args.openers.now (at - 1) 0 below c.requires.inside) c.index-runs-openers.is (sym c.may_pair.ensures ∙ c.if-may_pair.true))
 
 pub loop-at-preserved : goal.loop-at-preserved
 loop-at-preserved g c =
     let at = c.loop-at.at in
     let pos : 0 < at = omega (arith, c.loop-at-test.true) in
-    let below : at - 1 < length c.args.openers.now = omega (arith, c.loop-at.invariant.1, pos) in (
-      omega (arith, c.loop-at-test.true),
+    let below : at - 1 < length c.args.openers.now = omega (arith, c.loop-at.invariant.0, pos) in
+    let high : c.args.bottom ≤ slice_index c.args.openers.now (at - 1) = omega (arith, c.if-openers-at.true) in
+    let step = waiting-step c.args.bottom at c.args.openers.now pos below high in
+    let enough = c.loop-at.invariant.3 in (
       omega (arith, below),
-      c.loop-at.invariant.2 ∙ down c.args.runs.now c.args.openers.now (as_run c.args.closer.now) at c.index-runs-openers.result false pos below (All-get_or (λ i. i < length c.args.runs.now) c.args.openers.now (at - 1) 0 below c.requires.inside) c.index-runs-openers.is (sym c.may_pair.ensures ∙ c.if-may_pair.false),
-      omega (arith, c.loop-at.invariant.3, c.add_one.ensures, pos),
+      c.loop-at.invariant.1 ∙ down c.args.runs.now c.args.openers.now (as_run c.args.closer.now) at c.index-runs-openers.result false pos below (All-get_or (λ i. i < length c.args.runs.now) c.args.openers.now (at - 1) 0 below c.requires.inside) c.index-runs-openers.is (sym c.may_pair.ensures ∙ c.if-may_pair.false),
+      omega (arith, c.loop-at.invariant.2, c.add_one.ensures, pos),
+      omega (arith, step, enough, pos),
     )
 
-pub returns-then-may_pair-clause-turns : goal.returns-then-may_pair-clause-turns
-returns-then-may_pair-clause-turns g c =
+pub returns-else-openers-at-clause-found : goal.returns-else-openers-at-clause-found
+returns-else-openers-at-clause-found g c =
     let at = c.loop-at.at in
     let pos : 0 < at = omega (arith, c.loop-at-test.true) in
-    let here : c.add_one.new.self + (at - 1) ≡ c.args.turns.now + length c.args.openers.now = omega (arith, c.loop-at.invariant.3, c.add_one.ensures, pos) in
-    here
+    let below : at - 1 < length c.args.openers.now = omega (arith, c.loop-at.invariant.0, pos) in
+    let low : slice_index c.args.openers.now (at - 1) < c.args.bottom = omega (arith, c.if-openers-at.false) in
+    sym (c.loop-at.invariant.1 ∙ none-before (map as_run c.args.runs.now) c.args.openers.now (as_run c.args.closer.now) c.args.bottom at pos below low c.requires.order c.requires.nothing)
+
+pub returns-else-openers-at-clause-turns : goal.returns-else-openers-at-clause-turns
+returns-else-openers-at-clause-turns g c = looks-all c.args.bottom c.loop-at.at c.args.openers.now c.args.turns.now c.loop-at.turns c.loop-at.invariant.2 c.loop-at.invariant.3

@@ -1,5 +1,5 @@
-use Rattle.mdconstructs_attention.proofs.Prelude.{◌≡◌, ℕ, zero, suc, ◌+◌, ◌*◌, ◌≤◌, replicate, ◌<◌, List, [], ◌∷◌, ◌++◌, map, length, refl, sym, ap, ◌∙◌, subst, arith, append-nil, length-append, slice_index, length-map, Run, SoFar, all_runs, in_turn_from, none_read, close, AreBottoms, as_run, Stands, markers_left, to_pay}
-use Rattle.mdconstructs_attention.proofs.Bottoms.{bottoms-at-first}
+use Rattle.mdconstructs_attention.proofs.Prelude.{◌≡◌, ℕ, zero, suc, ◌+◌, ◌*◌, ◌≤◌, replicate, ◌<◌, List, [], ◌∷◌, ◌++◌, map, length, refl, sym, ap, ◌∙◌, subst, arith, append-nil, length-append, slice_index, length-map, Run, SoFar, all_runs, in_turn_from, none_read, close, as_run, Stands, markers_left, to_pay}
+use Rattle.mdconstructs_attention.proofs.Bottoms.{bottoms-at-first, bottoms-later}
 use Rattle.mdconstructs_attention.proofs.InTurn.{paired-in-turn}
 use Rattle.mdconstructs_attention.proofs.pairs.pair_counted.Goals as goal
 
@@ -22,7 +22,7 @@ pub loop-closer-init : goal.loop-closer-init
 loop-closer-init g c =
     let none : List ℕ = 0 ∷ 0 ∷ 0 ∷ 0 ∷ 0 ∷ 0 ∷ 0 ∷ 0 ∷ 0 ∷ 0 ∷ 0 ∷ 0 ∷ [] in (
       refl,
-      subst (λ xs. AreBottoms (map as_run c.args.runs.now) xs none) (sym c.new-openers.ensures.items) (bottoms-at-first (map as_run c.args.runs.now) none (are-zeros none 12 refl)),
+      bottoms-at-first (map as_run c.args.runs.now) c.new-openers.result.items none (are-zeros none 12 refl),
       (none_read, map as_run c.args.runs.now, record { runs = refl; waiting = c.new-openers.ensures.items }, refl, refl),
       (
           let rs = map as_run c.args.runs.now in
@@ -53,7 +53,7 @@ loop-closer-preserved g c =
     let two = ap length there.runs ∙ length-append (all_runs z') f.1 in
     let new = length-map c.take_up.new.runs as_run in
     let same : length c.take_up.new.runs ≡ length c.loop-closer.runs = c.take_up.auto.runs in
-    (c.take_up.ensures.kinds, c.in_ok-take_up.ensures.bottoms, (z', f.1, there, omega (arith, one, two, long, new, i.3, same), ap (in_turn_from i.0) (sym f.2) ∙ i.4), omega (arith, c.in_ok-take_up.ensures.paid, c.loop-closer.invariant.3), omega (arith, same, c.loop-closer-test.true))
+    (c.take_up.ensures.kinds, bottoms-later (map as_run c.take_up.new.runs) c.take_up.new.openers.items c.take_up.new.bottoms c.loop-closer.closer c.in_ok-take_up.ensures.bottoms, (z', f.1, there, omega (arith, one, two, long, new, i.3, same), ap (in_turn_from i.0) (sym f.2) ∙ i.4), omega (arith, c.in_ok-take_up.ensures.paid, c.loop-closer.invariant.3), omega (arith, same, c.loop-closer-test.true))
 
 none-left : (rs : List Run) (z : SoFar) (rest : List Run) → rs ≡ all_runs z ++ rest → length rs ≤ length (all_runs z) → rest ≡ []
 none-left rs z [] is le = refl

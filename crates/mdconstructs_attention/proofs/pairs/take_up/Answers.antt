@@ -54,7 +54,7 @@ pub returns-in_ok-push-clause-bottoms : goal.returns-in_ok-push-clause-bottoms
 returns-in_ok-push-clause-bottoms g c =
     let rs = map as_run c.closes_more.new.runs in
     let after = bottoms-after-push rs c.closes_more.new.openers.items c.closes_more.new.bottoms c.args.closer c.in_ok-closes_more.ensures.bottoms in
-    subst (λ xs. AreBottoms rs xs c.closes_more.new.bottoms) (sym c.in_ok-push.ensures.items) after
+    subst (λ xs. AreBottoms rs xs c.args.closer c.closes_more.new.bottoms) (sym c.in_ok-push.ensures.items) after
 
 -- a run that waits costs a turn for itself, and one for each kind
 pub returns-in_ok-push-clause-paid : goal.returns-in_ok-push-clause-paid
@@ -64,12 +64,12 @@ returns-in_ok-push-clause-paid g c =
     let bs = c.closes_more.new.bottoms in
     let t = c.closes_more.new.turns in
     let was = c.closing.turns + to_pay (map as_run c.closing.runs) c.closing.openers.items c.closing.bottoms in
-    let paid : t + ((length ops + above (length ops) bs) + 2 * markers_left rs) ≤ was + 1 = subst (λ b. t + to_pay rs ops bs ≤ was + cond b 0 1) c.if-branch.false c.in_ok-closes_more.ensures.paid in
+    let paid : t + ((length ops + above ops bs) + 2 * markers_left rs) ≤ was + 1 = subst (λ b. t + to_pay rs ops bs ≤ was + cond b 0 1) c.if-branch.false c.in_ok-closes_more.ensures.paid in
     let long : length c.push.new.self.items ≡ length ops + 1 = ap length c.in_ok-push.ensures.items ∙ length-append ops (c.args.closer ∷ []) in
-    let same = ap (λ n. above n bs) long in
-    let more = above-more (length ops) bs in
+    let same = ap (λ xs. above xs bs) c.in_ok-push.ensures.items in
+    let more = above-more ops c.args.closer bs in
     let kinds : length bs ≡ 12 = c.closes_more.ensures.kinds in
     let before : was ≤ c.args.turns.now + to_pay (map as_run c.args.runs.now) c.args.openers.now.items c.args.bottoms.now = c.closing.invariant.3 in
-    let all : t + ((length c.push.new.self.items + above (length c.push.new.self.items) bs) + 2 * markers_left rs) ≤ c.args.turns.now + to_pay (map as_run c.args.runs.now) c.args.openers.now.items c.args.bottoms.now + 14 =
+    let all : t + ((length c.push.new.self.items + above c.push.new.self.items bs) + 2 * markers_left rs) ≤ c.args.turns.now + to_pay (map as_run c.args.runs.now) c.args.openers.now.items c.args.bottoms.now + 14 =
     omega (arith, paid, long, same, more, kinds, before) in
     all

@@ -4,7 +4,7 @@ use Rattle.mdconstructs_attention.proofs.pairs.take_up.Given as goal
 -- heights hold; and whatever the runs stood for, they stand for what is reached after some pairs
 abbrev pub invariant-closing : goal.invariant-closing
 invariant-closing g l =
-    (length l.bottoms ≡ 12) × AreBottoms (map as_run l.runs) l.openers.items l.bottoms
+    (length l.bottoms ≡ 12) × AreBottoms (map as_run l.runs) l.openers.items l.closer l.bottoms
     × ((z : SoFar) (r : Run) (rest : List Run) → StandsAt (map as_run l.fn.runs) l.fn.openers.items l.fn.closer z r rest
     → (z' : SoFar) × (r' : Run) × StandsAt (map as_run l.runs) l.openers.items l.closer z' r' rest × (n : ℕ) × (r'.left ≤ n) × (close n r' z' ≡ close r.left r z))
     × (l.turns + to_pay (map as_run l.runs) l.openers.items l.bottoms ≤ l.fn.turns + to_pay (map as_run l.fn.runs) l.fn.openers.items l.fn.bottoms)
