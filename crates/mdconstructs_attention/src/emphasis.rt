@@ -270,8 +270,8 @@ pub fn put_edits(alloc: Global, runs: &[Delimiters], edits: &mut EditMap) -> Res
 
 /// Puts emphasis in place of the delimiter runs of a list of events, by one edit for each run.
 ///
-/// A turn is a look at an event, a run or an end of a pair, or a try to make one more pair. Returns `AllocError` if it runs
-/// out of memory; then some edits were added.
+/// A turn is a look at an event, a run or an end of a pair, or a try to make one more pair. Events that are written are copied
+/// besides. Returns `AllocError` if it runs out of memory; then some edits were added.
 pub fn emphasize_counted<L: Ledger>(
     alloc: Global,
     bytes: &[u8],

@@ -46,7 +46,7 @@ fn has_brackets<L: Ledger>(events: &[Event], turns: &mut Turns<L>) -> bool
 ///
 /// If no bracket is among the events, one edit for each run does. Else one edit puts all events anew. Returns `AllocError` if it runs
 /// out of memory; then some edits were added. A turn is a look at an event, a run, a span or an end of a pair, or a try to make one more
-/// pair. Std copies the events that are written besides.
+/// pair. Events that are written are copied besides.
 pub fn put_links_counted<L: Ledger>(
     alloc: Global,
     bytes: &[u8],
