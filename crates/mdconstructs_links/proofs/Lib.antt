@@ -10,6 +10,7 @@ pub mod Steps
 pub mod Cuts
 pub mod Reached
 pub mod LinkEdits
+pub mod Marks
 pub mod Places
 pub mod Read
 pub mod Costs

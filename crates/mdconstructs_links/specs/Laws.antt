@@ -40,4 +40,4 @@ LinksKeepPlaces = (bytes : List ℕ) (es : List Event) → ArePlacesInside bytes
 -- What links, images and emphasis may cost is linear in the events of a text, which stand in order inside the document, and its bytes
 abbrev pub LinksCostLittle : Type 0
 LinksCostLittle = (bytes : List ℕ) (es : List Event) (p q : Point) → ArePlacesInside bytes es → InOrder p es q
-    → (15 * length (runs_in bytes es) + 3 * markers_left (runs_in bytes es)) + 4 * length es ≤ 12 * length es + 3 * length bytes
+    → (15 * length (runs_in bytes es) + 3 * markers_left (runs_in bytes es)) + 5 * length es ≤ 13 * length es + 3 * length bytes

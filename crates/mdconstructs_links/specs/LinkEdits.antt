@@ -2,7 +2,7 @@
 use Rattle.std.specs.Prelude.{◌≡◌, ℕ, ◌||◌, Bool, false, cond, List, [], ◌∷◌, length}
 use Rattle.markdown_base.specs.declared.event.Event.{Event}
 use Rattle.markdown_base.specs.declared.event.Name.{Name}
-use Rattle.markdown_base.specs.declared.event.Name.TheVariants.{LabelEnd, LabelImage, LabelLink, LabelMarker}
+use Rattle.markdown_base.specs.declared.event.Name.TheVariants.{AttentionSequence, LabelEnd, LabelImage, LabelLink, LabelMarker}
 use Rattle.markdown_base.specs.Events.{IsBalanced, same_name}
 use Rattle.markdown_edits.specs.Edits.{Edit, edit_at, AreDisjoint}
 use Rattle.markdown_edits.specs.Edited.{edited}
@@ -15,6 +15,10 @@ use Rattle.mdconstructs_links.specs.Linked.{with_links}
 -- a name is of a bracket, of an end or of a `]` alone
 abbrev pub is_of_bracket : Name → Bool
 is_of_bracket name = same_name name LabelLink || (same_name name LabelImage || (same_name name LabelEnd || same_name name LabelMarker))
+
+-- an event is of one of them or of an attention sequence
+abbrev pub is_mark : Event → Bool
+is_mark e = same_name e.name AttentionSequence || is_of_bracket e.name
 
 -- one of them is among events
 abbrev pub has_brackets : List Event → Bool

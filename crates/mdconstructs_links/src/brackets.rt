@@ -83,19 +83,19 @@ fn turned(mut runs: Vec<Delimiters>) -> Vec<Delimiters>
 }
 
 impl Pieces {
-    /// Nothing yet. Takes no memory.
-    fn new(alloc: Global) -> Pieces
-        ensures pieces { result.pieces.items ≡ [] }
-        ensures brackets { result.brackets.items ≡ [] }
-        ensures runs { result.runs.items ≡ [] }
-        ensures owners { result.owners.items ≡ [] }
+    /// Nothing yet, with room for so many pieces.
+    fn with_room(alloc: Global, pieces: usize) -> Result<Pieces, AllocError>
+        ensures pieces { IfOk result (λ all. all.pieces.items ≡ []) }
+        ensures brackets { IfOk result (λ all. all.brackets.items ≡ []) }
+        ensures runs { IfOk result (λ all. all.runs.items ≡ []) }
+        ensures owners { IfOk result (λ all. all.owners.items ≡ []) }
     {
-        Pieces {
-            pieces: Vec::new(alloc),
+        Ok(Pieces {
+            pieces: Vec::with_capacity(alloc, pieces)?,
             brackets: Vec::new(alloc),
             runs: Vec::new(alloc),
             owners: Vec::new(alloc),
-        }
+        })
     }
 
     /// The runs from an index on, whose pairs are made, are put into their pieces.
@@ -295,7 +295,8 @@ fn pieces_of<L: Ledger>(
     ensures paid { IfOk result (λ pieces. turns.new + to_write pieces.items ≤ turns.old + pay (runs_in bytes.now events.now) + 3 * length events.now) }
 {
     let mut left = turned(runs_of_counted(alloc, bytes, events, turns)?);
-    let mut all = Pieces::new(alloc);
+    // (a span has two events or more)
+    let mut all = Pieces::with_room(alloc, events.len() / 2)?;
     let mut next = 0;
     while next < events.len() {
         next = all.step(alloc, events, next, &mut left, turns)?;

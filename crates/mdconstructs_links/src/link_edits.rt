@@ -1,11 +1,12 @@
 //! The edits that put links, images and emphasis in their place.
 
 ghost use Rattle.std.specs.Prelude.{◌≡◌, ◌+◌, ◌*◌, ◌<◌, ◌≤◌, [], length, OnOk};
+ghost use Rattle.std.specs.List.{position_or_len};
 ghost use Rattle.markdown_base.specs.Events.{IsBalanced};
 ghost use Rattle.mdconstructs_attention.specs.Costs.{markers_left};
 ghost use Rattle.mdconstructs_attention.specs.Places.{ArePlacesInside};
 ghost use Rattle.mdconstructs_attention.specs.Runs.{runs_in};
-ghost use Rattle.mdconstructs_links.specs.LinkEdits.{has_brackets, is_of_bracket, link_edits};
+ghost use Rattle.mdconstructs_links.specs.LinkEdits.{has_brackets, is_mark, is_of_bracket, link_edits};
 
 use crate::brackets::linked;
 use markdown_base::event::{Event, Name};
@@ -26,6 +27,30 @@ fn is_of_bracket(name: Name) -> bool
         || name == Name::LabelMarker
 }
 
+/// Whether an event is of a bracket, of an end, of a `]` alone or of an attention sequence.
+fn is_mark(event: &Event) -> bool
+    ensures { result ≡ is_mark event.now }
+{
+    event.name == Name::AttentionSequence || is_of_bracket(event.name)
+}
+
+/// The index of the first event that is such a mark, or how many events there are.
+fn first_mark<L: Ledger>(events: &[Event], turns: &mut Turns<L>) -> usize
+    ensures mark { result ≡ position_or_len is_mark events.now }
+    ensures inside { result ≤ length events.now }
+    ensures turns { turns.new ≤ turns.old + length events.now }
+{
+    let mut next = 0;
+    while next < events.len() {
+        turns.add_one();
+        if is_mark(&events[next]) {
+            return next;
+        }
+        next += 1;
+    }
+    next
+}
+
 /// Whether a bracket, an end or a `]` alone is among events.
 fn has_brackets<L: Ledger>(events: &[Event], turns: &mut Turns<L>) -> bool
     ensures brackets { result ≡ has_brackets events.now }
@@ -44,7 +69,7 @@ fn has_brackets<L: Ledger>(events: &[Event], turns: &mut Turns<L>) -> bool
 
 /// Puts links, images and emphasis in place of the brackets and the delimiter runs of a list of events.
 ///
-/// If no bracket is among the events, one edit for each run does. Else one edit puts all events anew. Returns `AllocError` if it runs
+/// If no bracket is among the events, one edit for each run does. Else one edit puts all events anew. Most texts have neither. Returns `AllocError` if it runs
 /// out of memory; then some edits were added. A turn is a look at an event, a run, a span or an end of a pair, or a try to make one more
 /// pair. Events that are written are copied besides.
 pub fn put_links_counted<L: Ledger>(
@@ -58,9 +83,13 @@ pub fn put_links_counted<L: Ledger>(
     requires balanced { IsBalanced events.now }
     requires room { ArePlacesInside bytes.now events.now }
     ensures edits { OnOk result (edits.new ≡ link_edits bytes.now events.now) }
-    ensures linear { OnOk result (turns.new ≤ turns.old + (15 * length (runs_in bytes.now events.now) + 3 * markers_left (runs_in bytes.now events.now)) + 4 * length events.now) }
+    ensures linear { OnOk result (turns.new ≤ turns.old + (15 * length (runs_in bytes.now events.now) + 3 * markers_left (runs_in bytes.now events.now)) + 5 * length events.now) }
 {
-    if !has_brackets(events, turns) {
+    let first = first_mark(events, turns);
+    if first >= events.len() {
+        return Ok(());
+    }
+    if !has_brackets(&events[first..], turns) {
         return emphasize_counted(alloc, bytes, events, edits, turns);
     }
     let all = linked(alloc, bytes, events, turns)?;

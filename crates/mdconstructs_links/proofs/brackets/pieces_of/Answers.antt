@@ -13,10 +13,10 @@ use Rattle.mdconstructs_links.proofs.brackets.pieces_of.Goals as goal
 
 pub loop-next-init : goal.loop-next-init
 loop-next-init g c =
-    let n = c.new-all.ensures in (
+    let n = c.in_ok-all.ensures in (
       omega arith,
-      first-reached c.args.bytes.now c.args.events.now c.new-all.result c.turned-left.result.items c.in_ok-runs_of_counted.field-0.items c.requires.room n.brackets n.runs n.owners n.pieces c.in_ok-runs_of_counted.ensures.runs c.turned-left.ensures,
-      first-paid c.args.bytes.now c.args.events.now c.new-all.result c.turned-left.result.items c.in_ok-runs_of_counted.field-0.items c.args.turns.now c.runs_of_counted.new.turns n.runs n.pieces c.in_ok-runs_of_counted.ensures.runs c.turned-left.ensures c.runs_of_counted.ensures.turns,
+      first-reached c.args.bytes.now c.args.events.now c.in_ok-all.all c.turned-left.result.items c.in_ok-runs_of_counted.field-0.items c.requires.room n.brackets n.runs n.owners n.pieces c.in_ok-runs_of_counted.ensures.runs c.turned-left.ensures,
+      first-paid c.args.bytes.now c.args.events.now c.in_ok-all.all c.turned-left.result.items c.in_ok-runs_of_counted.field-0.items c.args.turns.now c.runs_of_counted.new.turns n.runs n.pieces c.in_ok-runs_of_counted.ensures.runs c.turned-left.ensures c.runs_of_counted.ensures.turns,
     )
 
 pub step-requires-clause-many : goal.step-requires-clause-many
