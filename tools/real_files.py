@@ -1,16 +1,20 @@
 #!/usr/bin/env python3
 """Compares, for each Markdown file under a folder, the HTML that tools/commonmark.py makes of printed events with that of cmark, byte for
-byte. Prints how many files are the same, and of the others which constructs cmark finds in them that the machine does not read.
+byte. Prints how many files are the same, and of the others which constructs cmark finds in them that the machine does not read, or, if it
+reads all of them, the causes that tools/random_documents.py names.
 
 usage: tools/real_files.py DIR PROGRAM [--machine NAME] [--cmark CMARK] [--no-brackets] [--differing]
+       tools/real_files.py --packages
   DIR             a folder: its files that end in .md or .markdown, at any depth, links passed over
   PROGRAM         mdevents, or what prints events as it does
   --machine NAME  the machine that reads the files; without it, flow
   --cmark CMARK   cmark's program; without it, the one on the path. Debian's package cmark has it
   --no-brackets   each `[` is read as `(`, so that no file has links, images and definitions
-  --differing     also each file that differs: its name, the constructs, and the first line that differs
+  --differing     also each file that differs: its name, the constructs or causes, and the first line that differs
+  --packages      the names of packages of Debian 12 whose files were compared
 
-Files for a comparison: documentation of Debian's packages, by `apt-get download` and `dpkg -x`, as in usr/share/doc.
+Files for a comparison: those of Debian's packages, by `apt-get download` of each and `dpkg -x` into one folder. Then `gunzip` each file that
+ends in .md.gz.
 """
 
 import argparse
@@ -24,6 +28,15 @@ sys.path.insert(0, os.path.dirname(os.path.realpath(__file__)))
 import commonmark
 
 sys.setrecursionlimit(1_000_000)
+PACKAGES = """
+ansible-core git-buildpackage golang-github-aws-aws-sdk-go-dev golang-github-docker-docker-dev golang-github-go-kit-kit-dev
+golang-github-gorilla-mux-dev golang-github-sirupsen-logrus-dev golang-github-urfave-cli-dev golang-google-grpc-dev
+golang-gopkg-src-d-go-git.v4-dev libcurl4-doc libjs-bootstrap4 librust-bindgen-dev librust-chrono-dev librust-clap-dev librust-hyper-dev
+librust-nom-dev librust-rand-dev librust-rayon-dev librust-regex-dev librust-reqwest-dev librust-rustix-dev librust-serde-dev
+librust-syn-dev librust-tokio-dev librust-toml-edit-dev nlohmann-json3-dev node-babel7 node-express node-lodash node-react
+node-typescript node-undici node-ws nodejs-doc npm pandoc-data ruby-commonmarker ruby-kramdown ruby-rails ruby-rspec-core ruby-sinatra
+rust-doc rustc yarnpkg zstd
+"""
 # cmark's names of what a machine does not read, as they begin its XML's tags
 UNREAD = {"flow": ("list", "block_quote", "link", "image"), "document": ()}
 
@@ -56,7 +69,22 @@ def first_difference(made, wanted):
     return ""
 
 
+def causes_of(document, words):
+    """Why the HTML of a document differs, by name."""
+    tags = by_cmark(words.cmark, document, "xml")
+    unread = [it for it in UNREAD[words.machine] if f"<{it} " in tags or f"<{it}>" in tags]
+    if unread or words.machine != "document":
+        return "+".join(unread) or "none of these"
+    import random_documents  # which imports this file
+
+    explained = random_documents.Beside(words.program, words.machine, words.cmark).explained(document)
+    return "; ".join(name or "NO NAME" for name, _ in explained)
+
+
 def main():
+    if sys.argv[1:] == ["--packages"]:
+        print("\n".join(PACKAGES.split()))
+        return
     parser = argparse.ArgumentParser(description=__doc__, formatter_class=argparse.RawDescriptionHelpFormatter, usage=argparse.SUPPRESS)
     parser.add_argument("folder", help=argparse.SUPPRESS)
     parser.add_argument("program", help=argparse.SUPPRESS)
@@ -74,14 +102,13 @@ def main():
         if made == wanted:
             right += 1
             continue
-        tags = by_cmark(words.cmark, document, "xml")
-        causes = "+".join(it for it in UNREAD[words.machine] if f"<{it} " in tags or f"<{it}>" in tags) or "none of these"
+        causes = causes_of(document, words)
         why[causes] += 1
         if words.differing:
             print(f"{os.path.relpath(path, words.folder)}: {causes}: {first_difference(made, wanted)}")
     print(f"{right} of {len(files)} files are the same, byte for byte; {size:,} bytes")
     for causes, times in why.most_common():
-        print(f"{times:6} differ and have {causes}")
+        print(f"{times:6} differ: {causes}")
 
 
 if __name__ == "__main__":
