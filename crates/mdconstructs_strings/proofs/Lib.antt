@@ -9,4 +9,6 @@ pub mod Listed
 pub mod Orders
 pub mod Places
 pub mod Plain
+pub mod PlainRanges
 pub mod Ranges
+pub mod Stretches

@@ -65,3 +65,10 @@ module _ (on : Constructs) (t : ℕ) (bytes : List ℕ) (d : Event) where
   kept-at inside (e ∷ es) (suc i) (suc j) one some h =
       let r = kept-at inside es i j (omega (arith, one)) (omega (arith, some)) h in
       record { events = r.events; size = r.size }
+
+-- events from an index on are the one there, and those behind it
+pub dropped : (es : List Event) (i j : ℕ) (d : Event) → i < length es → j ≡ i + 1 → drop i es ≡ slice_index_or es i d ∷ drop j es
+dropped [] i j d some one = absurd (omega (arith, some))
+dropped (e ∷ es) zero j d some one = ap (λ n. e ∷ drop n (e ∷ es)) (sym one)
+dropped (e ∷ es) (suc i) zero d some one = absurd (omega (arith, one))
+dropped (e ∷ es) (suc i) (suc j) d some one = dropped es i j d (omega (arith, some)) (omega (arith, one))

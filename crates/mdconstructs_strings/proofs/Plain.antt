@@ -12,7 +12,6 @@ use Rattle.markdown_base.specs.declared.configuration.Constructs.{Constructs}
 use Rattle.markdown_base.specs.declared.event.Event.{Event}
 use Rattle.markdown_base.specs.declared.event.Name.TheVariants.{Data}
 use Rattle.markdown_base.specs.declared.event.Point.{Point}
-use Rattle.markdown_base.specs.Events.{is_enter}
 use Rattle.markdown_base.specs.Places.{shown, stands_before}
 use Rattle.markdown_base.specs.Virtual.{Seat, end_after, point, virtual}
 use Rattle.markdown_tokenizer.proofs.Positions.Order.{every-back, filter-every}
@@ -24,7 +23,7 @@ use Rattle.mdconstructs_strings.proofs.Fronts.{no_reference}
 use Rattle.mdconstructs_strings.proofs.Ranges.{range-left}
 use Rattle.mdconstructs_strings.specs.Laws.{AreOf, ArePlain, DataIsReadAsString, HavePlainStrings, IsPlainData, PlainStringsStay}
 use Rattle.mdconstructs_strings.specs.StringItems.{is_string_special, string_data, string_item_at, string_part, string_seat_events}
-use Rattle.mdconstructs_strings.specs.Strings.{has_strings, in_string_after, is_data, is_string, line_as_string, seats_between, with_strings, with_strings_from}
+use Rattle.mdconstructs_strings.specs.Strings.{in_string_after, is_data, line_as_string, seats_between, with_strings_from}
 use Rattle.mdconstructs_text.proofs.Constructs.Apart.{or-none}
 use Rattle.mdconstructs_text.specs.Bytes.{has_byte_at}
 use Rattle.std.specs.Char.{is_ascii_punctuation}
@@ -161,11 +160,3 @@ module _ (on : Constructs) (t : ℕ) (bytes : List ℕ) (d : 0 < t) where
 
 pub plain_stays : PlainStringsStay
 plain_stays on t bytes es d h = all-stay on t bytes d false es h
-
--- ---- no strings
-pub none_there : (on : Constructs) (t : ℕ) (bytes : List ℕ) (es : List Event) → has_strings es ≡ false → with_strings on t bytes es ≡ es
-none_there on t bytes [] h = refl
-none_there on t bytes (e ∷ []) h = refl
-none_there on t bytes (e ∷ f ∷ es) h =
-    let parts = or_parts (is_string e.name) (has_strings (f ∷ es)) h in
-    ap (λ b. e ∷ with_strings_from on t bytes (cond b (is_enter e.kind) false) (f ∷ es)) parts.0 ∙ ap (λ l. e ∷ l) (none_there on t bytes (f ∷ es) parts.1)

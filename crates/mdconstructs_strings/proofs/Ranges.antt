@@ -15,7 +15,7 @@ use Rattle.markdown_tokenizer.proofs.Positions.Seats.{rest-later}
 use Rattle.markdown_tokenizer.proofs.Positions.Standing.{next-begins, place-of-point, seat-shown, steps}
 use Rattle.mdconstructs_strings.specs.declared.seats.Range.{Range}
 use Rattle.mdconstructs_strings.specs.Laid.{AreNext, IsRangeOf, end_of}
-use Rattle.mdconstructs_strings.specs.Reached.{IsReadUpto, left_upto}
+use Rattle.mdconstructs_strings.specs.Reached.{IsPassedUpto, IsReadUpto, left_upto}
 use Rattle.mdconstructs_strings.specs.Strings.{seats_between}
 use Rattle.mdconstructs_text.specs.Parts.{bytes_of}
 
@@ -49,43 +49,49 @@ next-push bytes p [] s h k e = (k, e, tt)
 next-push bytes p (x ∷ xs) s h k e = (h.0, h.1, next-push bytes x.end xs s h.2 k e)
 
 module _ (t : ℕ) (bytes : List ℕ) (d : 0 < t) where
-  -- where reading begins
-  pub begins-reading : (from to : Point) (r : Range) → IsPointOf t bytes from → r.bytes.items ≡ [] → r.places.items ≡ shown bytes from ∷ []
-      → IsReadUpto t bytes (seats_between t bytes from to) to r from
-  begins-reading from to r is none one =
+  -- where bytes begin to be passed
+  pub begins-passing : (from to : Point) → IsPointOf t bytes from → IsPassedUpto t bytes (seats_between t bytes from to) from to from []
+  begins-passing from to is =
       let place = place-of-point t bytes d from is in
-      record {
-        place_is = place;
-        done = [];
-        range = record { has = none; start = shown bytes from; places = one; next = tt };
-        ends = refl;
-        splits = range-left t bytes from to place;
-      }
+      record { place_is = place; next = tt; ends = refl; splits = range-left t bytes from to place }
 
-  -- one more is read
-  pub reads-more : (seats : List Seat) (to : Point) (old new : Range) (place r : Point) (s : Seat) (byte : ℕ) → IsReadUpto t bytes seats to old place
-      → IsSeatAt t bytes place s → s.byte ≡ byte → r ≡ s.end → stands_before s.point to ≡ true
-      → new.bytes.items ≡ old.bytes.items ++ byte ∷ [] → new.places.items ≡ old.places.items ++ r ∷ [] → IsReadUpto t bytes seats to new r
-  reads-more seats to old new place r s byte h n same is before bs ps =
-      let all = h.done ++ s ∷ [] in
+  -- one more is passed
+  pub passes-more : (seats : List Seat) (from to place r : Point) (s : Seat) (done : List Seat) → IsPassedUpto t bytes seats from to place done
+      → IsSeatAt t bytes place s → r ≡ s.end → stands_before s.point to ≡ true → IsPassedUpto t bytes seats from to r (done ++ s ∷ [])
+  passes-more seats from to place r s done h n is before =
       let shows = seat-shown t bytes d place s h.place_is n in
       let begins = (next-begins t bytes d place s h.place_is n).shown_is ∙ sym h.place_is.stands ∙ sym h.ends in
       record {
         place_is = (steps t bytes d place s h.place_is n r is).0;
-        done = all;
-        range = record {
-          has = bs ∙ ap (λ xs. xs ++ byte ∷ []) h.range.has ∙ ap (λ b. bytes_of h.done ++ b ∷ []) (sym same) ∙ sym (map-append (λ x. x.byte) h.done (s ∷ []));
-          start = h.range.start;
-          places = ps ∙ ap (λ xs. xs ++ r ∷ []) h.range.places ∙ ap (λ p. h.range.start ∷ (map end_of h.done ++ p ∷ [])) is ∙ ap (λ xs. h.range.start ∷ xs) (sym (map-append end_of h.done (s ∷ [])));
-          next = next-push bytes h.range.start h.done s h.range.next begins shows;
-        };
-        ends = end-after-one h.range.start h.done s ∙ sym (ap (shown bytes) is ∙ shows);
+        next = next-push bytes (shown bytes from) done s h.next begins shows;
+        ends = end-after-one (shown bytes from) done s ∙ sym (ap (shown bytes) is ∙ shows);
         splits =
-            h.splits ∙ ap (λ xs. h.done ++ xs) (left-more t bytes d place to r s h.place_is n is before)
-            ∙ sym (append_assoc h.done (s ∷ []) (left_upto t bytes r to));
+            h.splits ∙ ap (λ xs. done ++ xs) (left-more t bytes d place to r s h.place_is n is before)
+            ∙ sym (append_assoc done (s ∷ []) (left_upto t bytes r to));
       }
 
+  -- all are passed
+  pub all-passed : (seats : List Seat) (from to place : Point) (done : List Seat) → IsPassedUpto t bytes seats from to place done → left_upto t bytes place to ≡ [] → seats ≡ done
+  all-passed seats from to place done h none = h.splits ∙ ap (λ xs. done ++ xs) none ∙ append-nil done
+
+  -- where reading begins
+  pub begins-reading : (from to : Point) (r : Range) → IsPointOf t bytes from → r.bytes.items ≡ [] → r.places.items ≡ shown bytes from ∷ []
+      → IsReadUpto t bytes (seats_between t bytes from to) from to r from
+  begins-reading from to r is none one = record { done = []; passed = begins-passing from to is; has = none; places = one }
+
+  -- one more is read
+  pub reads-more : (seats : List Seat) (from to : Point) (old new : Range) (place r : Point) (s : Seat) (byte : ℕ) → IsReadUpto t bytes seats from to old place
+      → IsSeatAt t bytes place s → s.byte ≡ byte → r ≡ s.end → stands_before s.point to ≡ true
+      → new.bytes.items ≡ old.bytes.items ++ byte ∷ [] → new.places.items ≡ old.places.items ++ r ∷ [] → IsReadUpto t bytes seats from to new r
+  reads-more seats from to old new place r s byte h n same is before bs ps = record {
+    done = h.done ++ s ∷ [];
+    passed = passes-more seats from to place r s h.done h.passed n is before;
+    has = bs ∙ ap (λ xs. xs ++ byte ∷ []) h.has ∙ ap (λ b. bytes_of h.done ++ b ∷ []) (sym same) ∙ sym (map-append (λ x. x.byte) h.done (s ∷ []));
+    places = ps ∙ ap (λ xs. xs ++ r ∷ []) h.places ∙ ap (λ p. shown bytes from ∷ (map end_of h.done ++ p ∷ [])) is ∙ ap (λ xs. shown bytes from ∷ xs) (sym (map-append end_of h.done (s ∷ [])));
+  }
+
   -- all is read
-  pub all-read : (seats : List Seat) (to : Point) (r : Range) (place : Point) (h : IsReadUpto t bytes seats to r place) → left_upto t bytes place to ≡ [] → IsRangeOf bytes seats r
-  all-read seats to r place h none =
-      subst (λ xs. IsRangeOf bytes xs r) (sym (h.splits ∙ ap (λ xs. h.done ++ xs) none ∙ append-nil h.done)) h.range
+  pub all-read : (seats : List Seat) (from to : Point) (r : Range) (place : Point) (h : IsReadUpto t bytes seats from to r place) → left_upto t bytes place to ≡ [] → IsRangeOf bytes seats r
+  all-read seats from to r place h none =
+      subst (λ xs. IsRangeOf bytes xs r) (sym (all-passed seats from to place h.done h.passed none))
+      (record { has = h.has; start = shown bytes from; places = h.places; next = h.passed.next })

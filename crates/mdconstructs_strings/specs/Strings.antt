@@ -1,7 +1,6 @@
 -- Events in which strings are read: in place of the data that stands for a line of a destination, a title or a label come its escapes and
 -- character references. The list has no links; one that has chunks is read by another pass.
 use Rattle.std.specs.Prelude.{ℕ, ◌&&◌, ◌||◌, not, Bool, false, cond, List, [], ◌∷◌, ◌++◌, filter}
-use Rattle.std.specs.List.{list_any}
 use Rattle.markdown_base.specs.declared.configuration.Constructs.{Constructs}
 use Rattle.markdown_base.specs.declared.event.Event.{Event}
 use Rattle.markdown_base.specs.declared.event.Name.{Name}
@@ -17,10 +16,6 @@ abbrev pub is_string : Name → Bool
 is_string name =
     same_name name ResourceDestinationString || (same_name name ResourceTitleString || (same_name name ReferenceString
     || (same_name name DefinitionDestinationString || (same_name name DefinitionTitleString || same_name name DefinitionLabelString))))
-
--- events begin or end a string
-abbrev pub has_strings : List Event → Bool
-has_strings events = list_any (λ e. is_string e.name) events
 
 -- whether an event stands in a string behind this one, by whether this one does
 abbrev pub in_string_after : Bool → Event → Bool

@@ -170,7 +170,7 @@ fn is_escape(text: &[u8]) -> bool
 }
 
 /// Whether a line ending, an escape or a reference may begin with a byte.
-fn is_special(byte: u8) -> bool
+pub(crate) fn is_special(byte: u8) -> bool
     ensures { result ≡ is_string_special byte }
 {
     byte == b'\n' || byte == b'\\' || byte == b'&'

@@ -1,13 +1,15 @@
 //! The virtual bytes of a document from a place up to another.
 
-ghost use Rattle.std.specs.Prelude.{◌≡◌, ◌==◌, ◌&&◌, ◌||◌, ◌+◌, ◌%◌, ◌^◌, ◌<◌, ◌≤◌, ◌++◌, ◌∷◌, [], ℕ, length, nat_lt, IfOk, OnOk};
+ghost use Rattle.std.specs.Prelude.{◌≡◌, ◌≢◌, ◌==◌, ◌&&◌, ◌||◌, ◌+◌, ◌%◌, ◌^◌, ◌<◌, ◌≤◌, ◌++◌, ◌∷◌, [], ℕ, length, nat_lt, true, IfOk, OnOk};
 ghost use Rattle.markdown_base.specs.Places;
 ghost use Rattle.markdown_base.specs.Places.{IsPointOf, stands_before};
 ghost use Rattle.markdown_base.specs.Virtual.{IsWithinLimit, Seat};
 ghost use Rattle.markdown_tokenizer.specs.Cursor.{begins_pair, goes_on, IsNextSeat, IsPlace, IsSeatAt};
 ghost use Rattle.mdconstructs_strings.specs.Laid.{IsRange, IsRangeOf};
+ghost use Rattle.mdconstructs_strings.specs.Reached.{ArePlainBetween};
 ghost use Rattle.mdconstructs_strings.specs.Strings.{seats_between};
 
+use crate::items::is_special;
 use markdown_base::configuration::TabSize;
 use markdown_base::event::Point;
 use mdconstructs_turns::Turns;
@@ -165,4 +167,43 @@ pub(crate) fn range_between<L: Ledger>(
         range.push(byte, place)?;
     }
     Ok(range)
+}
+
+/// Whether a place to which bytes were passed is the one up to which they are passed, and another than the one from which they are; and both are
+/// shown where they are.
+fn are_ends(bytes: &[u8], from: &Point, to: &Point, place: &Point) -> bool
+    ensures passed { result ≡ true → place.now ≡ to.now }
+    ensures some { result ≡ true → from.now ≢ to.now }
+    ensures shown { result ≡ true → (Places.shown bytes.now from.now ≡ from.now) × (Places.shown bytes.now to.now ≡ to.now) }
+{
+    place == to && from != to && shown(bytes, *from) == *from && shown(bytes, *to) == *to
+}
+
+/// Whether the virtual bytes of a document from a place up to another are plain data: there is one, none is a line feed, a backslash or `&`, and both
+/// places are shown where they are. May return false where they are.
+pub(crate) fn are_plain_between<L: Ledger>(
+    bytes: &[u8],
+    tab: TabSize,
+    from: &Point,
+    to: &Point,
+    turns: &mut Turns<L>,
+) -> bool
+    requires limit { IsWithinLimit tab bytes.now }
+    requires place { IsPointOf tab bytes.now from.now }
+    ensures plain { result ≡ true → ArePlainBetween tab bytes.now from.now to.now }
+    ensures turns { turns.new ≤ turns.old + length (seats_between tab bytes.now from.now to.now) }
+{
+    let t = tab.get();
+    let mut place = *from;
+    while let Some((byte, seat)) = seat_at(bytes, place) {
+        if !is_before(&seat, to) {
+            return are_ends(bytes, from, to, &place);
+        }
+        turns.add_one();
+        if is_special(byte) {
+            return false;
+        }
+        pass(bytes, t, &mut place, byte);
+    }
+    are_ends(bytes, from, to, &place)
 }

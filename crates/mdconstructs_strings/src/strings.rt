@@ -1,15 +1,16 @@
 //! Strings among events: each line of a string that stands as data is read, and its escapes and character references come in its place.
 
-ghost use Rattle.std.specs.Prelude.{◌≡◌, ◌+◌, ◌*◌, ◌<◌, ◌≤◌, ◌++◌, ◌&&◌, drop, length, IfOk, OnOk};
+ghost use Rattle.std.specs.Prelude.{◌≡◌, ◌+◌, ◌*◌, ◌<◌, ◌≤◌, ◌++◌, ◌∷◌, [], ◌&&◌, drop, length, true, None, IfOk, OnOk};
+ghost use Rattle.markdown_base.specs.declared.configuration.Constructs.{Constructs};
 ghost use Rattle.markdown_base.specs.Places.{IsPointOf};
 ghost use Rattle.markdown_base.specs.Virtual.{IsWithinLimit};
 ghost use Rattle.markdown_tokenizer.specs.AtPlaces.{AreAtPlaces};
 ghost use Rattle.mdconstructs_strings.specs.Costs.{string_size};
 ghost use Rattle.mdconstructs_strings.specs.Reached.{begins_with_data};
-ghost use Rattle.mdconstructs_strings.specs.Strings.{has_strings, in_string_after, is_data, is_string, line_as_string, seats_between, with_strings};
+ghost use Rattle.mdconstructs_strings.specs.Strings.{in_string_after, is_data, is_string, line_as_string, seats_between, with_strings};
 
 use crate::placed::push_items;
-use crate::seats::range_between;
+use crate::seats::{are_plain_between, range_between};
 use markdown_base::configuration::{Constructs, TabSize};
 use markdown_base::event::{Event, Kind, Name, Point};
 use mdconstructs_turns::Turns;
@@ -110,23 +111,25 @@ pub fn put_strings_counted<L: Ledger>(
     ensures events { IfOk result (λ out. out.items ≡ with_strings on.now tab bytes.now events.now) }
     ensures linear { OnOk result (turns.new ≤ turns.old + length events.now + 3 * string_size tab bytes.now events.now) }
 {
-    let mut out = Vec::new(alloc);
+    let mut out = Vec::with_capacity(alloc, events.len())?;
     let mut inside = false;
+    let mut from = 0;
     let mut next = 0;
     while next < events.len() {
         turns.add_one();
         if is_string_data(inside, events, next) {
-            let from = &events[next].point;
-            let to = &events[next + 1].point;
-            read_line_counted(alloc, on, bytes, tab, from, to, &mut out, turns)?;
+            let start = &events[next].point;
+            let end = &events[next + 1].point;
+            out.extend_from_slice(&events[from..next])?;
+            read_line_counted(alloc, on, bytes, tab, start, end, &mut out, turns)?;
             next += 2;
+            from = next;
         } else {
-            let event = events[next];
-            inside = in_string_after(inside, &event);
-            out.push(event)?;
+            inside = in_string_after(inside, &events[next]);
             next += 1;
         }
     }
+    out.extend_from_slice(&events[from..])?;
     Ok(out)
 }
 
@@ -204,15 +207,100 @@ pub fn put_strings(
     put_strings_uncounted::<Brand>(alloc, on, bytes, tab, events, Blank::new(1))
 }
 
-/// Whether events begin or end a string.
-fn has_strings(events: &[Event]) -> bool
-    ensures { result ≡ has_strings events.now }
+/// Whether two events are a span of data, and have no links.
+fn is_data_alone(enter: &Event, exit: &Event) -> bool
+    ensures data { result ≡ true → is_data enter.now exit.now ≡ true }
+    ensures enter { result ≡ true → enter.now.link ≡ None }
+    ensures exit { result ≡ true → exit.now.link ≡ None }
 {
-    events.iter().any(|event| is_string(event.name))
+    is_data(enter, exit) && enter.link.is_none() && exit.link.is_none()
 }
 
-/// The events of a document with their strings read, as `put_strings` has them. If there is no string among them, they are given back,
+/// Whether data of a string is plain: no line feed, no backslash and no `&` is between its two events. May return false where it is.
+fn is_plain_data<L: Ledger>(
+    bytes: &[u8],
+    tab: TabSize,
+    enter: &Event,
+    exit: &Event,
+    turns: &mut Turns<L>,
+) -> bool
+    requires limit { IsWithinLimit tab bytes.now }
+    requires place { IsPointOf tab bytes.now enter.now.point }
+    ensures plain { result ≡ true → (on : Constructs) → line_as_string on tab bytes.now enter.now.point exit.now.point ≡ enter.now ∷ exit.now ∷ [] }
+    ensures turns { turns.new ≤ turns.old + length (seats_between tab bytes.now enter.now.point exit.now.point) }
+{
+    if !is_data_alone(enter, exit) {
+        return false;
+    }
+    are_plain_between(bytes, tab, &enter.point, &exit.point, turns)
+}
+
+/// Whether all data in strings is plain. Then nothing changes where strings are read. May return false where it is.
+fn are_plain<L: Ledger>(bytes: &[u8], tab: TabSize, events: &[Event], turns: &mut Turns<L>) -> bool
+    requires limit { IsWithinLimit tab bytes.now }
+    requires places { AreAtPlaces tab bytes.now events.now }
+    ensures plain { result ≡ true → (on : Constructs) → with_strings on tab bytes.now events.now ≡ events.now }
+    ensures linear { turns.new ≤ turns.old + length events.now + string_size tab bytes.now events.now }
+{
+    let mut inside = false;
+    let mut next = 0;
+    while next < events.len() {
+        turns.add_one();
+        if is_string_data(inside, events, next) {
+            if !is_plain_data(bytes, tab, &events[next], &events[next + 1], turns) {
+                return false;
+            }
+            next += 2;
+        } else {
+            inside = in_string_after(inside, &events[next]);
+            next += 1;
+        }
+    }
+    true
+}
+
+/// The events of a document with their strings read, as `put_strings_counted` has them. If the data of all strings is plain, they are given back,
 /// and no memory is taken.
+pub fn with_strings_counted<L: Ledger>(
+    alloc: Global,
+    on: &Constructs,
+    bytes: &[u8],
+    tab: TabSize,
+    events: Vec<Event>,
+    turns: &mut Turns<L>,
+) -> Result<Vec<Event>, AllocError>
+    requires limit { IsWithinLimit tab bytes.now }
+    requires places { AreAtPlaces tab bytes.now events.items }
+    ensures events { IfOk result (λ out. out.items ≡ with_strings on.now tab bytes.now events.items) }
+    ensures linear { OnOk result (turns.new ≤ turns.old + 2 * length events.items + 4 * string_size tab bytes.now events.items) }
+{
+    if are_plain(bytes, tab, &events, turns) {
+        return Ok(events);
+    }
+    put_strings_counted(alloc, on, bytes, tab, &events, turns)
+}
+
+/// The events with their strings read, counted from nothing.
+fn with_strings_uncounted<L: Ledger>(
+    alloc: Global,
+    on: &Constructs,
+    bytes: &[u8],
+    tab: TabSize,
+    events: Vec<Event>,
+    blank: Blank,
+) -> Result<Vec<Event>, AllocError>
+    requires name { blank.name ≡ L.name }
+    requires parts { blank.parts ≡ L.parts }
+    requires some { 0 < blank.parts }
+    requires limit { IsWithinLimit tab bytes.now }
+    requires places { AreAtPlaces tab bytes.now events.items }
+    ensures { IfOk result (λ out. out.items ≡ with_strings on.now tab bytes.now events.items) }
+{
+    let mut turns = Turns::<L>::new(blank);
+    with_strings_counted(alloc, on, bytes, tab, events, &mut turns)
+}
+
+/// The events of a document with their strings read, as `with_strings_counted` has them.
 pub fn with_strings(
     alloc: Global,
     on: &Constructs,
@@ -224,8 +312,5 @@ pub fn with_strings(
     requires places { AreAtPlaces tab bytes.now events.items }
     ensures { IfOk result (λ out. out.items ≡ with_strings on.now tab bytes.now events.items) }
 {
-    if !has_strings(&events) {
-        return Ok(events);
-    }
-    put_strings(alloc, on, bytes, tab, &events)
+    with_strings_uncounted::<Brand>(alloc, on, bytes, tab, events, Blank::new(1))
 }

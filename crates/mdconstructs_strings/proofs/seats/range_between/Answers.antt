@@ -29,7 +29,7 @@ returns-then-not-is_before-clause-range g c =
     let seat : Seat = record { byte = c.in-Some.byte; point = c.in-Some.seat; end = n.0 } in
     let none = left-none t bytes l.place to seat n.1 (sym c.is_before.ensures ∙ c.if-not-is_before.true) in
     subst (λ k. IsRangeOf bytes (seats_between k bytes from to) l.range) c.get-t.ensures.columns
-    (all-read t bytes c.get-t.ensures.least (seats_between t bytes from to) to l.range l.place l.invariant.0 none)
+    (all-read t bytes c.get-t.ensures.least (seats_between t bytes from to) from to l.range l.place l.invariant.0 none)
 
 pub pass-requires-clause-next : goal.pass-requires-clause-next
 pass-requires-clause-next g c =
@@ -39,7 +39,7 @@ pass-requires-clause-next g c =
 pub loop-byte-smaller : goal.loop-byte-smaller
 loop-byte-smaller g c =
     let n = (c.in-Some.ensures c.get-t.result c.get-t.ensures.least).1 in
-    omega (arith, ap length (steps c.get-t.result c.args.bytes.now c.get-t.ensures.least c.loop-byte.place _ c.loop-byte.invariant.0.place_is n c.pass.new.point (c.pass.ensures _ n)).1)
+    omega (arith, ap length (steps c.get-t.result c.args.bytes.now c.get-t.ensures.least c.loop-byte.place _ c.loop-byte.invariant.0.passed.place_is n c.pass.new.point (c.pass.ensures _ n)).1)
 
 pub loop-byte-preserved : goal.loop-byte-preserved
 loop-byte-preserved g c =
@@ -52,7 +52,7 @@ loop-byte-preserved g c =
     let one = c.add_one.ensures in
     let so_far = l.invariant.1 in
     let more = ap length c.in_ok-push.ensures.bytes ∙ length-append l.range.bytes.items (c.in-Some.byte ∷ []) in (
-      reads-more t bytes c.get-t.ensures.least (seats_between t bytes c.args.from.now to) to l.range c.push.new.self l.place c.pass.new.point seat c.in-Some.byte l.invariant.0 n.1 refl
+      reads-more t bytes c.get-t.ensures.least (seats_between t bytes c.args.from.now to) c.args.from.now to l.range c.push.new.self l.place c.pass.new.point seat c.in-Some.byte l.invariant.0 n.1 refl
           (c.pass.ensures seat n.1) (sym c.is_before.ensures ∙ c.if-not-is_before.false) c.in_ok-push.ensures.bytes c.in_ok-push.ensures.places,
       omega (arith, one, so_far, more),
     )
