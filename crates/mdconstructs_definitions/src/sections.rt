@@ -63,6 +63,13 @@ pub(crate) struct Defined {
     pub(crate) definitions: Vec<Definition>,
 }
 
+/// What is known of a line that no others are behind.
+const LAST: Ahead = Ahead {
+    further: 0,
+    many: 0,
+    list: None,
+};
+
 /// A paragraph is open behind a line.
 fn is_text(at: &RowAt) -> bool
     ensures { result ≡ is_text_at at.now }
@@ -292,6 +299,9 @@ fn push_undefined<L: Ledger>(
     ensures sections { IfOk result (λ _. (all : List RowOf) → AreRows rows.now all → (around : Part) → (before : List SectionOf) → AreSections sections.old.items before → AreSections sections.new.items (before ++ undefined is_behind around all)) }
     ensures turns { turns.new ≤ turns.old + 2 * length rows.now }
 {
+    if rows.len() == 1 {
+        return push_lines(sections, rows, &[LAST], is_behind, turns);
+    }
     let aheads = aheads_of(alloc, rows, turns)?;
     push_lines(sections, rows, aheads.as_slice(), is_behind, turns)
 }
