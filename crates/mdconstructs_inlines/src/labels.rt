@@ -81,7 +81,7 @@ fn is_own_label(
 ) -> Result<bool, AllocError>
     ensures { IfOk result (λ is. is ≡ is_own_label (defines labels.now) bytes.now events.now) }
 {
-    if has_bracket(events) {
+    if labels.is_empty() || has_bracket(events) {
         return Ok(false);
     }
     is_defined_label(alloc, labels, bytes, events)
