@@ -14,7 +14,7 @@ import sys
 TOP = os.path.dirname(os.path.dirname(os.path.realpath(__file__)))
 PARTS = {
     "markdown": ["markdown_base", "markdown_edits", "markdown_tokenizer", "markdown_children"],
-    "mdconstructs": ["mdconstructs_tables", "mdconstructs_machines", "mdconstructs_text", "mdconstructs_labels", "mdconstructs_attention", "mdconstructs_references", "mdconstructs_inline_constructs", "mdconstructs_strings", "mdconstructs_inlines", "mdconstructs_flow", "mdconstructs_flow_read", "mdconstructs_lines", "mdconstructs_containers", "mdconstructs_documents", "mdconstructs_rests"],
+    "mdconstructs": ["mdconstructs_tables", "mdconstructs_machines", "mdconstructs_text", "mdconstructs_labels", "mdconstructs_attention", "mdconstructs_references", "mdconstructs_inline_constructs", "mdconstructs_strings", "mdconstructs_inlines", "mdconstructs_flow", "mdconstructs_flow_read", "mdconstructs_lines", "mdconstructs_containers", "mdconstructs_documents", "mdconstructs_rests", "mdconstructs_targets"],
 }
 NAMED = {
     ("markdown_children", "specs", "LawStatements"): "ChildrenLawStatements",
@@ -64,6 +64,13 @@ NAMED = {
     ("mdconstructs_strings", "specs", "Laws"): "StringLaws",
     ("mdconstructs_strings", "proofs", "Fronts"): "StringFronts",
     ("mdconstructs_strings", "proofs", "Plain"): "StringPlain",
+    ("mdconstructs_targets", "specs", "Costs"): "TargetCosts",
+    ("mdconstructs_targets", "specs", "Defined"): "DefinedAt",
+    ("mdconstructs_targets", "specs", "Examples"): "TargetExamples",
+    ("mdconstructs_targets", "specs", "Spans"): "SpansInside",
+    ("mdconstructs_targets", "specs", "Strings"): "StringTexts",
+    ("mdconstructs_targets", "proofs", "CostLemmas"): "TargetCostLemmas",
+    ("mdconstructs_targets", "proofs", "Examples"): "TargetExamples",
     ("mdconstructs_text", "specs", "Laws"): "TextLaws",
     ("mdconstructs_text", "proofs", "NoFurther"): "TextNoFurther",
     ("mdconstructs_text", "proofs", "NoRefusals"): "TextNoRefusals",

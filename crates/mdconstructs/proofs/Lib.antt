@@ -76,6 +76,7 @@ pub use Rattle.mdconstructs_inlines.proofs.BracketCalls
 pub use Rattle.mdconstructs_inlines.proofs.BracketReads
 pub use Rattle.mdconstructs_inlines.proofs.Budgets
 pub use Rattle.mdconstructs_inlines.proofs.CallsCounted
+pub use Rattle.mdconstructs_inlines.proofs.EndReads
 pub use Rattle.mdconstructs_inlines.proofs.InlineApart
 pub use Rattle.mdconstructs_inlines.proofs.InlineBuilt
 pub use Rattle.mdconstructs_inlines.proofs.InlineCalls
@@ -173,3 +174,8 @@ pub use Rattle.mdconstructs_rests.proofs.Sections
 pub use Rattle.mdconstructs_rests.proofs.Shown
 pub use Rattle.mdconstructs_rests.proofs.Virtual
 pub use Rattle.mdconstructs_rests.proofs.WithoutContainers
+pub use Rattle.mdconstructs_targets.proofs.CostLemmas as TargetCostLemmas
+pub use Rattle.mdconstructs_targets.proofs.Examples as TargetExamples
+pub use Rattle.mdconstructs_targets.proofs.Lookups
+pub use Rattle.mdconstructs_targets.proofs.Numerals
+pub use Rattle.mdconstructs_targets.proofs.SpanEnds

@@ -206,3 +206,9 @@ pub use Rattle.mdconstructs_rests.specs.ReadTexts
 pub use Rattle.mdconstructs_rests.specs.Rests
 pub use Rattle.mdconstructs_rests.specs.Sections
 pub use Rattle.mdconstructs_rests.specs.WithoutContainers
+pub use Rattle.mdconstructs_targets.specs.Costs as TargetCosts
+pub use Rattle.mdconstructs_targets.specs.Defined as DefinedAt
+pub use Rattle.mdconstructs_targets.specs.Examples as TargetExamples
+pub use Rattle.mdconstructs_targets.specs.Spans as SpansInside
+pub use Rattle.mdconstructs_targets.specs.Strings as StringTexts
+pub use Rattle.mdconstructs_targets.specs.Targets

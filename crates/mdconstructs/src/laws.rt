@@ -48,6 +48,10 @@ pub use mdconstructs_tables::laws::{
     planned_machines_are_lawful, planned_machines_look_no_further, tables_look_no_further,
     unlinked_tables_are_lawful,
 };
+pub use mdconstructs_targets::laws::{
+    definitions_are_found_in_linear_time, definitions_of_labels, spans_end_at_their_exits,
+    targets_of_links,
+};
 pub use mdconstructs_text::laws::{
     chains_are_read_as_data, chains_are_read_as_texts, chains_of_paragraphs_can_be_read,
     cost_at_the_start, documents_are_read_by_blocks, innermost_spans_account_for_blocks,
