@@ -3,5 +3,6 @@ pub mod Headings
 pub mod Kept
 pub mod Labels
 pub mod Laws
+pub mod Linter
 pub mod TextLines
 pub mod Texts

@@ -12,6 +12,8 @@ mod fakes;
 #[cfg(test)]
 mod kept;
 #[cfg(test)]
+mod linter;
+#[cfg(test)]
 mod lists;
 #[cfg(test)]
 mod shown;
