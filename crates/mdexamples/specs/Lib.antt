@@ -4,5 +4,6 @@ pub mod Kept
 pub mod Labels
 pub mod Laws
 pub mod Linter
+pub mod Ranks
 pub mod TextLines
 pub mod Texts

@@ -5,6 +5,7 @@ pub mod fields;
 pub mod headings;
 pub mod kept;
 pub mod labels;
+pub mod laws;
 pub mod linter;
 pub mod spans;
 pub mod text_lines;

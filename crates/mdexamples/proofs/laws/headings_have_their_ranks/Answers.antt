@@ -1,0 +1,5 @@
+use Rattle.mdexamples.proofs.Ranks.Blocks.{ranks}
+use Rattle.mdexamples.proofs.laws.headings_have_their_ranks.Goals as goal
+
+pub returns : goal.returns
+returns c = ranks
