@@ -19,6 +19,7 @@
 //! | a few events at a time | [`Reading`] | the list stays in the library; the same time for each event |
 //! | spans, flat | [`spans`], [`spans_by_start`] | linear in the events, in any nesting |
 //! | spans, as a tree | [`Tree`], [`Node`] | made in linear time; about 100 bytes a span |
+//! | the span at a byte | [`Tree::node_at`] | a logarithm, and the depth there |
 //! | what a span is | [`Node::heading_level`], [`list`](Node::list), [`link`](Node::link), [`definition`](Node::definition), [`fence_info`](Node::fence_info), [`decoded`](Node::decoded) | in the size of what it looks at |
 //! | lines and columns | [`LineIndex`], both ways | made in linear time; a logarithm to look up |
 //!

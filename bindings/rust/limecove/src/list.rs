@@ -93,7 +93,8 @@ impl Node<'_> {
         Some(List {
             marker: ListMarker::of(*marker?)?,
             start,
-            is_tight: !is_apart(self, is_item) && !items.any(|item| is_apart(&item, is_block)),
+            is_tight: !is_apart(self, is_item)
+                && !items.any(|item| is_apart(&item, Name::is_block)),
         })
     }
 }
@@ -106,22 +107,34 @@ fn number(digits: &[u8]) -> Option<u32> {
     std::str::from_utf8(digits).ok()?.parse().ok()
 }
 
-/// Whether a span of this name is a block.
-fn is_block(name: Name) -> bool {
-    matches!(
-        name,
-        Name::BlockQuote
-            | Name::ListOrdered
-            | Name::ListUnordered
-            | Name::Paragraph
-            | Name::HeadingAtx
-            | Name::HeadingSetext
-            | Name::CodeIndented
-            | Name::CodeFenced
-            | Name::HtmlFlow
-            | Name::ThematicBreak
-            | Name::Definition
-    )
+impl Name {
+    /// Whether a span of this name is a block of CommonMark. An item of a list is none: it holds blocks, and its list is one.
+    ///
+    /// ```
+    /// use limecove::{Options, Tree};
+    ///
+    /// let tree = Tree::read("# a\n\n- b", &Options::default())?;
+    /// let blocks = tree.nodes().filter(|node| node.name().is_block());
+    /// let names: Vec<&str> = blocks.map(|node| node.name().as_str()).collect();
+    /// assert_eq!(names, ["HeadingAtx", "ListUnordered", "Paragraph"]);
+    /// # Ok::<(), limecove::Error>(())
+    /// ```
+    pub const fn is_block(self) -> bool {
+        matches!(
+            self,
+            Name::BlockQuote
+                | Name::ListOrdered
+                | Name::ListUnordered
+                | Name::Paragraph
+                | Name::HeadingAtx
+                | Name::HeadingSetext
+                | Name::CodeIndented
+                | Name::CodeFenced
+                | Name::HtmlFlow
+                | Name::ThematicBreak
+                | Name::Definition
+        )
+    }
 }
 
 /// Whether a blank line is between two parts right in a span. The ending of the line in which a part ends is that of no blank line.

@@ -5,9 +5,10 @@ use crate::references::{character_reference, numeric};
 use crate::{tokenize, Error, Event, Kind, Name, Options, Span, TextOptions};
 use limecove_sys::{CHARACTER_ESCAPE, CHARACTER_REFERENCE};
 use std::fmt;
-use std::iter::FusedIterator;
+use std::hash::{Hash, Hasher};
+use std::iter::{self, FusedIterator};
 use std::ops::Range;
-use std::str;
+use std::{ptr, str};
 
 /// The spans of a document as a tree. It keeps about 100 bytes for each span, and the labels of definitions, and is made in time in
 /// proportion to the events; labels are sorted.
@@ -136,6 +137,28 @@ impl<'a> Tree<'a> {
             ..self.nodes()
         }
     }
+
+    /// The innermost span that covers the byte of this index, as what is under an editor's cursor. `None` if no span covers it.
+    ///
+    /// It takes time in proportion to the logarithm of the number of spans, and to the depth of the nesting at the byte.
+    ///
+    /// ```
+    /// use limecove::{Name, Options, Tree};
+    ///
+    /// let tree = Tree::read("a [*b*](c)", &Options::default())?;
+    /// let node = tree.node_at(4).unwrap();
+    /// assert_eq!((node.name(), node.text()), (Name::Data, &b"b"[..]));
+    /// assert!(node.ancestors().any(|above| above.name() == Name::Link));
+    /// # Ok::<(), limecove::Error>(())
+    /// ```
+    pub fn node_at(&self, index: usize) -> Option<Node<'_>> {
+        // what covers the byte covers the last span that begins at or before it, or is that span
+        let begun = self
+            .places
+            .partition_point(|place| place.span.start.index <= index);
+        let last = self.node(begun.checked_sub(1)?);
+        iter::successors(Some(last), Node::parent).find(|node| node.bytes().end > index)
+    }
 }
 
 impl fmt::Debug for Tree<'_> {
@@ -149,6 +172,21 @@ impl fmt::Debug for Tree<'_> {
 pub struct Node<'a> {
     tree: &'a Tree<'a>,
     index: usize,
+}
+
+/// Two are equal if they are the same span of the same tree.
+impl PartialEq for Node<'_> {
+    fn eq(&self, other: &Node<'_>) -> bool {
+        ptr::eq(self.tree, other.tree) && self.index == other.index
+    }
+}
+
+impl Eq for Node<'_> {}
+
+impl Hash for Node<'_> {
+    fn hash<H: Hasher>(&self, state: &mut H) {
+        self.index.hash(state);
+    }
 }
 
 impl<'a> Node<'a> {
@@ -209,7 +247,35 @@ impl<'a> Node<'a> {
 
     /// The span that holds it, the one that holds that, and so on: as many as its depth.
     pub fn ancestors(&self) -> impl Iterator<Item = Node<'a>> + 'a {
-        std::iter::successors(self.parent(), Node::parent)
+        iter::successors(self.parent(), Node::parent)
+    }
+
+    /// The span behind it that the same span holds, if there is one. To step to it takes no longer if this one holds many spans.
+    ///
+    /// ```
+    /// use limecove::{Name, Options, Tree};
+    ///
+    /// let tree = Tree::read("# a\n\nb", &Options::default())?;
+    /// let heading = tree.children().next().unwrap();
+    /// let names: Vec<Name> = heading.next_siblings().map(|node| node.name()).collect();
+    /// assert_eq!(names, [Name::LineEnding, Name::BlankLineEnding, Name::Paragraph]);
+    /// assert_eq!(heading.next_sibling(), heading.next_siblings().next());
+    /// # Ok::<(), limecove::Error>(())
+    /// ```
+    pub fn next_sibling(&self) -> Option<Node<'a>> {
+        self.next_siblings().next()
+    }
+
+    /// The spans behind it that the same span holds, one after the other.
+    pub fn next_siblings(&self) -> Nodes<'a> {
+        let end = self
+            .parent()
+            .map_or(self.tree.places.len(), |parent| parent.place().behind);
+        Nodes {
+            tree: self.tree,
+            range: self.place().behind..end,
+            by_child: true,
+        }
     }
 
     /// The spans right in it. To step over a child takes no longer if it holds many spans.
@@ -682,6 +748,14 @@ mod tests {
             .last();
         let above = "EmphasisText 4-5, Emphasis 3-6, Paragraph 1-8";
         assert_eq!(names(data.unwrap().ancestors()), above);
+        let behind = data.unwrap().parent().unwrap().next_siblings();
+        assert_eq!(names(behind), "EmphasisSequence 5-6");
+        assert_eq!(names(nodes[1].next_siblings()), "Emphasis 3-6, Data 6-8");
+        assert_eq!(names(nodes[0].next_sibling().into_iter()), "");
+        assert_eq!(names([tree.node_at(3).unwrap()].iter()), "Data 4-5");
+        assert_eq!(tree.node_at(6), nodes[2].next_sibling());
+        assert_eq!(tree.node_at(7), None);
+        assert_ne!(Some(nodes[0]), tree.clone().nodes().next());
         assert_eq!(nodes[0].decoded().unwrap(), b"a b c");
         assert_eq!((nodes[2].text(), nodes[2].bytes()), (&b"*b*"[..], 2..5));
         let begun = crate::spans_by_start(&emphasis()).unwrap();
@@ -708,6 +782,10 @@ mod tests {
                     assert_eq!(depths, held);
                     for node in tree.nodes() {
                         assert!(node.decoded().unwrap().len() <= document.len());
+                        assert!(node.next_siblings().count() <= tree.nodes().count());
+                        assert!(
+                            tree.node_at(node.bytes().start).is_some() || node.text().is_empty()
+                        );
                     }
                 }
             }

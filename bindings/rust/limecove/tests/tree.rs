@@ -370,5 +370,17 @@ fn random_documents_have_trees() {
             .flat_map(|node| node.text().to_vec())
             .collect();
         assert_eq!(whole, document);
+        for node in tree.nodes() {
+            let held = match node.parent() {
+                Some(parent) => parent.children(),
+                None => tree.children(),
+            };
+            let behind = held.skip_while(|other| *other != node).skip(1);
+            assert!(node.next_siblings().eq(behind));
+        }
+        for index in 0..=document.len() {
+            let covers = tree.nodes().filter(|node| node.bytes().contains(&index));
+            assert_eq!(tree.node_at(index), covers.last(), "{:?}", document);
+        }
     }
 }
