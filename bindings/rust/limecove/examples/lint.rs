@@ -1,8 +1,10 @@
-//! A linter: `lint FILE..` prints what ten rules find, each by the name that markdownlint has for it. The status is 1 if there is anything.
+//! A linter: `lint FILE..` prints what thirteen rules find, each by the name that markdownlint has for it. The status is 1 if there is
+//! anything.
 //!
 //! MD001 a heading skips a level. MD004 bullets differ. MD009 blanks end a line, and are not the two of a hard break. MD010 a tab. MD012 two
-//! blank lines. MD013 a line has more than 120 characters. MD034 a bare address. MD040 fenced code names no language. MD042 a link goes
-//! nowhere. MD045 an image has no description.
+//! blank lines. MD013 a line has more than 120 characters. MD022 no blank line is between a heading and a block beside it. MD025 a second
+//! heading of the first level. MD031 no blank line is between fenced code and a block beside it. MD034 a bare address. MD040 fenced code
+//! names no language. MD042 a link goes nowhere. MD045 an image has no description.
 //!
 //! They hold in quotes and lists too. What is in code and in raw HTML is not looked at. A link and a definition may have a bare address. It
 //! takes time in proportion to the document, in any nesting.
@@ -40,8 +42,9 @@ struct Linter<'a> {
     /// Where the last link or definition ends, and the last image that is in no other.
     link: usize,
     image: usize,
-    /// The level of the last heading.
+    /// The level of the last heading, and whether there was one of the first level.
     level: u8,
+    has_title: bool,
     /// The first bullet.
     bullet: Option<ListMarker>,
     /// The number of the last blank line, and how many are before it.
@@ -61,6 +64,7 @@ impl<'a> Linter<'a> {
             link: 0,
             image: 0,
             level: 6,
+            has_title: false,
             bullet: None,
             blank: (0, 0),
             long: HashSet::new(),
@@ -85,6 +89,9 @@ impl<'a> Linter<'a> {
             Name::CodeFencedFence => self.fence = bytes.end,
             Name::Link | Name::Definition => self.link = bytes.end,
             _ => {}
+        }
+        if name.is_block() {
+            self.gap(node);
         }
         if node.heading_level().is_some() {
             self.heading(node);
@@ -116,7 +123,48 @@ impl<'a> Linter<'a> {
         if level > self.level + 1 {
             self.say(node.bytes().start, "MD001 a heading that skips a level");
         }
+        if level == 1 && self.has_title {
+            self.say(node.bytes().start, "MD025 a second heading of level 1");
+        }
+        self.has_title |= level == 1;
         self.level = level;
+    }
+
+    /// What is between a block and the next one beside it, if one of them is a heading or fenced code.
+    fn gap(&mut self, node: &Node<'_>) {
+        let mut behind = node.next_siblings();
+        let next = match behind.find(|it| it.name().is_block()) {
+            Some(next) => next,
+            None => return,
+        };
+        let (end, start) = (node.span().end, next.span().start);
+        // a block that ends where a line begins has nothing in that line
+        let last = end.line - usize::from(end.column == 1);
+        if start.line > last + 1 || self.is_blank(start.line - 1) {
+            return;
+        }
+        match node.name() {
+            Name::CodeFenced => self.say(end.index, "MD031 no blank line below fenced code"),
+            Name::HeadingAtx | Name::HeadingSetext => {
+                self.say(end.index, "MD022 no blank line below a heading");
+            }
+            _ => {}
+        }
+        match next.name() {
+            Name::CodeFenced => self.say(start.index, "MD031 no blank line above fenced code"),
+            Name::HeadingAtx | Name::HeadingSetext => {
+                self.say(start.index, "MD022 no blank line above a heading");
+            }
+            _ => {}
+        }
+    }
+
+    /// Whether a line has nothing but blanks: it may be in code that ends with an item.
+    fn is_blank(&self, number: usize) -> bool {
+        let line = self.lines.line(number).unwrap_or_default();
+        self.document[line]
+            .trim_matches(|it| it == ' ' || it == '\t')
+            .is_empty()
     }
 
     /// Links, and images. An image in the description of another is part of its words, which are read once.
@@ -243,9 +291,19 @@ mod tests {
         for (document, want) in [
             (
                 "# a\n\n### b\n\nc\n===\n\n### d\n",
-                "3:1: MD001, 8:1: MD001",
+                "3:1: MD001, 5:1: MD025, 8:1: MD001",
             ),
             ("## a\n\n### b\n\n# c\n", ""),
+            ("# a\n\nb\n=\n\n# c\n", "3:1: MD025, 6:1: MD025"),
+            (
+                "# a\nb\n## c\n\nd\n---\n***\n",
+                "1:4: MD022, 3:1: MD022, 6:4: MD022",
+            ),
+            ("# a\n## b\n", "1:4: MD022, 2:1: MD022"),
+            ("[a]: b\n# c\n<!-- -->\n", "2:1: MD022, 2:4: MD022"),
+            ("a\n~~~ b\n\n~~~\n    c\n", "2:1: MD031, 4:4: MD031"),
+            ("~~~ a\n~~~\n# b\n", "2:4: MD031, 3:1: MD022"),
+            ("    >\n# a\n", "2:1: MD022"),
             (
                 "- a\n\n1. b\n\n+ c\n\n- d\n\n* e\n",
                 "5:1: MD004, 9:1: MD004",
@@ -294,6 +352,13 @@ mod tests {
                 "> ```\n> a\n> ```\n\n- ~~~\n  b\n",
                 "1:3: MD040, 5:3: MD040",
             ),
+            ("> # a\n> b\n>\n> # c\n", "1:6: MD022, 4:3: MD025"),
+            ("> # a\n>\n> b\n\n## c\n", ""),
+            ("> a\n# b\n- c\n", "2:1: MD022, 2:4: MD022"),
+            ("- # a\n- ## b\n\n  c\n", ""),
+            ("1. a\n   ~~~ b\n   ~~~\n2. c\n\n   ~~~ d\n", "2:4: MD031"),
+            ("- ~~~ a\n  b\n\n# c\n", ""),
+            ("- ~~~ a\n  b\n# c\n", "3:1: MD022"),
             ("> [a\n> b]()\n\n- ![](c)\n", "1:3: MD042, 4:3: MD045"),
         ] {
             assert_eq!(found(document), want, "{:?}", document);
@@ -337,6 +402,9 @@ mod tests {
         for line in ["http://a *b* ", "[a](http://b) ", "- a\tb\n", "\n\n\n"] {
             findings(&line.repeat(10_000)).unwrap();
         }
+        let blanks = "\n".repeat(100_000);
+        findings(&format!("{}{}", blanks, "# a\n".repeat(20_000))).unwrap();
+        findings(&format!("# a{}# b", blanks)).unwrap();
         assert!(start.elapsed() < Duration::from_secs(60));
     }
 
