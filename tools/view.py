@@ -59,6 +59,8 @@ const show = span => {
     name.className = "c-" + it.dataset.n; name.textContent = it.dataset.n; place.textContent = " " + it.dataset.p + "  ";
     return [name, place];
   }));
+  // what does not fit is that of the outer spans
+  path.scrollTop = path.scrollHeight;
 };
 main.addEventListener("pointerover", e => show(e.target.closest("[data-n]")));
 main.addEventListener("pointerleave", () => show(null));
