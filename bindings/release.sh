@@ -1,24 +1,29 @@
 #!/bin/sh
 # Makes a folder that builds, and passes its tests, where there is no rt: the library as .a and .so, header, limecove.pc, the crates
-# limecove-sys and limecove, the tests in C, and a test.sh. It needs bindings/out/liblimecove.a, which bindings/build.sh makes and
-# proves, and cc.
-# usage: bindings/release.sh FOLDER   (it must not be there yet)
+# limecove-sys and limecove, the tests in C, html.py, and a test.sh. If bindings/out/liblimecove.a is not there, or older than a source,
+# bindings/build.sh first makes and proves it, with rt. Beside that it needs cc.
+# usage: bindings/release.sh FOLDER [WORD..]   (FOLDER must not be there yet; the words are passed to bindings/build.sh)
 set -eu
 here=$(cd "$(dirname "$0")" && pwd)
 archive=$here/out/liblimecove.a
-if [ $# != 1 ] || [ -e "$1" ]; then
-    echo "usage: bindings/release.sh FOLDER   (it must not be there yet)" >&2
+if [ $# = 0 ] || [ -e "$1" ]; then
+    echo "usage: bindings/release.sh FOLDER [WORD..]   (FOLDER must not be there yet)" >&2
     exit 1
 fi
-if [ ! -f "$archive" ]; then
-    echo "bindings: $archive is not there: run bindings/build.sh" >&2
-    exit 1
+folder=$1
+shift
+# a source that is newer than the archive, if there is one
+newer() { find "$here/../crates.txt" "$here"/../crates/*/src "$here"/../crates/*/specs "$here"/../crates/*/proofs -type f -newer "$archive" | head -n 1; }
+if [ ! -f "$archive" ] || [ -n "$(newer)" ]; then
+    "$here/build.sh" "$@"
 fi
 version=$(sed -n 's/^version = "\(.*\)"$/\1/p' "$here/rust/limecove/Cargo.toml")
 layout=$(sed -n 's/^#define LIMECOVE_VERSION \([0-9]*\)$/\1/p' "$here/limecove.h")
-mkdir -p "$1/include" "$1/lib/pkgconfig" "$1/rust"
-out=$(cd "$1" && pwd)
-cp "$here/../LICENSE" "$out"
+# the commit of the sources, if that is known, and whether something differs from it
+commit=$(git -C "$here" describe --always --dirty=", and changes" --abbrev=40 --exclude='*' 2>/dev/null || echo unknown)
+mkdir -p "$folder/include" "$folder/lib/pkgconfig" "$folder/rust"
+out=$(cd "$folder" && pwd)
+cp "$here/../LICENSE" "$here/html.py" "$out"
 cp "$here/limecove.h" "$out/include"
 cp "$archive" "$out/lib"
 cp -r "$here/c" "$out/c"
@@ -53,18 +58,20 @@ EOF
 cat >"$out/README.md" <<EOF
 # Limecove $version for x86-64 Linux
 
-The library was proved and built from its sources by \`bindings/build.sh\`; this folder needs no prover.
+The library was proved and built from its sources by \`bindings/build.sh\`; this folder needs no prover. Their commit: $commit.
 
 - C: \`cc -Iinclude prog.c lib/liblimecove.a\`, or \`cc prog.c \$(PKG_CONFIG_PATH=lib/pkgconfig pkg-config --cflags --libs limecove)\`, which
   links \`lib/liblimecove.so.$layout\`. \`include/limecove.h\` says what each function does. To install, copy \`include\` and \`lib\` to \`/usr/local\`.
 - Rust: \`limecove = { path = ".../rust/limecove" }\` in \`Cargo.toml\`. It finds \`lib\` by itself. It needs Rust 1.63.
 - Examples: \`c/outline.c\`, and in \`rust/limecove/examples\` linters, a highlighter, a list of links and a writer of HTML.
+- \`./html.py SPEC\` runs CommonMark's examples, which are not here, through that writer: 650 of the 652 of 0.30 are right.
 - \`./test.sh\` compares \`SHA256SUMS\`, and builds and runs the tests: it needs cc, and for the crates cargo. It takes a minute or two, and no
   network.
 EOF
 cat >"$out/test.sh" <<'EOF'
 #!/bin/sh
-# Compares the checksums, and builds and runs the tests of this release. Needs cc; for the crates cargo. No network.
+# Compares the checksums, and builds and runs the tests of this release. Needs cc; for the crates cargo. No network. If SPEC names a
+# spec.json of CommonMark, html.py runs its examples, with python3.
 set -eu
 here=$(cd "$(dirname "$0")" && pwd)
 echo "release: each file is the one that was made"
@@ -83,7 +90,12 @@ cc -std=c99 -o "$work/example" "$here/c/example.c" $flags
 LD_LIBRARY_PATH=$here/lib "$work/example" | diff "$here/c/example.out" -
 if command -v cargo >/dev/null; then
     echo "release: the crates"
-    (cd "$here/rust" && cargo test --offline --quiet --workspace --target-dir "$work/target")
+    export CARGO_TARGET_DIR="$work/target"
+    (cd "$here/rust" && cargo test --offline --quiet --workspace)
+    if [ -n "${SPEC:-}" ]; then
+        echo "release: the examples of CommonMark"
+        python3 "$here/html.py" "$SPEC"
+    fi
 fi
 echo "release: all is well"
 EOF

@@ -1,7 +1,7 @@
 #!/bin/sh
 # Tries a release as somebody has it who has no rt and no network: a copy of it in an empty folder passes its tests, a project of its own
 # depends on its crate, and `cargo package` is clean.
-# usage: bindings/try_release.sh FOLDER   (that release.sh made)
+# usage: bindings/try_release.sh FOLDER   (that release.sh made; with SPEC set to a spec.json, CommonMark's examples are run too)
 set -eu
 work=$(mktemp -d)
 trap 'rm -rf "$work"' EXIT
@@ -15,7 +15,8 @@ if PATH=$path command -v rt >/dev/null; then
     echo "bindings: rt is on the path $path" >&2
     exit 1
 fi
-alone() { env -i PATH="$path" HOME="$work/home" CARGO_HOME="$work/cargo" RUSTUP_HOME="${RUSTUP_HOME:-$HOME/.rustup}" "$@"; }
+spec=${SPEC:+$(realpath "$SPEC")}
+alone() { env -i PATH="$path" HOME="$work/home" CARGO_HOME="$work/cargo" RUSTUP_HOME="${RUSTUP_HOME:-$HOME/.rustup}" SPEC="$spec" "$@"; }
 mkdir "$work/home" "$work/cargo"
 alone "$work/limecove/test.sh"
 if [ -n "${cargo:-}" ]; then
