@@ -76,18 +76,17 @@ set -eu
 here=$(cd "$(dirname "$0")" && pwd)
 echo "release: each file is the one that was made"
 (cd "$here" && sha256sum --quiet --check SHA256SUMS)
-export CPATH=$here/include
+export CPATH="$here/include"
 "$here/c/tests_of_c.sh" "$here/include/limecove.h" "$here/lib/liblimecove.a" "$here/c" 100 40
 work=$(mktemp -d)
 trap 'rm -rf "$work"' EXIT
 echo "release: the example, with the shared library"
-flags="-I$here/include -L$here/lib -llimecove"
+set -- "-I$here/include" "-L$here/lib" -llimecove
 if command -v pkg-config >/dev/null; then
-    flags=$(PKG_CONFIG_PATH=$here/lib/pkgconfig pkg-config --cflags --libs limecove)
+    eval "set -- $(PKG_CONFIG_PATH="$here/lib/pkgconfig" pkg-config --cflags --libs limecove)"
 fi
-# shellcheck disable=SC2086
-cc -std=c99 -o "$work/example" "$here/c/example.c" $flags
-LD_LIBRARY_PATH=$here/lib "$work/example" | diff "$here/c/example.out" -
+cc -std=c99 -o "$work/example" "$here/c/example.c" "$@"
+LD_LIBRARY_PATH="$here/lib" "$work/example" | diff "$here/c/example.out" -
 if command -v cargo >/dev/null; then
     echo "release: the crates"
     export CARGO_TARGET_DIR="$work/target"

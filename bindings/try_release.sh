@@ -3,8 +3,11 @@
 # depends on its crate, and `cargo package` is clean.
 # usage: bindings/try_release.sh FOLDER   (that release.sh made; with SPEC set to a spec.json, CommonMark's examples are run too)
 set -eu
-work=$(mktemp -d)
-trap 'rm -rf "$work"' EXIT
+temporary=$(mktemp -d)
+trap 'rm -rf "$temporary"' EXIT
+# as some have it in their path
+work="$temporary/a folder"
+mkdir "$work"
 cp -r "$1" "$work/limecove"
 # a path with the system's programs and cargo's, and without rt
 path=/usr/bin:/bin
