@@ -11,6 +11,7 @@
 
 use limecove::{Error, LineIndex, ListMarker, Name, Node, Options, Tree};
 use std::collections::HashSet;
+use std::ops::Range;
 use std::{env, fs, process};
 
 const LONGEST: usize = 120;
@@ -159,10 +160,14 @@ impl<'a> Linter<'a> {
         }
     }
 
+    /// The bytes of a line.
+    fn line(&self, number: usize) -> Range<usize> {
+        self.lines.line(number).unwrap_or_default()
+    }
+
     /// Whether a line has nothing but blanks: it may be in code that ends with an item.
     fn is_blank(&self, number: usize) -> bool {
-        let line = self.lines.line(number).unwrap_or_default();
-        self.document[line]
+        self.document[self.line(number)]
             .trim_matches(|it| it == ' ' || it == '\t')
             .is_empty()
     }
@@ -209,11 +214,12 @@ impl<'a> Linter<'a> {
         if self.is_in_code(at) {
             return;
         }
+        // the blank line behind that of a quote is the first one
+        let written = |number| self.document[self.line(number)].trim_end();
         let (last, before) = self.blank;
-        let before = if line == last + 1 && last > 0 {
-            before + 1
-        } else {
-            0
+        let before = match last > 0 && line == last + 1 && written(line) == written(last) {
+            true => before + 1,
+            false => 0,
         };
         self.blank = (line, before);
         if before == 1 {
@@ -343,6 +349,8 @@ mod tests {
             ("> a \n> \n- b \n", "1:4: MD009, 2:2: MD009, 3:4: MD009"),
             ("> - a\tb\n", "1:6: MD010"),
             ("> a\n>\n>\n> b\n\n- c\n\n\n  d\n", "3:2: MD012, 8:1: MD012"),
+            ("> a\n>\n\nb\n", ""),
+            ("> > a\n> >\n>\n>\n> b\n", "4:2: MD012"),
             (&format!("> - {}\n", long), "1:121: MD013"),
             (
                 "> a\n> http://b.c\n\n- d http://e\n",
