@@ -23,14 +23,13 @@ fn listed(document: &[u8]) -> Result<Vec<String>, Error> {
         if let Some(definition) = target.definition {
             let from = definition.bytes().start;
             said += &format!(", by {}", lines.line_column(from));
-            used.insert(from);
+            used.insert(definition);
         }
         found.push((node.bytes().start, said));
     }
     for node in tree.nodes() {
-        let from = node.bytes().start;
-        if node.name() == Name::Definition && !used.contains(&from) {
-            found.push((from, "Definition of nothing".to_string()));
+        if node.name() == Name::Definition && !used.contains(&node) {
+            found.push((node.bytes().start, "Definition of nothing".to_string()));
         }
     }
     found.sort_by_key(|(from, _)| *from);

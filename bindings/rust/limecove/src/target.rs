@@ -4,7 +4,7 @@ use crate::tree::Text;
 use crate::{Error, Name, Node};
 
 /// Where a link or an image goes, and what it shows, as [`Node::link`] finds it.
-#[derive(Clone, Debug)]
+#[derive(Clone, Debug, PartialEq, Eq, Hash)]
 #[non_exhaustive]
 pub struct Target<'a> {
     /// The destination, with what escapes and references stand for. It is as the document has it: any scheme, and no `%` added. An

@@ -250,7 +250,8 @@ impl<'a> Node<'a> {
         iter::successors(self.parent(), Node::parent)
     }
 
-    /// The span behind it that the same span holds, if there is one. To step to it takes no longer if this one holds many spans.
+    /// The first span behind it with the same parent, or without one as it has none. To step to it takes no longer if this one holds many
+    /// spans.
     ///
     /// ```
     /// use limecove::{Name, Options, Tree};
@@ -266,7 +267,7 @@ impl<'a> Node<'a> {
         self.next_siblings().next()
     }
 
-    /// The spans behind it that the same span holds, one after the other.
+    /// The spans behind it with the same parent, or without one as it has none.
     pub fn next_siblings(&self) -> Nodes<'a> {
         let end = self
             .parent()
