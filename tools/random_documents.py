@@ -61,6 +61,8 @@ BREAK = rb"(?m)(?:(?:\*[ \t]*){3,}|(?:-[ \t]*){3,}|(?:_[ \t]*){3,})(?=\n[ \t>]*$
 COMMENT = rb"<!--(?=-?>|(?:(?!-->)[^\0])*?--(?:[^>]|->))"
 INFO = rb"((?:```|~~~)[^\n]*\\)(?=&)"
 DECLARATION = rb"<!(?=[a-z])"
+# a declaration whose name has no white space behind it
+NAMED = rb"<!(?=[A-Z]+[^A-Z\s])"
 # a line that may begin with a title, and a run of backticks that is longer than one and begins no fence
 TITLE = rb"(?m)^([ \t>]*)(?=[\"'(])"
 RUN = rb"(?<!`)``(?!`)|(?<=[^\s>`])`{3,}|`{3,}(?=[^\n`]+`)"
@@ -103,6 +105,7 @@ CAUSES = [
           rb"\]:\s*\S+[ \t]*\n[ \t>]*(?:\"[^\0]*\"|'[^\0]*'|\([^\0]*\))[ \t]*\S", put(rb"\1a", TITLE)),
     Cause("two code spans are behind backticks that nothing closes", "here", "6.1: a backtick string of equal length ends a code span",
           rb"`[^\0]*`[^`]+`[^\0]*`", put(rb"~", RUN)),
+    Cause("a declaration has no white space behind its name", "here", "6.6: behind `<!` and an ASCII letter is anything but `>`", NAMED, put(rb"<! ", NAMED)),
     Cause("a declaration begins with a small letter", "here", "4.6: `<!` and an ASCII letter", DECLARATION, put(rb"<! ", DECLARATION)),
 ]
 
