@@ -1,0 +1,7 @@
+mod ChainBytes
+mod ChainCalls
+mod ChainCount
+mod DocumentCalls
+mod FlowCalls
+mod InlineCalls
+mod Prelude

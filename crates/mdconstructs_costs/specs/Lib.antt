@@ -1,0 +1,3 @@
+pub mod Chains
+pub mod Documents
+pub mod Examples

@@ -1,0 +1,4 @@
+//! How many calls of states reading a document takes.
+#![tactic(auto)]
+
+pub mod laws;
