@@ -1,0 +1,4 @@
+pub mod BlockPlaces
+pub mod LineStarts
+pub mod Names
+pub mod NamesOff

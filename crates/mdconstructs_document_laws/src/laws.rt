@@ -1,0 +1,38 @@
+//! Laws of whole documents. Each is a function that does nothing; its contract is the law.
+
+ghost use Rattle.mdconstructs_document_laws.specs.BlockPlaces.{BlocksStandInLines, LeafBlocksStandInTexts};
+ghost use Rattle.mdconstructs_document_laws.specs.LineStarts.{BlankStartsNothing, HtmlExcludes, KindsHaveNoOrder, StartsExclude};
+ghost use Rattle.mdconstructs_document_laws.specs.NamesOff.{DocumentsAreNamed, InlinesAreNamed, LeafBlocksAreNamed, OffIsLeftOut, SkeletonsAreNamed, StringsAreNamed};
+
+/// A construct that is off leaves no span: each event of leaf blocks, of strings, of inline text, and of containers and definitions has a name
+/// of the constructs that are on. Which names these are is a table of its own.
+pub fn parts_have_names_of_constructs()
+    ensures leaf_blocks { LeafBlocksAreNamed }
+    ensures strings { StringsAreNamed }
+    ensures inline_text { InlinesAreNamed }
+    ensures skeletons { SkeletonsAreNamed }
+{}
+
+/// So it is of each document, whatever its bytes, its tab stops and its constructs: each event has a name of the constructs that are on, and a name
+/// that they leave out stands at no event.
+pub fn documents_have_names_of_constructs()
+    ensures on { DocumentsAreNamed }
+    ensures off { OffIsLeftOut }
+{}
+
+/// A line begins with one thing at most: an ATX heading, a fence, HTML, a thematic break, an underline, a block quote or a list item; but for thematic
+/// breaks, underlines of dashes and list items, of which CommonMark says which comes first. A blank line begins with none. HTML is of one kind,
+/// but that a tag whose name has a kind of its own may also be any tag. So it does not matter in which order kinds of lines are asked for.
+pub fn line_starts_exclude_one_another()
+    ensures starts { StartsExclude }
+    ensures blank { BlankStartsNothing }
+    ensures html { HtmlExcludes }
+    ensures order { KindsHaveNoOrder }
+{}
+
+/// Each event of a leaf block stands where a virtual byte of the block's lines begins or ends; so each event of a text's leaf blocks stands in
+/// the text.
+pub fn leaf_blocks_stand_in_their_lines()
+    ensures blocks { BlocksStandInLines }
+    ensures texts { LeafBlocksStandInTexts }
+{}

@@ -1,0 +1,4 @@
+//! Laws of whole documents.
+#![tactic(auto)]
+
+pub mod laws;
