@@ -14,7 +14,7 @@ import sys
 TOP = os.path.dirname(os.path.dirname(os.path.realpath(__file__)))
 PARTS = {
     "markdown": ["markdown_base", "markdown_edits", "markdown_tokenizer", "markdown_children"],
-    "mdconstructs": ["mdconstructs_tables", "mdconstructs_machines", "mdconstructs_text", "mdconstructs_labels", "mdconstructs_attention", "mdconstructs_references", "mdconstructs_inline_constructs", "mdconstructs_strings", "mdconstructs_inlines", "mdconstructs_flow", "mdconstructs_flow_read", "mdconstructs_lines", "mdconstructs_containers", "mdconstructs_documents", "mdconstructs_rests", "mdconstructs_targets"],
+    "mdconstructs": ["mdconstructs_tables", "mdconstructs_machines", "mdconstructs_text", "mdconstructs_labels", "mdconstructs_attention", "mdconstructs_references", "mdconstructs_inline_constructs", "mdconstructs_strings", "mdconstructs_inlines", "mdconstructs_flow", "mdconstructs_flow_read", "mdconstructs_lines", "mdconstructs_containers", "mdconstructs_documents", "mdconstructs_costs", "mdconstructs_document_laws", "mdconstructs_rests", "mdconstructs_targets"],
 }
 NAMED = {
     ("markdown_children", "specs", "LawStatements"): "ChildrenLawStatements",
@@ -43,6 +43,11 @@ NAMED = {
     ("mdconstructs_references", "proofs", "Parts"): "ReferenceParts",
     ("mdconstructs_references", "proofs", "Orders"): "ReferenceOrders",
     ("mdconstructs_references", "proofs", "Searches"): "ReferenceSearches",
+    ("mdconstructs_costs", "specs", "Chains"): "ChainCosts",
+    ("mdconstructs_costs", "specs", "Documents"): "DocumentCosts",
+    ("mdconstructs_costs", "specs", "Examples"): "CostExamples",
+    ("mdconstructs_document_laws", "proofs", "Examples"): "LineStartExamples",
+    ("mdconstructs_document_laws", "proofs", "Elements"): "NameElements",
     ("mdconstructs_labels", "specs", "Costs"): "LabelCosts",
     ("mdconstructs_labels", "specs", "Labels"): "NormalLabels",
     ("mdconstructs_labels", "proofs", "Fronts"): "LabelFronts",

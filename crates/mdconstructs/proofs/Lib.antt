@@ -43,6 +43,7 @@ pub use Rattle.mdconstructs_labels.proofs.Steps
 pub use Rattle.mdconstructs_labels.proofs.Paid
 pub use Rattle.mdconstructs_attention.proofs.Balance
 pub use Rattle.mdconstructs_attention.proofs.Beside
+pub use Rattle.mdconstructs_attention.proofs.Ends
 pub use Rattle.mdconstructs_attention.proofs.PairsKeep
 pub use Rattle.mdconstructs_attention.proofs.RunEdits
 pub use Rattle.mdconstructs_attention.proofs.RunTexts
@@ -70,7 +71,9 @@ pub use Rattle.mdconstructs_strings.proofs.Listed
 pub use Rattle.mdconstructs_strings.proofs.Orders
 pub use Rattle.mdconstructs_strings.proofs.Places
 pub use Rattle.mdconstructs_strings.proofs.Plain as StringPlain
+pub use Rattle.mdconstructs_strings.proofs.PlainRanges
 pub use Rattle.mdconstructs_strings.proofs.Ranges
+pub use Rattle.mdconstructs_strings.proofs.Stretches
 pub use Rattle.mdconstructs_inlines.proofs.BracketBytes
 pub use Rattle.mdconstructs_inlines.proofs.BracketCalls
 pub use Rattle.mdconstructs_inlines.proofs.BracketReads
@@ -161,6 +164,20 @@ pub use Rattle.mdconstructs_containers.proofs.WritingLemmas
 pub use Rattle.mdconstructs_containers.proofs.WrittenLemmas
 pub use Rattle.mdconstructs_documents.proofs.FlowTexts
 pub use Rattle.mdconstructs_documents.proofs.InContainers
+pub use Rattle.mdconstructs_document_laws.proofs.BlockPlaces
+pub use Rattle.mdconstructs_document_laws.proofs.ChildNames
+pub use Rattle.mdconstructs_document_laws.proofs.DocumentNames
+pub use Rattle.mdconstructs_document_laws.proofs.Elements as NameElements
+pub use Rattle.mdconstructs_document_laws.proofs.FlowNames
+pub use Rattle.mdconstructs_document_laws.proofs.HtmlStarts
+pub use Rattle.mdconstructs_document_laws.proofs.ItemNames
+pub use Rattle.mdconstructs_document_laws.proofs.LineStarts
+pub use Rattle.mdconstructs_document_laws.proofs.LinkNames
+pub use Rattle.mdconstructs_document_laws.proofs.Named
+pub use Rattle.mdconstructs_document_laws.proofs.RowNames
+pub use Rattle.mdconstructs_document_laws.proofs.SkeletonNames
+pub use Rattle.mdconstructs_document_laws.proofs.SpanNames
+pub use Rattle.mdconstructs_document_laws.proofs.WholeSpans
 pub use Rattle.mdconstructs_rests.proofs.Both
 pub use Rattle.mdconstructs_rests.proofs.Events
 pub use Rattle.mdconstructs_rests.proofs.Fuel

@@ -201,6 +201,13 @@ pub use Rattle.mdconstructs_documents.specs.FlowTextLaws
 pub use Rattle.mdconstructs_documents.specs.FlowTexts
 pub use Rattle.mdconstructs_documents.specs.Runs
 pub use Rattle.mdconstructs_documents.specs.Tiles
+pub use Rattle.mdconstructs_costs.specs.Chains as ChainCosts
+pub use Rattle.mdconstructs_costs.specs.Documents as DocumentCosts
+pub use Rattle.mdconstructs_costs.specs.Examples as CostExamples
+pub use Rattle.mdconstructs_document_laws.specs.BlockPlaces
+pub use Rattle.mdconstructs_document_laws.specs.LineStarts
+pub use Rattle.mdconstructs_document_laws.specs.Names
+pub use Rattle.mdconstructs_document_laws.specs.NamesOff
 pub use Rattle.mdconstructs_rests.specs.Moved
 pub use Rattle.mdconstructs_rests.specs.ReadTexts
 pub use Rattle.mdconstructs_rests.specs.Rests

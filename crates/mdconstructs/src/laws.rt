@@ -1,62 +1,109 @@
 //! The laws about machines and tables. Each is a function that does nothing; its contract is the law.
 
-pub use mdconstructs_attention::laws::{
-    ascii_has_its_classes, characters_are_utf8, edits_make_emphasis, emphasis_can_be_made,
-    emphasis_is_balanced, neighbours_of_pairs,
-};
-pub use mdconstructs_documents::laws::{
-    chains_of_leaf_blocks_can_be_read, inline_texts_and_strings_are_read_at_once,
-    inline_texts_in_their_blocks_account_for_each_byte,
-    inline_texts_in_their_blocks_are_well_formed, inline_texts_stand_in_their_blocks,
-    innermost_spans_tile_documents, leaf_blocks_can_be_read_next, reads_chains_as_leaf_blocks,
-};
-pub use mdconstructs_flow::laws::{
-    cost_at_the_start as flow_cost_at_the_start, no_document_is_refused as flow_refuses_no_document,
-};
-pub use mdconstructs_flow_read::laws::{
-    flow_is_read, leaf_blocks_account_for_each_byte, leaf_blocks_are_well_formed,
-    lines_are_in_blocks, lines_are_seen, readings_end_as_blocks,
-};
-pub use mdconstructs_inlines::laws::{
-    chains_are_read_as_inline_text, chains_are_read_as_strings,
-    cost_at_the_start as inlines_cost_at_the_start, inline_text_is_linear, inline_text_is_read,
-    inline_text_looks_no_further, links_take_the_place_of_brackets,
-    no_document_is_refused as inlines_refuse_no_document,
-    other_chains_stay_ready_after_inline_text, other_chains_stay_ready_after_strings,
-    strings_are_linear, strings_are_read,
-};
-pub use mdconstructs_machines::laws::{
-    costs_at_the_start, documents_are_read_by_lines, innermost_spans_account_for_documents,
-    low_numbers_are_named, misfits_are_not_all, misfits_have_reasons, no_document_is_refused,
-    paragraphs_look_no_further,
-};
-pub use mdconstructs_references::laws::{
-    names_are_found_by_their_beginnings, names_are_in_order, names_are_short_and_plain,
-};
-pub use mdconstructs_rests::laws::{
-    blocks_move, blocks_of_both, events_of_both, first_line_tells, lines_are_counted,
-    lines_of_both, read_events_of_both, rests_cut_blocks, rests_forget, rests_of_both,
-    sections_give_events, virtual_of_both, wide_rests_cut_blocks,
-};
-pub use mdconstructs_strings::laws::{
-    data_is_read_as_string, plain_strings_stay, strings_keep_innermost_spans, strings_keep_lists,
-    strings_keep_order, strings_stand_at_places, strings_stay_well_formed,
-};
-pub use mdconstructs_tables::laws::{
-    Calm, Knowledge, Planned, calm_rows_keep_what_is_known, fitting_tables_are_lawful,
-    knowing_tables_are_lawful, knowing_tables_look_no_further, numbers_are_enough,
-    planned_machines_are_lawful, planned_machines_look_no_further, tables_look_no_further,
-    unlinked_tables_are_lawful,
-};
-pub use mdconstructs_targets::laws::{
-    definitions_are_found_in_linear_time, definitions_of_labels, spans_end_at_their_exits,
-    targets_of_links,
-};
-pub use mdconstructs_text::laws::{
-    chains_are_read_as_data, chains_are_read_as_texts, chains_of_paragraphs_can_be_read,
-    cost_at_the_start, documents_are_read_by_blocks, innermost_spans_account_for_blocks,
-    innermost_spans_account_for_children, innermost_spans_account_for_texts,
-    no_document_is_refused as text_refuses_no_document, other_chains_stay_ready_after_texts,
-    texts_in_their_paragraphs_are_in_order, texts_look_no_further, texts_stand_in_their_paragraphs,
-    void_spans_of_texts_are_empty, void_spans_stay_empty_with_children,
-};
+pub use mdconstructs_attention::laws::ascii_has_its_classes;
+pub use mdconstructs_attention::laws::characters_are_utf8;
+pub use mdconstructs_attention::laws::edits_make_emphasis;
+pub use mdconstructs_attention::laws::emphasis_can_be_made;
+pub use mdconstructs_attention::laws::emphasis_is_balanced;
+pub use mdconstructs_attention::laws::neighbours_of_pairs;
+pub use mdconstructs_costs::laws::chains_are_apart;
+pub use mdconstructs_costs::laws::chains_are_few;
+pub use mdconstructs_costs::laws::chains_of_inline_text_are_linear;
+pub use mdconstructs_costs::laws::chains_of_leaf_blocks_are_linear;
+pub use mdconstructs_costs::laws::documents_are_read_in_linear_time;
+pub use mdconstructs_document_laws::laws::documents_have_names_of_constructs;
+pub use mdconstructs_document_laws::laws::leaf_blocks_stand_in_their_lines;
+pub use mdconstructs_document_laws::laws::line_starts_exclude_one_another;
+pub use mdconstructs_document_laws::laws::parts_have_names_of_constructs;
+pub use mdconstructs_documents::laws::chains_of_leaf_blocks_can_be_read;
+pub use mdconstructs_documents::laws::inline_texts_and_strings_are_read_at_once;
+pub use mdconstructs_documents::laws::inline_texts_in_their_blocks_account_for_each_byte;
+pub use mdconstructs_documents::laws::inline_texts_in_their_blocks_are_well_formed;
+pub use mdconstructs_documents::laws::inline_texts_stand_in_their_blocks;
+pub use mdconstructs_documents::laws::innermost_spans_tile_documents;
+pub use mdconstructs_documents::laws::innermost_spans_tile_documents_with_containers;
+pub use mdconstructs_documents::laws::leaf_blocks_can_be_read_next;
+pub use mdconstructs_documents::laws::reads_chains_as_leaf_blocks;
+pub use mdconstructs_flow::laws::cost_at_the_start as flow_cost_at_the_start;
+pub use mdconstructs_flow::laws::no_document_is_refused as flow_refuses_no_document;
+pub use mdconstructs_flow_read::laws::flow_is_read;
+pub use mdconstructs_flow_read::laws::leaf_blocks_account_for_each_byte;
+pub use mdconstructs_flow_read::laws::leaf_blocks_are_well_formed;
+pub use mdconstructs_flow_read::laws::lines_are_in_blocks;
+pub use mdconstructs_flow_read::laws::lines_are_seen;
+pub use mdconstructs_flow_read::laws::readings_end_as_blocks;
+pub use mdconstructs_inlines::laws::chains_are_read_as_inline_text;
+pub use mdconstructs_inlines::laws::chains_are_read_as_strings;
+pub use mdconstructs_inlines::laws::cost_at_the_start as inlines_cost_at_the_start;
+pub use mdconstructs_inlines::laws::inline_text_is_linear;
+pub use mdconstructs_inlines::laws::inline_text_is_read;
+pub use mdconstructs_inlines::laws::inline_text_looks_no_further;
+pub use mdconstructs_inlines::laws::links_take_the_place_of_brackets;
+pub use mdconstructs_inlines::laws::no_document_is_refused as inlines_refuse_no_document;
+pub use mdconstructs_inlines::laws::other_chains_stay_ready_after_inline_text;
+pub use mdconstructs_inlines::laws::other_chains_stay_ready_after_strings;
+pub use mdconstructs_inlines::laws::strings_are_linear;
+pub use mdconstructs_inlines::laws::strings_are_read;
+pub use mdconstructs_machines::laws::costs_at_the_start;
+pub use mdconstructs_machines::laws::documents_are_read_by_lines;
+pub use mdconstructs_machines::laws::innermost_spans_account_for_documents;
+pub use mdconstructs_machines::laws::low_numbers_are_named;
+pub use mdconstructs_machines::laws::misfits_are_not_all;
+pub use mdconstructs_machines::laws::misfits_have_reasons;
+pub use mdconstructs_machines::laws::no_document_is_refused;
+pub use mdconstructs_machines::laws::paragraphs_look_no_further;
+pub use mdconstructs_references::laws::names_are_found_by_their_beginnings;
+pub use mdconstructs_references::laws::names_are_in_order;
+pub use mdconstructs_references::laws::names_are_short_and_plain;
+pub use mdconstructs_rests::laws::blocks_move;
+pub use mdconstructs_rests::laws::blocks_of_both;
+pub use mdconstructs_rests::laws::documents_without_containers;
+pub use mdconstructs_rests::laws::events_of_both;
+pub use mdconstructs_rests::laws::first_line_tells;
+pub use mdconstructs_rests::laws::lines_are_counted;
+pub use mdconstructs_rests::laws::lines_of_both;
+pub use mdconstructs_rests::laws::read_events_of_both;
+pub use mdconstructs_rests::laws::rests_cut_blocks;
+pub use mdconstructs_rests::laws::rests_forget;
+pub use mdconstructs_rests::laws::rests_of_both;
+pub use mdconstructs_rests::laws::sections_give_events;
+pub use mdconstructs_rests::laws::virtual_of_both;
+pub use mdconstructs_rests::laws::wide_rests_cut_blocks;
+pub use mdconstructs_strings::laws::data_is_read_as_string;
+pub use mdconstructs_strings::laws::plain_strings_stay;
+pub use mdconstructs_strings::laws::strings_keep_innermost_spans;
+pub use mdconstructs_strings::laws::strings_keep_lists;
+pub use mdconstructs_strings::laws::strings_keep_order;
+pub use mdconstructs_strings::laws::strings_stand_at_places;
+pub use mdconstructs_strings::laws::strings_stay_well_formed;
+pub use mdconstructs_tables::laws::Calm;
+pub use mdconstructs_tables::laws::Knowledge;
+pub use mdconstructs_tables::laws::Planned;
+pub use mdconstructs_tables::laws::calm_rows_keep_what_is_known;
+pub use mdconstructs_tables::laws::fitting_tables_are_lawful;
+pub use mdconstructs_tables::laws::knowing_tables_are_lawful;
+pub use mdconstructs_tables::laws::knowing_tables_look_no_further;
+pub use mdconstructs_tables::laws::numbers_are_enough;
+pub use mdconstructs_tables::laws::planned_machines_are_lawful;
+pub use mdconstructs_tables::laws::planned_machines_look_no_further;
+pub use mdconstructs_tables::laws::tables_look_no_further;
+pub use mdconstructs_tables::laws::unlinked_tables_are_lawful;
+pub use mdconstructs_targets::laws::definitions_are_found_in_linear_time;
+pub use mdconstructs_targets::laws::definitions_of_labels;
+pub use mdconstructs_targets::laws::spans_end_at_their_exits;
+pub use mdconstructs_targets::laws::targets_of_links;
+pub use mdconstructs_text::laws::chains_are_read_as_data;
+pub use mdconstructs_text::laws::chains_are_read_as_texts;
+pub use mdconstructs_text::laws::chains_of_paragraphs_can_be_read;
+pub use mdconstructs_text::laws::cost_at_the_start;
+pub use mdconstructs_text::laws::documents_are_read_by_blocks;
+pub use mdconstructs_text::laws::innermost_spans_account_for_blocks;
+pub use mdconstructs_text::laws::innermost_spans_account_for_children;
+pub use mdconstructs_text::laws::innermost_spans_account_for_texts;
+pub use mdconstructs_text::laws::no_document_is_refused as text_refuses_no_document;
+pub use mdconstructs_text::laws::other_chains_stay_ready_after_texts;
+pub use mdconstructs_text::laws::texts_in_their_paragraphs_are_in_order;
+pub use mdconstructs_text::laws::texts_look_no_further;
+pub use mdconstructs_text::laws::texts_stand_in_their_paragraphs;
+pub use mdconstructs_text::laws::void_spans_of_texts_are_empty;
+pub use mdconstructs_text::laws::void_spans_stay_empty_with_children;
