@@ -65,7 +65,7 @@ DECLARATION = rb"<!(?=[a-z])"
 NAMED = rb"<!(?=[A-Z]+[^A-Z\s])"
 # a line that may begin with a title, and a run of backticks that is longer than one and begins no fence
 TITLE = rb"(?m)^([ \t>]*)(?=[\"'(])"
-RUN = rb"(?<!`)``(?!`)|(?<=[^\s>`])`{3,}|`{3,}(?=[^\n`]+`)"
+RUN = rb"(?<!`)``(?!`)|(?<=[^\s>`])`{3,}|(?<=[^\s>`] )`{3,}|`{3,}(?=[^\n`]+`)"
 
 
 def put(by, found):
