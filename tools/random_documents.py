@@ -63,6 +63,8 @@ INFO = rb"((?:```|~~~)[^\n]*\\)(?=&)"
 DECLARATION = rb"<!(?=[a-z])"
 # a declaration whose name has no white space behind it
 NAMED = rb"<!(?=[A-Z]+[^A-Z\s])"
+# a destination between `<` and `>`, with white space at an end
+POINTED = rb"<[ \t]*([^\n<>]*?)[ \t]*>"
 # a line that may begin with a title, and a run of backticks that is longer than one and begins no fence
 TITLE = rb"(?m)^([ \t>]*)(?=[\"'(])"
 RUN = rb"(?<!`)``(?!`)|(?<=[^\s>`])`{3,}|(?<=[^\s>`] )`{3,}|`{3,}(?=[^\n`]+`)"
@@ -103,6 +105,8 @@ CAUSES = [
           rb"\]\[[ \t\n]+\]", put(rb"] [ ]", rb"\]\[[ \t\n]+\]")),
     Cause("more is behind what would be the title of a definition, in a line of its own", "here", "4.7: then it is no title",
           rb"\]:\s*\S+[ \t]*\n[ \t>]*(?:\"[^\0]*\"|'[^\0]*'|\([^\0]*\))[ \t]*\S", put(rb"\1a", TITLE)),
+    Cause("a destination between `<` and `>` has white space at an end", "here", "6.3: all that is between them is the destination",
+          rb"<(?:[ \t][^\n<>]*|[^\n<>]*[ \t])>", put(rb"<\1>", POINTED)),
     Cause("two code spans are behind backticks that nothing closes", "here", "6.1: a backtick string of equal length ends a code span",
           rb"`[^\0]*`[^`]+`[^\0]*`", put(rb"~", RUN)),
     Cause("a declaration has no white space behind its name", "here", "6.6: behind `<!` and an ASCII letter is anything but `>`", NAMED, put(rb"<! ", NAMED)),
