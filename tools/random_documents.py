@@ -109,6 +109,7 @@ CAUSES = [
           rb"<(?:[ \t][^\n<>]*|[^\n<>]*[ \t])>", put(rb"<\1>", POINTED)),
     Cause("two code spans are behind backticks that nothing closes", "here", "6.1: a backtick string of equal length ends a code span",
           rb"`[^\0]*`[^`]+`[^\0]*`", put(rb"~", RUN)),
+    Cause("CDATA ends with three brackets or more", "here", "6.6: it ends at the first `]]>`", rb"<!\[CDATA\[[^\0]*\]{3,}>", put(rb"]]>", rb"\]{3,}>")),
     Cause("a declaration has no white space behind its name", "here", "6.6: behind `<!` and an ASCII letter is anything but `>`", NAMED, put(rb"<! ", NAMED)),
     Cause("a declaration begins with a small letter", "here", "4.6: `<!` and an ASCII letter", DECLARATION, put(rb"<! ", DECLARATION)),
 ]
