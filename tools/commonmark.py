@@ -186,8 +186,14 @@ def normal(label):
 
 
 def parts(document, span, kind):
-    """The target and the title of a resource or a definition; None for one that is not there."""
-    return tuple(plain(document, last[0].inner) if (last := found(span, f"{kind}{name}String")) else None for name in ("Destination", "Title"))
+    """The target and the title of a resource or a definition; None for one that is not there. An empty title is one, as cmark has it."""
+
+    def part(name):
+        if string := found(span, f"{kind}{name}String"):
+            return plain(document, string[0].inner)
+        return "" if found(span, f"{kind}{name}") else None
+
+    return part("Destination"), part("Title")
 
 
 def definitions_in(document, spans):
