@@ -202,6 +202,8 @@ def main():
         words.error("no FILE")
     with open(given.file, "rb") as it:
         document = it.read()
+    if not os.path.isfile(given.program):
+        sys.exit(f"view: {given.program} is not there: `rt run` in crates/mdevents builds it, or name another by --program")
     ran = subprocess.run([given.program, "--deep", "--machine", given.machine, "--tab", str(given.tab)], input=document, capture_output=True)
     if ran.returncode:
         sys.exit(f"view: {given.program} ended with {ran.returncode}: {ran.stderr.decode(errors='replace').strip()}")
