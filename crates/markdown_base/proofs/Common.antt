@@ -1,5 +1,7 @@
 -- General lemmas: on truth values and on lists of any type.
-use Rattle.markdown_base.proofs.Prelude.{◌≡◌, ℕ, zero, suc, ◌+◌, ◌<◌, ◌∙◌, Bool, true, false, cond, List, [], ◌∷◌, ◌++◌, length, drop, Some, refl, sym, ap, subst, arith, ◌&&◌, ◌||◌, not, map, filter, slice_get, AllByRecursion, drop-drop}
+use Rattle.markdown_base.proofs.Prelude.{◌≡◌, ℕ, zero, suc, ◌+◌, ◌<◌, ◌∙◌, Bool, true, false, cond, List, [], ◌∷◌, ◌++◌, length, drop, take, Some, refl, sym, ap, subst, arith, ◌&&◌, ◌||◌, not, map, filter, slice_get, AllByRecursion, drop-drop}
+use Rattle.std.proofs.Common.{reverse}
+use Rattle.std.proofs.lemmas.List.{reverse-append}
 
 -- ---- truth values
 
@@ -53,6 +55,21 @@ every-map P Q f (x ∷ xs) h = (f x h.0, every-map P Q f xs h.1)
 pub every-append : {A : Type 0} (P : A → Type 0) (xs ys : List A) → AllByRecursion P xs → AllByRecursion P ys → AllByRecursion P (xs ++ ys)
 every-append P [] ys h k = k
 every-append P (x ∷ xs) ys h k = (h.0, every-append P xs ys h.1 k)
+
+-- what holds of each element of a list holds of each of its front, of what is left, and of the list from its end
+pub every-take : {A : Type 0} (P : A → Type 0) (n : ℕ) (xs : List A) → AllByRecursion P xs → AllByRecursion P (take n xs)
+every-take P zero xs h = tt
+every-take P (suc n) [] h = tt
+every-take P (suc n) (x ∷ xs) h = (h.0, every-take P n xs h.1)
+
+pub every-drop : {A : Type 0} (P : A → Type 0) (n : ℕ) (xs : List A) → AllByRecursion P xs → AllByRecursion P (drop n xs)
+every-drop P zero xs h = h
+every-drop P (suc n) [] h = tt
+every-drop P (suc n) (x ∷ xs) h = every-drop P n xs h.1
+
+pub every-reverse : {A : Type 0} (P : A → Type 0) (xs : List A) → AllByRecursion P xs → AllByRecursion P (reverse xs)
+every-reverse P [] h = tt
+every-reverse P (x ∷ xs) h = subst (AllByRecursion P) (sym (reverse-append (x ∷ []) xs)) (every-append P (reverse xs) (x ∷ []) (every-reverse P xs h.1) (h.0, tt))
 
 -- what holds of each element holds of those that pass a test
 pub every-filter : {A : Type 0} (P : A → Type 0) (f : A → Bool) (xs : List A) → AllByRecursion P xs → AllByRecursion P (filter f xs)

@@ -1,5 +1,5 @@
 -- Facts of lists of any type: their elements, and what is left of them.
-use Rattle.markdown_base.proofs.Prelude.{◌≡◌, ℕ, zero, suc, ◌+◌, ◌<◌, ◌≤◌, ◌∙◌, Bool, true, false, cond, List, [], ◌∷◌, length, take, drop, Option, Some, None, refl, ap, arith, not, map, filter, slice_get, AllByRecursion, length-drop}
+use Rattle.markdown_base.proofs.Prelude.{◌≡◌, ℕ, zero, suc, ◌+◌, ◌<◌, ◌≤◌, ◌∙◌, Bool, true, false, cond, List, [], ◌∷◌, ◌++◌, length, take, drop, Option, Some, None, refl, ap, arith, not, map, filter, slice_get, AllByRecursion, length-drop}
 use Rattle.std.proofs.Common.{le_trans}
 use Rattle.std.proofs.lemmas.Option.{none-some}
 
@@ -50,6 +50,15 @@ none-left test f x xs h = elim (test x) as (λ t. map f (cond (not t) (x ∷ fil
 -- what is left is no longer
 pub drop-fits : {A : Type 0} (n : ℕ) (xs : List A) → length (drop n xs) ≤ length xs
 drop-fits n xs = let e = length-drop n xs in omega (arith, e)
+
+-- what is left from a place on begins in the list
+pub begins-inside : {A : Type 0} (n : ℕ) (xs : List A) (y : A) (ys : List A) → drop n xs ≡ y ∷ ys → n < length xs
+begins-inside n xs y ys e = omega (arith, length-drop n xs, ap length e)
+
+-- a list that begins with something has something in it
+pub some-front : {A : Type 0} (xs ys : List A) → 0 < length xs → 0 < length (xs ++ ys)
+some-front [] ys some = absurd (omega (arith, some))
+some-front (x ∷ xs) ys some = omega arith
 
 -- the longer of two is no longer than both may be
 pub cond-fits : {A : Type 0} (t : Bool) (xs ys : List A) (n : ℕ) → length xs ≤ n → length ys ≤ n → length (cond t xs ys) ≤ n
