@@ -37,6 +37,13 @@ impl Skips {
         }
     }
 
+    /// No line is passed. Keeps the memory.
+    pub(crate) fn clear(&mut self)
+        ensures { self.new ≡ [] }
+    {
+        self.places.clear();
+    }
+
     /// The same places, in memory of their own.
     pub(crate) fn try_clone(&self, alloc: Global) -> Result<Self, AllocError>
         ensures { IfOk result (λ copy. copy ≡ self.now) }

@@ -45,6 +45,9 @@ fn joined_items(
 ) -> Result<Items<OwnedText>, AllocError>
     ensures { IfOk result (λ all. all ≡ items ++ more) }
 {
+    if more.as_slice().is_empty() {
+        return Ok(items);
+    }
     let mut all = items.into_vec();
     let mut more = more.into_vec();
     all.append(&mut more)?;

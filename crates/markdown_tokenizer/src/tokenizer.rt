@@ -35,6 +35,7 @@ use crate::waiting::{AttemptKind, GoesOn, KeptChoice, Phase, Progress, Waits};
 use markdown_base::event::{Event, Link, Name, Point};
 use std::alloc::{AllocError, Global};
 use std::marker::Model;
+use std::mem::replace;
 
 /// The tokenizer.
 ///
@@ -181,6 +182,44 @@ impl<'a, M: MachineTypes> Tokenizer<'a, M> {
             noted: Noted::START,
             calls,
         }
+    }
+
+    /// Begins anew: becomes what [`Tokenizer::new`] gives, but keeps the memory of its lists for what is read next. Takes no memory.
+    ///
+    /// The point must be the point of a place of the document.
+    pub fn restart(&mut self, alloc: Global, point: Point, parse_state: &'a ParseState<'a, M>)
+        requires place { IsPointOf parse_state.now.options.now.tab_size parse_state.now.bytes.now point }
+        ensures start { self.new ≡ start_seen (given_of parse_state.now) parse_state.now.machine.now (empty_text point) }
+    {
+        bytes_are_below_256(parse_state.bytes);
+        self.tab_size = parse_state.options.tab_size.get();
+        self.parse_state = parse_state;
+        self.bytes = parse_state.bytes;
+        // Dropped as a whole, by a call: else the proof follows each of their fields.
+        drop(replace(&mut self.tokenize_state, TokenizeState::new(alloc)));
+        drop(replace(&mut self.map, EditMap::new(alloc)));
+        self.skips.clear();
+        self.events.clear();
+        self.stack.clear();
+        self.resolvers.clear();
+        self.kept_choices.clear();
+        self.interrupt = false;
+        self.concrete = false;
+        self.pierce = false;
+        self.lazy = false;
+        self.start = point;
+        self.end = (point.index, point.vs);
+        self.after_previous = point;
+        self.ended = false;
+        self.waits = Waits::Nothing;
+        self.moves = Moves::Other;
+        self.previous = None;
+        self.byte = 0;
+        self.plain_until = 0;
+        self.closed = false;
+        self.phase = Phase::Reading;
+        self.noted = Noted::START;
+        self.calls = Calls::new();
     }
 
     /// Counts a call. The count takes no bytes, and only contracts see it.

@@ -30,10 +30,10 @@ fn make_room(events: &mut Vec<Event>) -> Result<(), AllocError>
     ensures len { vec_len events.new ≡ vec_len events.old }
     ensures room { OnOk result (vec_len events.new < vec_capacity events.new) }
 {
-    let more = if events.len() < 32 {
-        8
+    let more = if events.len() < 64 {
+        32
     } else {
-        events.len() / 4
+        events.len() / 2
     };
     match events.reserve_exact(more) {
         Ok(()) => Ok(()),
