@@ -1,5 +1,5 @@
 -- The virtual byte at a place, read from the bytes.
-use Rattle.markdown_tokenizer.proofs.Prelude.{AllByRecursion, ◌≡◌, ◌≢◌, ℕ, zero, suc, ◌+◌, ◌-◌, ◌≤◌, ◌<◌, ◌==◌, List, [], ◌∷◌, ◌++◌, Bool, true, false, cond, length, drop, Some, ◌⊎◌, inl, inr, refl, sym, ap, ◌∙◌, arith, drop-cons, add-one, slice_index, drop_all, eqb-true, cases_lt, nat_tests, mod-lt, Point, Seat, point, tab_width, in_tab, end_in_tab, virtual_from, begins_with_lf, stands_before, every-map, every-append, rest_at, begins_pair, IsSeatAt, IsNextSeat}
+use Rattle.markdown_tokenizer.proofs.Prelude.{AllByRecursion, ◌≡◌, ◌≢◌, ℕ, zero, suc, ◌+◌, ◌-◌, ◌≤◌, ◌<◌, ◌==◌, List, [], ◌∷◌, ◌++◌, Bool, true, false, cond, length, drop, Some, ◌⊎◌, inl, inr, refl, sym, ap, ◌∙◌, arith, drop-cons, add-one, slice_index, drop_all, eqb-true, cases_lt, nat_tests, mod-lt, Point, Seat, point, tab_width, in_tab, end_in_tab, virtual_from, begins_with_lf, stands_before, every-map, every-append, rest_at, begins_pair, IsPlace, IsSeatAt, IsNextSeat}
 use Rattle.std.proofs.lemmas.Bool.{cond_both}
 use Rattle.markdown_tokenizer.proofs.Positions.Order.{every-cond, not-before, after-before, below-before, before-self, is-not, not-number}
 
@@ -147,6 +147,18 @@ seat-cr t bytes p d h i cr alone = seat-plain t bytes p 13 d h i cr (λ k. no-lf
 -- the next virtual byte is one
 pub one-seat : (t : ℕ) (bytes : List ℕ) (p : Point) (a b : Seat) → IsSeatAt t bytes p a → IsSeatAt t bytes p b → a ≡ b
 one-seat t bytes p a b h k = let e : a ∷ h.after ≡ b ∷ k.after = sym h.is ∙ k.is in cc
+
+-- so its byte is one
+pub byte-there : {t : ℕ} {bytes : List ℕ} {p : Point} {byte : ℕ} → ((s : Seat) × IsSeatAt t bytes p s × (s.byte ≡ byte)) → (seat : Seat) → IsSeatAt t bytes p seat → seat.byte ≡ byte
+byte-there {t = t} {bytes = bytes} {p = p} next seat n = ap (λ (s : Seat). s.byte) (one-seat t bytes p seat next.0 n next.1) ∙ next.2
+
+-- the virtual bytes in a tab are spaces, and no line endings
+pub not-feed-in-tab : (t : ℕ) (bytes : List ℕ) (p : Point) (seat : Seat) → 0 < t → IsPlace t bytes p → IsSeatAt t bytes p seat → p.vs ≢ 0 → seat.byte ≢ 10
+not-feed-in-tab t bytes p seat some place n h e =
+    let inside : 0 < p.vs = omega (arith, h) in
+    let space = seat-in-tab t bytes p some inside (place.bounds.tab inside) in
+    let is : seat.byte ≡ 32 = byte-there (record { byte = 32; point = p; end = space.0 }, space.1, refl) seat n in
+    omega (arith, e, is)
 
 -- a CR LF begins at an index
 pub pair-is : (bytes : List ℕ) (i : ℕ) → begins_pair bytes i ≡ true → (i + 1 < length bytes) × (slice_index bytes i ≡ 13) × (slice_index bytes (i + 1) ≡ 10)
