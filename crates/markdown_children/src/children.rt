@@ -1,11 +1,12 @@
 //! The children of chains: each is read from the text of its chain's chunks.
 
-ghost use Rattle.std.specs.Prelude.{◌≡◌, ◌+◌, ◌<◌, ◌++◌, [], true, length, Some, None, IfOk, IfErr, OnOk};
+ghost use Rattle.std.specs.Prelude.{◌≡◌, ◌+◌, ◌<◌, ◌++◌, [], true, length, Some, None, IfOk, IfErr, OnOk, IsTrue};
 ghost use Rattle.std.specs.List.{AllByRecursion};
 ghost use Rattle.markdown_edits.specs.Edits.{removed_by, added_by};
 ghost use Rattle.markdown_tokenizer.specs.Text.{IsDocument, empty_text};
 ghost use Rattle.markdown_tokenizer.specs.Configuration.{start_seen};
 ghost use Rattle.markdown_tokenizer.specs.Engine.{given_of};
+ghost use Rattle.markdown_tokenizer.specs.Resolving.{with_more};
 ghost use Rattle.markdown_children.specs.Chains.{chain_of, begins};
 ghost use Rattle.markdown_children.specs.Ready.{IsReady, place_at};
 ghost use Rattle.markdown_children.specs.LawStatements.{HasEndsWithin};
@@ -18,14 +19,14 @@ use crate::chains::{begins_at, next_of, place_at};
 use crate::division::divide_events;
 use crate::first_paragraph::at_first_paragraph_of_list_item;
 use crate::weaving::{push_between, push_child};
-use markdown_base::event::{Content, Event};
+use markdown_base::event::{Content, Event, Point};
 use markdown_base::owned::Items;
 use markdown_tokenizer::parser::ParseState;
 use markdown_tokenizer::state::{Machine, Name, State};
 use markdown_tokenizer::subtokenize::{Subresult, joined};
 use markdown_tokenizer::tokenizer::{Fault, Tokenizer};
 use markdown_tokenizer::util::edit_map::EditMap;
-use std::alloc::Global;
+use std::alloc::{AllocError, Global};
 
 /// Reads the chains that fit. Adds to an empty map the edits that replace each chain's chunks by its child. Returns
 /// `Message` if a chain ends in one, and `Memory` if it runs out of memory.
@@ -62,6 +63,8 @@ pub(crate) fn gather<M: Machine>(
 /// Reads all chains. Returns the list with their children in place of the chunks, written once: no two chains of a list that is ready
 /// interleave, and each event with a link begins a chunk, so no link of the list is left. Returns `Message` if a chain ends in one, and
 /// `Memory` if it runs out of memory.
+///
+/// One tokenizer reads all chains, one after the other, so that its lists are not made anew for each.
 pub(crate) fn weave<M: Machine>(
     alloc: Global,
     events: &[Event],
@@ -72,8 +75,28 @@ pub(crate) fn weave<M: Machine>(
     ensures ok { let p = parse_state.now in IfOk result (λ r. HasWoven (given_of p) (M.rules p.machine.now) events.now r.0.items r.1) }
     ensures err { IfErr result (GivesNoChildren M.rules parse_state.now None events.now) }
 {
-    // A child has more events than its chunks. With so much room at once the list seldom moves while children's lists come and go.
+    let mut tokenizer = Tokenizer::new(alloc, Point::START, parse_state);
+    let woven = weave_by(alloc, &mut tokenizer, events, parse_state);
+    drop(tokenizer);
+    woven
+}
+
+/// As [`weave`], by this tokenizer.
+fn weave_by<'a, M: Machine>(
+    alloc: Global,
+    tokenizer: &mut Tokenizer<'a, M>,
+    events: &[Event],
+    parse_state: &'a ParseState<'a, M>,
+) -> Result<(Vec<Event>, Subresult), Fault>
+    requires document { IsDocument (given_of parse_state.now) }
+    requires ready { IsReady parse_state.now.options.now.tab_size parse_state.now.bytes.now None events.now }
+    requires starts { MayStart M.rules parse_state.now None events.now }
+    ensures ok { let p = parse_state.now in IfOk result (λ r. HasWoven (given_of p) (M.rules p.machine.now) events.now r.0.items r.1) }
+    ensures err { IfErr result (GivesNoChildren M.rules parse_state.now None events.now) }
+{
+    // A child has more events than its chunks. With so much room at once the list seldom moves while chains are read.
     let mut woven = Vec::with_capacity(alloc, events.len().saturating_add(events.len() / 2))?;
+    let mut chunks = Vec::new(alloc);
     let mut from = 0;
     let mut acc = (0, 0);
     let mut found = Subresult {
@@ -83,12 +106,12 @@ pub(crate) fn weave<M: Machine>(
     };
     for index in 0..events.len() {
         if begins_at(events, index, None) {
-            let (child, more) = read_child(alloc, events, index, parse_state, None)?;
-            let child = child.as_slice();
-            let (end, sums) = push_child(alloc, &mut woven, events, index, child, from, acc)?;
+            let more = read_again(alloc, tokenizer, events, index, parse_state, None)?;
+            let child = tokenizer.events();
+            let (end, sums) = push_child(&mut chunks, &mut woven, events, index, child, from, acc)?;
             from = end;
             acc = sums;
-            found = joined(found, more)?;
+            found = with_found(found, more)?;
             found.done = false;
         }
     }
@@ -112,7 +135,7 @@ fn start_at(events: &[Event], index: usize) -> Option<Name>
     }
 }
 
-/// Reads the child of the chain that begins at `index`: pushes its chunks, and passes the gaps between them.
+/// Reads the child of the chain that begins at `index`, by a tokenizer of its own.
 fn read_child<M: Machine>(
     alloc: Global,
     events: &[Event],
@@ -126,14 +149,34 @@ fn read_child<M: Machine>(
     ensures ok { IfOk result (λ r. GivesChild M.rules parse_state.now events.now index r.0.items r.1) }
     ensures err { IfErr result (GivesNoChild M.rules parse_state.now events.now index) }
 {
+    let mut tokenizer = Tokenizer::new(alloc, Point::START, parse_state);
+    let read = read_again(alloc, &mut tokenizer, events, index, parse_state, filter);
+    let events = tokenizer.into_events();
+    Ok((events, read?))
+}
+
+/// Reads the child of the chain that begins at `index`, by a tokenizer that begins anew: pushes its chunks, and passes the gaps
+/// between them.
+fn read_again<'a, M: Machine>(
+    alloc: Global,
+    tokenizer: &mut Tokenizer<'a, M>,
+    events: &[Event],
+    index: usize,
+    parse_state: &'a ParseState<'a, M>,
+    filter: Option<Content>,
+) -> Result<Subresult, Fault>
+    requires document { IsDocument (given_of parse_state.now) }
+    requires ready { IsReady parse_state.now.options.now.tab_size parse_state.now.bytes.now filter events.now }
+    requires begins { begins filter events.now index ≡ true }
+    requires starts { MayStart M.rules parse_state.now filter events.now }
+    ensures ok { IfOk result (GivesChild M.rules parse_state.now events.now index tokenizer.new.configuration.events) }
+    ensures err { IfErr result (GivesNoChild M.rules parse_state.now events.now index) }
+{
     let Some(start) = start_at(events, index) else {
         unreachable!();
     };
-    let place = place_at(events, index);
-    let mut tokenizer = Tokenizer::new(alloc, place, parse_state);
-    let read = read_chunks(&mut tokenizer, events, index, parse_state, filter, start);
-    let events = tokenizer.into_events();
-    Ok((events, read?))
+    tokenizer.restart(alloc, place_at(events, index), parse_state);
+    read_chunks(tokenizer, events, index, parse_state, filter, start)
 }
 
 /// Reads the chain that begins at `index` with a tokenizer that has read nothing: pushes the chunks, passes the gaps
@@ -168,6 +211,24 @@ fn read_chunks<M: Machine>(
         at = next;
     }
     tokenizer.flush(state, true)
+}
+
+/// As [`joined`]. Few children find a definition, so mostly nothing is moved.
+#[inline(always)]
+fn with_found(found: Subresult, more: Subresult) -> Result<Subresult, AllocError>
+    ensures { IfOk result (λ all. all ≡ with_more found (Some more)) }
+{
+    if finds_nothing(&more) {
+        return Ok(found);
+    }
+    joined(found, more)
+}
+
+/// No definition was found.
+fn finds_nothing(sub: &Subresult) -> bool
+    ensures { IsTrue result → (sub.now.gfm_footnote_definitions ≡ []) × (sub.now.definitions ≡ []) }
+{
+    sub.gfm_footnote_definitions.as_slice().is_empty() && sub.definitions.as_slice().is_empty()
 }
 
 /// Sets in a tokenizer whether its text is in the first paragraph of a list item.

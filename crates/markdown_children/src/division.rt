@@ -85,7 +85,7 @@ fn part_end(child: &[Event], start: usize, end: Point) -> usize
 }
 
 /// The chunks of the chain that begins at an index, with their parts. Returns `AllocError` if it runs out of memory.
-pub(crate) fn chunks_of(
+fn chunks_of(
     alloc: Global,
     events: &[Event],
     link_index: usize,
@@ -96,6 +96,22 @@ pub(crate) fn chunks_of(
     ensures { IfOk result (λ v. v.items ≡ rest_table events.now child.now (length events.now) link_index 0) }
 {
     let mut chunks = Vec::new(alloc);
+    set_chunks(&mut chunks, events, link_index, child)?;
+    Ok(chunks)
+}
+
+/// As [`chunks_of`], in place of what the list has.
+pub(crate) fn set_chunks(
+    chunks: &mut Vec<Chunk>,
+    events: &[Event],
+    link_index: usize,
+    child: &[Event],
+) -> Result<(), AllocError>
+    requires first { link_index + 1 < length events.now }
+    requires forward { AllByRecursion (IsForward events.now) (chain_of events.now link_index) }
+    ensures { OnOk result (chunks.new.items ≡ rest_table events.now child.now (length events.now) link_index 0) }
+{
+    chunks.clear();
     let mut index = link_index;
     let mut start = 0;
     while let Some(next) = next_of(events, index) {
@@ -110,7 +126,7 @@ pub(crate) fn chunks_of(
         start,
         end: child.len(),
     })?;
-    Ok(chunks)
+    Ok(())
 }
 
 /// The index of a child event in the final list. Its chunk is the first one that ends after it. As the ends rise, it is found by binary

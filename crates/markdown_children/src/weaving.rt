@@ -11,10 +11,10 @@ ghost use Rattle.markdown_children.specs.Parts.{edits_of_chain, CountsOn, IsForw
 ghost use Rattle.markdown_children.specs.Tables.{table_place, AreAbove, chunk_edit};
 ghost use Rattle.markdown_children.specs.Written.{written, end_of};
 
-use crate::division::{Chunk, chunks_of, place_links};
+use crate::division::{Chunk, place_links, set_chunks};
 use markdown_base::event::Event;
 use markdown_tokenizer::tokenizer::Fault;
-use std::alloc::{AllocError, Global};
+use std::alloc::AllocError;
 
 /// A list of so many events grows by a sixteenth, and a shorter one by a quarter.
 const MANY: usize = 16384;
@@ -102,9 +102,9 @@ fn push_parts(
 
 /// Pushes the events from an index on up to the end of the chain that begins at `link_index`, with the parts of its child in place of its
 /// chunks. `acc` is how many events the edits before remove, and how many they add. Returns the index behind the chain, and both counts
-/// with the edits of the chain included. Returns `Memory` also if the lists together are too long.
+/// with the edits of the chain included. Returns `Memory` also if the lists together are too long. `chunks` is room for the chunks.
 pub(crate) fn push_child(
-    alloc: Global,
+    chunks: &mut Vec<Chunk>,
     woven: &mut Vec<Event>,
     events: &[Event],
     link_index: usize,
@@ -128,7 +128,7 @@ pub(crate) fn push_child(
     if most.checked_add(child.len()).is_none() {
         return Err(Fault::Memory);
     }
-    let chunks = chunks_of(alloc, events, link_index, child)?;
+    set_chunks(chunks, events, link_index, child)?;
     let chunks = chunks.as_slice();
     let end = push_parts(woven, events, chunks, acc, child, from)?;
     Ok((end, (acc.0 + 2 * chunks.len(), acc.1 + child.len())))

@@ -1,5 +1,5 @@
 use Rattle.markdown_children.proofs.Prelude.{◌≡◌, List, None, Edit, given_by, SoFar, written, end_of}
-use Rattle.markdown_children.proofs.children.weave.Given as goal
+use Rattle.markdown_children.proofs.children.weave_by.Given as goal
 
 -- the chains that begin so far were read, and what is written has their edits made
 abbrev pub invariant-loop-index : goal.invariant-loop-index

@@ -1,11 +1,11 @@
 use Rattle.markdown_children.proofs.Prelude.{length, arith, refl, sym, ◌∙◌}
 use Rattle.markdown_children.proofs.ChainOrder.Turns.{left_last, left_next}
-use Rattle.markdown_children.proofs.division.chunks_of.Goals as goal
+use Rattle.markdown_children.proofs.division.set_chunks.Goals as goal
 
 pub loop-next-init : goal.loop-next-init
 loop-next-init c = (
   length c.args.events.now,
-  record { chunks = omega arith; inside = c.requires.first; start = omega arith; forward = c.requires.forward; built = rw c.new-chunks.ensures.items refl },
+  record { chunks = omega arith; inside = c.requires.first; start = omega arith; forward = c.requires.forward; built = rw c.clear.ensures.items refl },
 )
 
 pub loop-next-smaller : goal.loop-next-smaller
