@@ -1,11 +1,10 @@
 -- Marks of paragraphs at an index: their events, their links, and what changes of chains leave there.
-use Rattle.std.proofs.Common.{◌≡◌, ℕ, zero, suc, ◌+◌, ◌-◌, ◌<◌, ◌≤◌, ◌==◌, Bool, true, false, cond, List, [], ◌∷◌, ◌++◌, Some, None, length, map, take, drop, refl, sym, ap, ◌∙◌, subst, arith}
+use Rattle.std.proofs.Common.{◌≡◌, ℕ, zero, suc, ◌+◌, ◌-◌, ◌<◌, ◌≤◌, Bool, true, false, cond, List, [], ◌∷◌, ◌++◌, Some, None, length, map, take, drop, refl, sym, ap, ◌∙◌, subst, arith}
 use Rattle.std.specs.Prelude.{◌&&◌, filter, not, option_map, position, slice_get}
 use Rattle.std.specs.List.{AllByRecursion, between, flat_map, prefix_len, range_with_len}
-use Rattle.std.proofs.lemmas.Bool.Decides.{nat_tests}
 use Rattle.std.proofs.lemmas.List.{drop-map, take-append-drop}
 use Rattle.std.proofs.lemmas.Option.{slice_get-map, slice_get_within}
-use Rattle.std.proofs.lemmas.Bool.{lt-ltb}
+use Rattle.std.proofs.lemmas.Bool.{lt-ltb, eq-eqb}
 use Rattle.markdown_base.proofs.Common.{every-map, drop-next}
 use Rattle.markdown_base.specs.declared.event.Content.TheVariants.{Text as TextContent}
 use Rattle.markdown_base.specs.declared.event.Event.{Event}
@@ -35,9 +34,6 @@ some-position : {A : Type 0} (p : A → Bool) (xs : List A) (x : A) (ys : List A
 some-position p xs x ys h =
     let n = prefix_len (λ y. not (p y)) (xs ++ x ∷ ys) in
     (n, ap (λ b. cond b (Some n) None) (lt-ltb n (length (xs ++ x ∷ ys)) (passes-first p xs x ys h)))
-
-self : (n : ℕ) → (n == n) ≡ true
-self n = grind (arith, nat_tests)
 
 -- the indices that are kept are not before the first
 least : (p : ℕ → Bool) (i n : ℕ) → AllByRecursion (λ c. i ≤ c) (filter p (range_with_len i n))
@@ -73,7 +69,7 @@ module _ (all : List Marked) where
   pub chunk-there : (i : ℕ) (e : Event) (b n : ℕ) (ms : List Marked) → At i ((e, Some (b, n)) ∷ ms) → (d : ℕ) × (chunk_at all (b, n) ≡ Some d)
   chunk-there i e b n ms at =
       let m : Marked = (e, Some (b, n)) in
-      let yes : begins_chunk (b, n) m ≡ true = (λ j. self b j && self n j) in
+      let yes : begins_chunk (b, n) m ≡ true = (λ j. eq-eqb b b refl j && eq-eqb n n refl j) in
       let is : take i all ++ m ∷ ms ≡ all = ap (λ l. take i all ++ l) (sym at) ∙ take-append-drop i all in
       subst (λ (l : List Marked). (d : ℕ) × (position (begins_chunk (b, n)) l ≡ Some d)) is (some-position (begins_chunk (b, n)) (take i all) m ms yes)
 
