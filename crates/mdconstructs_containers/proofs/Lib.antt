@@ -25,6 +25,7 @@ pub mod PartLemmas
 pub mod PartSpans
 pub mod PartWritten
 pub mod Pieces
+mod PlainBytes
 pub mod PlainLetters
 pub mod PrefixLemmas
 pub mod PrefixSpans

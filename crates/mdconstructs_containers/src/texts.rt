@@ -1,6 +1,6 @@
 //! Lines as virtual bytes. Most have no tab: the virtual bytes of such a line are its bytes.
 
-ghost use Rattle.std.specs.Prelude.{◌≡◌, ◌≤◌, ◌+◌, ℕ, length, take, drop, IfOk, ◌*◌};
+ghost use Rattle.std.specs.Prelude.{◌≡◌, ◌≤◌, ◌+◌, ℕ, length, take, drop, IfOk, IsTrue, ◌*◌};
 ghost use Rattle.std.specs.List.{prefix_len};
 ghost use Rattle.mdconstructs_flow_read.specs.LineWords.{begins_with};
 ghost use Rattle.mdconstructs_lines.specs.Lines.{is_in_line, expanded, line_bytes};
@@ -26,7 +26,7 @@ fn plain_size<L: Ledger>(t: &[u8], turns: &mut Turns<L>) -> usize
     ensures within { result ≤ length t.now }
     ensures turns { turns.new ≤ turns.old + result + 1 }
 {
-    let mut next = 0;
+    let mut next = plain_blocks(t, turns);
     while next < t.len() {
         turns.add_one();
         if !is_plain(t[next]) {
@@ -35,6 +35,36 @@ fn plain_size<L: Ledger>(t: &[u8], turns: &mut Turns<L>) -> usize
         next += 1;
     }
     next
+}
+
+/// How many bytes are in the first blocks of 16 without control characters. The bytes of a block are compared at once.
+fn plain_blocks<L: Ledger>(t: &[u8], turns: &mut Turns<L>) -> usize
+    ensures value { result + prefix_len is_plain (drop result t.now) ≡ prefix_len is_plain t.now }
+    ensures within { result ≤ length t.now }
+    ensures turns { turns.new ≤ turns.old + result }
+{
+    let mut next = 0;
+    while t.len() - next >= 16 {
+        if !are_plain(&t[next..next + 16]) {
+            return next;
+        }
+        turns.add_one();
+        next += 16;
+    }
+    next
+}
+
+/// Whether no byte is a control character up to the carriage return. It looks at all of them: a loop that ends early is not made into
+/// comparisons of many bytes at once.
+#[inline(always)]
+fn are_plain(t: &[u8]) -> bool
+    ensures { IsTrue result → prefix_len is_plain t.now ≡ length t.now }
+{
+    let mut all = true;
+    for byte in t {
+        all &= *byte > b'\r';
+    }
+    all
 }
 
 /// A tab comes first.
