@@ -7,7 +7,7 @@ use Rattle.markdown_tokenizer.specs.Text.{Given, IsDocument}
 use Rattle.mdconstructs_definitions.specs.Blocks.{document_blocks}
 use Rattle.mdconstructs_definitions.specs.Labelled.{is_one_of}
 use Rattle.mdconstructs_definitions.specs.Skeleton.{written_labels}
-use Rattle.mdconstructs_inlines.specs.LawStatements.{with_inlines, with_strings as with_string_chunks}
+use Rattle.mdconstructs_inlines.specs.InlineChains.{with_inlines, with_strings as with_string_chunks}
 use Rattle.mdconstructs_strings.specs.Strings.{with_strings}
 
 -- A label is defined in a document: it is the same as that of one of its definitions (CommonMark, "Link reference definitions")

@@ -1,19 +1,18 @@
 -- What is promised of inline text.
-use Rattle.std.specs.Prelude.{◌≡◌, ℕ, ◌-◌, ◌^◌, ◌<◌, ◌≤◌, Bool, List, Option, Some, false, length, map, true}
+use Rattle.std.specs.Prelude.{◌≡◌, ℕ, ◌-◌, ◌^◌, ◌<◌, ◌≤◌, Bool, List, Option, Some, false, length, true}
 use Rattle.markdown_base.specs.declared.event.Content.{Content}
 use Rattle.markdown_base.specs.declared.event.Content.TheVariants.{String, Text as TextContent}
 use Rattle.markdown_base.specs.declared.event.Event.{Event}
 use Rattle.markdown_base.specs.declared.state.Name.{Name}
 use Rattle.markdown_base.specs.declared.state.TheConstants.Name.{StringStart, TextStart}
-use Rattle.markdown_children.specs.Chains.{fitting_starts}
-use Rattle.markdown_children.specs.Children.{with_children}
 use Rattle.markdown_children.specs.Reads.{IsSubtokenized}
 use Rattle.markdown_children.specs.Ready.{IsReady}
 use Rattle.markdown_tokenizer.specs.declared.subtokenize.Subresult.{Subresult}
 use Rattle.markdown_tokenizer.specs.Engine.{IsRun, whole_text}
 use Rattle.markdown_tokenizer.specs.Text.{Given, IsDocument}
 use Rattle.mdconstructs_links.specs.Linked.{with_links}
-use Rattle.mdconstructs_text.specs.ChainTexts.{AreReadBy, StaysReadyBy, chain_text, with_read}
+use Rattle.mdconstructs_text.specs.ChainTexts.{AreReadBy, StaysReadyBy}
+pub use Rattle.mdconstructs_inlines.specs.InlineChains.{with_inlines, with_strings}
 use Rattle.mdconstructs_inlines.specs.InlineEvents.{inline_events, read_events}
 use Rattle.mdconstructs_inlines.specs.InlineRules.{inlines_rules}
 use Rattle.mdconstructs_inlines.specs.StringEvents.{string_events}
@@ -34,10 +33,6 @@ ReadsInlineText = (defined : List ℕ → Bool) (g : Given) (events : List Event
     → (IsRun g (inlines_rules defined) true TextStart events sub → events ≡ inline_events defined g (whole_text g))
     × (IsRun g (inlines_rules defined) false TextStart events sub → events ≡ read_events defined g (whole_text g))
 
--- the list with each chunk of each chain of text replaced by its part of the inline text of the chain, by which labels are defined
-abbrev pub with_inlines : (defined : List ℕ → Bool) → Given → List Event → List Event
-with_inlines defined g events = with_read g events (λ c. inline_events defined g (chain_text g events c))
-
 -- The machine makes that of each list whose chains of text can be read
 abbrev pub ReadsChainsAsInlineText : Type 0
 ReadsChainsAsInlineText = (defined : List ℕ → Bool) (g : Given) (events : List Event) → IsDocument g → IsReady g.tab g.bytes (Some TextContent) events → AreReadBy g events (inlines_rules defined) (with_inlines defined g events)
@@ -50,10 +45,6 @@ StaysReadyAfterInlineText = (defined : List ℕ → Bool) (g : Given) (events : 
 abbrev pub ReadsStrings : Type 0
 ReadsStrings = (defined : List ℕ → Bool) (g : Given) (resolving : Bool) (events : List Event) (sub : Subresult) → IsDocument g → IsRun g (inlines_rules defined) resolving StringStart events sub
     → events ≡ string_events g (whole_text g)
-
--- the list with each chunk of each chain of strings replaced by its part of the events of the string that the chain is
-abbrev pub with_strings : Given → List Event → List Event
-with_strings g events = with_children (Some String) events (map (λ c. string_events g (chain_text g events c)) (fitting_starts (Some String) events))
 
 -- The machine makes that of each list whose chains of strings can be read
 abbrev pub ReadsChainsAsStrings : Type 0

@@ -1,5 +1,6 @@
 pub mod BracketRows
 pub mod Brackets
+pub mod InlineChains
 pub mod InlineEvents
 pub mod InlineRules
 pub mod InlineTable

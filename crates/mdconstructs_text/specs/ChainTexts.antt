@@ -20,6 +20,7 @@ use Rattle.markdown_children.specs.Reads.{text_of_chain, IsSubtokenized}
 use Rattle.mdconstructs_machines.specs.LineEvents.{data_events}
 use Rattle.mdconstructs_machines.specs.ParagraphEvents.{paragraph_events}
 use Rattle.mdconstructs_machines.specs.Paragraphs.{paragraphs_rules}
+pub use Rattle.mdconstructs_text.specs.ReadChains.{chain_text, with_read}
 use Rattle.mdconstructs_text.specs.TextEvents.{text_events}
 use Rattle.mdconstructs_text.specs.TextRules.{text_rules}
 
@@ -28,32 +29,24 @@ abbrev pub IsRunOfTexts : Given → List Event → Type 0
 IsRunOfTexts g events = (sub : Subresult) × IsRun g text_rules false TextStart events sub
 
 module _ (g : Given) (events : List Event) where
-  -- the text of the chain that begins at an index
-  abbrev pub chain_text : ℕ → Text
-  chain_text c = text_of_chain g events (chain_of events c)
-
-  -- the events of it, as text and as data
+  -- the events of the text of the chain that begins at an index, as text and as data
   abbrev pub chain_events : ℕ → List Event
-  chain_events c = text_events g (chain_text c)
+  chain_events c = text_events g (chain_text g events c)
 
   abbrev pub chain_data : ℕ → List Event
-  chain_data c = data_events g.bytes (chain_text c).seats
-
-  -- the list with each chunk of each chain of text replaced by its part of what the chain is read as
-  abbrev pub with_read : (ℕ → List Event) → List Event
-  with_read of_chain = with_children (Some content.Text) events (map of_chain (fitting_starts (Some content.Text) events))
+  chain_data c = data_events g.bytes (chain_text g events c).seats
 
   abbrev pub with_texts : List Event
-  with_texts = with_read chain_events
+  with_texts = with_read g events chain_events
 
   abbrev pub with_data : List Event
-  with_data = with_read chain_data
+  with_data = with_read g events chain_data
 
   -- The void spans of the list are empty, and stay so with what the chains of text are read as: no chunks tear one
   pub record StaysTight (of_chain : ℕ → List Event) : Type 0 where
     pub old : IsVoidTight events
     pub none_torn : NoneTorn (Some content.Text) events (map of_chain (fitting_starts (Some content.Text) events))
-    pub new : IsVoidTight (with_read of_chain)
+    pub new : IsVoidTight (with_read g events of_chain)
 
   -- what a machine's rules make of the list
   abbrev pub AreReadBy : (Given → Rules Unit Unit) → List Event → Type 0

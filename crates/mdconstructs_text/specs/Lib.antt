@@ -10,6 +10,7 @@ pub mod EscapeRows
 pub mod Items
 pub mod ParagraphTexts
 pub mod Parts
+pub mod ReadChains
 pub mod TextBytes
 pub mod TextCosts
 pub mod TextEvents
