@@ -12,7 +12,7 @@ pub mod PairsKeep
 mod Prelude
 mod Ranges
 pub mod RunEdits
-mod RunPlaces
+pub mod RunPlaces
 pub mod RunTexts
 mod RunsFrom
 mod Searches
