@@ -8,6 +8,7 @@ use Rattle.markdown_base.proofs.Common.{every-map}
 use Rattle.markdown_base.specs.declared.event.Event.{Event}
 use Rattle.markdown_base.specs.declared.event.Point.{Point}
 use Rattle.markdown_base.specs.Events.{IsBalanced, empty}
+use Rattle.markdown_base.proofs.Facts.Lists.{some-front}
 use Rattle.markdown_edits.proofs.Balanced.{balanced_from_open, names_after_balanced}
 use Rattle.markdown_edits.specs.OpenNames.{names_after_all}
 use Rattle.mdconstructs_attention.proofs.PairsKeep.{pairs-keep}
@@ -16,7 +17,7 @@ use Rattle.mdconstructs_attention.specs.Emphasis.{Run, closings, data_of, later,
 use Rattle.mdconstructs_attention.specs.Places.{Standing, markers, standing}
 use Rattle.mdconstructs_attention.specs.RunEdits.{in_place}
 use Rattle.mdconstructs_attention.specs.Runs.{index_of_event, is_sequence, run_at, runs_from, runs_in}
-use Rattle.mdconstructs_links.proofs.Between.{AreSpans, IsKeptByParts, IsSpan, all-go, append-some}
+use Rattle.mdconstructs_links.proofs.Between.{AreSpans, IsKeptByParts, IsSpan, all-go}
 use Rattle.mdconstructs_links.proofs.Leaves.{data-balanced, links-balanced}
 use Rattle.mdconstructs_links.proofs.Plain.{front-first, never-one, no-run, pair-span, part-plain, skipped, span-opens, starts}
 use Rattle.mdconstructs_links.proofs.Spans.{Closes, span-closes, span-joins}
@@ -77,8 +78,8 @@ module _ (bytes : List ℕ) (T : List Event → Type 0) (Q : Type 0) (A B : Q �
   runs-some p q (run r ∷ ps) (s ∷ ss) h same some =
       let first : standing s ≡ standing r = cc in
       let many : markers s ≡ markers r = ap (λ (x : Standing). x.markers) first in
-      append-some (in_place s) (with_runs ps ss) (place-some s (omega (arith, many, h.1.2)))
-  runs-some p q (events es ∷ ps) ss h same some = append-some es (with_runs ps ss) h.1.2
+      some-front (in_place s) (with_runs ps ss) (place-some s (omega (arith, many, h.1.2)))
+  runs-some p q (events es ∷ ps) ss h same some = some-front es (with_runs ps ss) h.1.2
 
   by-parts : IsKeptByParts Place Goes RunGoes
   by-parts = record {

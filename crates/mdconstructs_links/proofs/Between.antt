@@ -1,20 +1,21 @@
 -- What links keep between places: along the fold over spans each part goes from a place to a place.
-use Rattle.std.proofs.Common.{◌≡◌, ◌<◌, ◌∙◌, List, [], ◌∷◌, ◌++◌, Bool, true, false, cond, ap, arith, inl, inr, length, length-append, refl, subst, sym}
+use Rattle.std.proofs.Common.{◌≡◌, ◌<◌, ◌∙◌, List, [], ◌∷◌, ◌++◌, Bool, true, false, cond, ap, arith, inl, inr, length, refl, subst, sym}
 use Rattle.std.proofs.lemmas.Bool.{cases_Bool}
 use Rattle.std.specs.Prelude.{◌&&◌, ◌||◌, not}
 use Rattle.markdown_base.proofs.Common.{and-right}
 use Rattle.markdown_base.specs.declared.event.Event.{Event}
 use Rattle.markdown_base.specs.declared.event.Name.{Name}
-use Rattle.markdown_base.specs.declared.event.Name.TheVariants.{AttentionSequence, Image, Label, LabelEnd, LabelImage, LabelLink, LabelMarker, LabelText, Link, Reference, Resource}
+use Rattle.markdown_base.specs.declared.event.Name.TheVariants.{AttentionSequence, Image, Label, LabelEnd, LabelImage, LabelLink, LabelMarker, Link, Reference, Resource}
 use Rattle.markdown_base.specs.Events.{IsBalanced, is_enter, same_name}
+use Rattle.markdown_base.proofs.Facts.Lists.{some-front}
 use Rattle.markdown_edits.proofs.Balanced.{IsBalanced-append, same_name-true}
 use Rattle.mdconstructs_attention.specs.Emphasis.{Run}
 use Rattle.mdconstructs_links.proofs.Kept.{AreParts as AreKeptParts, around-kept, label-text, parts-emphasised, whole-name}
 use Rattle.mdconstructs_links.proofs.Leaves.{balanced-is-kept}
 use Rattle.mdconstructs_links.proofs.Plain.{part-plain}
-use Rattle.mdconstructs_links.specs.Between.{AreParts, IsPart, is_marked}
+use Rattle.mdconstructs_links.specs.Between.{AreParts, IsPart, is_marked, HoldsAround, HoldsAroundText, HoldsTogether}
 use Rattle.mdconstructs_links.specs.Kept.{IsFresh, is_made_of}
-use Rattle.mdconstructs_links.specs.Linked.{Part, run, events, SoFar, Waiting, added, all_parts, around, as_data, emphasised_parts, ended, failed, is_bracket, is_named, is_run, is_tail, label_text, last_place, linked_from, made, opened, part_of, spanning, taken}
+use Rattle.mdconstructs_links.specs.Linked.{Part, run, events, SoFar, Waiting, added, all_parts, around, as_data, emphasised_parts, ended, failed, is_bracket, is_named, is_run, is_tail, label_text, linked_from, made, opened, part_of, taken}
 use Rattle.mdconstructs_links.specs.Places.{Anywhere}
 
 -- ---- spans that are no runs
@@ -49,9 +50,6 @@ none-taken span rs h = ap (λ (p : Part × List Run). p.1) (part-plain span rs h
 around-some : (name : Name) (es : List Event) → 0 < length es → 0 < length (around name es)
 around-some name [] h = h
 around-some name (e ∷ es) h = omega arith
-
-pub append-some : (xs ys : List Event) → 0 < length xs → 0 < length (xs ++ ys)
-append-some xs ys h = let l = length-append xs ys in omega (arith, h, l)
 
 module _ (Q : Type 0) (B : Q → List Event → Q → Type 0) (R : Q → Run → Q → Type 0) where
   -- ---- parts
@@ -102,12 +100,9 @@ module _ (Q : Type 0) (B : Q → List Event → Q → Type 0) (R : Q → Run →
   -- what holds of the parts of a text
   pub record IsKeptByParts : Type 0 where
     pub nothing : (q : Q) → B q [] q
-    pub together : (p m q : Q) (xs ys : List Event) → IsBalanced xs → IsBalanced ys → B p xs m → B m ys q → B p (xs ++ ys) q
-    pub around_it : (p q : Q) (name : Name) (e : Event) (es : List Event) → is_made_of name ≡ true → IsBalanced (e ∷ es) → B p (e ∷ es) q → B p (around name (e ∷ es)) q
-    pub text_around :
-        (p m n q : Q) (e : Event) (es text : List Event) (f : Event) (fs : List Event) → 0 < length text → IsBalanced (e ∷ es) → IsBalanced text → B p (e ∷ es) m → B m text n
-        → B n (f ∷ fs) q
-        → B p ((e ∷ es) ++ (spanning LabelText (last_place e.point es) f.point text ++ f ∷ fs)) q
+    pub together : HoldsTogether Q B
+    pub around_it : HoldsAround Q B
+    pub text_around : HoldsAroundText Q B
     pub emphasis : (p q : Q) (ps : List Part) → AreParts Q B R p ps q → B p (emphasised_parts ps) q
     pub some : (p q : Q) (ps : List Part) → AreParts Q B R p ps q → 0 < length ps → 0 < length (emphasised_parts ps)
 
@@ -140,12 +135,12 @@ module _ (Q : Type 0) (B : Q → List Event → Q → Type 0) (R : Q → Run →
         let inside = opener ++ (text ++ close) in
         let name = cond (is_named LabelImage opener) Image Link in
         let named = whole-name Anywhere IsBalanced IsFresh balanced-is-kept (is_named LabelImage opener) in
-        let some = append-some opener (text ++ close) h.2 in
+        let some = some-front opener (text ++ close) h.2 in
         let text_balanced = label-text Anywhere IsBalanced IsFresh balanced-is-kept opener close ps h.1 c.1 (parts-kept m n ps between) in
         let balanced = IsBalanced-append opener (text ++ close) h.1 (IsBalanced-append text close text_balanced c.1) in
         let label = around-between p k Label inside refl some balanced (label-between p m n k opener close ps h between c) in
         let label_balanced = around-kept Anywhere IsBalanced IsFresh balanced-is-kept Label inside refl balanced in
-        let some_both = append-some (around Label inside) tail (around-some Label inside some) in
+        let some_both = some-front (around Label inside) tail (around-some Label inside some) in
         let both_balanced = IsBalanced-append (around Label inside) tail label_balanced t.1 in (
           around-between p q name (around Label inside ++ tail) named some_both both_balanced (kept.together p k q (around Label inside) tail label_balanced t.1 label t.0),
           around-kept Anywhere IsBalanced IsFresh balanced-is-kept name (around Label inside ++ tail) named both_balanced,
@@ -174,7 +169,7 @@ module _ (Q : Type 0) (B : Q → List Event → Q → Type 0) (R : Q → Run →
     is-ended p m k l q span tail [] z s t a w b = record {
       middle = m;
       waits = w;
-      behind = parts-one m k q z.behind (events (span ++ tail)) b (kept.together k l q span tail s.1 t.1 s.0 t.0, IsBalanced-append span tail s.1 t.1, append-some span tail s.2);
+      behind = parts-one m k q z.behind (events (span ++ tail)) b (kept.together k l q span tail s.1 t.1 s.0 t.0, IsBalanced-append span tail s.1 t.1, some-front span tail s.2);
     }
     is-ended p m k l q span tail (w ∷ ws) z s t a waits b = record {
       middle = a.0;

@@ -28,7 +28,7 @@ module _ (P : Point → Type 0) (B : List Event → Type 0) (F : Run → Type 0)
     behind : AreParts z.behind
     fresh : AllByRecursion F z.runs
 
-  parts-append : (ps qs : List Part) → AreParts ps → AreParts qs → AreParts (ps ++ qs)
+  pub parts-append : (ps qs : List Part) → AreParts ps → AreParts qs → AreParts (ps ++ qs)
   parts-append [] qs h k = k
   parts-append (p ∷ ps) qs h k = (h.0, parts-append ps qs h.1 k)
 
@@ -76,7 +76,7 @@ module _ (P : Point → Type 0) (B : List Event → Type 0) (F : Run → Type 0)
       around-kept (cond (is_named LabelImage opener) Image Link) (around Label (opener ++ (text ++ close)) ++ tail) (whole-name (is_named LabelImage opener))
       (kept.together (around Label (opener ++ (text ++ close))) tail label l)
 
-  parts-all : (ws : List Waiting) (behind : List Part) → AreWaiting ws → AreParts behind → AreParts (all_parts ws behind)
+  pub parts-all : (ws : List Waiting) (behind : List Part) → AreWaiting ws → AreParts behind → AreParts (all_parts ws behind)
   parts-all [] behind h k = k
   parts-all (w ∷ ws) behind h k = parts-all ws (w.before ++ events (as_data w.opener) ∷ behind) h.2 (parts-append w.before (events (as_data w.opener) ∷ behind) h.1 (kept.data_of_it w.opener h.0, k))
 

@@ -2,6 +2,7 @@
 use Rattle.std.proofs.Common.{◌≡◌, ◌+◌, ◌∙◌, ℕ, suc, List, [], ◌∷◌, ◌++◌, true, false, cond, ap, append-nil, append_assoc, arith, length, length-append, map, refl, subst, sym}
 use Rattle.std.specs.List.{AllByRecursion}
 use Rattle.markdown_base.specs.declared.event.Event.{Event}
+use Rattle.markdown_base.proofs.Common.{every-append}
 use Rattle.mdconstructs_attention.specs.declared.pairs.Delimiters.{Delimiters}
 use Rattle.mdconstructs_attention.specs.Emphasis.{Run, paired}
 use Rattle.mdconstructs_attention.specs.Places.{AllHaveRoom, standing}
@@ -16,10 +17,6 @@ use Rattle.mdconstructs_links.specs.Between.{with_runs}
 use Rattle.mdconstructs_links.specs.Laid.{AreAscending, Laid, NoneWait, Reads, is_waiting, placed_at, waits_at, with_fate, written_of}
 use Rattle.mdconstructs_links.specs.Linked.{Part, run, events, Waiting, all_parts, as_data, emphasised_parts, runs_of_parts}
 use Rattle.mdconstructs_links.specs.Pieces.{Fits, in_fate, put, span_of}
-
-pub all-append : {A : Type 0} (P : A → Type 0) (xs ys : List A) → AllByRecursion P xs → AllByRecursion P ys → AllByRecursion P (xs ++ ys)
-all-append P [] ys h k = k
-all-append P (x ∷ xs) ys h k = (h.0, all-append P xs ys h.1 k)
 
 pub all-front : {A : Type 0} (P : A → Type 0) (xs ys : List A) → AllByRecursion P (xs ++ ys) → AllByRecursion P xs
 all-front P [] ys h = tt
@@ -190,7 +187,7 @@ module _ (es : List Event) where
       let more = filled-reads xs h.2 ds h.6 long in
       let is : filled ps ds ≡ front ++ filled h.2 ds = ap (λ os. filled os ds) h.3 ∙ filled-front front h.2 ds h.4 in
       subst (λ os. NoneWait os × (written_of es os ≡ es' ++ with_runs xs (map as_run ds))) (sym is) (
-        all-append (λ p. is_waiting p.fate ≡ false) front (filled h.2 ds) h.4 more.0,
+        every-append (λ p. is_waiting p.fate ≡ false) front (filled h.2 ds) h.4 more.0,
         written-append front (filled h.2 ds) ∙ ap (λ ys. ys ++ written_of es (filled h.2 ds)) h.5 ∙ ap (λ ys. es' ++ ys) more.1,
       )
 

@@ -10,12 +10,13 @@ use Rattle.markdown_base.specs.declared.event.Name.TheVariants.{LabelText}
 use Rattle.markdown_base.specs.declared.event.Point.{Point}
 use Rattle.markdown_base.specs.Events.{IsBalanced}
 use Rattle.markdown_base.specs.Places.{stands_before}
+use Rattle.markdown_base.proofs.Common.{every-append}
 use Rattle.mdconstructs_attention.proofs.PairsKeep.{pairs-keep}
 use Rattle.mdconstructs_attention.specs.Emphasis.{Run, later, markers_of_all, paired, unlinked_event}
 use Rattle.mdconstructs_attention.specs.Places.{Standing, markers, standing}
 use Rattle.mdconstructs_attention.specs.RunEdits.{in_place}
 use Rattle.mdconstructs_links.proofs.Aligned.{links-keep-between}
-use Rattle.mdconstructs_links.proofs.Laid.{all-append, all-back, all-front}
+use Rattle.mdconstructs_links.proofs.Laid.{all-back, all-front}
 use Rattle.mdconstructs_links.proofs.RunOrder.{Ordered, ordered-both, ordered-place}
 use Rattle.mdconstructs_links.proofs.WithRuns.{runs-in-place}
 use Rattle.mdconstructs_links.specs.Between.{IsKeptBetween, IsRunOf}
@@ -98,7 +99,7 @@ module _ (At : Point → Type 0) where
       let exit = unlinked_event Exit name l in
       record {
         order = (h.order.0, (stands-self e.point, order-both e.point es l (exit ∷ []) q last.0 (stands-self l, last.1)));
-        places = (h.places.0, (h.places.0, all-append (λ (x : Event). At x.point) es (exit ∷ []) h.places.1 (last-at e.point es h.places.0 h.places.1, tt)));
+        places = (h.places.0, (h.places.0, every-append (λ (x : Event). At x.point) es (exit ∷ []) h.places.1 (last-at e.point es h.places.0 h.places.1, tt)));
       }
 
   text-ordered : (p m n q : Point) (e : Event) (es text : List Event) (f : Event) (fs : List Event) → Ordered At p (e ∷ es) m → Ordered At m text n → Ordered At n (f ∷ fs) q
@@ -110,7 +111,7 @@ module _ (At : Point → Type 0) where
       let inside : Ordered At l (text ++ exit ∷ []) f.point =
       record {
         order = order-both l text n (exit ∷ []) f.point (order-from l m text n last.1 k.order) (k'.order.0, stands-self f.point);
-        places = all-append (λ (x : Event). At x.point) text (exit ∷ []) k.places (k'.places.0, tt);
+        places = every-append (λ (x : Event). At x.point) text (exit ∷ []) k.places (k'.places.0, tt);
       } in
       let end : Ordered At f.point (f ∷ fs) q = record { order = (stands-self f.point, k'.order.1); places = k'.places } in
       let both = ordered-both At l f.point q (text ++ exit ∷ []) (f ∷ fs) inside end in

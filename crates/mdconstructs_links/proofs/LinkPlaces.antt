@@ -6,12 +6,13 @@ use Rattle.std.specs.Prelude.{◌&&◌, slice_get}
 use Rattle.markdown_base.specs.declared.event.Event.{Event}
 use Rattle.markdown_base.specs.declared.event.Kind.TheVariants.{Exit}
 use Rattle.markdown_base.specs.declared.event.Point.{Point}
+use Rattle.markdown_base.proofs.Common.{every-append}
 use Rattle.mdconstructs_attention.proofs.PairsKeep.{pairs-keep}
 use Rattle.mdconstructs_attention.specs.Emphasis.{Run, closings, events_of_runs, paired, run_events, tail_events, unlinked_event}
 use Rattle.mdconstructs_attention.specs.Places.{HasRoom, Standing, markers, standing}
 use Rattle.mdconstructs_attention.specs.Runs.{depth_after, index_of_event, is_sequence, run_at, runs_from, runs_in}
 use Rattle.mdconstructs_links.proofs.Kept.{links-keep}
-use Rattle.mdconstructs_links.proofs.Laid.{all-append, all-back, all-front}
+use Rattle.mdconstructs_links.proofs.Laid.{all-back, all-front}
 use Rattle.mdconstructs_links.proofs.LinkOrder.{AllAt, last-at}
 use Rattle.mdconstructs_links.proofs.RunOrder.{ordered-place}
 use Rattle.mdconstructs_links.proofs.Spans.{spans-have}
@@ -40,11 +41,11 @@ module _ (At : Point → Type 0) where
   runs-at texts (r ∷ rs) rest between stand h =
       let place = (ordered-place At r stand.0).places in
       let close = closings r.start r.closed in
-      let head = all-append EventAt (texts r.index) close (between r.index) (all-front EventAt close (tail_events r) place) in
-      let here = all-append EventAt (texts r.index ++ close) (tail_events r) head (all-back EventAt close (tail_events r) place) in
+      let head = every-append EventAt (texts r.index) close (between r.index) (all-front EventAt close (tail_events r) place) in
+      let here = every-append EventAt (texts r.index ++ close) (tail_events r) head (all-back EventAt close (tail_events r) place) in
       let more = runs-at texts rs rest between stand.1 h in
-      all-append EventAt (run_events texts r ++ events_of_runs texts rs) rest
-      (all-append EventAt (run_events texts r) (events_of_runs texts rs) here (all-front EventAt (events_of_runs texts rs) rest more)) h
+      every-append EventAt (run_events texts r ++ events_of_runs texts rs) rest
+      (every-append EventAt (run_events texts r) (events_of_runs texts rs) here (all-front EventAt (events_of_runs texts rs) rest more)) h
 
   data-at : (es : List Event) → AllAt At es → AllAt At (as_data es)
   data-at [] h = tt
@@ -54,8 +55,8 @@ module _ (At : Point → Type 0) where
   at-is-kept = record {
     places = λ e es h. (h.0, last-at At e.point es h.0 h.1);
     nothing = tt;
-    together = all-append EventAt;
-    span_around = λ name start end es n p q h. (p, all-append EventAt es (unlinked_event Exit name end ∷ []) h (q, tt));
+    together = every-append EventAt;
+    span_around = λ name start end es n p q h. (p, every-append EventAt es (unlinked_event Exit name end ∷ []) h (q, tt));
     data_of_it = data-at;
     emphasis = λ texts rs rest between each behind.
         runs-at texts (paired rs) rest between (subst (AllByRecursion StandsAt) (sym (pairs-keep rs)) (by-standing rs each)) behind;

@@ -137,7 +137,7 @@ module _ (bytes : List ℕ) where
   abbrev pub cut_by : Event → List Event → ℕ → Bool → List Event × List Event
   cut_by e es d t = cond t (e ∷ [], es) (e ∷ (span_at d es).0, (span_at d es).1)
 
-  open-yet : (d : ℕ) → (suc d == 0) ≡ false
+  pub open-yet : (d : ℕ) → (suc d == 0) ≡ false
   open-yet d = grind (arith, nat_tests)
 
   -- what is left behind an event, by how many spans are open then

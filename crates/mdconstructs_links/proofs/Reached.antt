@@ -1,7 +1,6 @@
 -- The code's loop goes along the fold over outermost spans.
 use Rattle.std.proofs.Common.{◌≡◌, ◌+◌, ◌-◌, ◌<◌, ◌≤◌, ◌∙◌, ℕ, zero, suc, List, [], ◌∷◌, ◌++◌, true, false, cond, Option, Some, None, ap, arith, drop, length, length-append, map, refl, subst, sym, take}
 use Rattle.std.proofs.lemmas.List.{length-drop, length-map}
-use Rattle.std.proofs.lemmas.List.Elements.{All-head, All-tail}
 use Rattle.std.specs.List.{AllByRecursion, between}
 use Rattle.std.specs.Prelude.{nat_lt, ◌==◌, ◌&&◌, slice_get}
 use Rattle.markdown_base.specs.declared.event.Event.{Event}
@@ -9,9 +8,10 @@ use Rattle.markdown_base.specs.declared.event.Name.TheVariants.{LabelEnd}
 use Rattle.mdconstructs_attention.proofs.PairsKeep.{pairs-keep}
 use Rattle.mdconstructs_attention.specs.declared.pairs.Delimiters.{Delimiters}
 use Rattle.mdconstructs_attention.specs.Emphasis.{Run, paired}
-use Rattle.mdconstructs_attention.specs.Places.{AllHaveRoom, ArePlacesInside, HasRoom, standing}
+use Rattle.mdconstructs_attention.specs.Places.{ArePlacesInside, standing}
 use Rattle.mdconstructs_attention.specs.Runs.{depth_after, index_of_event, is_sequence, run_at, runs_from, runs_in}
 use Rattle.mdconstructs_attention.specs.Searches.{as_run}
+use Rattle.mdconstructs_attention.proofs.RunPlaces.{all-room}
 use Rattle.mdconstructs_links.specs.declared.brackets.Bracket.{Bracket}
 use Rattle.mdconstructs_links.specs.declared.brackets.Pieces.{Pieces}
 use Rattle.mdconstructs_links.specs.declared.pieces.Fate.TheVariants.{Ends, Opens, Tail}
@@ -152,24 +152,6 @@ ascending-from bytes i depth before (e ∷ g ∷ es) =
 pub runs-ascend : (bytes : List ℕ) (es : List Event) → AreAscending (runs_in bytes es)
 runs-ascend bytes es = ascending-from bytes 0 0 None es
 
--- ---- they have room
-
-room : (bytes : List ℕ) (e f : Event) → (e.point.index ≤ length bytes) × HasRoom (length bytes - e.point.index) e.point → f.point.index ≤ length bytes → HasRoom (0 + (f.point.index - e.point.index + 0)) e.point
-room bytes e f h k = (omega (arith, h.1.0, k), omega (arith, h.1.1, k))
-
-room-from : (bytes : List ℕ) (i depth : ℕ) (before : Option ℕ) (es : List Event) → ArePlacesInside bytes es → AllHaveRoom (map standing (runs_from bytes i depth before es))
-room-from bytes i depth before [] h = tt
-room-from bytes i depth before (e ∷ []) h = tt
-room-from bytes i depth before (e ∷ g ∷ es) h =
-    let Fit : Event → Type 0 = λ x. (x.point.index ≤ length bytes) × HasRoom (length bytes - x.point.index) x.point in
-    let first = All-head Fit e (g ∷ es) h in
-    let others = All-tail Fit e (g ∷ es) h in
-    let second = All-head Fit g es others in
-    elim (depth == 0 && is_sequence e g) as (λ t. AllHaveRoom (map standing (cond t (run_at bytes i e g before (index_of_event (slice_get es 0)) ∷ runs_from bytes (i + 2) depth (Some g.point.index) es) (runs_from bytes (i + 1) (depth_after e.kind depth) (Some e.point.index) (g ∷ es))))) [
-      | true ↦ (room bytes e g first second.0, room-from bytes (i + 2) depth (Some g.point.index) es (All-tail Fit g es others))
-      | false ↦ room-from bytes (i + 1) (depth_after e.kind depth) (Some e.point.index) (g ∷ es) others
-    ]
-
 -- when nothing was read yet
 pub stands-first : (bytes : List ℕ) (es : List Event) → ArePlacesInside bytes es → Stands es [] [] [] [] (runs_in bytes es) (start_of (runs_in bytes es))
 stands-first bytes es h = record {
@@ -177,7 +159,7 @@ stands-first bytes es h = record {
   owners = refl;
   left = refl;
   apart = runs-ascend bytes es;
-  room = room-from bytes 0 0 None es h;
+  room = all-room bytes es 0 0 None h;
   fit = tt;
 }
 

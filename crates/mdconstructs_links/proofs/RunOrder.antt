@@ -7,10 +7,10 @@ use Rattle.markdown_base.proofs.Seats.{stands-self}
 use Rattle.markdown_base.specs.declared.event.Event.{Event}
 use Rattle.markdown_base.specs.declared.event.Point.{Point}
 use Rattle.markdown_base.specs.Places.{stands_before}
+use Rattle.markdown_base.proofs.Common.{every-append}
 use Rattle.mdconstructs_attention.specs.Emphasis.{Run, closings, data_of, later, markers_of, markers_of_all, openings}
 use Rattle.mdconstructs_attention.specs.Places.{markers}
 use Rattle.mdconstructs_attention.specs.RunEdits.{in_place}
-use Rattle.mdconstructs_links.proofs.Laid.{all-append}
 use Rattle.mdconstructs_links.specs.Places.{AreSteps}
 
 -- ---- places some bytes later
@@ -36,7 +36,7 @@ module _ (At : Point → Type 0) where
     pub places : AllByRecursion (λ (e : Event). At e.point) es
 
   pub ordered-both : (p m q : Point) (xs ys : List Event) → Ordered p xs m → Ordered m ys q → Ordered p (xs ++ ys) q
-  ordered-both p m q xs ys h k = record { order = order-both p xs m ys q h.order k.order; places = all-append (λ (e : Event). At e.point) xs ys h.places k.places }
+  ordered-both p m q xs ys h k = record { order = order-both p xs m ys q h.order k.order; places = every-append (λ (e : Event). At e.point) xs ys h.places k.places }
 
   pub steps-on : (p : Point) (m n : ℕ) → AreSteps At p (m + n) → AreSteps At (later m p) n
   steps-on p m n h k l = subst At (sym (later-later k m p)) (h (m + k) (omega (arith, l)))

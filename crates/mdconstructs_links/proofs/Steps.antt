@@ -8,6 +8,7 @@ use Rattle.std.specs.List.{AllByRecursion, between}
 use Rattle.std.specs.Prelude.{nat_lt}
 use Rattle.markdown_base.specs.declared.event.Event.{Event}
 use Rattle.markdown_base.specs.declared.event.Name.TheVariants.{LabelImage}
+use Rattle.markdown_base.proofs.Common.{every-append}
 use Rattle.mdconstructs_attention.proofs.PairsKeep.{pairs-keep}
 use Rattle.mdconstructs_attention.specs.declared.pairs.Delimiters.{Delimiters}
 use Rattle.mdconstructs_attention.specs.Emphasis.{Run, paired}
@@ -16,7 +17,7 @@ use Rattle.mdconstructs_attention.specs.Searches.{as_run}
 use Rattle.mdconstructs_links.specs.declared.brackets.Bracket.{Bracket}
 use Rattle.mdconstructs_links.specs.declared.pieces.Fate.TheVariants.{AsData, Ends, Opens, Same, Tail}
 use Rattle.mdconstructs_links.specs.declared.pieces.Piece.{Piece}
-use Rattle.mdconstructs_links.proofs.Laid.{all-append, all-back, all-front, filled, filled-fit, filled-front, filled-is, laid-count, laid-joined, laid-more, none-at, placed-are, waits-append, with-fate-at, written-append}
+use Rattle.mdconstructs_links.proofs.Laid.{all-back, all-front, filled, filled-fit, filled-front, filled-is, laid-count, laid-joined, laid-more, none-at, placed-are, waits-append, with-fate-at, written-append}
 use Rattle.mdconstructs_links.proofs.Made.{is_filled, is_last, made-is}
 use Rattle.mdconstructs_links.specs.Laid.{AreAscending, IsFrame, Laid, NoneWait, Reads, Stands, bracket_at, is_waiting, piece_at, placed_at, waits_at, with_fate, written_of}
 use Rattle.mdconstructs_links.specs.Linked.{Part, run, events, SoFar, Waiting, as_data, emphasised_parts, ended, failed, is_named, made, opened, runs_of_parts}
@@ -38,7 +39,7 @@ ascending-apart [] ys zs h = ascending-behind ys zs h
 ascending-apart (x ∷ xs) ys zs h =
     let P : Run → Type 0 = λ s. x.index < s.index in
     let all = h.0 in (
-      all-append P xs zs (all-front P xs ys (all-front P (xs ++ ys) zs all)) (all-back P (xs ++ ys) zs all),
+      every-append P xs zs (all-front P xs ys (all-front P (xs ++ ys) zs all)) (all-back P (xs ++ ys) zs all),
       ascending-apart xs ys zs h.1,
     )
 
@@ -84,7 +85,7 @@ module _ (es : List Event) where
         left = h.left;
         apart = h.apart;
         room = h.room;
-        fit = all-append (Fits (length es)) ps (q ∷ qs) h.fit fit;
+        fit = every-append (Fits (length es)) ps (q ∷ qs) h.fit fit;
       }
 
   -- one piece that is written so
@@ -108,7 +109,7 @@ module _ (es : List Event) where
         left = refl;
         apart = subst AreAscending (sym (append_assoc rs (r ∷ []) left)) h.apart;
         room = subst (λ xs. AllHaveRoom (map standing xs)) (sym (append_assoc rs (r ∷ []) left)) h.room;
-        fit = all-append (Fits (length es)) ps (q ∷ []) h.fit (fit, tt);
+        fit = every-append (Fits (length es)) ps (q ∷ []) h.fit (fit, tt);
       }
 
   -- ---- brackets
@@ -138,7 +139,7 @@ module _ (es : List Event) where
     left = h.left;
     apart = h.apart;
     room = h.room;
-    fit = all-append (Fits (length es)) ps (q ∷ []) h.fit (fit, tt);
+    fit = every-append (Fits (length es)) ps (q ∷ []) h.fit (fit, tt);
   }
 
   -- a `]` that makes nothing: the last bracket is taken away
@@ -403,10 +404,10 @@ module _ (es : List Event) (bs : List Bracket) (rs : List Run) (os : List ℕ) (
           fit = all-front (Fits (length es)) f.lower (f.piece ∷ f.upper) fit-all;
         } in
         let upper = all-back (Fits (length es)) f.lower (f.piece ∷ f.upper) fit-all in
-        let none : NoneWait (opener ∷ (inside ++ close ∷ ts)) = (refl, all-append (λ p. is_waiting p.fate ≡ false) inside (close ∷ ts) inside-is.0 (refl, tailed.0.none)) in
+        let none : NoneWait (opener ∷ (inside ++ close ∷ ts)) = (refl, every-append (λ p. is_waiting p.fate ≡ false) inside (close ∷ ts) inside-is.0 (refl, tailed.0.none)) in
         let fit : AllByRecursion (Fits (length es)) (opener ∷ (inside ++ close ∷ ts)) = (
           (upper.0.0, upper.0.1, tt),
-          all-append (Fits (length es)) inside (close ∷ ts) (filled-fit (length es) f.upper ds upper.1 room-placed) ((omega (arith, some), omega (arith, order, within), tt), tailed.0.fit),
+          every-append (Fits (length es)) inside (close ∷ ts) (filled-fit (length es) f.upper ds upper.1 room-placed) ((omega (arith, some), omega (arith, order, within), tt), tailed.0.fit),
         ) in
         let all = stands-events es f.lower_brackets f.lower_runs (waits_at 0 f.lower) f.lower rest y opener (inside ++ close ∷ ts) link base none written-is fit in
         stands-by es f.lower_brackets f.lower_brackets f.lower_runs (take b.runs rs) (waits_at 0 f.lower) (take b.runs os) (f.lower ++ opener ∷ (inside ++ close ∷ ts)) new_pieces rest rest

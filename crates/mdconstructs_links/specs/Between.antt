@@ -42,6 +42,20 @@ module _ (Q : Type 0) (B : Q → List Event → Q → Type 0) (R : Q → Run →
   AreParts p [] q = p ≡ q
   AreParts p (part ∷ ps) q = (m : Q) × IsPart p part m × AreParts m ps q
 
+-- `B` holds of two lists together, if it holds of both
+abbrev pub HoldsTogether : (Q : Type 0) → (Q → List Event → Q → Type 0) → Type 0
+HoldsTogether Q B = (p m q : Q) (xs ys : List Event) → IsBalanced xs → IsBalanced ys → B p xs m → B m ys q → B p (xs ++ ys) q
+
+-- and of a span around a list
+abbrev pub HoldsAround : (Q : Type 0) → (Q → List Event → Q → Type 0) → Type 0
+HoldsAround Q B = (p q : Q) (name : Name) (e : Event) (es : List Event) → is_made_of name ≡ true → IsBalanced (e ∷ es) → B p (e ∷ es) q → B p (around name (e ∷ es)) q
+
+-- and of a bracket, the span of a text and an end
+abbrev pub HoldsAroundText : (Q : Type 0) → (Q → List Event → Q → Type 0) → Type 0
+HoldsAroundText Q B =
+    (p m n q : Q) (e : Event) (es text : List Event) (f : Event) (fs : List Event) → 0 < length text → IsBalanced (e ∷ es) → IsBalanced text → B p (e ∷ es) m → B m text n
+    → B n (f ∷ fs) q → B p ((e ∷ es) ++ (spanning LabelText (last_place e.point es) f.point text ++ f ∷ fs)) q
+
 -- `A` is the property of what is read, `B` that of what is made, and `T` what is known of each outermost span besides. `A` holds of both parts of
 -- a list, and gives `B`; `B` holds of nothing, of two lists together, of a span around a list, of data in the place of a span that may be data, of a
 -- bracket, the span of a text and an end, and of what emphasis makes of parts
@@ -51,9 +65,7 @@ pub record IsKeptBetween (bytes : List ℕ) (T : List Event → Type 0) (Q : Typ
   pub run_of : (p q : Q) (r : Run) (e f : Event) → IsRunOf bytes r e f → T (e ∷ f ∷ []) → A p (e ∷ f ∷ []) q → R p r q × (0 < r.left)
   pub data_of_it : (p q : Q) (e : Event) (es : List Event) → is_marked (e ∷ es) ≡ true → T (e ∷ es) → A p (e ∷ es) q → B p (as_data (e ∷ es)) q
   pub nothing : (q : Q) → B q [] q
-  pub together : (p m q : Q) (xs ys : List Event) → IsBalanced xs → IsBalanced ys → B p xs m → B m ys q → B p (xs ++ ys) q
-  pub around_it : (p q : Q) (name : Name) (e : Event) (es : List Event) → is_made_of name ≡ true → IsBalanced (e ∷ es) → B p (e ∷ es) q → B p (around name (e ∷ es)) q
-  pub text_around :
-      (p m n q : Q) (e : Event) (es text : List Event) (f : Event) (fs : List Event) → 0 < length text → IsBalanced (e ∷ es) → IsBalanced text → B p (e ∷ es) m → B m text n
-      → B n (f ∷ fs) q → B p ((e ∷ es) ++ (spanning LabelText (last_place e.point es) f.point text ++ f ∷ fs)) q
+  pub together : HoldsTogether Q B
+  pub around_it : HoldsAround Q B
+  pub text_around : HoldsAroundText Q B
   pub emphasis : (p q : Q) (ps : List Part) → AreParts Q B R p ps q → B p (with_runs ps (paired (runs_of_parts ps))) q
