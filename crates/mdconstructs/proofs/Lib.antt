@@ -39,6 +39,7 @@ pub use Rattle.mdconstructs_labels.proofs.Fronts as LabelFronts
 pub use Rattle.mdconstructs_labels.proofs.GivenBack
 pub use Rattle.mdconstructs_labels.proofs.Known
 pub use Rattle.mdconstructs_labels.proofs.LabelSteps
+pub use Rattle.mdconstructs_labels.proofs.Sizes
 pub use Rattle.mdconstructs_labels.proofs.Steps
 pub use Rattle.mdconstructs_labels.proofs.Paid
 pub use Rattle.mdconstructs_attention.proofs.Balance
@@ -46,6 +47,7 @@ pub use Rattle.mdconstructs_attention.proofs.Beside
 pub use Rattle.mdconstructs_attention.proofs.Ends
 pub use Rattle.mdconstructs_attention.proofs.PairsKeep
 pub use Rattle.mdconstructs_attention.proofs.RunEdits
+pub use Rattle.mdconstructs_attention.proofs.RunPlaces
 pub use Rattle.mdconstructs_attention.proofs.RunTexts
 pub use Rattle.mdconstructs_references.proofs.Fronts
 pub use Rattle.mdconstructs_references.proofs.Names
@@ -60,6 +62,7 @@ pub use Rattle.mdconstructs_inline_constructs.proofs.HtmlTags
 pub use Rattle.mdconstructs_inline_constructs.proofs.HtmlTexts
 pub use Rattle.mdconstructs_inline_constructs.proofs.References
 pub use Rattle.mdconstructs_inline_constructs.proofs.RememberedCode
+pub use Rattle.mdconstructs_inline_constructs.proofs.StringItems
 pub use Rattle.mdconstructs_inline_constructs.proofs.WhiteSpaces
 pub use Rattle.mdconstructs_strings.proofs.Accounts
 pub use Rattle.mdconstructs_strings.proofs.Added
@@ -96,6 +99,7 @@ pub use Rattle.mdconstructs_inlines.proofs.StringCalls
 pub use Rattle.mdconstructs_inlines.proofs.StringChains
 pub use Rattle.mdconstructs_inlines.proofs.StringReads
 pub use Rattle.mdconstructs_inlines.proofs.StringRuns
+pub use Rattle.mdconstructs_inlines.proofs.TailLooks
 pub use Rattle.mdconstructs_flow.proofs.ByteSets
 pub use Rattle.mdconstructs_flow.proofs.Called as FlowCalled
 pub use Rattle.mdconstructs_flow.proofs.Dashes

@@ -99,12 +99,12 @@ pub use Rattle.mdconstructs_inline_constructs.specs.HtmlTextRows
 pub use Rattle.mdconstructs_inline_constructs.specs.Reference
 pub use Rattle.mdconstructs_inline_constructs.specs.ReferenceRows
 pub use Rattle.mdconstructs_inline_constructs.specs.RememberedCode
+pub use Rattle.mdconstructs_inline_constructs.specs.StringItems
 pub use Rattle.mdconstructs_inline_constructs.specs.WhiteSpace
 pub use Rattle.mdconstructs_strings.specs.Costs as StringCosts
 pub use Rattle.mdconstructs_strings.specs.Laid
 pub use Rattle.mdconstructs_strings.specs.Laws as StringLaws
 pub use Rattle.mdconstructs_strings.specs.Reached
-pub use Rattle.mdconstructs_strings.specs.StringItems
 pub use Rattle.mdconstructs_strings.specs.Strings
 pub use Rattle.mdconstructs_inlines.specs.BracketRows
 pub use Rattle.mdconstructs_inlines.specs.Brackets

@@ -137,7 +137,8 @@ pub use Rattle.mdconstructs_inlines.proofs.InlineBuilt.{all-built, read-alone, r
 pub use Rattle.mdconstructs_inlines.proofs.InlineChains.{inline-alone, reads-texts}
 pub use Rattle.mdconstructs_inlines.proofs.Looks.{inlines-refuse-nothing}
 pub use Rattle.mdconstructs_inlines.proofs.StringChains.{reads-strings-of}
-pub use Rattle.mdconstructs_inlines.proofs.StringRuns.{string-alone, string-built}
+pub use Rattle.mdconstructs_inline_constructs.proofs.StringItems.{string-built}
+pub use Rattle.mdconstructs_inlines.proofs.StringRuns.{string-alone}
 pub use Rattle.mdconstructs_inlines.specs.InlineEvents.{begins_run, data_length, data_run, delimiter_run, ends_data, ends_data_at, inline_events, inline_grammars, inline_item_at, inline_items, line_break, read_events, run_length, run_or_part, up_to}
 pub use Rattle.mdconstructs_inlines.specs.InlineRules.{inlines_rules}
 pub use Rattle.mdconstructs_inlines.specs.RunRows.{is_delimiter}

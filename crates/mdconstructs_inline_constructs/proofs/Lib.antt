@@ -6,4 +6,5 @@ pub mod HtmlTexts
 mod Prelude
 pub mod References
 pub mod RememberedCode
+pub mod StringItems
 pub mod WhiteSpaces

@@ -11,4 +11,5 @@ pub mod HtmlTextRows
 pub mod Reference
 pub mod ReferenceRows
 pub mod RememberedCode
+pub mod StringItems
 pub mod WhiteSpace

@@ -1,11 +1,12 @@
 -- The step of the state between constructs, and that of data, at bytes at which no construct is tried.
+use Rattle.std.proofs.lemmas.Bool.{or_parts}
 use Rattle.markdown_tokenizer.specs.Sight.{sight_of}
 use Rattle.mdconstructs_tables.specs.RowInvariant.{step_in}
 use Rattle.mdconstructs_inlines.proofs.Prelude.{begins-classed, data_goes_on, item_length, TokenizerValue, step_by, ◌≡◌, inl, inr, ℕ, ◌&&◌, ◌||◌, List, [], ◌∷◌, Bool, true, false, cond, Option, Some, refl, sym, ap, ◌∙◌, Constructs, Data, Next, Retry, AttentionStart, DataInside, TextBefore, TextBeforeData, Configuration, Sight, Given, Rows, class_of, consume, exit, row, when, picked, step_of, is_white, is_line_feed, passes, reverse, Construct, Found, between_texts, some_begins, some_first, tried_at, TextByte, is_line_feed_class, punctuation, text_byte, line-classed, white-classed, is_white_class, marked_grammars, inline_before, inline_before_rows, inline_constructs, inline_data, inline_data_rows, begins_run, is_delimiter, run_begins, Attempt, choose, begins_bracket, begins_end, begins_image, begins_link, is_of_bracket}
 use Rattle.markdown_base.specs.declared.state.TheConstants.Name.{LabelEndNok, LabelEndOk, LabelEndStart, LabelStartImageStart, LabelStartLinkStart}
 use Rattle.mdconstructs_inlines.specs.declared.names.TheConstants.{LabelEndNotResource}
 use Rattle.mdconstructs_inlines.proofs.BracketBytes.{begins-none}
-use Rattle.mdconstructs_inlines.proofs.InlineApart.{inline-apart, or-parts, special-classed}
+use Rattle.mdconstructs_inlines.proofs.InlineApart.{inline-apart, special-classed}
 use Rattle.mdconstructs_inlines.proofs.Playing.{before-class, data-class, ends_or_goes}
 use Rattle.mdconstructs_inlines.proofs.WhitePlays.{goes-class, goes_unless}
 use Rattle.mdconstructs_inlines.specs.BracketRows.{bracket_rows, end_is_awaited, end_may_make, image_begins, kept_starts, link_begins, mark_begins, may_make, one_waits}
@@ -14,7 +15,7 @@ use Rattle.mdconstructs_inlines.specs.BracketRows.{bracket_rows, end_is_awaited,
 none-tried : (cs : List (Construct Found TextByte Unit Unit)) (w : TextByte) → some_begins cs w ≡ false → tried_at between_texts cs w ≡ row [] (Retry TextBeforeData)
 none-tried [] w h = refl
 none-tried (c ∷ cs) w h =
-    let (one, more) = or-parts (c.begins w) (some_begins cs w) h in
+    let (one, more) = or_parts (c.begins w) (some_begins cs w) h in
     ap (λ t. cond t (when c.allowed (row (choose Attempt (Next TextBefore) (Next c.otherwise) ∷ []) (Retry c.start)) (tried_at between_texts cs w)) (tried_at between_texts cs w)) one ∙ none-tried cs w more
 
 module _ {M : Type 0} (t : TokenizerValue M Unit Unit) (b : ℕ) (at : (sight_of t).current ≡ Some b) where
@@ -60,7 +61,7 @@ module _ {M : Type 0} (t : TokenizerValue M Unit Unit) (b : ℕ) (at : (sight_of
         | inr (inr (inl is)) ↦ absurd (let no : true ≡ false = ap is_white_class (sym is) ∙ white-classed b ∙ white in cc)
         | inr (inr (inr tried)) ↦
             let none : some_begins inline_constructs (text_byte b) ≡ false =
-            (or-parts (is_line_feed_class (text_byte b)) (some_begins inline_constructs (text_byte b)) (special-classed b ∙ (λ i. line i || marked i))).1 in
+            (or_parts (is_line_feed_class (text_byte b)) (some_begins inline_constructs (text_byte b)) (special-classed b ∙ (λ i. line i || marked i))).1 in
             ap (λ o. step_by (inline_before_rows before (class_of text_byte o)) t) at ∙ ap (λ rows. step_by rows t) (tried before ∙ none-tried inline_constructs (text_byte b) none)
       ]
 

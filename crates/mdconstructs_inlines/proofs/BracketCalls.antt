@@ -2,6 +2,7 @@
 use Rattle.markdown_tokenizer.specs.declared.tokenizer.state.LabelKind.TheVariants.{Image, Link}
 use Rattle.markdown_tokenizer.specs.declared.tokenizer.state.LabelStart.{LabelStart}
 use Rattle.std.proofs.lemmas.List.{length-append}
+use Rattle.std.proofs.lemmas.Bool.{or_parts}
 use Rattle.mdconstructs_inlines.proofs.Prelude.{◌≡◌, ℕ, suc, ◌+◌, ◌*◌, ◌<◌, ◌≤◌, ◌&&◌, ◌||◌, not, List, [], ◌∷◌, ◌++◌, Bool, true, false, cond, Option, Some, None, refl, sym, ap, ◌∙◌, subst, arith, and-false, or-false, nat_tests, length, take, drop, drop-drop, length-map, option_map, Constructs, has_byte_at, Event, Name, Retry, TextBefore, TextBeforeData, Seat, Byte, byte_of, at-front, Local, Given, IsText, Text, is_white, is_line_feed, is_backtick, passes, row, Found, or_else, item_length, item_events, between_texts, bytes_of, text_byte, AddsFrom, AddsItemIn, first_byte, after-call, after-more, IsAfter, counts, remembered, spent, Plays, between_items, leads-row, reverse, Bracket, Memory, begins_bracket, begins_end, begins_image, begins_link, begins_run, bracket_at, end_at, image_bracket, is_image_bracket, is_of_bracket, is_open_bracket, label_end, link_bracket, lone_end, waiting_behind}
 use Rattle.mdconstructs_inlines.specs.BracketRows.{started, without_last}
 use Rattle.mdconstructs_inlines.proofs.BracketBytes.{no-bracket, tail-within}
@@ -11,7 +12,7 @@ use Rattle.mdconstructs_inlines.specs.Brackets.{tail_of}
 use Rattle.mdconstructs_inlines.proofs.Budgets.{GoDown, IsSound, Pays, Prices, adds-paid, budgeted, extra, total, total-behind}
 use Rattle.mdconstructs_inlines.proofs.DataBytes.{joined_part}
 use Rattle.mdconstructs_inlines.proofs.FrontRuns.{data-run, no-backticks, own-no-tick}
-use Rattle.mdconstructs_inlines.proofs.InlineApart.{begins_mark, or-parts}
+use Rattle.mdconstructs_inlines.proofs.InlineApart.{begins_mark}
 use Rattle.mdconstructs_inlines.proofs.InlinePrices.{IsTextMemory, TextMemory, inline-down, inline-sound, inline_prices, pays-enough, pays-look, remembered-behind}
 use Rattle.mdconstructs_inlines.proofs.JoinedItems.{joined_other, other-within, some-other}
 use Rattle.mdconstructs_inlines.proofs.PartReads.{data-read-in, is_own, own-read-in, part_calls, unbracketed}
@@ -72,9 +73,9 @@ module _ (defined : List ℕ → Bool) (g : Given) (text : Text) (is-text : IsTe
   -- ---- data
   pub data-is : is_own on s.byte ≡ false → x.sound q p events (remembered local) → IsPaid → Adds TextBeforeData (joined_other on defined g.bytes q bytes)
   data-is plain known paid =
-      let (line, rest) = or-parts (is_line_feed s.byte) (begins_mark on s.byte || is_white s.byte) plain in
-      let (marks, white) = or-parts (begins_mark on s.byte) (is_white s.byte) rest in
-      let (run, none) = or-parts (begins_run on s.byte) (begins_bracket on s.byte) marks in
+      let (line, rest) = or_parts (is_line_feed s.byte) (begins_mark on s.byte || is_white s.byte) plain in
+      let (marks, white) = or_parts (begins_mark on s.byte) (is_white s.byte) rest in
+      let (run, none) = or_parts (begins_run on s.byte) (begins_bracket on s.byte) marks in
       let item = unbracketed on bytes in
       let there = unbracketed-is none in
       let size : item_length item ≡ item_length (joined_other on defined g.bytes q bytes) = ap item_length there in

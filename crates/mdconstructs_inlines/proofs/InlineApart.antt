@@ -1,5 +1,6 @@
 -- The constructs of inline text by their bytes; and the classes at which the machine goes on with data.
-use Rattle.mdconstructs_inlines.proofs.Prelude.{◌≡◌, ℕ, ◌&&◌, ◌||◌, List, ◌∷◌, Bool, true, false, cond, sym, ap, ◌∙◌, refl, arith, and-false, or-false, nat_tests, Constructs, is_white, autolinks-apart, code-spans-apart, AreApart, begins-classed, escapes-apart, line-classed, is_line_feed, some_begins, some_first, item_length, is_line_feed_class, punctuation, text_byte, emails-apart, html-marks-apart, html-tags-apart, break-escapes-apart, references-apart, begins_run, ends_data, marked_grammars, behind_autolinks, behind_emails, behind_escapes, behind_marks, inline_constructs, is_delimiter, Found, first_there, none-there, ◌<◌, data_length, data_run, delimiter_run, inline_item_at, line_break, run_length, run_or_part, positive, prefix_len, there-holds, trailing-break-some, white-space-some, white_grammars, Memory, begins_bracket, bracket_or_part}
+use Rattle.std.proofs.lemmas.Bool.{or_parts}
+use Rattle.mdconstructs_inlines.proofs.Prelude.{◌≡◌, ℕ, ◌&&◌, ◌||◌, List, ◌∷◌, Bool, true, false, cond, sym, ap, ◌∙◌, arith, and-false, or-false, nat_tests, Constructs, is_white, autolinks-apart, code-spans-apart, AreApart, begins-classed, escapes-apart, line-classed, is_line_feed, some_begins, some_first, item_length, is_line_feed_class, punctuation, text_byte, emails-apart, html-marks-apart, html-tags-apart, break-escapes-apart, references-apart, begins_run, ends_data, marked_grammars, behind_autolinks, behind_emails, behind_escapes, behind_marks, inline_constructs, is_delimiter, Found, first_there, none-there, ◌<◌, data_length, data_run, delimiter_run, inline_item_at, line_break, run_length, run_or_part, positive, prefix_len, there-holds, trailing-break-some, white-space-some, white_grammars, Memory, begins_bracket, bracket_or_part}
 use Rattle.mdconstructs_inlines.proofs.BracketBytes.{begins-no-bracket, some-bracket, white-no-bracket}
 
 pub behind-escapes-apart : AreApart text_byte item_length behind_escapes
@@ -16,10 +17,6 @@ behind-autolinks-apart = (record { classed = emails-apart.classed; nowhere = ema
 
 pub inline-apart : AreApart text_byte item_length inline_constructs
 inline-apart = (record { classed = code-spans-apart.classed; nowhere = code-spans-apart.nowhere; some = code-spans-apart.some }, (record { classed = autolinks-apart.classed; nowhere = autolinks-apart.nowhere; some = autolinks-apart.some }, behind-autolinks-apart))
-
-pub or-parts : (x y : Bool) → (x || y) ≡ false → (x ≡ false) × (y ≡ false)
-or-parts true y h = absurd (cc)
-or-parts false y h = (refl, h)
 
 -- white space ends no data by itself
 pub white-plain : (on : Constructs) (b : ℕ) → is_white b ≡ true → ends_data on b ≡ false
@@ -53,7 +50,7 @@ marked-classed on b none =
 -- and at punctuation if it begins one
 pub punctuation-ends : (on : Constructs) (b : ℕ) → text_byte b ≡ punctuation → ends_data on b ≡ begins_mark on b
 punctuation-ends on b is =
-    let (line, marked) = or-parts (is_line_feed b) (some_first marked_grammars b) (sym (special-classed b) ∙ ap (λ w. is_line_feed_class w || some_begins inline_constructs w) is) in
+    let (line, marked) = or_parts (is_line_feed b) (some_first marked_grammars b) (sym (special-classed b) ∙ ap (λ w. is_line_feed_class w || some_begins inline_constructs w) is) in
     λ i. line i || (marked i || begins_mark on b)
 
 -- ---- each item is a byte at least

@@ -1,9 +1,10 @@
 -- The machine of inline text is the list of its constructs with a mark, whatever is known while it reads: of that it needs how each construct, data, line
 -- endings, runs and white space are read.
+use Rattle.std.proofs.lemmas.Bool.{or_parts}
 use Rattle.mdconstructs_inlines.proofs.Prelude.{◌≡◌, ℕ, ◌+◌, ◌≤◌, ◌&&◌, ◌||◌, List, [], ◌∷◌, ◌++◌, Bool, true, false, refl, sym, ap, ◌∙◌, subst, arith, drop, length, take, flat_map, prefix_len, length-drop, and-false, eqb-true, nat_tests, Constructs, Event, Name, SpaceOrTab, Next, Retry, TextBefore, TextBeforeData, TextBeforeHardBreakEscape, TextBeforeHtml, TextBeforeEmail, TextBeforeTag, Seat, Byte, Nothing, Configuration, Local, sight, Sight, Given, Text, class_of, is_white, counts, row_step, autolinks, is_line_feed, remembered_code_spans, Construct, Found, between_texts, first_there, grammars_of, some_first, tried_at, escapes, item_length, bytes_of, leaf, TextByte, backslash, less, text_byte, item_events, AreApart, none-there, AddsFrom, AreTried, IsKept, IsListed, IsTried, Knowledge, Reads, ReadsFrom, items-read, listed, cut_remembering, spent, EndsWith, Plays, between_items, emails, html_marks, html_tags, break_escapes, references, begins_run, read_events, behind_autolinks, behind_emails, behind_escapes, behind_marks, inline_before_rows, inline_constructs, is_delimiter, marked_grammars, Memory, after_item, nothing_read}
 use Rattle.mdconstructs_inline_constructs.specs.WhiteSpace.{white_space}
 use Rattle.mdconstructs_inlines.proofs.BracketBytes.{begins-no-bracket, marked-no-bracket}
-use Rattle.mdconstructs_inlines.proofs.InlineApart.{behind-autolinks-apart, behind-emails-apart, behind-escapes-apart, behind-marks-apart, begins_mark, inline-apart, or-parts}
+use Rattle.mdconstructs_inlines.proofs.InlineApart.{behind-autolinks-apart, behind-emails-apart, behind-escapes-apart, behind-marks-apart, begins_mark, inline-apart}
 use Rattle.mdconstructs_inlines.proofs.JoinedItems.{joined-same, joined_item_at, joined_other, some-other}
 use Rattle.mdconstructs_inlines.proofs.PartReads.{is_own}
 use Rattle.mdconstructs_inlines.proofs.Playing.{inlines_play, tried-between}
@@ -139,8 +140,8 @@ module _ (defined : List ℕ → Bool) (g : Given) (text : Text) (known : Knowle
   pub inlines-listed : IsListed g text m.step between_texts text_byte item_length (item_events g.bytes) known (is_own on) (joined_other on defined g.bytes) (λ q. inline_constructs) within
   inlines-listed = record {
     at_byte = λ q k b at plain.
-        let (line, rest) = or-parts (is_line_feed b) (begins_mark on b || is_white b) plain in
-        let (none, white) = or-parts (begins_mark on b) (is_white b) rest in
+        let (line, rest) = or_parts (is_line_feed b) (begins_mark on b || is_white b) plain in
+        let (none, white) = or_parts (begins_mark on b) (is_white b) rest in
         tried-between defined g text k b at line none white;
     at_end = λ k at. ap (λ o. row_step g text k (inline_before_rows (class_of text_byte (sight g text k).previous) (class_of text_byte o))) at;
     begins = parts.begins;

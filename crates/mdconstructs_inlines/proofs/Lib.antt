@@ -37,7 +37,7 @@ pub mod StringCalls
 pub mod StringChains
 pub mod StringReads
 pub mod StringRuns
-mod TailLooks
+pub mod TailLooks
 mod TakenLast
 mod Waiting
 mod WhiteBytes

@@ -1,4 +1,5 @@
 -- The machine of inline text does what the rows of constructs say; and between them what bytes say.
+use Rattle.std.proofs.lemmas.Bool.{or_parts}
 use Rattle.markdown_base.proofs.Common.{and-right}
 use Rattle.mdconstructs_inlines.proofs.Prelude.{List, ◌≡◌, ◌⊎◌, inl, inr, ℕ, zero, suc, ◌==◌, ◌&&◌, ◌||◌, [], ◌∷◌, Bool, true, false, cond, Option, Some, None, refl, sym, ap, ◌∙◌, arith, nat_tests, Constructs, Data, LineEnding, Next, Retry, AttentionStart, DataInside, TextBefore, TextBeforeData, TextLineStart, with_local, Configuration, sight, Given, Text, Rows, class_of, consume, enter, exit, row, is_white, counts, row_step, is_line_feed, passes, between_texts, some_begins, tried_at, TextByte, is_line_feed_class, line_feed, punctuation, text_byte, white, PlaysCodeSpans, remembering, line-classed, BeginsData, HasRow, HasRows, Plays, tested, PlaysEmails, MarkPlace, at_cdata, at_comment, at_declaration, at_inside, at_open, mark_name, PlaysMarks, mark_rows, Place, PlaysTags, rows_of, state_of, PlaysBreakEscapes, PlaysReferences, between-remembered, code_memory, opening-remembered, white-classed, is_white_class, begins_run, ends_data, inline_before_rows, inline_constructs, inline_data_rows, is_delimiter, run_begins, and-false, eqb-true, reverse, Attempt, choose, when, begins_bracket, begins_end, begins_image, begins_link, is_of_bracket}
 use Rattle.markdown_base.specs.declared.state.TheConstants.Name.{LabelEndNok, LabelEndOk, LabelEndStart, LabelStartImageStart, LabelStartLinkStart}
@@ -8,7 +9,7 @@ use Rattle.mdconstructs_inlines.specs.declared.names.TheConstants.{LabelEndNotRe
 use Rattle.mdconstructs_inlines.specs.BracketRows.{bracket_rows, end_is_awaited, end_may_make, image_begins, kept_starts, label_is_wanted, link_begins, mark_begins, may_make, one_waits}
 use Rattle.mdconstructs_inline_constructs.proofs.HtmlTags.Places as place
 use Rattle.mdconstructs_inlines.proofs.Counted.{counted_step}
-use Rattle.mdconstructs_inlines.proofs.InlineApart.{begins_mark, marked-classed, or-parts, punctuation-ends}
+use Rattle.mdconstructs_inlines.proofs.InlineApart.{begins_mark, marked-classed, punctuation-ends}
 
 -- between constructs a run may begin at punctuation, a line ends at a line feed, and white space is read; at the other classes constructs are tried
 pub before-class : (w : TextByte) → (w ≡ punctuation) ⊎ ((w ≡ line_feed) ⊎ ((w ≡ white) ⊎ ((before : Option TextByte) → inline_before_rows before (Some w) ≡ tried_at between_texts inline_constructs w)))
@@ -186,9 +187,9 @@ module _ (defined : List ℕ → Bool) (g : Given) (text : Text) where
   pub tried-between : (k : Configuration Unit Unit) (b : ℕ) → (sight g text k).current ≡ Some b → is_line_feed b ≡ false → begins_mark on b ≡ false → is_white b ≡ false
       → HasRow g text (counted_step defined g) k TextBefore (tried_at between_texts inline_constructs (text_byte b))
   tried-between k b at plain none other =
-      let (run, bracket) = or-parts (begins_run on b) (begins_bracket on b) none in
-      let (link, others) = or-parts (begins_link on b) (begins_image on b || begins_end on b) bracket in
-      let (image, ends) = or-parts (begins_image on b) (begins_end on b) others in
+      let (run, bracket) = or_parts (begins_run on b) (begins_bracket on b) none in
+      let (link, others) = or_parts (begins_link on b) (begins_image on b || begins_end on b) bracket in
+      let (image, ends) = or_parts (begins_image on b) (begins_end on b) others in
       elim (before-class (text_byte b)) [
         | inl is ↦
             at-punctuation k b false at is run

@@ -1,9 +1,10 @@
 -- In how many calls the machine of inline text reads a string: at most so many for each virtual byte.
+use Rattle.mdconstructs_inline_constructs.proofs.StringItems.{some-part}
 use Rattle.mdconstructs_inlines.proofs.Prelude.{◌≡◌, ℕ, suc, ◌+◌, ◌*◌, ◌<◌, ◌≤◌, not, List, [], ◌∷◌, Bool, true, false, cond, Option, Some, None, refl, sym, ap, ◌∙◌, subst, arith, drop, length, flat_map, drop-drop, length-drop, length-map, prefix_len-le-length, Event, Name, State, Next, Retry, StringBefore, StringBeforeData, StringStart, Seat, Byte, Nothing, Choice, Local, start_configuration, whole_text, Given, Text, counts, is_line_feed, Construct, Found, item_length, bytes_of, line_ending, part, TextByte, text_byte, item_events, IsApart, OfOption, AddsFrom, DecidesTo, IsKept, IsListed, Knowledge, items-read, escape_calls, escapes-reads-in, AddsItemIn, DecidesIn, ReadsIn, after-call, cut-same, drop-less, spent, EndsWith, Plays, between_items, reference_calls, references-read-in, RunsWithin, is_string_special, string_data, string_events, string_item_at, string_part, between_strings, string_constructs}
 use Rattle.mdconstructs_inlines.proofs.InlinesCounted.{calls-within}
 use Rattle.mdconstructs_inlines.proofs.Playing.{inlines_play, inlines_play_references}
 use Rattle.mdconstructs_inlines.proofs.Starts.{from-registering-in, start_local}
-use Rattle.mdconstructs_inlines.proofs.StringReads.{ReadsBefore, ReadsKnown, data-read-in, line-read-in, some-part, string-apart, string_escapes, string_references, strings-listed}
+use Rattle.mdconstructs_inlines.proofs.StringReads.{ReadsBefore, ReadsKnown, data-read-in, line-read-in, string-apart, string_escapes, string_references, strings-listed}
 
 -- how many calls a construct of strings takes at most
 abbrev pub most_tried : ℕ

@@ -1,5 +1,6 @@
 -- Strings, as the machine of inline text reads them: item by item, from their start.
-use Rattle.mdconstructs_inlines.proofs.Prelude.{◌≡◌, ℕ, ◌+◌, ◌<◌, ◌||◌, not, List, [], ◌∷◌, Bool, true, false, cond, Option, Some, None, refl, sym, ap, ◌∙◌, subst, arith, drop, length, ◌≤◌, flat_map, eqb-true, not-false, Data, LineEnding, Event, Name, Next, Retry, DataStart, StringBefore, StringBeforeData, StringStart, Seat, drop-next, Byte, Nothing, Configuration, Local, start_configuration, sight, Given, Text, Rows, class_of, consume, enter, exit, row, counts, row_step, is_line_feed, passes, Construct, Found, first_there, grammars_of, some_begins, some_first, tried_at, escapes, item_length, bytes_of, line_ending, part, TextByte, is_line_feed_class, text_byte, item_events, AreApart, begins-classed, none-there, AddsFrom, IsListed, Knowledge, Reads, ReadsFrom, items-read, escapes-apart, escapes-read, AddsItemIn, adds-more, adds-of, entered_data, reads-begun, goes-next, line-classed, cut-same, after-call, after-within, reads-line-in, counted-most, ending, most, spent, ReadsItems, nothing-kept, nothing_known, reads-before, EndsWith, HasRow, Plays, PlaysData, between_items, leads-row, references, references-apart, references-read, is_string_special, string_data, string_events, string_item_at, string_part, between_strings, string_before_rows, string_constructs, string_data_rows}
+use Rattle.mdconstructs_inline_constructs.proofs.StringItems.{some-part}
+use Rattle.mdconstructs_inlines.proofs.Prelude.{◌≡◌, ℕ, ◌+◌, ◌||◌, not, List, [], ◌∷◌, Bool, true, false, cond, Option, Some, None, refl, sym, ap, ◌∙◌, subst, arith, drop, length, ◌≤◌, flat_map, eqb-true, not-false, Data, LineEnding, Event, Name, Next, Retry, DataStart, StringBefore, StringBeforeData, StringStart, Seat, drop-next, Byte, Nothing, Configuration, Local, start_configuration, sight, Given, Text, Rows, class_of, consume, enter, exit, row, counts, row_step, is_line_feed, passes, Construct, Found, first_there, grammars_of, some_begins, some_first, tried_at, escapes, item_length, bytes_of, line_ending, part, TextByte, is_line_feed_class, text_byte, item_events, AreApart, begins-classed, none-there, AddsFrom, IsListed, Knowledge, Reads, ReadsFrom, items-read, escapes-apart, escapes-read, AddsItemIn, adds-more, adds-of, entered_data, reads-begun, goes-next, line-classed, cut-same, after-call, after-within, reads-line-in, counted-most, ending, most, spent, ReadsItems, nothing-kept, nothing_known, reads-before, EndsWith, HasRow, Plays, PlaysData, between_items, leads-row, references, references-apart, references-read, is_string_special, string_data, string_events, string_item_at, string_part, between_strings, string_before_rows, string_constructs, string_data_rows}
 use Rattle.mdconstructs_inlines.proofs.Playing.{inlines_play, inlines_play_references}
 use Rattle.mdconstructs_inlines.proofs.Starts.{from-registering}
 
@@ -22,10 +23,6 @@ string-special-classed b = λ i. line-classed b i || begins-classed text_byte it
 
 abbrev pub string_data_row : Bool → Rows Unit Unit
 string_data_row ends = cond ends (row (exit Data ∷ []) (Retry StringBefore)) (row (consume ∷ []) (Next DataStart))
-
--- the part that stands there has a byte
-pub some-part : (b : ℕ) (bs : List ℕ) → 0 < item_length (string_part (b ∷ bs))
-some-part b bs = elim (is_line_feed b) as (λ t. 0 < item_length (cond t (part line_ending) (string_data (b ∷ bs)))) [ true ↦ omega arith | false ↦ omega arith ]
 
 module _ (defined : List ℕ → Bool) (g : Given) (text : Text) where
   abbrev m : Plays g text

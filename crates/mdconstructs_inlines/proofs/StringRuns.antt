@@ -1,10 +1,11 @@
 -- No event of a string is one of a delimiter run or a bracket, and none has a link: so links, images and emphasis change nothing.
-use Rattle.mdconstructs_inlines.proofs.Prelude.{◌||◌, Bool, runs_in, ◌≡◌, ℕ, zero, suc, ◌+◌, ◌&&◌, ◌==◌, not, ◌++◌, List, [], ◌∷◌, false, true, cond, drop, length, Option, Some, refl, ap, ◌∙◌, take, AllByRecursion, between, flat_map, slice_get, and-false, Constructs, Event, Exit, AttentionSequence, CharacterEscape, CharacterEscapeMarker, CharacterEscapeValue, CharacterReference, CharacterReferenceMarker, CharacterReferenceMarkerHexadecimal, CharacterReferenceMarkerNumeric, CharacterReferenceMarkerSemi, CharacterReferenceValue, Data, LineEnding, is_enter, same_name, Seat, end_after, every-append, HaveNoLinks, Given, Text, edited-same, edited, paired, edits_of, depth_after, index_of_event, is_sequence, run_at, runs_from, has_byte_at, is_line_feed, Found, escape, escape_at, item_length, bytes_of, cut, event, leaf, line_ending, part, span, item_events, OfOption, there-holds, when-there, escape-built, IsBuilt, IsKeptBySpans, links-kept, linking_edits, Kind, decimal, hexadecimal, mark_events, marks, named, reference, reference_at, reference-holds, reference-built, string_data, string_events, string_grammars, string_item_at, string_part}
+use Rattle.std.proofs.lemmas.Bool.{or_parts}
+use Rattle.mdconstructs_inline_constructs.proofs.StringItems.{each-item, string-built}
+use Rattle.mdconstructs_inlines.proofs.Prelude.{◌||◌, Bool, runs_in, ◌≡◌, ℕ, ◌+◌, ◌&&◌, ◌==◌, not, ◌++◌, List, [], ◌∷◌, false, true, cond, drop, length, Option, Some, refl, ap, ◌∙◌, take, AllByRecursion, between, slice_get, and-false, Constructs, Event, Exit, AttentionSequence, CharacterEscape, CharacterEscapeMarker, CharacterEscapeValue, CharacterReference, CharacterReferenceMarker, CharacterReferenceMarkerHexadecimal, CharacterReferenceMarkerNumeric, CharacterReferenceMarkerSemi, CharacterReferenceValue, Data, LineEnding, is_enter, same_name, Seat, end_after, every-append, HaveNoLinks, Given, Text, edited-same, edited, paired, edits_of, depth_after, index_of_event, is_sequence, run_at, runs_from, has_byte_at, is_line_feed, Found, escape, escape_at, event, leaf, line_ending, part, span, OfOption, there-holds, when-there, links-kept, linking_edits, Kind, decimal, hexadecimal, mark_events, marks, named, reference, reference_at, reference-holds, string_data, string_events, string_grammars, string_item_at, string_part}
 use Rattle.markdown_base.specs.declared.event.Name.{Name}
 use Rattle.markdown_edits.specs.Edits.{edit_at}
 use Rattle.mdconstructs_links.specs.LinkEdits.{has_brackets, is_of_bracket}
 use Rattle.mdconstructs_links.specs.Linked.{with_links}
-use Rattle.mdconstructs_inlines.proofs.InlineApart.{or-parts}
 
 -- a name of a delimiter run or a bracket
 abbrev pub is_stirred : Name → Bool
@@ -19,7 +20,7 @@ AreCalm es = AllByRecursion IsCalm es
 
 no-sequence : (e f : Event) → IsCalm e → is_sequence e f ≡ false
 no-sequence e f calm =
-    ap (λ t. (is_enter e.kind && t) && (not (is_enter f.kind) && same_name f.name AttentionSequence)) (or-parts (same_name e.name AttentionSequence) (is_of_bracket e.name) calm).0
+    ap (λ t. (is_enter e.kind && t) && (not (is_enter f.kind) && same_name f.name AttentionSequence)) (or_parts (same_name e.name AttentionSequence) (is_of_bracket e.name) calm).0
     ∙ ap (λ t. t && (not (is_enter f.kind) && same_name f.name AttentionSequence)) (and-false (is_enter e.kind))
 
 -- among them no run is
@@ -33,7 +34,7 @@ runs-none bytes i depth before (e ∷ f ∷ es) calm =
 -- nor a bracket
 brackets-none : (es : List Event) → AreCalm es → has_brackets es ≡ false
 brackets-none [] calm = refl
-brackets-none (e ∷ es) calm = ap (λ t. t || has_brackets es) (or-parts (same_name e.name AttentionSequence) (is_of_bracket e.name) calm.0).1 ∙ brackets-none es calm.1
+brackets-none (e ∷ es) calm = ap (λ t. t || has_brackets es) (or_parts (same_name e.name AttentionSequence) (is_of_bracket e.name) calm.0).1 ∙ brackets-none es calm.1
 
 -- so links, images and emphasis change nothing
 pub calm-same : (g : Given) (es : List Event) → AreCalm es → HaveNoLinks es → edited (linking_edits g es) es ≡ es
@@ -88,31 +89,8 @@ module _ (bytes : List ℕ) where
         | false ↦ λ seats. calm-leaf Data refl seats
       ])
 
--- What holds of each item of a string holds of its events
-module _ (bytes : List ℕ) (P : List Event → Type 0) (none : P []) (both : (xs ys : List Event) → P xs → P ys → P (xs ++ ys)) (on : Constructs)
-    (item : (text : List ℕ) (seats : List Seat) → P ((string_item_at on text).events bytes seats)) where
-  each-item : (n : ℕ) (seats : List Seat) → P (flat_map (item_events bytes) (cut (string_item_at on) item_length n seats))
-  each-item zero seats = none
-  each-item (suc n) [] = none
-  each-item (suc n) (s ∷ ss) =
-      let found = string_item_at on (bytes_of (s ∷ ss)) in
-      let m = item_length found in
-      both (item_events bytes (found, take m (s ∷ ss))) (flat_map (item_events bytes) (cut (string_item_at on) item_length n (drop m (s ∷ ss)))) (item (bytes_of (s ∷ ss)) (take m (s ∷ ss))) (each-item n (drop m (s ∷ ss)))
-
 pub string-calm : (g : Given) (text : Text) → AreCalm (string_events g text)
 string-calm g text = each-item g.bytes AreCalm tt (every-append IsCalm) g.options.constructs (calm-item g.bytes g.options.constructs) (length text.seats) text.seats
-
--- What spans keep holds of a string
-module _ (bytes : List ℕ) (P : List Event → Type 0) (kept : IsKeptBySpans bytes P) (on : Constructs) where
-  item-built : (text : List ℕ) → IsBuilt bytes P kept (string_item_at on text)
-  item-built text =
-      there-holds (IsBuilt bytes P kept) string_grammars on text (string_part text) (escape-built bytes P kept text, (reference-built bytes P kept text, tt)) (elim (has_byte_at text 0 is_line_feed) as (λ t. IsBuilt bytes P kept (cond t (part line_ending) (string_data text))) [
-        | true ↦ λ seats. kept.alone LineEnding seats
-        | false ↦ λ seats. kept.alone Data seats
-      ])
-
-  pub string-built : (seats : List Seat) → P (flat_map (item_events bytes) (cut (string_item_at on) item_length (length seats) seats))
-  string-built seats = each-item bytes P kept.none kept.both on item-built (length seats) seats
 
 pub string-alone : (g : Given) (text : Text) → HaveNoLinks (string_events g text)
 string-alone g text = string-built g.bytes HaveNoLinks (links-kept g.bytes) g.options.constructs text.seats

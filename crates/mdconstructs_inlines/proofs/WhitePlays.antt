@@ -2,9 +2,10 @@
 use Rattle.markdown_tokenizer.specs.Sight.{sight_of}
 use Rattle.mdconstructs_inlines.proofs.Prelude.{List, TokenizerValue, step_by, ◌≡◌, ◌⊎◌, inl, inr, ℕ, ◌&&◌, ◌||◌, [], ◌∷◌, Bool, true, false, cond, Option, Some, None, refl, sym, ap, ◌∙◌, Constructs, Next, Retry, DataInside, TextBefore, DataWhite, Configuration, sight, Given, Text, Rows, class_of, consume, row, is_white, row_step, is_line_feed, passes, some_begins, TextByte, is_line_feed_class, line_feed, punctuation, text_byte, white, line-classed, HasRow, Plays, tested, white-class, ends_data, inline_before_rows, inline_constructs, inline_data_rows, not, subst, eqb-true, EventName, HardBreakTrailing, SpaceOrTab, Name, note, is_space, by-class, break_or_white, data_goes_on, data_over, data_space_rows, data_spaces_rows, data_white_rows, text_space_rows, text_spaces_rows, text_white_rows, white_is_data, white_over, space_waits, trailing_breaks_are_on, some_first, marked_grammars, DataSpace, DataSpaces, TextSpace, TextSpaces, TextWhite, when}
 use Rattle.std.specs.Prelude.{is_some}
+use Rattle.std.proofs.lemmas.Bool.{or_parts}
 use Rattle.mdconstructs_inlines.specs.BracketRows.{mark_begins}
 use Rattle.mdconstructs_text.specs.TextBytes as class
-use Rattle.mdconstructs_inlines.proofs.InlineApart.{begins_mark, marked-classed, or-parts, punctuation-ends}
+use Rattle.mdconstructs_inlines.proofs.InlineApart.{begins_mark, marked-classed, punctuation-ends}
 use Rattle.mdconstructs_inlines.proofs.Playing.{data-ends, data-ends-last, data-on, inlines_play, marks-here, no-mark}
 use Rattle.mdconstructs_inlines.proofs.WhiteBytes.{White, one_space, spaces, tabbed, breaks_line, first_white, further, white_name}
 use Rattle.mdconstructs_inlines.proofs.WhiteReads.{BeginsNoted, EndsData, MakesWhite, NotesTo, PlaysWhite, ReadsTo, ends_line}
@@ -210,6 +211,6 @@ module _ (defined : List ℕ → Bool) (g : Given) (text : Text) where
     inside_ends = λ k b at none ends. data-ends defined g text k b at none ends;
     inside_ends_last = λ k at. data-ends-last defined g text k at;
     data_other = λ w k b at none ends.
-        let line : is_line_feed b ≡ false = (or-parts (is_line_feed b) (some_first marked_grammars b || begins_mark on b) ends).0 in
+        let line : is_line_feed b ≡ false = (or_parts (is_line_feed b) (some_first marked_grammars b || begins_mark on b) ends).0 in
         in-data-seen w k b at none line ∙ data-goes k b false at line ends;
   }

@@ -14,7 +14,7 @@ use Rattle.mdconstructs_strings.proofs.Cuts.{string-cut}
 use Rattle.mdconstructs_strings.proofs.Kept.{data-is, exit-first}
 use Rattle.mdconstructs_strings.proofs.Plain.{line-there}
 use Rattle.mdconstructs_strings.specs.Laws.{StringsKeepInnermostSpans}
-use Rattle.mdconstructs_strings.specs.StringItems.{string_seat_events}
+use Rattle.mdconstructs_inline_constructs.specs.StringItems.{string_seat_events}
 use Rattle.mdconstructs_strings.specs.Strings.{in_string_after, is_data, line_as_string, with_strings_from}
 use Rattle.mdconstructs_text.proofs.DeepSpans.Atoms.{atoms-more, events_of, none-account, open-atoms, span-in}
 

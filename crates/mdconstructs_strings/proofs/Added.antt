@@ -10,7 +10,7 @@ use Rattle.mdconstructs_strings.specs.declared.items.Item.{Item}
 use Rattle.mdconstructs_strings.specs.declared.seats.Range.{Range}
 use Rattle.mdconstructs_strings.specs.Laid.{IsRangeOf, found_of, item_between}
 use Rattle.mdconstructs_strings.specs.Reached.{AreAddedUpto}
-use Rattle.mdconstructs_strings.specs.StringItems.{string_item_at, string_seat_events}
+use Rattle.mdconstructs_inline_constructs.specs.StringItems.{string_item_at, string_seat_events}
 use Rattle.mdconstructs_text.specs.Construct.{Found}
 use Rattle.mdconstructs_text.specs.Items.{item_length}
 use Rattle.mdconstructs_text.specs.Parts.{bytes_of, cut}

@@ -6,21 +6,18 @@ use Rattle.markdown_base.specs.declared.event.Name.TheVariants.{Data, LineEnding
 use Rattle.markdown_base.specs.Virtual.{Seat}
 use Rattle.mdconstructs_inline_constructs.proofs.References.Bytes.{references-apart}
 use Rattle.mdconstructs_inline_constructs.proofs.References.Cuts.{reference-cut}
-use Rattle.mdconstructs_strings.specs.StringItems.{is_string_special, string_data, string_grammars, string_item_at, string_part, string_seat_events}
+use Rattle.mdconstructs_inline_constructs.proofs.StringItems.{some-part}
+use Rattle.mdconstructs_inline_constructs.specs.StringItems.{is_string_special, string_data, string_grammars, string_item_at, string_part, string_seat_events}
 use Rattle.mdconstructs_text.proofs.Constructs.Apart.{there-holds}
 use Rattle.mdconstructs_text.proofs.DeepSpans.Atoms.{IsCut, cut-leaf}
 use Rattle.mdconstructs_text.proofs.DeepSpans.Stretches.{ItemCut, cuts, one-taken, plain-add, plain-line, run-behind}
 use Rattle.mdconstructs_text.proofs.Escapes.Bytes.{escapes-apart}
 use Rattle.mdconstructs_text.proofs.Escapes.Cuts.{escape-cut}
-use Rattle.mdconstructs_text.specs.Bytes.{is_line_feed}
 use Rattle.mdconstructs_text.specs.Items.{item_length}
 use Rattle.mdconstructs_text.specs.Parts.{bytes_of, line_ending, part}
 use Rattle.mdconstructs_text.specs.TextEvents.{item_events}
 
 -- an item has a byte
-some-part : (b : ℕ) (bs : List ℕ) → 0 < item_length (string_part (b ∷ bs))
-some-part b bs = elim (is_line_feed b) as (λ t. 0 < item_length (cond t (part line_ending) (string_data (b ∷ bs)))) [ true ↦ omega arith | false ↦ omega arith ]
-
 some-item : (on : Constructs) (b : ℕ) (bs : List ℕ) → 0 < item_length (string_item_at on (b ∷ bs))
 some-item on b bs = there-holds (λ item. 0 < item_length item) string_grammars on (b ∷ bs) (string_part (b ∷ bs)) (escapes-apart.some b bs, (references-apart.some b bs, tt)) (some-part b bs)
 

@@ -4,7 +4,7 @@ use Rattle.std.proofs.lemmas.Bool.{eqb-true, false≢true}
 use Rattle.std.specs.List.{position_or_len, prefix_len}
 use Rattle.mdconstructs_inline_constructs.specs.Reference.{Kind, named, decimal, hexadecimal, body_at, is_number_sign, is_semicolon, is_value, is_value_byte, is_x, number_at, reference, reference_at, value_at}
 use Rattle.mdconstructs_strings.specs.Laid.{BeginsReference, plain_ahead}
-use Rattle.mdconstructs_strings.specs.StringItems.{is_string_special}
+use Rattle.mdconstructs_inline_constructs.specs.StringItems.{is_string_special}
 use Rattle.mdconstructs_text.specs.Bytes.{has_byte_at, is_ampersand}
 
 -- a number that fails a test is none that passes it

@@ -1,56 +1,30 @@
 -- What spans keep, strings keep: lists that are balanced, without links and void-tight stay so where strings are read.
-use Rattle.std.proofs.Common.{◌≡◌, ◌∙◌, ◌+◌, ◌&&◌, ◌++◌, ℕ, zero, suc, List, [], ◌∷◌, Bool, true, false, cond, Option, Some, None, ap, arith, drop, length, refl, sym, take, not}
-use Rattle.std.proofs.lemmas.Bool.{and_parts, false≢true}
-use Rattle.std.specs.List.{flat_map}
+use Rattle.std.proofs.Common.{◌≡◌, ◌∙◌, ◌+◌, ◌&&◌, ◌++◌, ℕ, List, [], ◌∷◌, Bool, true, false, cond, Option, Some, None, ap, refl, sym, not}
+use Rattle.std.proofs.lemmas.Bool.{and_parts}
 use Rattle.std.specs.Prelude.{slice_get}
 use Rattle.markdown_base.specs.declared.configuration.Constructs.{Constructs}
 use Rattle.markdown_base.specs.declared.event.Event.{Event}
-use Rattle.markdown_base.specs.declared.event.Kind.{Kind}
 use Rattle.markdown_base.specs.declared.event.Kind.TheVariants.{Enter, Exit}
 use Rattle.markdown_base.specs.declared.event.Name.{Name}
-use Rattle.markdown_base.specs.declared.event.Name.TheVariants.{Data, LineEnding}
+use Rattle.markdown_base.specs.declared.event.Name.TheVariants.{Data}
 use Rattle.markdown_base.specs.Events.{IsBalanced, IsVoidTight, empty, span, is_enter, is_void, same_name}
 use Rattle.markdown_base.specs.Virtual.{Seat, end_after}
+use Rattle.markdown_base.proofs.Facts.Kinds.{enter-is, exit-is}
 use Rattle.markdown_edits.proofs.Balanced.{IsBalanced-append, IsBalanced-pair, balanced_from_open, names_after_all-append, names_after_balanced, same_name-true}
 use Rattle.markdown_edits.specs.OpenNames.{names_after, names_after_all}
 use Rattle.markdown_tokenizer.proofs.Readings.Plain.{no-links-append}
 use Rattle.markdown_tokenizer.specs.Plain.{HaveNoLinks}
-use Rattle.mdconstructs_inline_constructs.proofs.References.Cuts.{reference-built}
+use Rattle.markdown_tokenizer.proofs.Readings.Formed.{tight-behind}
+use Rattle.mdconstructs_inline_constructs.proofs.StringItems.{string-built}
 use Rattle.mdconstructs_machines.specs.Spans as spans
-use Rattle.mdconstructs_strings.specs.StringItems.{string_data, string_grammars, string_item_at, string_part, string_seat_events}
 use Rattle.mdconstructs_strings.specs.Strings.{in_string_after, is_data, line_as_string, seats_between, with_strings, with_strings_from}
 use Rattle.mdconstructs_strings.specs.Laws.{StringsKeepLists}
-use Rattle.mdconstructs_text.proofs.Constructs.Apart.{there-holds}
-use Rattle.mdconstructs_text.proofs.Escapes.Cuts.{escape-built}
 use Rattle.mdconstructs_text.proofs.Paragraphs.Formed.{void-append, void-cons}
-use Rattle.mdconstructs_text.proofs.Texts.Built.{IsBuilt, IsKeptBySpans}
+use Rattle.mdconstructs_text.proofs.Texts.Built.{IsKeptBySpans}
 use Rattle.mdconstructs_text.proofs.Texts.Tight.{links-kept, tight-kept}
-use Rattle.mdconstructs_text.specs.Bytes.{has_byte_at, is_line_feed}
-use Rattle.mdconstructs_text.specs.Items.{item_length}
-use Rattle.mdconstructs_text.specs.Parts.{bytes_of, cut, leaf, line_ending, part}
-use Rattle.mdconstructs_text.specs.TextEvents.{item_events}
+use Rattle.mdconstructs_text.specs.Parts.{leaf}
 
 -- ---- a line
-
-module _ (bytes : List ℕ) (P : List Event → Type 0) (kept : IsKeptBySpans bytes P) (on : Constructs) where
-  item-built : (text : List ℕ) → IsBuilt bytes P kept (string_item_at on text)
-  item-built text =
-      there-holds (IsBuilt bytes P kept) string_grammars on text (string_part text) (escape-built bytes P kept text, (reference-built bytes P kept text, tt)) (elim (has_byte_at text 0 is_line_feed) as (λ t. IsBuilt bytes P kept (cond t (part line_ending) (string_data text))) [
-        | true ↦ λ seats. kept.alone LineEnding seats
-        | false ↦ λ seats. kept.alone Data seats
-      ])
-
-  items-built : (n : ℕ) (seats : List Seat) → P (flat_map (item_events bytes) (cut (string_item_at on) item_length n seats))
-  items-built zero seats = kept.none
-  items-built (suc n) [] = kept.none
-  items-built (suc n) (s ∷ ss) =
-      let found = string_item_at on (bytes_of (s ∷ ss)) in
-      let m = item_length found in
-      kept.both (item_events bytes (found, take m (s ∷ ss))) (flat_map (item_events bytes) (cut (string_item_at on) item_length n (drop m (s ∷ ss)))) (item-built (bytes_of (s ∷ ss)) (take m (s ∷ ss))) (items-built n (drop m (s ∷ ss)))
-
-  -- What spans keep holds of a string
-  pub string-built : (seats : List Seat) → P (string_seat_events on bytes seats)
-  string-built seats = items-built (length seats) seats
 
 module _ (bytes : List ℕ) where
   leaf-balanced : (name : Name) (seats : List Seat) → IsBalanced (leaf bytes name seats)
@@ -66,21 +40,13 @@ module _ (bytes : List ℕ) where
 
 -- ---- a list
 
-is-enter : (k : Kind) → is_enter k ≡ true → k ≡ Enter
-is-enter Enter h = refl
-is-enter Exit h = absurd (false≢true h)
-
-is-exit : (k : Kind) → not (is_enter k) ≡ true → k ≡ Exit
-is-exit Enter h = absurd (false≢true h)
-is-exit Exit h = refl
-
 -- a span of data: an enter, an exit and their name
 pub data-is : (e f : Event) → is_data e f ≡ true → (e.kind ≡ Enter) × (f.kind ≡ Exit) × (f.name ≡ e.name)
 data-is e f h =
     let both = and_parts (is_enter e.kind && same_name e.name Data) (not (is_enter f.kind) && same_name f.name Data) h in
     let one = and_parts (is_enter e.kind) (same_name e.name Data) both.0 in
     let two = and_parts (not (is_enter f.kind)) (same_name f.name Data) both.1 in
-    (is-enter e.kind one.0, is-exit f.kind two.0, same_name-true f.name Data two.1 ∙ sym (same_name-true e.name Data one.1))
+    (enter-is e.kind one.0, exit-is f.kind two.0, same_name-true f.name Data two.1 ∙ sym (same_name-true e.name Data one.1))
 
 data-balanced : (e f : Event) → is_data e f ≡ true → IsBalanced (e ∷ f ∷ [])
 data-balanced e f h = let is = data-is e f h in IsBalanced-pair e f is.0 is.1 is.2
@@ -134,20 +100,14 @@ module _ (on : Constructs) (t : ℕ) (bytes : List ℕ) where
   exit-stays : (inside : Bool) (e : Event) (es : List Event) → e.kind ≡ Exit → slice_get (read inside (e ∷ es)) 0 ≡ Some e
   exit-stays inside e es h = ap (λ l. slice_get l 0) (exit-first inside e es h)
 
-  void-tail : (e : Event) (es : List Event) → IsVoidTight (e ∷ es) → IsVoidTight es
-  void-tail e es h = λ k f at enter void.
-      let r = h (suc k) f at enter void in
-      let z : suc k + 1 ≡ suc (k + 1) = omega arith in
-      (r.0, sym (ap (slice_get (e ∷ es)) z) ∙ r.1, r.2, r.3)
-
   tight : (inside : Bool) (es : List Event) → IsVoidTight es → IsVoidTight (read inside es)
   tight inside [] h = h
   tight inside (e ∷ []) h = h
   tight inside (e ∷ f ∷ es) h =
-      let later = void-tail e (f ∷ es) h in
+      let later = tight-behind e (f ∷ es) h in
       let rest = read (in_string_after inside e) (f ∷ es) in
       elim (inside && is_data e f) as (λ b. IsVoidTight (by b inside e f es)) [
-        | true ↦ void-append (line e f) (read inside es) (string-built bytes IsVoidTight (tight-kept bytes) on (seats_between t bytes e.point f.point)) (tight inside es (void-tail f es later))
+        | true ↦ void-append (line e f) (read inside es) (string-built bytes IsVoidTight (tight-kept bytes) on (seats_between t bytes e.point f.point)) (tight inside es (tight-behind f es later))
         | false ↦ void-cons e rest (λ enter void.
             let r = h 0 e refl enter void in
             let same : f ≡ r.0 = some-same f r.0 r.1 in

@@ -25,7 +25,7 @@ use Rattle.mdconstructs_strings.proofs.Kept.{strings_keep}
 use Rattle.mdconstructs_strings.proofs.Places.{list-each, stand_at_places, string-at}
 use Rattle.mdconstructs_strings.proofs.Ranges.{range-left}
 use Rattle.mdconstructs_strings.specs.Laws.{StringsKeepOrder, StringsStayWellFormed}
-use Rattle.mdconstructs_strings.specs.StringItems.{string_seat_events}
+use Rattle.mdconstructs_inline_constructs.specs.StringItems.{string_seat_events}
 use Rattle.mdconstructs_strings.specs.Strings.{in_string_after, is_data, line_as_string, seats_between, with_strings_from}
 use Rattle.mdconstructs_text.proofs.DeepSpans.Atoms.{Atom, all_at, atom_events, atom_seats, events_of, seats_of}
 

@@ -20,7 +20,7 @@ use Rattle.mdconstructs_inline_constructs.proofs.References.Bytes.{reference-hol
 use Rattle.mdconstructs_inline_constructs.specs.Reference.{Kind, named, decimal, hexadecimal, mark_events, marks, reference_at}
 use Rattle.mdconstructs_machines.specs.Spans.{event}
 use Rattle.mdconstructs_strings.specs.Laws.{StringsStandAtPlaces}
-use Rattle.mdconstructs_strings.specs.StringItems.{string_data, string_grammars, string_item_at, string_part, string_seat_events}
+use Rattle.mdconstructs_inline_constructs.specs.StringItems.{string_data, string_grammars, string_item_at, string_part, string_seat_events}
 use Rattle.mdconstructs_strings.specs.Strings.{in_string_after, is_data, line_as_string, seats_between, with_strings_from}
 use Rattle.mdconstructs_text.proofs.Constructs.Apart.{OfOption, there-holds, when-there}
 use Rattle.mdconstructs_text.specs.Bytes.{has_byte_at, is_backslash, is_line_feed}

@@ -22,7 +22,7 @@ use Rattle.mdconstructs_inline_constructs.specs.Reference.{reference_at}
 use Rattle.mdconstructs_strings.proofs.Fronts.{no_reference}
 use Rattle.mdconstructs_strings.proofs.Ranges.{range-left}
 use Rattle.mdconstructs_strings.specs.Laws.{AreOf, ArePlain, DataIsReadAsString, HavePlainStrings, IsPlainData, PlainStringsStay}
-use Rattle.mdconstructs_strings.specs.StringItems.{is_string_special, string_data, string_item_at, string_part, string_seat_events}
+use Rattle.mdconstructs_inline_constructs.specs.StringItems.{is_string_special, string_data, string_item_at, string_part, string_seat_events}
 use Rattle.mdconstructs_strings.specs.Strings.{in_string_after, is_data, line_as_string, seats_between, with_strings_from}
 use Rattle.mdconstructs_text.proofs.Constructs.Apart.{or-none}
 use Rattle.mdconstructs_text.specs.Bytes.{has_byte_at}

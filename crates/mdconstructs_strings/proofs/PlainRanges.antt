@@ -19,7 +19,7 @@ use Rattle.mdconstructs_strings.proofs.Plain.{plain-string}
 use Rattle.mdconstructs_strings.proofs.Ranges.{all-passed, begins-passing, passes-more}
 use Rattle.mdconstructs_strings.specs.Laws.{ArePlain}
 use Rattle.mdconstructs_strings.specs.Reached.{ArePlainBetween, IsPassedUpto, IsPlainUpto, left_upto}
-use Rattle.mdconstructs_strings.specs.StringItems.{is_string_special, string_seat_events}
+use Rattle.mdconstructs_inline_constructs.specs.StringItems.{is_string_special, string_seat_events}
 use Rattle.mdconstructs_strings.specs.Strings.{is_data, line_as_string, seats_between}
 
 plain-push : (done : List Seat) (s : Seat) → ArePlain done → is_string_special s.byte ≡ false → ArePlain (done ++ s ∷ [])

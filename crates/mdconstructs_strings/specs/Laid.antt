@@ -15,7 +15,7 @@ use Rattle.mdconstructs_strings.specs.declared.items.Item.TheVariants as item
 use Rattle.mdconstructs_strings.specs.declared.items.Kind.{Kind as CodeKind}
 use Rattle.mdconstructs_strings.specs.declared.items.Kind.TheVariants as kind
 use Rattle.mdconstructs_strings.specs.declared.seats.Range.{Range}
-use Rattle.mdconstructs_strings.specs.StringItems.{is_string_special}
+use Rattle.mdconstructs_inline_constructs.specs.StringItems.{is_string_special}
 use Rattle.mdconstructs_text.specs.Bytes.{has_byte_at, is_line_feed}
 use Rattle.mdconstructs_text.specs.Construct.{Found}
 use Rattle.mdconstructs_text.specs.Escape.{escape}

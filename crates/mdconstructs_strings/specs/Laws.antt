@@ -11,7 +11,7 @@ use Rattle.markdown_tokenizer.specs.Engine.{IsWellFormed}
 use Rattle.markdown_tokenizer.specs.Plain.{HaveNoLinks}
 use Rattle.markdown_tokenizer.specs.Text.{Given}
 use Rattle.mdconstructs_machines.specs.Innermost.{AccountFor}
-use Rattle.mdconstructs_strings.specs.StringItems.{is_string_special, string_seat_events}
+use Rattle.mdconstructs_inline_constructs.specs.StringItems.{is_string_special, string_seat_events}
 use Rattle.mdconstructs_strings.specs.Strings.{in_string_after, is_data, with_strings, with_strings_from}
 use Rattle.mdconstructs_text.specs.Parts.{leaf}
 

@@ -11,7 +11,7 @@ use Rattle.mdconstructs_strings.specs.declared.seats.Range.{Range}
 use Rattle.mdconstructs_strings.specs.Laid.{AreNext, IsRangeOf, end_of}
 use Rattle.mdconstructs_strings.specs.Laws.{ArePlain}
 use Rattle.mdconstructs_strings.specs.Strings.{is_data, seats_between}
-use Rattle.mdconstructs_strings.specs.StringItems.{string_item_at, string_seat_events}
+use Rattle.mdconstructs_inline_constructs.specs.StringItems.{string_item_at, string_seat_events}
 use Rattle.mdconstructs_text.specs.Items.{item_length}
 use Rattle.mdconstructs_text.specs.Parts.{bytes_of, cut}
 use Rattle.mdconstructs_text.specs.TextEvents.{item_events}

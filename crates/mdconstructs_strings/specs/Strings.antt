@@ -9,7 +9,7 @@ use Rattle.markdown_base.specs.declared.event.Point.{Point}
 use Rattle.markdown_base.specs.Events.{is_enter, same_name}
 use Rattle.markdown_base.specs.Places.{in_range}
 use Rattle.markdown_base.specs.Virtual.{Seat, virtual}
-use Rattle.mdconstructs_strings.specs.StringItems.{string_seat_events}
+use Rattle.mdconstructs_inline_constructs.specs.StringItems.{string_seat_events}
 
 -- a string: of a destination, a title or a label
 abbrev pub is_string : Name → Bool

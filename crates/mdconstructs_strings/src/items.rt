@@ -5,7 +5,7 @@ ghost use Rattle.std.specs.Char.{is_ascii_punctuation};
 ghost use Rattle.std.specs.List.{position_or_len, prefix_len};
 ghost use Rattle.mdconstructs_inline_constructs.specs.Reference.{is_semicolon, is_value, is_value_byte, is_x, marks, reference, reference_at, value_at};
 ghost use Rattle.mdconstructs_strings.specs.Laid.{found_of, found_reference, kind_of, plain_ahead, IsKindAt};
-ghost use Rattle.mdconstructs_strings.specs.StringItems.{is_string_special, string_item_at, string_part};
+ghost use Rattle.mdconstructs_inline_constructs.specs.StringItems.{is_string_special, string_item_at, string_part};
 ghost use Rattle.mdconstructs_text.specs.Bytes.{has_byte_at, is_backslash};
 
 use markdown_base::configuration::Constructs;

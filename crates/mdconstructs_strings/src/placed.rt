@@ -5,7 +5,7 @@ ghost use Rattle.markdown_base.specs.declared.event.Kind.TheVariants as kind;
 ghost use Rattle.markdown_base.specs.Virtual.{Seat};
 ghost use Rattle.mdconstructs_inline_constructs.specs.Reference.{marks};
 ghost use Rattle.mdconstructs_strings.specs.Laid.{bare, found_of, item_between, kind_of, leaf_between, marks_at, place_at, IsRange, IsRangeOf};
-ghost use Rattle.mdconstructs_strings.specs.StringItems.{string_seat_events};
+ghost use Rattle.mdconstructs_inline_constructs.specs.StringItems.{string_seat_events};
 
 use crate::items::{Item, Kind, item_at, marks, size};
 use crate::seats::Range;

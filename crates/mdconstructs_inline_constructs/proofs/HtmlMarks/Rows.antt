@@ -1,12 +1,11 @@
 -- The states of raw HTML between marks do at each byte what it does at their places.
-use Rattle.markdown_base.proofs.Facts.Numbers.{unlike}
 use Rattle.mdconstructs_inline_constructs.proofs.Prelude.{HtmlTextData, SpaceOrTab, Name, Next, Nok, Retry, HtmlTextCommentOpenInside, HtmlTextDeclarationOpen, HtmlTextMarkInside, HtmlTextMarkLine, HtmlTextMarkStart, HtmlTextMarkWhite, Seat, with_local, Configuration, Local, Step, Sight, sight, byte_of, current_of, point_of, point_or, Given, Text, row_step, is_white, counts, cdata_open_rows, comment_open_rows, declaration_open_rows, ends_cdata_mark, in_cdata_mark, in_mark, inside_rows, is_mark_byte, look_rows, mark_ends, mark_fails, mark_line_ends, mark_line_rows, mark_open_rows, mark_start_rows, mark_white_rows, closed_by, no_cdata, no_comment, no_declaration, no_instruction, none_upto, stopped_at, html_ends, html_goes_on, no_html, sees, Act, Rows, class_of, consume, enter, exit, row, when, write, writes, IsAfter, Remembered, after-call, remembered, HasRow, HasRows, tested, has_byte_at, is_greater_than, passes, TextByte, line_feed, text_byte, more_than, size_b_grows, size_b_is, Bool, List, None, Option, Some, [], ap, arith, cond, false, nat_le, not, refl, slice_get, subst, suc, sym, true, zero, ℕ, ◌&&◌, ◌+◌, ◌<◌, ◌==◌, ◌∙◌, ◌∷◌, ◌≡◌, and_parts, eqb-true, nat_tests, is_ascii_alphabetic, codes, nat_lt}
 use Rattle.mdconstructs_inline_constructs.proofs.HtmlMarks.Places.{Mark, MarkPlace, at_cdata, at_comment, at_declaration, at_inside, at_open, cdata-few, cdata-line, inside-line, kind_fails, mark_byte, mark_gives_up, mark_move, mark_name, mark_times, name-more, marks-go-through-lines, nothing_before, of_cdata, of_comment, of_declaration, of_instruction, opens, opens_unless}
 use Rattle.mdconstructs_inline_constructs.proofs.HtmlMarks.Picked.{look-others}
 use Rattle.mdconstructs_tables.proofs.Rows.Calls.{byte-waits}
 use Rattle.mdconstructs_inline_constructs.proofs.HtmlTexts.Pieces.{is_no_line_feed}
 use Rattle.mdconstructs_inline_constructs.proofs.HtmlTexts.Reads.{PlaysHtml, Writes, called, written-counts, line_row_of, row_of, stop_acts, wrote}
-use Rattle.mdconstructs_inline_constructs.proofs.HtmlTexts.Rows.{at-seen, by-byte, other-rows}
+use Rattle.mdconstructs_inline_constructs.proofs.HtmlTexts.Rows.{at-seen, by-byte, other-rows, ReadsWhite, white-first}
 use Rattle.mdconstructs_inline_constructs.proofs.HtmlTexts.Walks.{Move, done, goes, refused}
 
 -- the rows of places
@@ -316,10 +315,8 @@ module _ (g : Given) (text : Text) (step : Sight → Configuration Unit Unit →
     stops (at_inside kind zero) k h follows =
         has k ∙ ap (row_step g text k) (look-stopped others (class_of text_byte (sight g text k).previous) (sight g text k).current h) ∙ stop-step kind k follows.0
 
-    whites : (k : Configuration Unit Unit) (b : ℕ) → (sight g text k).current ≡ Some b → is_white b ≡ true → Has k n white
-    whites k b waits w =
-        at-seen g text step n (look_rows mark_fails others) others k (Some b) has waits (look-others mark_fails others (class_of text_byte (sight g text k).previous) b (unlike is_white 10 refl b w))
-        ∙ by-byte g text k is_white white (row acts (Retry HtmlTextMarkInside)) b true waits w
+    whites : ReadsWhite g text step n white
+    whites = white-first g text step n (look_rows mark_fails others) white (row acts (Retry HtmlTextMarkInside)) has (look-others mark_fails others)
 
     begins : (s : MarkPlace) (k : Configuration Unit Unit) (b : ℕ) → (sight g text k).current ≡ Some b → (b == 10) ≡ false → is_white b ≡ false → FollowsMark s k.local → Has k n (row acts (Retry (mark_name s)))
     begins at_open k b waits plain w follows = absurd follows

@@ -1,9 +1,8 @@
 -- The states of tags do at each byte what it does at their places.
-use Rattle.markdown_base.proofs.Facts.Numbers.{unlike}
 use Rattle.mdconstructs_inline_constructs.proofs.Prelude.{◌≡◌, ℕ, ◌==◌, ◌&&◌, arith, nat_tests, is_quote, List, [], ◌∷◌, ◌++◌, Bool, true, false, cond, Option, Some, None, refl, ap, ◌∙◌, subst, is_ascii_alphabetic, HtmlTextData, SpaceOrTab, Name, Next, Retry, Nok, HtmlTextStart, HtmlTextOpen, HtmlTextTagCloseStart, HtmlTextTagClose, HtmlTextTagCloseBetween, HtmlTextTagOpen, HtmlTextTagOpenBetween, HtmlTextTagOpenAttributeName, HtmlTextTagOpenAttributeNameAfter, HtmlTextTagOpenAttributeValueBefore, HtmlTextTagOpenAttributeValueQuoted, HtmlTextTagOpenAttributeValueQuotedAfter, HtmlTextTagOpenAttributeValueUnquoted, HtmlTextEnd, HtmlTextLineEndingAfter, HtmlTextLineEndingAfterPrefix, Configuration, Local, Step, Sight, sight, Given, Text, row_step, is_white, counts, Act, Rows, row, when, enter, exit, consume, class_of, is_greater_than, passes, TextByte, text_byte, IsAfter, after-call, HasRow, HasRows, tested, is_slash, is_equals_sign, is_double_quote, is_single_quote, is_tag_white, is_tag_name_byte, begins_attribute_name, is_attribute_name_byte, is_unquoted, quote_is, quote_waits, html_text_start_rows, html_text_open_rows, html_text_tag_close_start_rows, html_text_tag_close_rows, html_text_tag_close_between_rows, html_text_tag_open_rows, html_text_tag_open_between_rows, html_text_attribute_name_rows, html_text_attribute_name_after_rows, html_text_value_before_rows, html_text_value_quoted_rows, html_text_value_quoted_after_rows, html_text_value_unquoted_rows, html_text_end_rows, html_following, html_line_begins, html_line_ends, html_rows, sees, html_line_ending_after_rows, html_line_ending_after_prefix_rows, follows_line_ending}
 use Rattle.mdconstructs_inline_constructs.proofs.HtmlTexts.Pieces.{is_no_line_feed}
 use Rattle.mdconstructs_inline_constructs.proofs.HtmlTexts.Reads.{PlaysHtml, called, written-counts, row_of, line_row_of, wrote, Writes}
-use Rattle.mdconstructs_inline_constructs.proofs.HtmlTexts.Rows.{other-rows, stopped-rows, at-seen, at-cases, by-byte, followed, line-begun}
+use Rattle.mdconstructs_inline_constructs.proofs.HtmlTexts.Rows.{other-rows, stopped-rows, at-seen, at-cases, by-byte, followed, line-begun, ReadsWhite, white-first}
 use Rattle.mdconstructs_inline_constructs.proofs.HtmlTexts.Walks.{Move, refused, done, goes, never_writes}
 use Rattle.mdconstructs_inline_constructs.proofs.HtmlTags.Places.{Place, opened, closed, closing_name, closing, tag_name, before, name, named, value, double_quoted, single_quoted, after, bare, slashed, next, tags-go-through-lines}
 
@@ -236,11 +235,10 @@ module _ (g : Given) (text : Text) (step : Sight → Configuration Unit Unit →
     stops : (k : Configuration Unit Unit) → passes is_no_line_feed (sight g text k).current ≡ false → Has k n (row [] Nok)
     stops k h = has k ∙ ap (row_step g text k) (stopped-rows (when (sees is_white) white (html_line_begins acts html_following)) (class_of text_byte (sight g text k).previous) (sight g text k).current h)
 
-    whites : (k : Configuration Unit Unit) (b : ℕ) → (sight g text k).current ≡ Some b → is_white b ≡ true → Has k n white
-    whites k b waits w =
-        at-seen g text step n (html_rows (row [] Nok) (when (sees is_white) white (html_line_begins acts html_following))) (when (sees is_white) white (html_line_begins acts html_following)) k (Some b) has waits
-        (other-rows (row [] Nok) (when (sees is_white) white (html_line_begins acts html_following)) (class_of text_byte (sight g text k).previous) b (unlike is_white 10 refl b w))
-        ∙ by-byte g text k is_white white (html_line_begins acts html_following) b true waits w
+    whites : ReadsWhite g text step n white
+    whites =
+        let others = when (sees is_white) white (html_line_begins acts html_following) in
+        white-first g text step n (html_rows (row [] Nok) others) white (html_line_begins acts html_following) has (other-rows (row [] Nok) others)
 
     begins : (s : Place) (k : Configuration Unit Unit) (b : ℕ) → (sight g text k).current ≡ Some b → (b == 10) ≡ false → is_white b ≡ false → FollowsLine s k.local
         → Has k n (row (acts ++ enter HtmlTextData ∷ []) (Retry (state_of s)))

@@ -1,5 +1,6 @@
 -- The rows of states of raw HTML, by the byte that waits.
-use Rattle.mdconstructs_inline_constructs.proofs.Prelude.{◌≡◌, ℕ, ◌==◌, not, List, [], ◌∷◌, ◌++◌, Bool, true, false, cond, Option, Some, None, refl, sym, ap, ◌∙◌, eqb-true, HtmlTextData, Name, Retry, Nok, Configuration, Step, Sight, sight, Given, Text, row_step, Act, Rows, row, enter, when, class_of, passes, by-class, TextByte, text_byte, HasRow, HasRows, tested, html_rows, html_line_begins, is_following, sees}
+use Rattle.markdown_base.proofs.Facts.Numbers.{unlike}
+use Rattle.mdconstructs_inline_constructs.proofs.Prelude.{◌≡◌, ℕ, ◌==◌, not, List, [], ◌∷◌, ◌++◌, Bool, true, false, cond, Option, Some, None, refl, sym, ap, ◌∙◌, eqb-true, HtmlTextData, Name, Retry, Nok, Configuration, Step, Sight, sight, Given, Text, row_step, Act, Rows, row, enter, when, class_of, passes, by-class, TextByte, text_byte, HasRow, HasRows, tested, html_rows, html_line_begins, is_following, sees, is_white}
 use Rattle.mdconstructs_inline_constructs.proofs.HtmlTexts.Pieces.{is_no_line_feed}
 use Rattle.mdconstructs_inline_constructs.proofs.HtmlTexts.Reads.{row_of}
 use Rattle.mdconstructs_inline_constructs.proofs.HtmlTexts.Walks.{Move, refused}
@@ -73,3 +74,15 @@ module _ (g : Given) (text : Text) {S : Type 0} (name : S → Name) (k : Configu
   pub at-cases : (ending : Rows Unit Unit) (cs : Tests S) (previous : Option TextByte) → (b == 10) ≡ false
       → row_step g text k (html_rows ending (rows_by name cs) previous (Some (text_byte b))) ≡ row_step g text k (row_of name (move_by cs b))
   at-cases ending cs previous plain = ap (row_step g text k) (other-rows ending (rows_by name cs) previous b plain) ∙ moves-by cs
+
+module _ (g : Given) (text : Text) (step : Sight → Configuration Unit Unit → Name → Step Unit Unit) where
+  -- white space is read by these rows
+  abbrev pub ReadsWhite : Name → Rows Unit Unit → Type 0
+  ReadsWhite name white = (k : Configuration Unit Unit) (b : ℕ) → (sight g text k).current ≡ Some b → is_white b ≡ true → HasRow g text step k name white
+
+  -- so it is where a state looks for it, once the byte is no line feed
+  pub white-first : (name : Name) (rows : (previous current : Option TextByte) → Rows Unit Unit) (white others : Rows Unit Unit) → HasRows g text step name rows
+      → ((before : Option TextByte) (b : ℕ) → (b == 10) ≡ false → rows before (Some (text_byte b)) ≡ when (sees is_white) white others) → ReadsWhite name white
+  white-first name rows white others has seen k b waits w =
+      at-seen g text step name rows (when (sees is_white) white others) k (Some b) has waits (seen (class_of text_byte (sight g text k).previous) b (unlike is_white 10 refl b w))
+      ∙ by-byte g text k is_white white others b true waits w

@@ -1,6 +1,6 @@
 use Rattle.std.specs.Prelude.{◌≡◌, ◌+◌, ◌-◌, ◌≤◌, drop, length}
 use Rattle.std.specs.List.{position_or_len}
-use Rattle.mdconstructs_strings.specs.StringItems.{is_string_special}
+use Rattle.mdconstructs_inline_constructs.specs.StringItems.{is_string_special}
 use Rattle.mdconstructs_strings.proofs.items.plain_size.Given as goal
 
 -- what was passed, and what is left before a special byte

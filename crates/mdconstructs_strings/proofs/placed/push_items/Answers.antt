@@ -3,7 +3,7 @@ use Rattle.std.proofs.lemmas.List.{length-drop, take_all}
 use Rattle.mdconstructs_strings.proofs.Added.{added-more, all-added}
 use Rattle.mdconstructs_strings.specs.Laid.{item_between}
 use Rattle.mdconstructs_strings.specs.Reached.{AreAddedUpto}
-use Rattle.mdconstructs_strings.specs.StringItems.{string_item_at}
+use Rattle.mdconstructs_inline_constructs.specs.StringItems.{string_item_at}
 use Rattle.mdconstructs_strings.proofs.placed.push_items.Goals as goal
 
 pub loop-next-preserved : goal.loop-next-preserved
