@@ -11,6 +11,7 @@ pub mod Marks
 pub mod Raw
 pub mod Readings
 pub mod Steps
+pub mod StringsRead
 pub mod Titles
 pub mod Touched
 pub mod WholeTitles

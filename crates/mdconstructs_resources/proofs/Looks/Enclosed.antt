@@ -1,6 +1,7 @@
 -- Tries for destinations with marks: never two are at a byte, as `<` ends one.
 use Rattle.std.proofs.Common.{ℕ, suc, ◌+◌, ◌≤◌, ◌≡◌, ◌∙◌, ◌∷◌, ◌||◌, ◌&&◌, ◌==◌, not, Bool, true, false, cond, List, [], length, refl, ap, arith}
 use Rattle.std.proofs.lemmas.Bool.{false≢true}
+use Rattle.std.proofs.Math.Bool.{and-false}
 use Rattle.mdconstructs_labels.specs.Labels.{hides}
 use Rattle.mdconstructs_labels.specs.Tails.{is_plain}
 use Rattle.mdconstructs_resources.proofs.Looks.Passed.{behind_look, enclosed_look, enclosed_start_look}
@@ -35,23 +36,19 @@ next-agrees hidden bracket b = elim (b == 92) as (λ t. (b == 92) ≡ t → ((t 
   | true ↦ λ e.
       let black : is_gap b ≡ false = grind (arith) in
       let other : (b == 40) ≡ false = grind (arith) in
-      let none : begins_behind bracket b ≡ false = ap (λ t. t || (bracket && (b == 40))) black ∙ ap (λ t. bracket && t) other ∙ and-none bracket in
-      ap (λ t. not hidden && t) none ∙ and-none (not hidden)
+      let none : begins_behind bracket b ≡ false = ap (λ t. t || (bracket && (b == 40))) black ∙ ap (λ t. bracket && t) other ∙ and-false bracket in
+      ap (λ t. not hidden && t) none ∙ and-false (not hidden)
   | false ↦ λ e. refl
 ] refl
-  where
-    and-none : (t : Bool) → (t && false) ≡ false
-    and-none true = refl
-    and-none false = refl
 
 abbrev Within : (going hidden begins bracket : Bool) → List ℕ → Type 0
 Within going hidden begins bracket bs = cond going (enclosed_look hidden bs) 0 + enclosed_starts begins bracket bs ≤ length bs + later_behinds bs
 
-abbrev Onward : List ℕ → Type 0
-Onward bs = (going hidden begins bracket : Bool) → Agree hidden begins → Within going hidden begins bracket bs
+abbrev EnclosedOnward : List ℕ → Type 0
+EnclosedOnward bs = (going hidden begins bracket : Bool) → Agree hidden begins → Within going hidden begins bracket bs
 
 -- a byte more, by whether a try begins there
-step : (b : ℕ) (bs : List ℕ) → Onward bs → (going hidden begins bracket : Bool) → Agree hidden begins → Within going hidden begins bracket (b ∷ bs)
+step : (b : ℕ) (bs : List ℕ) → EnclosedOnward bs → (going hidden begins bracket : Bool) → Agree hidden begins → Within going hidden begins bracket (b ∷ bs)
 step b bs onward going hidden begins bracket h = of going begins refl (b == 60) refl
   where
     new : ℕ
@@ -75,7 +72,7 @@ step b bs onward going hidden begins bracket h = of going begins refl (b == 60) 
     more : later_behinds bs ≤ further
     more = omega (arith, split (not (is_gap b)) bs)
 
-    old : (closes stops : Bool) → ℕ
+    old : Bool → Bool → ℕ
     old closes stops = cond closes (1 + behind_look bs) (cond stops 0 (1 + enclosed_look (hides hidden b) bs))
 
     going_on : (closes stops : Bool) → is_plain 62 hidden b ≡ closes → old closes stops + (0 + rest) ≤ suc (length bs) + further
@@ -100,7 +97,7 @@ step b bs onward going hidden begins bracket h = of going begins refl (b == 60) 
     of false true w false e = omega (arith, none, more)
     of false false w angle e = omega (arith, none, more)
 
-enclosed-go : (bs : List ℕ) → Onward bs
+enclosed-go : (bs : List ℕ) → EnclosedOnward bs
 enclosed-go [] true hidden begins bracket h = omega arith
 enclosed-go [] false hidden begins bracket h = omega arith
 enclosed-go (b ∷ bs) going hidden begins bracket h = step b bs (enclosed-go bs) going hidden begins bracket h

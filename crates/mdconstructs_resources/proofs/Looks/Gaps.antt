@@ -2,6 +2,7 @@
 use Rattle.std.proofs.Common.{ℕ, suc, ◌+◌, ◌≤◌, ◌≡◌, ◌∙◌, ◌∷◌, ◌||◌, ◌&&◌, ◌==◌, not, Bool, true, false, cond, List, [], drop, length, refl, sym, ap, subst, arith}
 use Rattle.std.proofs.lemmas.Bool.{false≢true}
 use Rattle.std.specs.List.{prefix_len}
+use Rattle.markdown_base.proofs.Facts.Numbers.{unlike}
 use Rattle.mdconstructs_labels.specs.Tails.{begins_with, gap, is_white}
 
 -- white space, or a line ending
@@ -35,12 +36,6 @@ white-alone (b ∷ bs) = elim (is_white b) as (λ w. from_by w (b == 10) false b
 abbrev gap_by : (n : ℕ) → List ℕ → ℕ
 gap_by n bs = cond (begins_with 10 (drop n bs)) (n + 1 + prefix_len is_white (drop (n + 1) bs)) n
 
-no-end : (b : ℕ) → is_white b ≡ true → (b == 10) ≡ false
-no-end b w = elim (b == 10) as (λ t. (b == 10) ≡ t → t ≡ false) [
-  | true ↦ λ e. absurd (false≢true (let none : is_white b ≡ false = grind (arith) in sym none ∙ w))
-  | false ↦ λ e. refl
-] refl
-
 abbrev by_lists : (n : ℕ) → (front behind : List ℕ) → ℕ
 by_lists n front behind = cond (begins_with 10 front) (n + 1 + prefix_len is_white behind) n
 
@@ -54,7 +49,7 @@ more-by n b bs =
 pub gap-is : (bs : List ℕ) → gap bs ≡ gap_from true bs
 gap-is [] = refl
 gap-is (b ∷ bs) = elim (is_white b) as (λ w. is_white b ≡ w → gap_by (cond w (1 + prefix_len is_white bs) 0) (b ∷ bs) ≡ from_by w (b == 10) true bs) [
-  | true ↦ λ w. more-by (prefix_len is_white bs) b bs ∙ ap (λ n. 1 + n) (gap-is bs) ∙ sym (ap (λ e. 1 + gap_from (not e) bs) (no-end b w))
+  | true ↦ λ w. more-by (prefix_len is_white bs) b bs ∙ ap (λ n. 1 + n) (gap-is bs) ∙ sym (ap (λ e. 1 + gap_from (not e) bs) (unlike is_white 10 refl b w))
   | false ↦ λ w. elim (b == 10) as (λ t. cond t (1 + prefix_len is_white bs) 0 ≡ cond t (1 + gap_from (not t) bs) 0) [ true ↦ ap (λ n. 1 + n) (sym (white-alone bs)) | false ↦ refl ]
 ] refl
 

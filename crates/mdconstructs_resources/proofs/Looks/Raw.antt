@@ -2,6 +2,7 @@
 use Rattle.std.proofs.Common.{ℕ, suc, ◌+◌, ◌-◌, ◌*◌, ◌≤◌, ◌≡◌, ◌∙◌, ◌∷◌, ◌||◌, ◌&&◌, ◌==◌, not, nat_le, Bool, true, false, cond, List, [], length, refl, sym, ap, arith}
 use Rattle.std.proofs.lemmas.Bool.Decides.{nat_tests}
 use Rattle.std.proofs.lemmas.Bool.{false≢true, leb-true}
+use Rattle.std.proofs.Math.Bool.{and-false}
 use Rattle.mdconstructs_labels.specs.Labels.{hides}
 use Rattle.mdconstructs_labels.specs.Tails.{ends_raw, is_plain}
 use Rattle.mdconstructs_resources.proofs.Looks.Passed.{behind_look, raw_look, raw_start_look}
@@ -119,16 +120,12 @@ abbrev Agree : List Bool → (hidden begins bracket : Bool) → Type 0
 Agree ms hidden begins bracket = ((first ms && begins) ≡ false) × ((hidden && begins) ≡ false) × ((hidden && bracket) ≡ false)
 
 -- `black`: no white space comes before the text; behind white space none goes on
-abbrev Onward : List ℕ → Type 0
-Onward bs = (black : Bool) (ms : List Bool) (hidden begins bracket : Bool) → (black ≡ false → ms ≡ []) → Agree ms hidden begins bracket
+abbrev RawOnward : List ℕ → Type 0
+RawOnward bs = (black : Bool) (ms : List Bool) (hidden begins bracket : Bool) → (black ≡ false → ms ≡ []) → Agree ms hidden begins bracket
     → at_byte hidden bs ms + raw_starts begins bracket bs ≤ 33 * length bs + behinds black bs
 
-and-none : (t : Bool) → (t && false) ≡ false
-and-none true = refl
-and-none false = refl
-
 -- over a byte at which none begins
-move : (b : ℕ) (bs : List ℕ) → Onward bs → (black : Bool) (ms : List Bool) (hidden bracket : Bool) → (black ≡ false → ends_raw b ≡ true → ms ≡ []) → (hidden && bracket) ≡ false
+move : (b : ℕ) (bs : List ℕ) → RawOnward bs → (black : Bool) (ms : List Bool) (hidden bracket : Bool) → (black ≡ false → ends_raw b ≡ true → ms ≡ []) → (hidden && bracket) ≡ false
     → (white opens closes : Bool) → ends_raw b ≡ white → is_plain 40 hidden b ≡ opens → is_plain 41 hidden b ≡ closes
     → marked (look_by white opens closes (hides hidden b) (behind_look (b ∷ bs)) bs) 0 ms + raw_starts (begins_behind bracket b) (b == 93) bs
     ≤ 33 * suc (length bs) + (cond black (behind_look (b ∷ bs)) 0 + behinds (not (is_gap b)) bs)
@@ -153,7 +150,7 @@ move b bs onward black ms hidden bracket alone agree false false true w o c =
     let plain : hides hidden b ≡ false = grind (arith) in
     let other : begins_behind bracket b ≡ false = grind (arith) in
     let left = behind-black b bs dark in
-    let ends : (first (closed ms) && begins_behind bracket b) ≡ false = ap (λ t. first (closed ms) && t) other ∙ and-none (first (closed ms)) in
+    let ends : (first (closed ms) && begins_behind bracket b) ≡ false = ap (λ t. first (closed ms) && t) other ∙ and-false (first (closed ms)) in
     let rest = onward true (closed ms) false (begins_behind bracket b) (b == 93) (λ e. absurd (false≢true (sym e))) (ends, refl, refl) in
     let same : marked (look_by false false true (hides hidden b) (behind_look (b ∷ bs)) bs) 0 ms ≡ marked (look_by false false true false 0 bs) 0 ms = (λ i. marked (look_by false false true (plain i) (left i) bs) 0 ms) in
     let behind : behinds (not (is_gap b)) bs ≡ behinds true bs = ap (λ t. behinds (not t) bs) dark in
@@ -161,7 +158,7 @@ move b bs onward black ms hidden bracket alone agree false false true w o c =
 move b bs onward black ms hidden bracket alone agree false false false w o c =
     let dark : is_gap b ≡ false = grind (arith) in
     let other : begins_behind bracket b ≡ false = grind (arith) in
-    let ends : (first ms && begins_behind bracket b) ≡ false = ap (λ t. first ms && t) other ∙ and-none (first ms) in
+    let ends : (first ms && begins_behind bracket b) ≡ false = ap (λ t. first ms && t) other ∙ and-false (first ms) in
     let third : (hides hidden b && (b == 93)) ≡ false = grind (arith) in
     let rest = onward true ms (hides hidden b) (begins_behind bracket b) (b == 93) (λ e. absurd (false≢true (sym e))) (ends, next-agrees hidden bracket b, third) in
     let behind : behinds (not (is_gap b)) bs ≡ behinds true bs = ap (λ t. behinds (not t) bs) dark in
@@ -173,7 +170,7 @@ one-more hidden l [] h = omega arith
 one-more hidden l (true ∷ ms) h = absurd (false≢true (sym h))
 one-more hidden l (false ∷ ms) h = omega arith
 
-raw-go : (bs : List ℕ) → Onward bs
+raw-go : (bs : List ℕ) → RawOnward bs
 raw-go [] black ms hidden begins bracket alone agree = omega (arith, nothing ms 0)
   where
     nothing : (ms : List Bool) (d : ℕ) → marked (λ d. raw_look d hidden []) d ms ≡ 0

@@ -36,11 +36,11 @@ zero-front : (n : ℕ) → 0 + n ≡ n
 zero-front n = omega arith
 
 -- with a try in white space behind its `(`, or without
-abbrev Onward : List ℕ → Type 0
-Onward bs = (going line begins bracket : Bool) → (going ≡ true → (begins ≡ true) × (bracket ≡ false))
+abbrev StartsOnward : List ℕ → Type 0
+StartsOnward bs = (going line begins bracket : Bool) → (going ≡ true → (begins ≡ true) × (bracket ≡ false))
     → cond going (destination (drop (gap_from line bs) bs)) 0 + destinations bracket bs ≤ all_starts begins bracket bs
 
-step : (b : ℕ) (bs : List ℕ) → Onward bs → Onward (b ∷ bs)
+step : (b : ℕ) (bs : List ℕ) → StartsOnward bs → StartsOnward (b ∷ bs)
 step b bs onward false line begins bracket h =
     let all = more begins bracket b bs in
     elim (bracket && (b == 40)) as (λ t. (bracket && (b == 40)) ≡ t → 0 + (cond t (destination (drop (gap bs) bs)) 0 + destinations (b == 93) bs) ≤ all_starts begins bracket (b ∷ bs)) [
@@ -69,7 +69,7 @@ step b bs onward true line begins bracket h =
       | false ↦ λ e. omega (arith, own, all, onward false true (begins_behind bracket b) (b == 93) (λ e. absurd (false≢true e)))
     ] refl
 
-starts-go : (bs : List ℕ) → Onward bs
+starts-go : (bs : List ℕ) → StartsOnward bs
 starts-go [] true true begins bracket h = omega arith
 starts-go [] true false begins bracket h = omega arith
 starts-go [] false line begins bracket h = omega arith

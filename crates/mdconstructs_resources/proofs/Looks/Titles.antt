@@ -1,6 +1,7 @@
 -- Tries for titles: of those with one mark never two are at a byte.
 use Rattle.std.proofs.Common.{ℕ, suc, ◌+◌, ◌*◌, ◌≤◌, ◌≡◌, ◌∙◌, ◌∷◌, ◌||◌, ◌&&◌, ◌==◌, not, Bool, true, false, cond, List, [], length, refl, sym, ap, subst, arith}
 use Rattle.std.proofs.lemmas.Bool.{false≢true}
+use Rattle.std.proofs.Math.Bool.{and-false}
 use Rattle.mdconstructs_labels.specs.Labels.{hides}
 use Rattle.mdconstructs_labels.specs.Tails.{bare_behind, gap, is_plain}
 use Rattle.mdconstructs_resources.proofs.Looks.Passed.{title_look}
@@ -31,19 +32,15 @@ module _ (first last : ℕ) (mark : IsMark first last) where
 
   next-agrees : (hidden : Bool) (b : ℕ) → Agree (hides hidden b) (is_gap b)
   next-agrees hidden b = elim (b == 92) as (λ t. (b == 92) ≡ t → ((t && not hidden) && is_gap b) ≡ false) [
-    | true ↦ λ e. let none : is_gap b ≡ false = grind (arith) in ap (λ t. not hidden && t) none ∙ cases_none (not hidden)
+    | true ↦ λ e. let none : is_gap b ≡ false = grind (arith) in ap (λ t. not hidden && t) none ∙ and-false (not hidden)
     | false ↦ λ e. refl
   ] refl
-    where
-      cases_none : (t : Bool) → (t && false) ≡ false
-      cases_none true = refl
-      cases_none false = refl
 
-  abbrev Onward : List ℕ → Type 0
-  Onward bs = (going bare hidden white : Bool) → Agree hidden white → Within going bare hidden white bs
+  abbrev TitlesOnward : List ℕ → Type 0
+  TitlesOnward bs = (going bare hidden white : Bool) → Agree hidden white → Within going bare hidden white bs
 
   -- a byte more, by whether a try begins there
-  step : (b : ℕ) (bs : List ℕ) → Onward bs → (going bare hidden white : Bool) → Agree hidden white → Within going bare hidden white (b ∷ bs)
+  step : (b : ℕ) (bs : List ℕ) → TitlesOnward bs → (going bare hidden white : Bool) → Agree hidden white → Within going bare hidden white (b ∷ bs)
   step b bs onward going bare hidden white h = of (white && (b == first)) refl going
     where
       new : ℕ
@@ -68,7 +65,7 @@ module _ (first last : ℕ) (mark : IsMark first last) where
       goes = onward true (bare_behind bare b) (hides hidden b) (is_gap b) (next-agrees hidden b)
 
       -- what a try passes here, by what the byte is
-      old : (closes stops : Bool) → ℕ
+      old : Bool → Bool → ℕ
       old closes stops = cond closes (1 + gap bs) (cond stops 0 (1 + title_look first last (bare_behind bare b) (hides hidden b) bs))
 
       started : (closes stops : Bool) → is_plain last hidden b ≡ closes → (is_plain first hidden b || (bare && (b == 10))) ≡ stops → (white && (b == first)) ≡ true → old closes stops + (1 + new + rest) ≤ 2 * size + marks
@@ -88,7 +85,7 @@ module _ (first last : ℕ) (mark : IsMark first last) where
       of true w false = omega (arith, fresh)
       of false w false = omega (arith, none)
 
-  pub titles-go : (bs : List ℕ) → Onward bs
+  pub titles-go : (bs : List ℕ) → TitlesOnward bs
   titles-go [] true bare hidden white h = omega arith
   titles-go [] false bare hidden white h = omega arith
   titles-go (b ∷ bs) going bare hidden white h = step b bs (titles-go bs) going bare hidden white h

@@ -1,12 +1,13 @@
 -- The events of a resource can be cut into innermost spans, none over a line ending but at its end: its parts stand end to end.
-use Rattle.std.proofs.Common.{◌≡◌, ◌==◌, ◌+◌, ◌-◌, ◌<◌, ◌≤◌, ◌∙◌, ℕ, zero, suc, List, [], ◌∷◌, ◌++◌, Bool, true, false, cond, not, Option, Some, None, ap, arith, drop, inl, inr, length, refl, subst, sym, take}
-use Rattle.std.proofs.lemmas.Bool.{cases_Bool}
+use Rattle.std.proofs.Common.{◌≡◌, ◌==◌, ◌+◌, ◌-◌, ◌<◌, ◌≤◌, ◌∙◌, ℕ, zero, suc, List, [], ◌∷◌, ◌++◌, Bool, true, false, cond, Option, Some, None, ap, arith, drop, inl, inr, length, refl, subst, sym, take}
+use Rattle.std.proofs.lemmas.Bool.{cases_Bool, or_parts}
 use Rattle.std.proofs.lemmas.Bool.Decides.{nat_tests}
 use Rattle.std.proofs.lemmas.Option.{same_Some}
 use Rattle.std.proofs.lemmas.List.{drop-drop, drop-map, drop-take, length-drop, length-map, length-take-le, take-append-drop, take-take}
 use Rattle.std.specs.List.{between, prefix_len}
 use Rattle.std.specs.Prelude.{nat_le, ◌&&◌, ◌||◌}
 use Rattle.std.specs.Option.{option_and_then, option_map}
+use Rattle.std.proofs.Math.Seq.{take-add}
 use Rattle.markdown_base.specs.declared.event.Event.{Event}
 use Rattle.markdown_base.specs.declared.event.Name.{Name}
 use Rattle.markdown_base.specs.declared.event.Name.TheVariants.{Data, LineEnding, SpaceOrTab, Resource, ResourceDestination, ResourceDestinationLiteral, ResourceDestinationLiteralMarker, ResourceDestinationRaw, ResourceDestinationString, ResourceMarker, ResourceTitle, ResourceTitleMarker, ResourceTitleString}
@@ -17,30 +18,23 @@ use Rattle.mdconstructs_labels.specs.declared.resources.Resource.{Resource as Pa
 use Rattle.mdconstructs_labels.specs.Definitions.{end, end_of, stretch_at, title_at}
 use Rattle.mdconstructs_labels.specs.Labels.{hides}
 use Rattle.mdconstructs_labels.specs.Resources.{closed_at, resource_at, resource_with}
-use Rattle.mdconstructs_labels.specs.Tails.{bare_behind, begins_with, depth_behind, destination_size, enclosed_size, ends_raw, gap, is_plain, is_raw_end, is_white, marked_size, one_more, raw_end, raw_size, title_end, title_size}
+use Rattle.mdconstructs_labels.specs.Tails.{begins_with, depth_behind, destination_size, enclosed_size, ends_raw, gap, is_plain, is_raw_end, is_white, marked_size, one_more, raw_end, raw_size, title_end, title_size}
+use Rattle.mdconstructs_labels.proofs.Sizes.{marked-within}
 use Rattle.mdconstructs_text.proofs.DeepSpans.Atoms.{IsCut, OneLine, cut-append, cut-leaf, cut-span}
 use Rattle.mdconstructs_text.proofs.DeepSpans.Stretches.{NoEnding, cuts, one-taken, plain-line, run-plain, three-cut}
 use Rattle.mdconstructs_text.specs.Construct.{Found}
 use Rattle.mdconstructs_text.specs.Parts.{bytes_of, leaf, line_ending, part_events, part_length, plain_run, span}
 use Rattle.mdconstructs_resources.specs.Resource.{behind_destination, destination_events, destination_string, gap_events, in_marks, in_resource, is_of_line, line_part, resource, resource_grammar, string_events, title_events, title_string, unmarked}
+use Rattle.mdconstructs_resources.proofs.Resources.Lines.{part-positive}
 
 -- ---- stretches of a list
-
-take-none : {A : Type 0} (n : ℕ) → take {A = A} n [] ≡ []
-take-none zero = refl
-take-none (suc n) = refl
-
-take-both : {A : Type 0} (n m : ℕ) (l : List A) → take n l ++ take m (drop n l) ≡ take (n + m) l
-take-both zero m l = let same : m ≡ 0 + m = omega arith in ap (λ k. take k l) same
-take-both (suc n) m [] = take-none m ∙ sym (take-none (suc n + m))
-take-both (suc n) m (x ∷ l) = let same : suc (n + m) ≡ suc n + m = omega arith in ap (λ k. x ∷ k) (take-both n m l) ∙ ap (λ k. take k (x ∷ l)) same
 
 -- two stretches end to end
 stretches : {A : Type 0} (a b c : ℕ) (l : List A) → a ≤ b → b ≤ c → between a b l ++ between b c l ≡ between a c l
 stretches a b c l less more =
     let from : b ≡ a + (b - a) = omega (arith, less) in
     let whole : (b - a) + (c - b) ≡ c - a = omega (arith, less, more) in
-    ap (λ k. take (b - a) (drop a l) ++ take (c - b) k) (ap (λ n. drop n l) from ∙ sym (drop-drop (b - a) a l)) ∙ take-both (b - a) (c - b) (drop a l) ∙ ap (λ n. take n (drop a l)) whole
+    ap (λ k. take (b - a) (drop a l) ++ take (c - b) k) (ap (λ n. drop n l) from ∙ sym (drop-drop (b - a) a l)) ∙ sym (take-add (b - a) (c - b) (drop a l)) ∙ ap (λ n. take n (drop a l)) whole
 
 -- a stretch of the front
 region : {A : Type 0} (size a g : ℕ) (l : List A) → a + g ≤ size → between a (a + g) (take size l) ≡ take g (drop a l)
@@ -49,7 +43,8 @@ region size a g l less =
     let parts : size ≡ a + (size - a) = omega (arith, less) in
     (λ i. take (long i) (drop a (take (parts i) l))) ∙ ap (take g) (drop-take a (size - a) l) ∙ take-take g (size - a) (drop a l) (omega (arith, less))
 
-short-line : (l : List Seat) → length l ≤ 1 → OneLine l
+-- a byte is in one line
+pub short-line : (l : List Seat) → length l ≤ 1 → OneLine l
 short-line [] h = tt
 short-line (s ∷ []) h = tt
 short-line (s ∷ r ∷ rs) h = absurd (omega (arith, h))
@@ -69,10 +64,6 @@ plain-more s ss n m same other h =
     let one : suc m ≡ n = omega (arith, same) in
     subst (λ k. PlainWithin k (s ∷ ss)) one ((other, h.0), omega (arith, h.1))
 
-or-none : (a b : Bool) → (a || b) ≡ false → (a ≡ false) × (b ≡ false)
-or-none true b h = absurd (cc)
-or-none false b h = (refl, h)
-
 enclosed-plain : (hidden : Bool) (l : List Seat) (n : ℕ) → enclosed_size hidden (bytes_of l) ≡ Some n → PlainWithin n l × (n < length l)
 enclosed-plain hidden [] n h = absurd (cc)
 enclosed-plain hidden (s ∷ ss) n h =
@@ -85,7 +76,7 @@ enclosed-plain hidden (s ∷ ss) n h =
         | false ↦ λ k e.
             let m = more-is (enclosed_size (hides hidden b) (bytes_of ss)) n e in
             let rest = enclosed-plain (hides hidden b) ss m.0 m.1 in
-            (plain-more s ss n m.0 m.2 (or-none (is_plain 60 hidden b) (b == 10) k).1 rest.0, (let less = rest.1 in let same = m.2 in omega (arith, less, same)))
+            (plain-more s ss n m.0 m.2 (or_parts (is_plain 60 hidden b) (b == 10) k).1 rest.0, (let less = rest.1 in let same = m.2 in omega (arith, less, same)))
       ] refl
     ] h
 
@@ -112,25 +103,9 @@ raw-plain depth hidden (s ∷ ss) n h =
         | true ↦ λ e. absurd (cc)
         | false ↦ λ e.
             let m = more-is (raw_size (depth_behind depth hidden b) (hides hidden b) (bytes_of ss)) n e in
-            plain-more s ss n m.0 m.2 (raw-other b (or-none (ends_raw b) (is_plain 41 hidden b && (depth == 0)) k).0) (raw-plain (depth_behind depth hidden b) (hides hidden b) ss m.0 m.1)
+            plain-more s ss n m.0 m.2 (raw-other b (or_parts (ends_raw b) (is_plain 41 hidden b && (depth == 0)) k).0) (raw-plain (depth_behind depth hidden b) (hides hidden b) ss m.0 m.1)
       ]
     ] refl h
-
-marked-within : (first last : ℕ) (bare hidden : Bool) (bs : List ℕ) (n : ℕ) → marked_size first last bare hidden bs ≡ Some n → n < length bs
-marked-within first last bare hidden [] n h = absurd (cc)
-marked-within first last bare hidden (b ∷ bs) n h =
-    let more = one_more (marked_size first last (bare_behind bare b) (hides hidden b) bs) in
-    elim (is_plain last hidden b) as (λ t. cond t (Some 0) (cond (is_plain first hidden b || (bare && (b == 10))) None more) ≡ Some n → n < length (b ∷ bs)) [
-      | true ↦ λ e. (let none : 0 ≡ n = cc in subst (λ k. k < length (b ∷ bs)) none (omega arith))
-      | false ↦ elim (is_plain first hidden b || (bare && (b == 10))) as (λ t. cond t None more ≡ Some n → n < length (b ∷ bs)) [
-        | true ↦ λ e. absurd (cc)
-        | false ↦ λ e.
-            let m = more-is (marked_size first last (bare_behind bare b) (hides hidden b) bs) n e in
-            let less = marked-within first last (bare_behind bare b) (hides hidden b) bs m.0 m.1 in
-            let same = m.2 in
-            omega (arith, less, same)
-      ]
-    ] h
 
 -- ---- white space
 
@@ -195,13 +170,6 @@ module _ (bytes : List ℕ) where
 
   -- ---- destinations and titles
 
-  some-part : (b : ℕ) (bs : List ℕ) → 0 < part_length (line_part (b ∷ bs))
-  some-part b bs = elim (cases_Bool (b == 10)) [
-    | inl is ↦ subst (λ t. 0 < part_length (cond t line_ending (plain_run (prefix_len is_of_line (b ∷ bs))))) (sym is) (omega arith)
-    | inr other ↦
-        subst (λ t. 0 < part_length (cond t line_ending (plain_run (cond (not t) (1 + prefix_len is_of_line bs) 0)))) (sym other) (omega arith)
-  ]
-
   line-cut : (s : Seat) (ss : List Seat) → let a = line_part (bytes_of (s ∷ ss)) in IsCut bytes (part_events bytes Data (a, take (part_length a) (s ∷ ss))) (take (part_length a) (s ∷ ss))
   line-cut s ss =
       let l = s ∷ ss in
@@ -211,8 +179,9 @@ module _ (bytes : List ℕ) where
         | false ↦ cut-leaf bytes Data (take n l) (plain-line (take n l) (run-plain is_of_line refl l))
       ]
 
-  string-cut : (l : List Seat) → IsCut bytes (string_events bytes l) l
-  string-cut l = cuts bytes line_part part_length (part_events bytes Data) some-part line-cut (length l) l (omega arith)
+  -- a string, line by line
+  pub string-cut : (l : List Seat) → IsCut bytes (string_events bytes l) l
+  string-cut l = cuts bytes line_part part_length (part_events bytes Data) part-positive line-cut (length l) l (omega arith)
 
   title-cut : (l : List Seat) (k : ℕ) → title_size (bytes_of l) ≡ Some k → IsCut bytes (title_events bytes (take k l)) (take k l) × (k ≤ length l)
   title-cut [] k h = absurd (cc)

@@ -1,5 +1,6 @@
 -- How a destination is read, between `<` and `>` or with no marks, and all behind it.
 use Rattle.markdown_base.proofs.Facts.Numbers.{unlike}
+use Rattle.markdown_base.proofs.Facts.Lists.{begins-inside}
 use Rattle.mdconstructs_resources.proofs.Prelude.{◌≡◌, ℕ, zero, suc, ◌+◌, ◌*◌, ◌≤◌, ◌==◌, ◌&&◌, ◌||◌, List, [], ◌∷◌, ◌++◌, Bool, true, false, cond, Option, Some, None, refl, sym, ap, ◌∙◌, subst, and-false, arith, take, drop, length, option_and_then, drop-next, drop-drop, append-nil, append_assoc, behind-more, behind-none, end-after-one, eqb-true, Event, Enter, Exit, EventName, Data, Resource, ResourceDestination, ResourceDestinationLiteral, ResourceDestinationLiteralMarker, ResourceDestinationRaw, ResourceDestinationString, Next, Retry, DestinationEnclosedBefore, DestinationEnclosed, LabelEndResourceBefore, LabelEndResourceDestinationAfter, LabelEndResourceEnd, LabelEndResourceOpen, Seat, Given, Text, Choice, Local, at-front, end_or, point_or, counts, Plays, Found, bytes_of, leaf, size_b, with_b, row, enter, exit, consume, write}
 use Rattle.std.specs.Prelude.{option_map}
 use Rattle.mdconstructs_machines.specs.Spans.{event, span}
@@ -20,7 +21,6 @@ use Rattle.mdconstructs_resources.proofs.Resources.Raw as raw
 use Rattle.mdconstructs_resources.proofs.Resources.Raw.{closes-one, in_raw, opens-one, raw_name, raw-goes, raw-stops, reads-raw}
 use Rattle.mdconstructs_resources.proofs.Resources.Steps.{PlaysResources, Does, yes, no, here, seen, enters_at, exits_at, exits_past, Finds, moved, stands, left, fails, fails-here, reads, stays}
 use Rattle.mdconstructs_resources.proofs.Resources.Touched.{touched, touched-call}
-use Rattle.mdconstructs_resources.proofs.Resources.WholeTitles.{inside-length}
 
 -- the spans that are open between `<` and `>`, but for a string
 abbrev in_marked : List EventName
@@ -198,7 +198,7 @@ module _ (g : Given) (text : Text) (m : Plays g text) (r : PlaysResources g text
             let exit2 = exits_at g text ResourceDestinationString q' ∷ [] in
             let string = destination_string g.bytes (take i ys) in
             let inner_at : drop i (v ∷ vs) ≡ z ∷ zs = ap (drop i) (sym v_at) ∙ drop-drop i (q + 1) text.seats ∙ ap (λ n. drop n text.seats) (sym is) ∙ z_at in
-            let within : i ≤ suc (length vs) = inside-length i (v ∷ vs) z zs inner_at in
+            let within : i ≤ suc (length vs) = omega (arith, begins-inside i (v ∷ vs) z zs inner_at) in
             let made : ((events ++ x2) ++ exit1) ++ exit2 ≡ events ++ (x0 ++ (marked_opened ++ string)) =
             append_assoc (events ++ x2) exit1 exit2 ∙ append_assoc events x2 (exit1 ++ exit2)
             ∙ ap (λ e. events ++ e) (append_assoc x0 (marked_opened ++ begun) (exit1 ++ exit2) ∙ ap (λ e. x0 ++ e) (append_assoc marked_opened begun (exit1 ++ exit2)
@@ -328,7 +328,7 @@ module _ (g : Given) (text : Text) (m : Plays g text) (r : PlaysResources g text
         let exit4 = exits_at g text ResourceDestination q' ∷ [] in
         let d = destination_events g.bytes (take i (y ∷ ys)) in
         let inner_at : drop i (y ∷ ys) ≡ z ∷ zs = ap (drop i) (sym q-at) ∙ drop-drop i q text.seats ∙ ap (λ n. drop n text.seats) (sym is) ∙ z_at in
-        let within : i ≤ suc (length ys) = inside-length i (y ∷ ys) z zs inner_at in
+        let within : i ≤ suc (length ys) = omega (arith, begins-inside i (y ∷ ys) z zs inner_at) in
         let made : ((((events ++ x3) ++ exit1) ++ exit2) ++ exit3) ++ exit4 ≡ events ++ (x0 ++ d) =
         append_assoc (((events ++ x3) ++ exit1) ++ exit2) exit3 exit4 ∙ append_assoc ((events ++ x3) ++ exit1) exit2 (exit3 ++ exit4) ∙ append_assoc (events ++ x3) exit1 (exit2 ++ (exit3 ++ exit4)) ∙ append_assoc events x3 (raw_ended q')
         ∙ ap (λ e. events ++ e) (append_assoc x0 (raw_opened ++ raw_begun) (raw_ended q') ∙ ap (λ e. x0 ++ e) (append_assoc raw_opened raw_begun (raw_ended q') ∙ raw-spelled i q' more some within is)) in

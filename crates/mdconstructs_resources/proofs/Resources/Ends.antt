@@ -1,6 +1,7 @@
 -- How the end of a resource is read: white space, maybe a title, white space, and the parenthesis that closes it.
 use Rattle.mdconstructs_resources.proofs.Prelude.{◌≡◌, ℕ, zero, suc, ◌+◌, ◌-◌, ◌*◌, ◌≤◌, ◌==◌, ◌||◌, List, [], ◌∷◌, ◌++◌, Bool, true, false, cond, Option, Some, None, refl, sym, ap, ◌∙◌, subst, arith, take, drop, length, option_and_then, drop-next, drop-drop, drop-map, append-nil, append_assoc, between, prefix_len, eqb-true, nat_tests, Event, Enter, Exit, Resource, ResourceMarker, Ok, Retry, LabelEndResourceBefore, LabelEndResourceDestinationAfter, LabelEndResourceEnd, TitleStart, Seat, Given, Text, Nothing, Choice, Local, held, at-front, end_or, point_or, counts, EndsWith, leads-row, Plays, Found, bytes_of, leaf, row, enter, exit, consume, write}
 use Rattle.std.specs.Prelude.{option_map}
+use Rattle.markdown_base.proofs.Facts.Bools.{cond-same}
 use Rattle.mdconstructs_machines.specs.Spans.{event}
 use Rattle.mdconstructs_labels.specs.declared.definitions.Stretch.{Stretch}
 use Rattle.mdconstructs_labels.specs.declared.resources.Resource.{Resource as Parts}
@@ -38,11 +39,6 @@ some-gap b bs h =
 
 pub not-zero : (n : ℕ) → 1 ≤ n → (n == 0) ≡ false
 not-zero n h = grind (arith, nat_tests)
-
--- none, either way
-none-either : (t : Bool) → cond {A = Option Stretch} t None None ≡ None
-none-either true = refl
-none-either false = refl
 
 -- white space at least is passed
 at-least : (a b : ℕ) → a ≤ a + b
@@ -316,7 +312,7 @@ module _ (g : Given) (text : Text) (m : Plays g text) (r : PlaysResources g text
     no-title : (l : List Seat) → drop behind_it all ≡ l → drop (behind_it + gap (bytes_of l)) all ≡ [] → tailed (title_at text_bytes behind_it) ≡ None
     no-title l there none =
         let w = gap (bytes_of l) in
-        ap tailed (title-is l [] there none ∙ none-either (w == 0))
+        ap tailed (title-is l [] there none ∙ cond-same (w == 0) None)
         ∙ untitled-is l there ∙ closed-is (Some destination) None (behind_it + w) [] false none refl
 
     pub nothing-behind : drop behind_it all ≡ [] → tailed (title_at text_bytes behind_it) ≡ None

@@ -1,6 +1,7 @@
 -- How a whole title is read, with its marks.
-use Rattle.mdconstructs_resources.proofs.Prelude.{◌≡◌, ℕ, suc, ◌+◌, ◌*◌, ◌≤◌, ◌==◌, ◌&&◌, ◌||◌, not, List, [], ◌∷◌, ◌++◌, true, false, Option, Some, None, refl, sym, ap, ◌∙◌, subst, arith, take, drop, length, length-drop, option_and_then, drop-next, drop-drop, append-nil, append_assoc, place-behind, Event, Enter, Exit, EventName, Data, LineEnding, Resource, ResourceTitle, ResourceTitleMarker, ResourceTitleString, Retry, LabelEndResourceBefore, TitleAfterEol, TitleBegin, TitleStart, Seat, Given, Text, Choice, Local, at-front, end_or, point_or, counts, Plays, Found, bytes_of, leaf, row, enter, behind-more, behind-none}
+use Rattle.mdconstructs_resources.proofs.Prelude.{◌≡◌, ℕ, suc, ◌+◌, ◌*◌, ◌≤◌, ◌==◌, ◌&&◌, ◌||◌, not, List, [], ◌∷◌, ◌++◌, true, false, Option, Some, None, refl, sym, ap, ◌∙◌, subst, arith, take, drop, length, option_and_then, drop-next, drop-drop, append-nil, append_assoc, place-behind, Event, Enter, Exit, EventName, Data, LineEnding, Resource, ResourceTitle, ResourceTitleMarker, ResourceTitleString, Retry, LabelEndResourceBefore, TitleAfterEol, TitleBegin, TitleStart, Seat, Given, Text, Choice, Local, at-front, end_or, point_or, counts, Plays, Found, bytes_of, leaf, row, enter, behind-more, behind-none}
 use Rattle.markdown_base.proofs.Facts.Numbers.{unlike}
+use Rattle.markdown_base.proofs.Facts.Lists.{begins-inside}
 use Rattle.mdconstructs_machines.specs.Spans.{event}
 use Rattle.mdconstructs_text.proofs.Plain.Stretches.{span-read}
 use Rattle.mdconstructs_labels.specs.Tails.{behind, one_more}
@@ -24,10 +25,6 @@ with_mark n local = record local { tokenize_state = record local.tokenize_state 
 -- the spans that are open in a title
 abbrev pub in_title : List EventName
 in_title = Resource ∷ ResourceTitle ∷ []
-
--- what is left begins within
-pub inside-length : (i : ℕ) (l : List Seat) (z : Seat) (zs : List Seat) → drop i l ≡ z ∷ zs → i ≤ length l
-inside-length i l z zs there = omega (arith, length-drop i l, ap length there)
 
 module _ (g : Given) (text : Text) (m : Plays g text) (r : PlaysResources g text m) (cs : List Choice) (p far : ℕ) (events : List Event) (seats : List Seat)
     (q : ℕ) (x : List Event) (y : Seat) (ys : List Seat) (at : drop q text.seats ≡ y ∷ ys) where
@@ -94,7 +91,7 @@ module _ (g : Given) (text : Text) (m : Plays g text) (r : PlaysResources g text
       let ends = λ (i q' : ℕ) (z : Seat) (zs : List Seat) (after : Local Unit Unit) (some : 1 ≤ i) (is : q' ≡ q1 + i) (z_at : drop q' text.seats ≡ z ∷ zs) (size_is : total ≡ Some i).
       let inner_at : drop i ys ≡ z ∷ zs = ap (drop i) (same ∙ sym there) ∙ drop-drop i q1 text.seats ∙ ap (λ n. drop n text.seats) (sym is) ∙ z_at in
       let string = string_events g.bytes (take i (v ∷ vs)) in
-      let within : i ≤ suc (length vs) = inside-length i (v ∷ vs) z zs (ap (drop i) (sym same) ∙ inner_at) in
+      let within : i ≤ suc (length vs) = omega (arith, begins-inside i (v ∷ vs) z zs (ap (drop i) (sym same) ∙ inner_at)) in
       let spelled : string_enter ∷ (string ++ exits_at g text ResourceTitleString q' ∷ []) ≡ title_string g.bytes (take i (v ∷ vs)) =
       (λ j. event g.bytes Enter ResourceTitleString (point_or text.end (sym (at-front text.seats q1 v vs there) j)) ∷ (string ++ exits_at g text ResourceTitleString (is j) ∷ []))
       ∙ span-read text g.bytes ResourceTitleString string i q1 v vs there some within in
