@@ -1,6 +1,7 @@
 -- What is counted of a label, byte by byte, says whether it is one.
 use Rattle.std.proofs.Common.{ℕ, suc, ◌≡◌, ◌+◌, ◌==◌, ◌&&◌, ◌||◌, ◌++◌, not, nat_le, Bool, true, false, cond, List, [], ◌∷◌, take, Some, None, refl, sym, ap, ◌∙◌, subst, arith}
 use Rattle.std.proofs.lemmas.Bool.Decides.{nat_tests}
+use Rattle.std.proofs.lemmas.Bool.{or_parts}
 use Rattle.mdconstructs_labels.specs.Labels.{begins_character, characters, has_no_bracket, hides, is_filled, is_label, is_label_white}
 use Rattle.mdconstructs_labels.specs.Tails.{bare_behind, is_plain, label_size, marked_size, one_more as size_more}
 use Rattle.mdconstructs_full_references.specs.FullReferenceRows.{filled_by, one_more, with_byte}
@@ -62,17 +63,13 @@ no-bracket bare hidden (b ∷ bs) n h =
               | Some m ↦ λ is e.
                   let same : m + 1 ≡ n = cc in
                   let one : suc m ≡ m + 1 = omega arith in
-                  let plain = brackets hidden (b == 91) (b == 93) last (or-first (is_plain 91 hidden b) (bare && (b == 10)) first) in
+                  let plain = brackets hidden (b == 91) (b == 93) last (or_parts (is_plain 91 hidden b) (bare && (b == 10)) first).0 in
                   subst (λ k. has_no_bracket hidden (take k (b ∷ bs)) ≡ true) (one ∙ same)
                   (ap (λ t. not t && has_no_bracket (hides hidden b) (take m bs)) plain ∙ no-bracket (bare_behind bare b) (hides hidden b) bs m is)
             ] refl
       ] refl
     ] refl h
   where
-    or-first : (x y : Bool) → (x || y) ≡ false → x ≡ false
-    or-first true y h = absurd (cc)
-    or-first false y h = refl
-
     brackets : (hidden x y : Bool) → (y && not hidden) ≡ false → (x && not hidden) ≡ false → ((x || y) && not hidden) ≡ false
     brackets true true y h k = refl
     brackets true false y h k = h

@@ -1,37 +1,20 @@
 -- The events of a full reference can be cut into innermost spans, none over a line ending but at its end: its parts stand end to end.
-use Rattle.std.proofs.Common.{◌≡◌, ◌==◌, ◌+◌, ◌-◌, ◌≤◌, ℕ, List, [], ◌∷◌, ◌++◌, Bool, true, false, cond, Some, None, arith, drop, length, refl, subst, sym, take}
+use Rattle.std.proofs.Common.{◌≡◌, ◌+◌, ◌-◌, ◌≤◌, ℕ, List, ◌++◌, Bool, true, false, cond, Some, None, arith, drop, length, subst, sym, take}
 use Rattle.std.proofs.lemmas.List.{length-drop, length-map, length-take-le}
-use Rattle.std.specs.List.{between, prefix_len}
+use Rattle.std.specs.List.{between}
 use Rattle.std.specs.Option.{option_and_then}
-use Rattle.markdown_base.specs.declared.event.Name.TheVariants.{Data, LineEnding, Reference, ReferenceMarker, ReferenceString}
+use Rattle.markdown_base.specs.declared.event.Name.TheVariants.{Reference, ReferenceMarker, ReferenceString}
 use Rattle.markdown_base.specs.Virtual.{Seat}
-use Rattle.mdconstructs_text.proofs.DeepSpans.Atoms.{IsCut, OneLine, cut-leaf, cut-span}
-use Rattle.mdconstructs_text.proofs.DeepSpans.Stretches.{cuts, one-taken, plain-line, run-plain, three-cut}
+use Rattle.mdconstructs_text.proofs.DeepSpans.Atoms.{IsCut, cut-leaf, cut-span}
+use Rattle.mdconstructs_text.proofs.DeepSpans.Stretches.{one-taken, three-cut}
 use Rattle.mdconstructs_text.specs.Construct.{Found}
-use Rattle.mdconstructs_text.specs.Parts.{bytes_of, leaf, line_ending, part_events, part_length, plain_run, span}
-use Rattle.mdconstructs_resources.proofs.Resources.Lines.{part-positive}
-use Rattle.mdconstructs_resources.specs.Resource.{is_of_line, line_part, string_events}
+use Rattle.mdconstructs_text.specs.Parts.{bytes_of, leaf, span}
+use Rattle.mdconstructs_resources.specs.Resource.{string_events}
+use Rattle.mdconstructs_resources.proofs.Resources.Cuts.{short-line, string-cut}
 use Rattle.mdconstructs_full_references.specs.FullReference.{full_reference, full_reference_grammar, label_length, label_string, label_text}
 use Rattle.mdconstructs_full_references.proofs.FullReferences.Sizes.{full-reference-sizes}
 
-short-line : (l : List Seat) → length l ≤ 1 → OneLine l
-short-line [] h = tt
-short-line (s ∷ []) h = tt
-short-line (s ∷ r ∷ rs) h = absurd (omega (arith, h))
-
 module _ (bytes : List ℕ) where
-  line-cut : (s : Seat) (ss : List Seat) → let a = line_part (bytes_of (s ∷ ss)) in IsCut bytes (part_events bytes Data (a, take (part_length a) (s ∷ ss))) (take (part_length a) (s ∷ ss))
-  line-cut s ss =
-      let l = s ∷ ss in
-      let n = prefix_len is_of_line (bytes_of l) in
-      elim (s.byte == 10) as (λ t. let a = cond t line_ending (plain_run n) in IsCut bytes (part_events bytes Data (a, take (part_length a) l)) (take (part_length a) l)) [
-        | true ↦ cut-leaf bytes LineEnding (take 1 l) (one-taken l)
-        | false ↦ cut-leaf bytes Data (take n l) (plain-line (take n l) (run-plain is_of_line refl l))
-      ]
-
-  lines-cut : (l : List Seat) → IsCut bytes (string_events bytes l) l
-  lines-cut l = cuts bytes line_part part_length (part_events bytes Data) part-positive line-cut (length l) l (omega arith)
-
   -- a reference whose label has so many bytes
   pub reference-cut : (n : ℕ) (l : List Seat) → length l ≡ n + 2 → IsCut bytes ((full_reference n).events bytes l) l
   reference-cut n l long =
@@ -39,7 +22,7 @@ module _ (bytes : List ℕ) where
       let last : 1 + n ≡ length l - 1 = omega (arith, long) in
       let left = length-drop (1 + n) l in
       subst (λ k. IsCut bytes (span bytes Reference l (leaf bytes ReferenceMarker (take 1 l) ++ (label_string bytes (between 1 k l) ++ leaf bytes ReferenceMarker (drop k l)))) l) last
-      (three-cut bytes Reference 1 n l (cut-leaf bytes ReferenceMarker (take 1 l) (one-taken l)) (cut-span bytes ReferenceString inside (string_events bytes inside) (lines-cut inside))
+      (three-cut bytes Reference 1 n l (cut-leaf bytes ReferenceMarker (take 1 l) (one-taken l)) (cut-span bytes ReferenceString inside (string_events bytes inside) (string-cut bytes inside))
       (cut-leaf bytes ReferenceMarker (drop (1 + n) l) (short-line (drop (1 + n) l) (omega (arith, left, long)))))
 
   -- one is at the front of virtual bytes: its events can be cut

@@ -1,6 +1,6 @@
 -- How a label is read behind its first byte, up to its `]`.
 use Rattle.markdown_base.proofs.Facts.Numbers.{unlike}
-use Rattle.mdconstructs_full_references.proofs.Prelude.{◌≡◌, ℕ, ◌+◌, ◌*◌, ◌≤◌, ◌==◌, ◌&&◌, ◌||◌, not, List, [], ◌∷◌, ◌++◌, Bool, true, false, cond, Option, Some, None, refl, sym, ap, ◌∙◌, subst, arith, take, drop, length, option_and_then, drop-next, end-after-one, place-behind, append-nil, append_assoc, Event, Enter, Exit, EventName, Data, LineEnding, Reference, ReferenceString, Name, Nok, LabelEolAfter, LabelEscape, LabelInside, LabelEndReferenceFullEnd, LabelLineWhite, Seat, end_after, end_place, Given, Text, Choice, Configuration, Local, Sight, at-front, point_or, counts, Plays, Found, bytes_of, leaf, row, enter, exit, behind-more, or-false, feed-first, line-first, take-more}
+use Rattle.mdconstructs_full_references.proofs.Prelude.{◌≡◌, ℕ, ◌+◌, ◌*◌, ◌≤◌, ◌==◌, ◌&&◌, ◌||◌, not, List, [], ◌∷◌, ◌++◌, Bool, true, false, cond, Option, Some, None, refl, sym, ap, ◌∙◌, subst, arith, take, drop, length, option_and_then, drop-next, end-after-one, place-behind, append-nil, append_assoc, Event, Enter, EventName, Data, LineEnding, Reference, ReferenceString, Name, Nok, LabelEolAfter, LabelEscape, LabelInside, LabelEndReferenceFullEnd, LabelLineWhite, Seat, end_after, end_place, Given, Text, Choice, Configuration, Local, Sight, at-front, point_or, counts, Plays, Found, bytes_of, leaf, row, enter, exit, behind-more, or-false, line-first}
 use Rattle.mdconstructs_machines.specs.Spans.{event}
 use Rattle.mdconstructs_labels.specs.Labels.{hides}
 use Rattle.mdconstructs_labels.specs.Tails.{bare_behind, behind, is_white, marked_size, one_more}
@@ -11,6 +11,7 @@ use Rattle.mdconstructs_resources.proofs.Resources.Enclosed.{hidden-no, none-beh
 use Rattle.mdconstructs_resources.proofs.Resources.Steps.{Does, yes, no, here, seen, enters_at, exits_at, exits_past, line-ending-read}
 use Rattle.mdconstructs_resources.proofs.Resources.Titles.{Place, inside, escape, white, is_bare, is_hidden}
 use Rattle.mdconstructs_resources.proofs.Resources.Touched.{touched-call}
+use Rattle.mdconstructs_resources.proofs.Resources.StringsRead.{IsRead, data-closed, read-feed, read-more, string-closed}
 use Rattle.mdconstructs_full_references.specs.FullReferenceRows.{ends_label, ends_line, label_escape_rows, label_inside_rows, label_line_rows, label_white_rows, reads_on}
 use Rattle.mdconstructs_full_references.proofs.FullReferences.Steps.{Finds, IsCounted, PlaysReferences, counted-call, counted-read, fails, fails-here, left, reads, stands, stays, touched-read, with_read}
 
@@ -85,67 +86,20 @@ module _ (g : Given) (text : Text) (m : Plays g text) (wanted : Given → Sight 
     abbrev begins : Seat → Event
     begins s = event g.bytes Enter Data s.point
 
-    -- what was read of it: its events, but for those of the last bytes
-    pub record IsRead (z : List Event) (last : List Seat) (j : ℕ) : Type 0 where
-      pub made : (y : List Seat) → string_events g.bytes (take j l0 ++ y) ≡ z ++ string_events g.bytes (last ++ y)
-
-    abbrev ReadsOn : List Seat → Type 0
-    ReadsOn l =
+    abbrev ReadsLabel : List Seat → Type 0
+    ReadsLabel l =
         (a : Place) (z : List Event) (s0 : Seat) (ss0 : List Seat) (j q : ℕ) (local : Local Unit Unit) → 1 ≤ j → q ≡ q0 + j → drop q text.seats ≡ l → drop j l0 ≡ l → IsCounted local (bytes_of (take j l0))
-        → AllPass is_of_line (s0 ∷ ss0) → end_place text q ≡ end_after s0.end ss0 → IsRead z (s0 ∷ ss0) j
+        → AllPass is_of_line (s0 ∷ ss0) → end_place text q ≡ end_after s0.end ss0 → IsRead g.bytes l0 z (s0 ∷ ss0) j
         → (label_from a (bytes_of l) ≡ None → q + look_from a (bytes_of l) ≤ far) → size ≡ behind j (label_from a (bytes_of l))
         → Finds g text m cs p far events seats (2 * length l + 2) (left g text m cs p far events seats l in_line q (xs ++ (z ++ begins s0 ∷ [])) local) (name_of a) (found j (label_from a (bytes_of l)))
 
-    abbrev ReadsLine : List Seat → Type 0
-    ReadsLine l =
-        (z : List Event) (j q : ℕ) (local : Local Unit Unit) → 1 ≤ j → q ≡ q0 + j → drop q text.seats ≡ l → drop j l0 ≡ l → IsCounted local (bytes_of (take j l0)) → IsRead z [] j
+    abbrev ReadsLabelLine : List Seat → Type 0
+    ReadsLabelLine l =
+        (z : List Event) (j q : ℕ) (local : Local Unit Unit) → 1 ≤ j → q ≡ q0 + j → drop q text.seats ≡ l → drop j l0 ≡ l → IsCounted local (bytes_of (take j l0)) → IsRead g.bytes l0 z [] j
         → (in_label true false (bytes_of l) ≡ None → q + inside_look true false (bytes_of l) ≤ far) → size ≡ behind j (in_label true false (bytes_of l))
         → Finds g text m cs p far events seats (2 * length l + 2) (left g text m cs p far events seats l in_string q (xs ++ z) local) LabelEolAfter (found j (in_label true false (bytes_of l)))
 
-    -- the events of what was read, if it ends there
-    line-closed : (z : List Event) (s0 : Seat) (ss0 : List Seat) (j : ℕ) → AllPass is_of_line (s0 ∷ ss0) → IsRead z (s0 ∷ ss0) j → string_events g.bytes (take j l0) ≡ z ++ leaf g.bytes Data (s0 ∷ ss0)
-    line-closed z s0 ss0 j pass read =
-        sym (ap (string_events g.bytes) (append-nil (take j l0))) ∙ read.made [] ∙ ap (λ e. z ++ e) (line-first g.bytes s0 ss0 [] pass refl ∙ append-nil (leaf g.bytes Data (s0 ∷ ss0)))
-
-    data-closed : (z : List Event) (s0 : Seat) (ss0 : List Seat) (q : ℕ) → end_place text q ≡ end_after s0.end ss0
-        → (events ++ (xs ++ (z ++ begins s0 ∷ []))) ++ exits_at g text Data q ∷ [] ≡ events ++ (xs ++ (z ++ leaf g.bytes Data (s0 ∷ ss0)))
-    data-closed z s0 ss0 q end =
-        let b = begins s0 in
-        let e = exits_at g text Data q in
-        append_assoc events (xs ++ (z ++ b ∷ [])) (e ∷ [])
-        ∙ ap (λ y. events ++ y)
-        (append_assoc xs (z ++ b ∷ []) (e ∷ []) ∙ ap (λ y. xs ++ y) (append_assoc z (b ∷ []) (e ∷ []) ∙ ap (λ point. z ++ b ∷ event g.bytes Exit Data point ∷ []) end))
-
-    string-closed : (z : List Event) (s0 : Seat) (ss0 : List Seat) (j q : ℕ) → AllPass is_of_line (s0 ∷ ss0) → end_place text q ≡ end_after s0.end ss0 → IsRead z (s0 ∷ ss0) j
-        → ((events ++ (xs ++ (z ++ begins s0 ∷ []))) ++ exits_at g text Data q ∷ []) ++ exits_at g text ReferenceString q ∷ []
-        ≡ events ++ (xs ++ (string_events g.bytes (take j l0) ++ exits_at g text ReferenceString q ∷ []))
-    string-closed z s0 ss0 j q pass end read =
-        let e = exits_at g text ReferenceString q in
-        let w = z ++ leaf g.bytes Data (s0 ∷ ss0) in
-        ap (λ y. y ++ e ∷ []) (data-closed z s0 ss0 q end)
-        ∙ append_assoc events (xs ++ w) (e ∷ [])
-        ∙ ap (λ y. events ++ y) (append_assoc xs w (e ∷ []) ∙ ap (λ y. xs ++ (y ++ e ∷ [])) (sym (line-closed z s0 ss0 j pass read)))
-
-    -- one byte more was read of a line
-    read-more : (z : List Event) (last : List Seat) (j : ℕ) (s : Seat) (ss : List Seat) → drop j l0 ≡ s ∷ ss → IsRead z last j → IsRead z (last ++ s ∷ []) (j + 1)
-    read-more z last j s ss there read = record {
-      made = λ y.
-          ap (λ l. string_events g.bytes (l ++ y)) (take-more j l0 s ss there) ∙ ap (string_events g.bytes) (append_assoc (take j l0) (s ∷ []) y) ∙ read.made (s ∷ y)
-          ∙ ap (λ l. z ++ string_events g.bytes l) (sym (append_assoc last (s ∷ []) y));
-    }
-
-    -- or a line ending
-    read-feed : (z d : List Event) (last : List Seat) (j : ℕ) (s : Seat) (ss : List Seat) → drop j l0 ≡ s ∷ ss → (s.byte == 10) ≡ true → IsRead z last j
-        → ((y : List Seat) → string_events g.bytes (last ++ s ∷ y) ≡ d ++ string_events g.bytes (s ∷ y)) → IsRead (z ++ (d ++ leaf g.bytes LineEnding (s ∷ []))) [] (j + 1)
-    read-feed z d last j s ss there feed read first = record {
-      made = λ y.
-          let line = leaf g.bytes LineEnding (s ∷ []) in
-          let rest = string_events g.bytes y in
-          ap (λ l. string_events g.bytes (l ++ y)) (take-more j l0 s ss there) ∙ ap (string_events g.bytes) (append_assoc (take j l0) (s ∷ []) y) ∙ read.made (s ∷ y)
-          ∙ ap (λ e. z ++ e) (first y ∙ ap (λ e. d ++ e) (feed-first g.bytes s y feed) ∙ sym (append_assoc d line rest)) ∙ sym (append_assoc z (d ++ line) rest);
-    }
-
-    module _ (s : Seat) (ss : List Seat) (onward : ReadsOn ss) (afresh : ReadsLine ss) (j q : ℕ) (local : Local Unit Unit) (some : 1 ≤ j) (is : q ≡ q0 + j) (at : drop q text.seats ≡ s ∷ ss) (there : drop j l0 ≡ s ∷ ss) (counted : IsCounted local (bytes_of (take j l0))) where
+    module _ (s : Seat) (ss : List Seat) (onward : ReadsLabel ss) (afresh : ReadsLabelLine ss) (j q : ℕ) (local : Local Unit Unit) (some : 1 ≤ j) (is : q ≡ q0 + j) (at : drop q text.seats ≡ s ∷ ss) (there : drop j l0 ≡ s ∷ ss) (counted : IsCounted local (bytes_of (take j l0))) where
       abbrev calls : ℕ
       calls = 2 * length (s ∷ ss) + 2
 
@@ -160,7 +114,7 @@ module _ (g : Given) (text : Text) (m : Plays g text) (wanted : Given → Sight 
       counted_it = counted-read text q j local l0 s ss at there counted
 
       -- in a line that holds some bytes
-      module _ (z : List Event) (s0 : Seat) (ss0 : List Seat) (pass : AllPass is_of_line (s0 ∷ ss0)) (end : end_place text q ≡ end_after s0.end ss0) (read : IsRead z (s0 ∷ ss0) j) where
+      module _ (z : List Event) (s0 : Seat) (ss0 : List Seat) (pass : AllPass is_of_line (s0 ∷ ss0)) (end : end_place text q ≡ end_after s0.end ss0) (read : IsRead g.bytes l0 z (s0 ∷ ss0) j) where
         abbrev x : List Event
         x = xs ++ (z ++ begins s0 ∷ [])
 
@@ -186,7 +140,7 @@ module _ (g : Given) (text : Text) (m : Plays g text) (wanted : Given → Sight 
             (reads g text m cs p far events seats (2 * length ss + 2) calls in_line in_line q x x local behind_it (name_of a) (name_of a') s ss (reads_on [] (name_of a')) (found (j + 1) (label_from a' (bytes_of ss)))
             (events ++ x) at (omega arith) (touched-read text q local) has refl (λ e i. i)
             (onward a' z s0 (ss0 ++ s ∷ []) (j + 1) (q + 1) behind_it (omega arith) place (drop-next text.seats q s ss at) (drop-next l0 j s ss there) counted_it (one-passes-more is_of_line (s0 ∷ ss0) s pass (ap not plain))
-            (place-behind text q s (at-front text.seats q s ss at) ∙ sym (end-after-one s0.end ss0 s)) (read-more z (s0 ∷ ss0) j s ss there read) (λ none. omega (arith, reach (goes.0 ∙ ap one_more none), goes.1)) (rest ∙ ap (behind j) goes.0 ∙ behind-more j (label_from a' (bytes_of ss)))))
+            (place-behind text q s (at-front text.seats q s ss at) ∙ sym (end-after-one s0.end ss0 s)) (read-more g.bytes l0 z (s0 ∷ ss0) j s ss there read) (λ none. omega (arith, reach (goes.0 ∙ ap one_more none), goes.1)) (rest ∙ ap (behind j) goes.0 ∙ behind-more j (label_from a' (bytes_of ss)))))
 
         -- the line ends
         feeds : (a : Place) → Reach a → Rest a → Does g text m k (name_of a) (ends_line (exit Data ∷ [])) → (s.byte == 10) ≡ true → IsPassed (is_bare a) (is_hidden a) s.byte (bytes_of ss) true false
@@ -197,13 +151,13 @@ module _ (g : Given) (text : Text) (m : Plays g text) (wanted : Given → Sight 
             let z' = z ++ (d ++ line) in
             let es = (((events ++ x) ++ exits_at g text Data q ∷ []) ++ enters_at g text LineEnding q ∷ []) ++ exits_past g text LineEnding q ∷ [] in
             let made : es ≡ events ++ (xs ++ z') =
-            line-ending-read g text ((events ++ x) ++ exits_at g text Data q ∷ []) q s ss at ∙ ap (λ y. y ++ line) (data-closed z s0 ss0 q end)
+            line-ending-read g text ((events ++ x) ++ exits_at g text Data q ∷ []) q s ss at ∙ ap (λ y. y ++ line) (data-closed g text events xs z s0 ss0 q end)
             ∙ append_assoc events (xs ++ (z ++ d)) line ∙ ap (λ y. events ++ y) (append_assoc xs (z ++ d) line ∙ ap (λ y. xs ++ y) (append_assoc z d line)) in
             subst (λ o. Finds g text m cs p far events seats calls k (name_of a) (option_and_then f o)) (sym (ap (behind j) goes.0 ∙ behind-more j (in_label true false (bytes_of ss))))
             (reads g text m cs p far events seats (2 * length ss + 2) calls in_line in_string q x (xs ++ z') local behind_it (name_of a) LabelEolAfter s ss (ends_line (exit Data ∷ []))
             (found (j + 1) (in_label true false (bytes_of ss))) es at (omega arith) (touched-read text q local) has made (λ e i. i)
             (afresh z' (j + 1) (q + 1) behind_it (omega arith) place (drop-next text.seats q s ss at) (drop-next l0 j s ss there) counted_it
-            (read-feed z d (s0 ∷ ss0) j s ss there feed read (λ y. line-first g.bytes s0 ss0 (s ∷ y) pass (ap not feed))) (λ none. omega (arith, reach (goes.0 ∙ ap one_more none), goes.1)) (rest ∙ ap (behind j) goes.0 ∙ behind-more j (in_label true false (bytes_of ss)))))
+            (read-feed g.bytes l0 z d (s0 ∷ ss0) j s ss there feed read (λ y. line-first g.bytes s0 ss0 (s ∷ y) pass (ap not feed))) (λ none. omega (arith, reach (goes.0 ∙ ap one_more none), goes.1)) (rest ∙ ap (behind j) goes.0 ∙ behind-more j (in_label true false (bytes_of ss)))))
 
         -- the label ends
         closes : (a : Place) → Rest a → Does g text m k (name_of a) (ends_label (exit Data ∷ [])) → label_from a (bytes_of (s ∷ ss)) ≡ Some 0
@@ -212,7 +166,7 @@ module _ (g : Given) (text : Text) (m : Plays g text) (wanted : Given → Sight 
             subst (λ o. Finds g text m cs p far events seats calls k (name_of a) (option_and_then f o)) (sym (ap (behind j) goes ∙ none-behind j))
             (stays g text m cs p far events seats (2 * length (s ∷ ss) + 1) calls in_line (Reference ∷ []) q x (xs ++ (string_events g.bytes (take j l0) ++ exits_at g text ReferenceString q ∷ [])) local (counts local)
             (name_of a) LabelEndReferenceFullEnd (ends_label (exit Data ∷ [])) (f j)
-            (((events ++ x) ++ exits_at g text Data q ∷ []) ++ exits_at g text ReferenceString q ∷ []) (omega arith) (touched-call local) has (string-closed z s0 ss0 j q pass end read) (λ e i. i)
+            (((events ++ x) ++ exits_at g text Data q ∷ []) ++ exits_at g text ReferenceString q ∷ []) (omega arith) (touched-call local) has (string-closed g text events xs ReferenceString l0 z s0 ss0 j q pass end read) (λ e i. i)
             (ends j q s ss (counts local) some is at (rest ∙ ap (behind j) goes ∙ none-behind j) (counted-call local (bytes_of (take j l0)) counted)))
 
         refuses : (a : Place) → Reach a → Does g text m k (name_of a) (row [] Nok) → label_from a (bytes_of (s ∷ ss)) ≡ None → Here a (label_from a (bytes_of (s ∷ ss)))
@@ -292,7 +246,7 @@ module _ (g : Given) (text : Text) (m : Plays g text) (wanted : Given → Sight 
             ] refl
 
       -- at the beginning of a further line
-      module _ (z : List Event) (read : IsRead z [] j) (reach : in_label true false (bytes_of (s ∷ ss)) ≡ None → q + inside_look true false (bytes_of (s ∷ ss)) ≤ far) (rest : size ≡ behind j (in_label true false (bytes_of (s ∷ ss)))) where
+      module _ (z : List Event) (read : IsRead g.bytes l0 z [] j) (reach : in_label true false (bytes_of (s ∷ ss)) ≡ None → q + inside_look true false (bytes_of (s ∷ ss)) ≤ far) (rest : size ≡ behind j (in_label true false (bytes_of (s ∷ ss)))) where
         abbrev k0 : Configuration Unit Unit
         k0 = stands g text m cs p far events seats in_string q (xs ++ z) local
 
@@ -313,7 +267,7 @@ module _ (g : Given) (text : Text) (m : Plays g text) (wanted : Given → Sight 
             (reads g text m cs p far events seats (2 * length ss + 2) calls in_string in_line q (xs ++ z) (xs ++ (z ++ begins s ∷ [])) local behind_it LabelEolAfter (name_of a) s ss (reads_on (enter Data ∷ []) (name_of a))
             (found (j + 1) (label_from a (bytes_of ss))) es at (omega arith) (touched-read text q local) has made (λ e i. i)
             (onward a z s [] (j + 1) (q + 1) behind_it (omega arith) place (drop-next text.seats q s ss at) (drop-next l0 j s ss there) counted_it (ap not plain, tt) (place-behind text q s (at-front text.seats q s ss at))
-            (read-more z [] j s ss there read) (λ none. omega (arith, reach (goes.0 ∙ ap one_more none), goes.1)) (rest ∙ ap (behind j) goes.0 ∙ behind-more j (label_from a (bytes_of ss)))))
+            (read-more g.bytes l0 z [] j s ss there read) (λ none. omega (arith, reach (goes.0 ∙ ap one_more none), goes.1)) (rest ∙ ap (behind j) goes.0 ∙ behind-more j (label_from a (bytes_of ss)))))
 
         refuses0 : Does g text m k0 LabelEolAfter (row [] Nok) → total ≡ None → Here0 total
         refuses0 has goes = subst Here0 (sym goes) (fails-here g text m cs p far events seats calls in_string q (xs ++ z) local LabelEolAfter s ss at (omega arith) (omega (arith, reach goes)) counted.none has)
@@ -363,7 +317,7 @@ module _ (g : Given) (text : Text) (m : Plays g text) (wanted : Given → Sight 
             ] refl
 
     -- So it is read, from each of its bytes on
-    pub reads-label : (l : List Seat) → ReadsOn l × ReadsLine l
+    pub reads-label : (l : List Seat) → ReadsLabel l × ReadsLabelLine l
     reads-label [] = (
       λ a z s0 ss0 j q local some is at there counted pass end read short rest.
           let none = counted.none in

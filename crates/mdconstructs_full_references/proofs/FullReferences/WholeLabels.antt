@@ -2,6 +2,7 @@
 use Rattle.mdconstructs_full_references.proofs.Prelude.{◌≡◌, ℕ, suc, ◌+◌, ◌*◌, ◌≤◌, ◌==◌, ◌&&◌, ◌||◌, not, nat_le, List, [], ◌∷◌, ◌++◌, Bool, true, false, cond, Option, Some, None, refl, sym, ap, ◌∙◌, subst, arith, take, drop, length, length-drop, option_and_then, drop-next, drop-drop, append_assoc, place-behind, take-map, take_at, Event, Enter, Exit, Data, LineEnding, Reference, ReferenceMarker, ReferenceString, Ok, Nok, LabelEolAfter, LabelStart, LabelEndReferenceFullEnd, Seat, Sight, sight, Given, Text, Byte, Nothing, Choice, Configuration, Local, at-front, held, end_or, point_or, counts, EndsWith, Plays, leads-row, Found, bytes_of, leaf, row, write, enter, exit, consume, behind-more, behind-none, feed-first}
 use Rattle.std.specs.Prelude.{◌<◌}
 use Rattle.markdown_base.proofs.Facts.Numbers.{unlike}
+use Rattle.markdown_base.proofs.Facts.Lists.{begins-inside}
 use Rattle.mdconstructs_machines.specs.Spans.{event}
 use Rattle.mdconstructs_text.proofs.Plain.Stretches.{span-read}
 use Rattle.mdconstructs_labels.specs.Labels.{characters, is_bracket, is_filled, is_label}
@@ -42,10 +43,6 @@ no-bracket b h = elim (b == 91) as (λ t. (t || (b == 93)) ≡ false → (t ≡ 
 none-is : (is_wanted : List ℕ → Bool) (behind : List ℕ) → found_of is_wanted behind 0 ≡ None
 none-is is_wanted [] = refl
 none-is is_wanted (b ∷ bs) = refl
-
--- what is left begins within
-inside-length : (i : ℕ) (l : List Seat) (z : Seat) (zs : List Seat) → drop i l ≡ z ∷ zs → i ≤ length l
-inside-length i l z zs there = omega (arith, length-drop i l, ap length there)
 
 module _ (g : Given) (text : Text) (m : Plays g text) (wanted : Given → Sight → Configuration Unit Unit → Bool) (r : PlaysReferences g text m wanted) (is_wanted : ℕ → List ℕ → Bool) (told : Tells g text wanted is_wanted)
     (cs : List Choice) (p far : ℕ) (events : List Event) (s : Seat) (ss : List Seat) (at : drop p text.seats ≡ s ∷ ss) where
@@ -156,7 +153,7 @@ module _ (g : Given) (text : Text) (m : Plays g text) (wanted : Given → Sight 
       let ends = λ (i q : ℕ) (z : Seat) (zs : List Seat) (after : Local Unit Unit) (some : 1 ≤ i) (is : q ≡ q1 + i) (z_at : drop q text.seats ≡ z ∷ zs) (size_is : total ≡ Some i) (read : IsCounted after (bytes_of (take i (v ∷ vs)))).
       let inner_at : drop i ss ≡ z ∷ zs = ap (drop i) (same ∙ sym there) ∙ drop-drop i q1 text.seats ∙ ap (λ n. drop n text.seats) (sym is) ∙ z_at in
       let string = string_events g.bytes (take i (v ∷ vs)) in
-      let within : i ≤ suc (length vs) = inside-length i (v ∷ vs) z zs (ap (drop i) (sym same) ∙ inner_at) in
+      let within : i ≤ suc (length vs) = omega (arith, begins-inside i (v ∷ vs) z zs (ap (drop i) (sym same) ∙ inner_at)) in
       let spelled : string_enter ∷ (string ++ exits_at g text ReferenceString q ∷ []) ≡ label_string g.bytes (take i (v ∷ vs)) =
       (λ j. event g.bytes Enter ReferenceString (point_or text.end (sym (at-front text.seats q1 v vs there) j)) ∷ (string ++ exits_at g text ReferenceString (is j) ∷ []))
       ∙ span-read text g.bytes ReferenceString string i q1 v vs there some within in
