@@ -20,7 +20,7 @@ input and writes the events of the machine of lines, as mdevents does without op
 
        measure.py --documents MDEVENTS [COMMIT]. Only the table of whole documents, of the pages as they were at a commit.
 
-glibc copies long stretches by one instruction that callgrind counts once a byte, so that is switched off here.
+glibc copies and fills long stretches by one instruction that callgrind counts once a byte, so that is switched off here.
 """
 
 import glob
@@ -32,7 +32,7 @@ import sys
 import tempfile
 import time
 
-os.environ["GLIBC_TUNABLES"] = "glibc.cpu.x86_rep_movsb_threshold=100000000"
+os.environ["GLIBC_TUNABLES"] = "glibc.cpu.x86_rep_movsb_threshold=100000000:glibc.cpu.x86_rep_stosb_threshold=100000000"
 TOP = os.path.dirname(os.path.dirname(os.path.realpath(__file__)))
 
 # bytes of an event in memory

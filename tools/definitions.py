@@ -1,6 +1,6 @@
 #!/usr/bin/env python3
 """Writes the list of definitions into docs/DEFINITIONS.md: of each file of `specs` of the public crates and of their parts, the first
-sentence of its first comment, a long one up to its colon; of files with rows of states, costs, examples or statements of laws only the
+sentence of its first comment, a long one up to its colon or first comma; of files with rows of states, costs, examples or statements of laws only the
 name. What stands above the list is written by hand.
 
 usage: tools/definitions.py [--check]     with --check it writes nothing, and prints what fails, and ends with 1 if something does
@@ -43,8 +43,12 @@ def said(path):
 
 
 def short(sentence):
-    """Returns a sentence, and of a long one what stands before its first colon or semicolon."""
-    return re.split(r"[:;] ", sentence)[0].removesuffix(".") + "." if len(sentence.split()) > 8 else sentence
+    """Returns a sentence, and of a long one what stands before its first colon or semicolon, and of one of more than twelve words before its first comma."""
+    if len(sentence.split()) <= 8:
+        return sentence
+    parts = re.split(r"(?<=[^:;])(?:[:;] |, )(?![^(]*\))", sentence)
+    front = parts[0] if len(sentence.split()) > 12 and len(parts[0].split()) > 3 else re.split(r"[:;] ", sentence)[0]
+    return front.removesuffix(".") + "."
 
 
 def section(crate):

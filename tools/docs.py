@@ -10,7 +10,7 @@ usage: tools/docs.py [--take] [--hand-in]
 A fence names its file behind the language, and the items that it shows: ```rust crates/C/src/f.rt item item. `*` is the whole
 file. With no item each stretch between blank lines is text of the file. A block of code that names no file fails. Shown with items
 are the `use` lines that they need, with the names that they use, but if `-` stands before the items. tools/definitions.py,
-tools/prose.py, tools/cases.py and tools/contracts.py are called, too.
+tools/prose.py, tools/cases.py, tools/contracts.py and tools/reading.py are called, too.
 """
 
 import os
@@ -25,6 +25,7 @@ import cases  # noqa: E402
 import contracts  # noqa: E402
 import definitions  # noqa: E402
 import prose  # noqa: E402
+import reading  # noqa: E402
 import table  # noqa: E402
 
 FILES = subprocess.run(["git", "-C", TOP, "ls-files", "-co", "--exclude-standard"], capture_output=True, text=True).stdout.split("\n")
@@ -219,7 +220,7 @@ def main():
     if "--take" in sys.argv[1:]:
         definitions.write()
         contracts.write()
-    failed.extend(definitions.disagreements() + prose.disagreements() + cases.disagreements() + contracts.disagreements() + table.disagreements())
+    failed.extend(definitions.disagreements() + prose.disagreements() + cases.disagreements() + contracts.disagreements() + reading.disagreements() + table.disagreements())
     print("\n".join(failed), end="\n" if failed else "")
     sys.exit(1 if failed else 0)
 
