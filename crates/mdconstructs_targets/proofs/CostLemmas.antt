@@ -2,7 +2,7 @@
 use Rattle.std.proofs.Common.{◌≡◌, ℕ, zero, suc, ◌+◌, ◌*◌, ◌≤◌, Bool, true, false, cond, List, [], ◌∷◌, ◌++◌, length, take, drop, refl, sym, ap, ◌∙◌, arith}
 use Rattle.std.proofs.lemmas.List.{length-append, take-append-drop}
 use Rattle.std.specs.List.{list_any}
-use Rattle.std.specs.Prelude.{◌||◌}
+use Rattle.std.proofs.lemmas.Bool.{or_parts}
 use Rattle.markdown_base.specs.declared.event.Event.{Event}
 use Rattle.markdown_base.specs.declared.event.Name.TheVariants as name
 use Rattle.mdconstructs_targets.specs.Costs.{DefinitionsAreFoundInLinearTime, DefinitionsHoldNone, definitions_cost}
@@ -14,20 +14,13 @@ is_one e = enters name.Definition e
 abbrev charge : Bool → List Event → ℕ
 charge b es = cond b (3 * length (inside es) + 2) 0
 
-or-left : (a b : Bool) → (a || b) ≡ false → a ≡ false
-or-left true b h = h
-or-left false b h = refl
-
-or-right : (a b : Bool) → (a || b) ≡ false → b ≡ false
-or-right true b h = absurd (cc)
-or-right false b h = h
-
 -- events that enter no definition cost a turn each
 plain : (es ys : List Event) → list_any is_one es ≡ false → definitions_cost (es ++ ys) ≡ length es + definitions_cost ys
 plain [] ys h = omega arith
 plain (e ∷ es) ys h =
-    let first : charge (is_one e) (es ++ ys) ≡ 0 = ap (λ b. charge b (es ++ ys)) (or-left (is_one e) (list_any is_one es) h) in
-    let more = plain es ys (or-right (is_one e) (list_any is_one es) h) in
+    let none = or_parts (is_one e) (list_any is_one es) h in
+    let first : charge (is_one e) (es ++ ys) ≡ 0 = ap (λ b. charge b (es ++ ys)) none.0 in
+    let more = plain es ys none.1 in
     omega (arith, first, more)
 
 behind : (n : ℕ) (es : List Event) → DefinitionsHoldNone es → DefinitionsHoldNone (drop n es)
