@@ -1,5 +1,5 @@
 -- What a walk over the end of a line found is what thematic breaks are there.
-use Rattle.std.proofs.Math.Bool.{or-true, or_comm}
+use Rattle.std.proofs.Math.Bool.{and-false, or-true, or_comm}
 use Rattle.std.proofs.Common.{◌≡◌, ◌≢◌, ℕ, zero, suc, ◌+◌, ◌-◌, ◌<◌, ◌≤◌, Bool, true, false, cond, List, [], ◌∷◌, length, drop, get_or, refl, sym, ap, ◌∙◌, arith, eqb-true, eq-eqb, ne_eqb, le-leb, le-ltb, lt-ltb}
 use Rattle.std.proofs.lemmas.Bool.{eqb-false, false≢true, leb-true, leb-false, lt-leb, ltb-true, ltb-false}
 use Rattle.std.specs.Prelude.{◌==◌, ◌&&◌, ◌||◌, nat_le, nat_lt, filter, None, Some, is_some, unwrap_or}
@@ -8,7 +8,7 @@ use Rattle.std.proofs.lemmas.List.{drop_more, drop-drop, get_or-drop, length-dro
 use Rattle.std.proofs.Math.Dec.{leb-suc-zero}
 use Rattle.std.proofs.Math.Seq.{drop-length}
 use Rattle.mdconstructs_machines.specs.Breaks.{is_white}
-use Rattle.mdconstructs_flow_read.proofs.Looks.BreakLooks.{mark-no-white}
+use Rattle.mdconstructs_flow_read.proofs.Looks.BreakLooks.{is_break_mark as is_looked_for, mark-no-white}
 use Rattle.mdconstructs_flow_read.specs.LineKinds.{indent, is_break_of_marks, is_thematic_break, unindented}
 use Rattle.mdconstructs_lines.specs.declared.breaks.Walk.{Walk}
 use Rattle.mdconstructs_lines.specs.Breaks.{is_break_mark, walked, with_byte}
@@ -100,9 +100,9 @@ all_white m (b ∷ bs) h = by (b == m) (is_white b) h (all_white m bs)
     by false true h rest = rest h
     by s false h rest = absurd (false≢true h)
 
--- a mark is no white space
-mark_is_black : (m : ℕ) → is_break_mark m ≡ true → is_white m ≡ false
-mark_is_black m h = mark-no-white m (ap (λ t. (m == 42) || t) (or_comm (m == 95) (m == 45)) ∙ h)
+-- the marks of a walk are those of the machine's look
+same_marks : (m : ℕ) → is_looked_for m ≡ is_break_mark m
+same_marks m = ap (λ t. (m == 42) || t) (or_comm (m == 95) (m == 45))
 
 record Seen (w : Walk) (r : List ℕ) : Type 0 where
   pub within : w.reach ≤ length r
@@ -114,10 +114,6 @@ record Seen (w : Walk) (r : List ℕ) : Type 0 where
   pub only : w.reach ≡ length r → 1 ≤ w.marks → list_all (is_mark_or_white w.mark) r ≡ true
   pub count : w.reach ≡ length r → 1 ≤ w.marks → length (filter (λ b. b == w.mark) r) ≡ w.marks
   pub other : w.reach < length r → (m : ℕ) → is_break_mark m ≡ true → list_all (is_mark_or_white m) r ≡ false
-
-pub and_false : (x : Bool) → (x && false) ≡ false
-and_false true = refl
-and_false false = refl
 
 module _ (b : ℕ) (bs : List ℕ) (w : Walk) (s : Seen w bs) where
   -- the walk stopped before
@@ -131,7 +127,7 @@ module _ (b : ℕ) (bs : List ℕ) (w : Walk) (s : Seen w bs) where
     white = λ e. absurd (omega (arith, e, less));
     only = λ e. absurd (omega (arith, e, less));
     count = λ e. absurd (omega (arith, e, less));
-    other = λ h m k. ap (λ x. is_mark_or_white m b && x) (s.other less m k) ∙ and_false (is_mark_or_white m b);
+    other = λ h m k. ap (λ x. is_mark_or_white m b && x) (s.other less m k) ∙ and-false (is_mark_or_white m b);
   }
 
   -- it goes over white space
@@ -149,7 +145,7 @@ module _ (b : ℕ) (bs : List ℕ) (w : Walk) (s : Seen w bs) where
   }
     where
       differs : (x : Bool) → (b == w.mark) ≡ x → 1 ≤ w.marks → length (cond x (b ∷ filter (λ c. c == w.mark) bs) (filter (λ c. c == w.mark) bs)) ≡ length (filter (λ c. c == w.mark) bs)
-      differs true e some = absurd (false≢true (sym (mark_is_black w.mark (s.kind some)) ∙ ap is_white (sym (eqb-true b w.mark e)) ∙ is))
+      differs true e some = absurd (false≢true (sym (mark-no-white w.mark (same_marks w.mark ∙ s.kind some)) ∙ ap is_white (sym (eqb-true b w.mark e)) ∙ is))
       differs false e some = refl
 
   -- it goes over a mark
@@ -202,7 +198,7 @@ module _ (b : ℕ) (bs : List ℕ) (w : Walk) (s : Seen w bs) where
       by m k true e true ey =
           let same : b ≡ m = eqb-true b m e in
           let d = differs (ap is_break_mark same ∙ k) in
-          let out : is_mark_or_white m w.mark ≡ false = ap (λ x. (w.mark == x) || is_white w.mark) (sym same) ∙ ap (λ x. x || is_white w.mark) d.1 ∙ mark_is_black w.mark (s.kind d.0) in
+          let out : is_mark_or_white m w.mark ≡ false = ap (λ x. (w.mark == x) || is_white w.mark) (sym same) ∙ ap (λ x. x || is_white w.mark) d.1 ∙ mark-no-white w.mark (same_marks w.mark ∙ s.kind d.0) in
           let none = count_none (is_mark_or_white m) w.mark bs out ey in
           absurd (omega (arith, d.0, none, s.count whole_walk d.0))
 
@@ -268,7 +264,7 @@ module _ (b : ℕ) (bs : List ℕ) where
       by true e =
           let none : w.least ≡ 0 = s.few (omega (arith, eqb-true w.marks 2 e)) in
           let far : nat_le (w.reach + 1) n ≡ false = lt-leb (w.reach + 1) n (omega (arith, whole_walk, h)) in
-          ap (λ x. nat_le 1 (w.reach + 1) && (x && nat_le n (w.reach + 1))) far ∙ and_false (nat_le 1 (w.reach + 1)) ∙ sym (ap (λ x. nat_le 1 x && (nat_le x n && nat_le n w.reach)) none)
+          ap (λ x. nat_le 1 (w.reach + 1) && (x && nat_le n (w.reach + 1))) far ∙ and-false (nat_le 1 (w.reach + 1)) ∙ sym (ap (λ x. nat_le 1 x && (nat_le x n && nat_le n w.reach)) none)
       by false e = ap (λ x. nat_le 1 w.least && (nat_le w.least n && x)) (le-leb n (w.reach + 1) (omega (arith, whole_walk, h)) ∙ sym (le-leb n w.reach (omega (arith, whole_walk, h))))
 
   steady_walk : (n : ℕ) → n ≤ length bs → is_break_end (walked (b ∷ bs)) n ≡ is_break_end (walked bs) n
@@ -280,7 +276,7 @@ spread true y z true h = refl
 spread false true z true h = refl
 spread false false true true h = refl
 spread false false false true h = absurd (false≢true h)
-spread x y z false h = ap (λ u. u || ((y && false) || (z && false))) (and_false x) ∙ ap (λ u. u || (z && false)) (and_false y) ∙ and_false z
+spread x y z false h = ap (λ u. u || ((y && false) || (z && false))) (and-false x) ∙ ap (λ u. u || (z && false)) (and-false y) ∙ and-false z
 
 -- bytes that begin with no white space
 module _ (b : ℕ) (bs : List ℕ) (w : Walk) (s : Seen w (b ∷ bs)) (black : is_white b ≡ false) where
@@ -335,11 +331,11 @@ module _ (b : ℕ) (bs : List ℕ) (w : Walk) (s : Seen w (b ∷ bs)) (black : i
       by false eo =
           let less : w.reach < suc (length bs) = omega (arith, eqb-false w.reach (suc (length bs)) eo, s.within) in
           let short : nat_le (suc (length bs)) w.reach ≡ false = lt-leb (suc (length bs)) w.reach less in
-          let none : (m : ℕ) → is_break_mark m ≡ true → is_break_of_marks m all ≡ false = λ m k. ap (λ x. (b == m) && (x && nat_le 3 (length (filter (λ c. c == m) all)))) (s.other less m k) ∙ and_false (b == m) in
+          let none : (m : ℕ) → is_break_mark m ≡ true → is_break_of_marks m all ≡ false = λ m k. ap (λ x. (b == m) && (x && nat_le 3 (length (filter (λ c. c == m) all)))) (s.other less m k) ∙ and-false (b == m) in
           let x = none 42 refl in
           let y = none 45 refl in
           let z = none 95 refl in
-          ap (λ u. nat_le 1 w.least && (nat_le w.least (suc (length bs)) && u)) short ∙ ap (λ u. nat_le 1 w.least && u) (and_false (nat_le w.least (suc (length bs)))) ∙ and_false (nat_le 1 w.least)
+          ap (λ u. nat_le 1 w.least && (nat_le w.least (suc (length bs)) && u)) short ∙ ap (λ u. nat_le 1 w.least && u) (and-false (nat_le w.least (suc (length bs)))) ∙ and-false (nat_le 1 w.least)
           ∙ sym (λ i. x i || (y i || z i))
 
 break_at : (t : List ℕ) (k : ℕ) → k < length t → is_white (get_or t k 0) ≡ false → is_break_end (walked t) (length t - k) ≡ is_thematic_break (drop k t)
@@ -373,7 +369,7 @@ none_at_end w = by w.least
   where
     by : (n : ℕ) → (nat_le 1 n && (nat_le n 0 && nat_le 0 w.reach)) ≡ false
     by zero = refl
-    by (suc n) = ap (λ x. nat_le 1 (suc n) && (x && nat_le 0 w.reach)) (leb-suc-zero n) ∙ and_false (nat_le 1 (suc n))
+    by (suc n) = ap (λ x. nat_le 1 (suc n) && (x && nat_le 0 w.reach)) (leb-suc-zero n) ∙ and-false (nat_le 1 (suc n))
 
 module _ (t : List ℕ) (at : ℕ) (h : at ≤ length t) where
   abbrev pub first : ℕ
@@ -439,8 +435,8 @@ module _ (t : List ℕ) (w : Walk) (same : w ≡ walked t) where
       → (nat_le from (at + indent (drop at t)) && nat_lt (at + indent (drop at t)) 0) ≡ (thematic && is_thematic_break (unindented (drop at t)))
   breaks_none none at from h thematic =
       let e : (walked t).least ≡ 0 = sym (ap (λ (u : Walk). u.least) same) ∙ none in
-      ap (λ x. nat_le from (at + indent (drop at t)) && x) (le-ltb (at + indent (drop at t)) 0 (omega arith)) ∙ and_false (nat_le from (at + indent (drop at t)))
-      ∙ sym (ap (λ x. thematic && x) (none_without_marks t at h e) ∙ and_false thematic)
+      ap (λ x. nat_le from (at + indent (drop at t)) && x) (le-ltb (at + indent (drop at t)) 0 (omega arith)) ∙ and-false (nat_le from (at + indent (drop at t)))
+      ∙ sym (ap (λ x. thematic && x) (none_without_marks t at h e) ∙ and-false thematic)
 
   pub breaks_told : (w.least ≢ 0) → (at : ℕ) → at ≤ length t → (thematic : Bool) → thematic ≡ true
       → (nat_le (length t - w.reach) (at + indent (drop at t)) && nat_lt (at + indent (drop at t)) (length t - w.least + 1)) ≡ (thematic && is_thematic_break (unindented (drop at t)))
