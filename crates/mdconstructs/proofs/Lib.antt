@@ -139,6 +139,7 @@ pub use Rattle.mdconstructs_containers.proofs.LineFacts
 pub use Rattle.mdconstructs_containers.proofs.ListLemmas
 pub use Rattle.mdconstructs_containers.proofs.ListNumbers
 pub use Rattle.mdconstructs_containers.proofs.ListSeenLemmas
+pub use Rattle.mdconstructs_containers.proofs.OpenFrames
 pub use Rattle.mdconstructs_containers.proofs.OverLemmas
 pub use Rattle.mdconstructs_containers.proofs.PartCosts
 pub use Rattle.mdconstructs_containers.proofs.PartFacts
@@ -153,6 +154,7 @@ pub use Rattle.mdconstructs_containers.proofs.PrefixSpans
 pub use Rattle.mdconstructs_containers.proofs.RestLemmas
 pub use Rattle.mdconstructs_containers.proofs.RowFacts
 pub use Rattle.mdconstructs_containers.proofs.RowLemmas
+pub use Rattle.mdconstructs_containers.proofs.RowReads
 pub use Rattle.mdconstructs_containers.proofs.RowSpans
 pub use Rattle.mdconstructs_containers.proofs.RunLemmas
 pub use Rattle.mdconstructs_containers.proofs.SeatFacts

@@ -1,12 +1,15 @@
 -- Lemmas on what is known of a line from the lines behind it.
-use Rattle.std.proofs.Common.{◌≡◌, ℕ, zero, suc, ◌<◌, Bool, true, false, cond, List, [], ◌∷◌, length, drop, get_or, refl, sym, ap, ◌∙◌, arith}
+use Rattle.std.proofs.Common.{◌≡◌, ℕ, zero, suc, ◌+◌, ◌-◌, ◌<◌, Bool, true, false, cond, List, [], ◌∷◌, length, take, drop, get_or, refl, sym, ap, subst, ◌∙◌, arith}
 use Rattle.std.specs.Prelude.{nat_le, nat_lt, Option, Some, None}
+use Rattle.std.proofs.lemmas.List.{drop_more, take_rest}
 use Rattle.mdconstructs_containers.specs.declared.ahead.Ahead.{Ahead}
 use Rattle.mdconstructs_lines.specs.Containers.{Prefix, Container, quote, item, Item}
 use Rattle.mdconstructs_containers.specs.declared.frames.Frame.{Frame}
 use Rattle.mdconstructs_containers.specs.declared.spans.RowAt.{RowAt}
+use Rattle.mdconstructs_containers.specs.Parts.{open_behind}
 use Rattle.mdconstructs_containers.specs.Rows.{Row}
 use Rattle.mdconstructs_containers.specs.Skeleton.{Frame as Span, further, going_on_at, list_begun, list_at, list_name}
+use Rattle.mdconstructs_containers.specs.Spans.{AreRowsIn}
 use Rattle.mdconstructs_containers.specs.Views.{IsRow}
 use Rattle.mdconstructs_containers.specs.Ahead.{AreRows, ahead_of, frame_ahead, frame_before, frame_begun}
 use Rattle.mdconstructs_containers.specs.Frames.{frames_in}
@@ -80,3 +83,34 @@ list_ahead (row ∷ behind) = by row.is_left_blank (list_ahead behind)
     by : (b : Bool) → list_at behind ≡ frames_in (frame_ahead behind) → cond b (list_at behind) (list_begun row.begun) ≡ frames_in (cond b (frame_ahead behind) (frame_begun row.begun))
     by true e = e
     by false e = list_of_begun row.begun
+
+-- ---- lines at an index
+
+abbrev pub no_ahead : Ahead
+no_ahead = record { further = 0; many = 0; list = None }
+
+-- a line at an index, and those behind it
+pub line_at_index : (rows : List RowAt) (i : ℕ) (x d : RowAt) → i < length rows → x ≡ get_or rows i d → drop i rows ≡ x ∷ take (length rows - (i + 1)) (drop (i + 1) rows)
+line_at_index rows i x d h e = drop_more rows i d h ∙ (λ k. sym e k ∷ sym (take_rest rows (i + 1)) k)
+
+pub ahead_at : (aheads : List Ahead) (all : List Row) (size i : ℕ) → i < size → ((d : Ahead) (k : ℕ) → k < size → get_or aheads k d ≡ ahead_of (drop (size - k) all)) → get_or aheads (size - 1 - i) no_ahead ≡ ahead_of (drop (i + 1) all)
+ahead_at aheads all size i h f =
+    let at : size - (size - 1 - i) ≡ i + 1 = omega arith in
+    f no_ahead (size - 1 - i) (omega arith) ∙ ap (λ k. ahead_of (drop k all)) at
+
+-- the number of a line is that of its place
+pub numbers : (t : ℕ) (bytes : List ℕ) (stack : List Container) (number start : ℕ) (xs : List RowAt) (rs : List Row) (k : ℕ) (d : RowAt) → k < length xs → AreRowsIn t bytes stack number start xs rs → (get_or xs k d).span.number ≡ number + k
+numbers t bytes stack number start [] rs k d h are = absurd (omega (arith, h))
+numbers t bytes stack number start (x ∷ xs) [] k d h are = absurd are
+numbers t bytes stack number start (x ∷ xs) (r ∷ rs) zero d h are = omega (arith, are.0.placed.number_is)
+numbers t bytes stack number start (x ∷ xs) (r ∷ rs) (suc k) d h are = let e = numbers t bytes (open_behind stack r) (suc number) x.span.next xs rs k d (omega (arith, h)) are.1 in omega (arith, e)
+
+pub number_at : (t : ℕ) (bytes : List ℕ) (rows : List RowAt) (all : List Row) (i : ℕ) (x : RowAt) → i < length rows → x ≡ get_or rows i x → AreRowsIn t bytes [] 1 0 rows all → x.span.number ≡ i + 1
+number_at t bytes rows all i x h e are = let n = numbers t bytes [] 1 0 rows all i x h are in ap (λ (y : RowAt). y.span.number) e ∙ omega (arith, n)
+
+-- what lies ahead, by equal lists
+pub same_aheads : (xs ys : List RowAt) (these those : List Ahead) (all : List Row) → xs ≡ ys → these ≡ those → ((d : Ahead) (k : ℕ) → k < length ys → get_or those k d ≡ ahead_of (drop (length ys - k) all))
+    → (d : Ahead) (k : ℕ) → k < length xs → get_or these k d ≡ ahead_of (drop (length xs - k) all)
+same_aheads xs ys these those all e f h =
+    subst (λ (l : List RowAt). (d : Ahead) (k : ℕ) → k < length l → get_or these k d ≡ ahead_of (drop (length l - k) all)) (sym e)
+    (subst (λ (l : List Ahead). (d : Ahead) (k : ℕ) → k < length ys → get_or l k d ≡ ahead_of (drop (length ys - k) all)) (sym f) h)

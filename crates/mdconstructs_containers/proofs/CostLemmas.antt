@@ -1,13 +1,13 @@
 -- Lemmas on what skeletons cost: the columns of lines pay for containers.
 use Rattle.std.proofs.Common.{◌≡◌, ◌⊎◌, inl, inr, ℕ, zero, suc, ◌+◌, ◌-◌, ◌*◌, ◌<◌, ◌≤◌, Bool, true, false, cond, List, [], ◌∷◌, ◌++◌, length, take, drop, map, min, refl, sym, ap, ◌∙◌, subst, arith, get_or, length-append, length-drop, eq-eqb, ne_eqb}
-use Rattle.std.specs.Prelude.{◌==◌, ◌&&◌, ◌||◌, not, max, nat_le, is_some, option_map, IfSome, Option, Some, None}
+use Rattle.std.specs.Prelude.{◌==◌, ◌&&◌, not, max, nat_le, is_some, option_map, IfSome, Option, Some, None}
 use Rattle.std.specs.List.{AllByRecursion, flat_map}
 use Rattle.std.proofs.lemmas.Bool.{cases_lt, eqb-true, false≢true}
 use Rattle.std.proofs.lemmas.Bool.Decides.{nat_tests}
 use Rattle.std.proofs.lemmas.List.{drop_all, drop-drop, length-map, length-take-le, take-append-le}
 use Rattle.std.proofs.lemmas.List.Sums.{sum_by-cons}
 use Rattle.markdown_base.specs.declared.configuration.Constructs.{Constructs}
-use Rattle.markdown_base.proofs.Common.{and-right}
+use Rattle.markdown_base.proofs.Common.{and-right, every-take}
 use Rattle.markdown_base.proofs.Facts.Bools.{and-left}
 use Rattle.mdconstructs_machines.specs.Breaks.{is_white}
 use Rattle.mdconstructs_flow_read.specs.HtmlLines.{ends, waits_for_blank}
@@ -20,15 +20,15 @@ use Rattle.mdconstructs_lines.proofs.LineLemmas.{all_by_prefix}
 use Rattle.mdconstructs_containers.specs.declared.frames.Frame.{Frame as CodeFrame}
 use Rattle.mdconstructs_containers.specs.declared.going.Open.{Open}
 use Rattle.mdconstructs_containers.specs.declared.rows.Row.{Row as CodeRow}
-use Rattle.mdconstructs_containers.specs.Costs.{ArePaid, FirstIsNotLazy, Follows, HasSize, HaveSizes, IsPaid, is_bare}
+use Rattle.mdconstructs_containers.specs.Costs.{ArePaid, FirstIsNotLazy, HasSize, HaveSizes, IsAsked, IsEnough, IsPaid, is_bare}
 use Rattle.mdconstructs_containers.specs.Frames.{frame_of, frames_in}
 use Rattle.mdconstructs_containers.specs.Prefixes.{columns_of, containers_of, going_on}
-use Rattle.mdconstructs_containers.specs.Rows.{Before, Leaf, Row, closed, has_none, is_paragraph, known_after, leaf_after, nothing_known, open_fence, open_html, open_paragraph, opened_by, row_of, rows, rows_from}
+use Rattle.mdconstructs_containers.specs.Rows.{Before, Leaf, Row, closed, has_none, is_paragraph, known_after, leaf_after, open_fence, open_html, open_paragraph, opened_by, row_of}
 use Rattle.mdconstructs_containers.specs.Skeleton.{Frame, frames_of, further}
 use Rattle.mdconstructs_containers.specs.Views.{IsRow, begun_of, open_of}
-use Rattle.mdconstructs_containers.proofs.FrameFacts.{lazy_is, lazy_stays, left_is, none_is, old_after}
+use Rattle.mdconstructs_containers.proofs.FrameFacts.{lazy_is, lazy_stays, left_is, none_is}
 use Rattle.mdconstructs_containers.proofs.GoingLemmas.{begins_front, prefix_within}
-use Rattle.mdconstructs_containers.proofs.RowFacts.{BeganBefore, begun_sizes, columns_within, every_front, went_within}
+use Rattle.mdconstructs_containers.proofs.RowFacts.{BeganBefore, begun_sizes, columns_within}
 
 -- ---- containers, and the columns of their prefixes
 
@@ -162,7 +162,7 @@ module _ (on : Constructs) (b : Before) (n : ℕ) (line : Line) where
 
       by : (columns_of r.went_on < length (text_of line)) ⊎ (length (text_of line) ≤ columns_of r.went_on) → is_bare r ≡ false → length r.went_on + length r.begun ≤ r.columns
       by (inl less) bare =
-          let few : length r.went_on ≤ columns_of r.went_on = went_few (take b.depth b.stack) n (text_of line) (every_front HasSize b.depth b.stack sizes) less in
+          let few : length r.went_on ≤ columns_of r.went_on = went_few (take b.depth b.stack) n (text_of line) (every-take HasSize b.depth b.stack sizes) less in
           let more = begun in
           let sum : r.columns ≡ columns_of r.went_on + columns_of r.begun = refl in
           omega (arith, few, more, sum)
@@ -181,29 +181,19 @@ module _ (on : Constructs) (b : Before) (n : ℕ) (line : Line) where
       not_left e true q = absurd (false≢true (sym (blank_not_lazy (left_is on b n line q).0) ∙ e))
       not_left e false q = q
 
-pub follows : (on : Constructs) (b : Before) (n : ℕ) (l : Line) (ls : List Line) → Follows (row_of on b n l) (rows_from on (known_after on b (row_of on b n l)) (suc n) ls)
-follows on b n l [] = tt
-follows on b n l (m ∷ ms) =
-    let next = known_after on b (row_of on b n l) in (
-      (λ h. not_lazy on next (suc n) m (leaf_behind on b n l h)),
-      (λ h. let few = (went_within on next (suc n) m).0 in let depth = depth_behind on b n l h in omega (arith, few, depth)),
-    )
-
-pub rows_paid : (on : Constructs) (b : Before) (n : ℕ) (ls : List Line) → AllByRecursion (BeganBefore n) b.stack → ArePaid (rows_from on b n ls)
-rows_paid on b n [] h = tt
-rows_paid on b n (l ∷ ls) h = (is_paid on b n l (began_sizes n b.stack h), follows on b n l ls, rows_paid on (known_after on b (row_of on b n l)) (suc n) ls (old_after on b n l h))
-
-pub first_paid : (on : Constructs) (ls : List Line) → FirstIsNotLazy (rows on ls)
-first_paid on [] = tt
-first_paid on (l ∷ ls) = not_lazy on (nothing_known on) 1 l refl
-
 pub paid_behind : (k : ℕ) (rs : List Row) → ArePaid rs → ArePaid (drop k rs)
 paid_behind zero rs h = h
 paid_behind (suc k) [] h = tt
 paid_behind (suc k) (r ∷ rs) h = paid_behind k rs h.2
 
-pub all_paid : (on : Constructs) (ls : List Line) → ArePaid (rows on ls)
-all_paid on ls = rows_paid on (nothing_known on) 1 ls tt
+-- ---- turns
+
+pub next_one : (n : ℕ) → 1 + n ≡ suc n
+next_one n = omega arith
+
+-- one turn more
+pub enough_before : (turns more budget spans containers from to opens : ℕ) (rs qs : List Row) → more ≡ turns + 1 → rs ≡ qs → IsEnough turns budget spans containers from to opens rs → IsEnough more (budget + 1) spans containers from to opens qs
+enough_before turns more budget spans containers from to opens rs qs e is h = record { asked = h.asked; are = subst (IsAsked h.asked from to opens) is h.are; enough = omega (arith, e, h.enough) }
 
 -- ---- the line behind a stretch
 
@@ -262,8 +252,8 @@ module _ (budget t0 t1 t2 t3 t4 sc fl asked w k st b many size : ℕ) (start : t
 
   -- behind another line
   module _ (all : ℕ) (three : t3 + st ≤ t2 + all) (below : st ≤ all) (paid : many + b ≤ size) (most : all ≤ many + b) where
-    pub other_turned : (t5 : ℕ) → t5 ≤ t4 + fl + (st - k) → t5 ≤ budget + 3 * size
-    other_turned t5 h = omega (arith, start, one, two, three, four, paid, most, below, h)
+    pub other_turned : t4 + fl + (st - k) ≤ budget + 3 * size
+    other_turned = omega (arith, start, one, two, three, four, paid, most, below)
 
     pub other_paid : (t5 fn : ℕ) → t5 + fn ≤ t4 + fl + 3 * (st - k) + 1 → t5 + (fn + (st + (all + 4 * (all - st)))) ≤ budget + 7 * size + 1
     other_paid t5 fn h = omega (arith, start, one, two, three, four, paid, most, below, h)
@@ -433,4 +423,4 @@ pub going_sizes : (going own went begun stack : List Container) (st many : ℕ) 
 going_sizes going own went begun stack st many eg eo ew few sizes =
     let long : length went ≡ many = ap (λ (l : List Container). length l) ew ∙ length-take-le many stack few in
     let front : take (min st many) own ≡ take (min st many) (take many stack) = ap (take (min st many)) eo ∙ take-append-le (min st many) went begun (omega (arith, long)) ∙ ap (take (min st many)) ew in
-    subst HaveSizes (sym (eg ∙ front)) (every_front HasSize (min st many) (take many stack) (every_front HasSize many stack sizes))
+    subst HaveSizes (sym (eg ∙ front)) (every-take HasSize (min st many) (take many stack) (every-take HasSize many stack sizes))

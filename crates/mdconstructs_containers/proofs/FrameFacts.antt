@@ -1,12 +1,12 @@
--- Which spans of containers are open from part to part of a document: those that the next part begins in stay open, and it enters the others.
-use Rattle.std.proofs.Common.{◌≡◌, ℕ, zero, suc, ◌+◌, ◌<◌, ◌≤◌, Bool, true, false, cond, List, [], ◌∷◌, ◌++◌, length, take, drop, map, refl, sym, ap, ◌∙◌, subst, arith, append_assoc, inl, inr, ◌⊎◌, eq-eqb, ne_eqb}
+-- Spans of containers: which ones two lists share, which ones a part enters, and in which ones a line stands.
+use Rattle.std.proofs.Common.{◌≡◌, ℕ, zero, suc, ◌+◌, ◌<◌, ◌≤◌, Bool, true, false, cond, List, [], ◌∷◌, ◌++◌, length, take, drop, refl, sym, ap, ◌∙◌, subst, arith, append_assoc, inl, inr, ◌⊎◌, eq-eqb, ne_eqb}
 use Rattle.std.specs.Prelude.{◌==◌, ◌&&◌, ◌||◌, not, nat_le, nat_lt, reverse}
 use Rattle.std.specs.List.{AllByRecursion, flat_map}
 use Rattle.std.proofs.lemmas.Bool.{false≢true, eqb-true}
 use Rattle.std.proofs.lemmas.Bool.Decides.{nat_tests}
 use Rattle.std.proofs.lemmas.Grind.{flat_map-append}
-use Rattle.std.proofs.lemmas.List.{append-nil, length-take, reverse-append, reverse-reverse, length-drop, length-map, length-reverse, take_all, take-append-le, drop-append-le, take-append-drop}
-use Rattle.markdown_base.proofs.Common.{every-append, every-map, and-right}
+use Rattle.std.proofs.lemmas.List.{append-nil, reverse-append, reverse-reverse, length-drop, length-reverse, take_all, take-append-le, drop-append-le, take-append-drop}
+use Rattle.markdown_base.proofs.Common.{every-append, every-map, and-right, every-take, every-reverse}
 use Rattle.markdown_base.specs.Events.{same_name}
 use Rattle.markdown_base.specs.declared.configuration.Constructs.{Constructs}
 use Rattle.markdown_base.specs.declared.event.Name.TheVariants as name
@@ -15,11 +15,10 @@ use Rattle.mdconstructs_flow_read.specs.LeafBlocks.{Line, interrupts, text_of}
 use Rattle.mdconstructs_flow_read.specs.LineKinds.{indent, indented, blank as blank_kind, is_far, kind_of_rest, line_kind, unindented}
 use Rattle.markdown_tokenizer.proofs.Positions.Order.{every-back, every-front}
 use Rattle.mdconstructs_lines.specs.Containers.{Container, Prefix, item, quote}
-use Rattle.mdconstructs_containers.proofs.DocumentRows.{take_of_take}
-use Rattle.mdconstructs_containers.proofs.RowFacts.{BeganBefore, BeginHere, BeginsIn, BeginsList, IsFront, begun_are, every_front, front_all, front_append, front_more, front_none, front_trans, went_are, went_within}
+use Rattle.mdconstructs_containers.proofs.RowFacts.{BeganBefore, BeginHere, BeginsIn, BeginsList, IsFront, begun_are, front_append, front_more, front_none, front_trans, went_are}
 use Rattle.mdconstructs_containers.specs.Prefixes.{containers_of}
-use Rattle.mdconstructs_containers.specs.Rows.{Before, Row, closed, has_none, holds_ending, is_paragraph, known_after, leaf_after, nothing_known, open_paragraph, opened_by, row_of, rows_from}
-use Rattle.mdconstructs_containers.specs.Skeleton.{Frame, frames_at, frames_of, further, going_on_at, left_in, list_at, list_begun, list_name, shared, standing}
+use Rattle.mdconstructs_containers.specs.Rows.{Before, Row, closed, has_none, holds_ending, is_paragraph, known_after, leaf_after, open_paragraph, opened_by, row_of}
+use Rattle.mdconstructs_containers.specs.Skeleton.{Frame, frames_of, further, going_on_at, left_in, list_at, list_begun, list_name, shared, standing}
 use Rattle.markdown_base.proofs.Facts.Bools.{and-left}
 
 -- ---- frames that two lists share
@@ -230,10 +229,6 @@ pub all_before : (n : ℕ) (cs : List Container) → AllByRecursion (BeganBefore
 all_before n [] h = tt
 all_before n (c ∷ cs) h = every-append (λ (f : Frame). f.line < n) (frames_of c) (flat_map frames_of cs) (frames_before n c h.0) (all_before n cs h.1)
 
-pub every_reverse : (P : Container → Type 0) (cs : List Container) → AllByRecursion P cs → AllByRecursion P (reverse cs)
-every_reverse P [] h = tt
-every_reverse P (c ∷ cs) h = subst (AllByRecursion P) (sym (reverse-append (c ∷ []) cs)) (every-append P (reverse cs) (c ∷ []) (every_reverse P cs h.1) (h.0, tt))
-
 pub none_is : {A : Type 0} (xs : List A) → has_none xs ≡ true → xs ≡ []
 none_is [] h = refl
 none_is (x ∷ xs) h = absurd (false≢true h)
@@ -248,7 +243,7 @@ pub standing_blank : (r : Row) (behind : List Row) → r.is_blank ≡ true → h
 standing_blank r behind blank none old =
     let all : containers_of r.went_on ++ containers_of r.begun ≡ containers_of r.went_on = ap (λ l. containers_of r.went_on ++ containers_of l) (none_is r.begun none) ∙ append-nil (containers_of r.went_on) in
     (λ k. cond (blank k) (reverse (left_in (going_on_at behind) r.number (reverse (all k)))) (all k))
-    ∙ ap reverse (left_is_keep (going_on_at behind) r.number (reverse (containers_of r.went_on)) (every_reverse (BeganBefore r.number) (containers_of r.went_on) old))
+    ∙ ap reverse (left_is_keep (going_on_at behind) r.number (reverse (containers_of r.went_on)) (every-reverse (BeganBefore r.number) (containers_of r.went_on) old))
 
 pub standing_other : (r : Row) (behind : List Row) → r.is_blank ≡ false → standing r behind ≡ containers_of r.went_on ++ containers_of r.begun
 standing_other r behind other =
@@ -293,7 +288,7 @@ standing_begun r behind h some =
     let begun = containers_of r.begun in
     let turned : left_in (going_on_at behind) r.number (reverse (went ++ begun)) ≡ reverse (went ++ begun) =
     (λ k. left_in (going_on_at behind) r.number (reverse-append went begun k))
-    ∙ left_begun (going_on_at behind) r.number (reverse begun) (reverse went) (every_reverse (BeginsIn r.number) begun (begun_in r.number r.begun h)) (some_begun r.begun some)
+    ∙ left_begun (going_on_at behind) r.number (reverse begun) (reverse went) (every-reverse (BeginsIn r.number) begun (begun_in r.number r.begun h)) (some_begun r.begun some)
     ∙ sym (reverse-append went begun) in
     by r.is_blank (ap reverse turned ∙ reverse-reverse (went ++ begun))
   where
@@ -402,7 +397,7 @@ module _ (on : Constructs) (b : Before) (n : ℕ) (line : Line) where
       by true y more = more
       by false true more = more
       by false false more =
-          every-append (BeganBefore (suc n)) (containers_of r.went_on) (containers_of r.begun) (subst (AllByRecursion (BeganBefore (suc n))) (sym (went_are on b n line)) (every_front (BeganBefore (suc n)) (length r.went_on) b.stack more))
+          every-append (BeganBefore (suc n)) (containers_of r.went_on) (containers_of r.begun) (subst (AllByRecursion (BeganBefore (suc n))) (sym (went_are on b n line)) (every-take (BeganBefore (suc n)) (length r.went_on) b.stack more))
           (begun_before n r.begun (begun_are on b n line old).0)
 
 -- a list that began before has at most one frame
@@ -434,332 +429,35 @@ short_front (x ∷ []) ys (item i) h front = front_one (record { name = list_nam
 pub front_every : (P : Frame → Type 0) (xs ys : List Frame) → IsFront xs ys → AllByRecursion P ys → AllByRecursion P xs
 front_every P xs ys front h = every-front P xs front.0 (subst (AllByRecursion P) front.1 h)
 
-module _ (on : Constructs) where
-  pub going_few_at : (b : Before) (n : ℕ) (ls : List Line) → going_on_at (rows_from on b n ls) ≤ b.depth
-  going_few_at b n [] = omega arith
-  going_few_at b n (l ∷ ls) = by (row_of on b n l).is_left_blank refl (going_few_at (known_after on b (row_of on b n l)) (suc n) ls) (went_within on b n l).0
-    where
-      by : (x : Bool) → (row_of on b n l).is_left_blank ≡ x → going_on_at (rows_from on (known_after on b (row_of on b n l)) (suc n) ls) ≤ (known_after on b (row_of on b n l)).depth → length (row_of on b n l).went_on ≤ b.depth
-          → cond x (going_on_at (rows_from on (known_after on b (row_of on b n l)) (suc n) ls)) (length (row_of on b n l).went_on) ≤ b.depth
-      by true e h w = let depth : (known_after on b (row_of on b n l)).depth ≡ length (row_of on b n l).went_on = ap (λ (x : Before). x.depth) (known_left on b n l e) in omega (arith, h, w, depth)
-      by false e h w = w
+-- ---- frames that a later line goes on with
 
-  pub list_short : (rs : List Row) → length (list_at rs) ≤ 1
-  list_short [] = omega arith
-  list_short (r ∷ behind) = by r.is_left_blank (list_short behind) (short_list r.begun)
-    where
-      by : (x : Bool) → length (list_at behind) ≤ 1 → length (list_begun r.begun) ≤ 1 → length (cond x (list_at behind) (list_begun r.begun)) ≤ 1
-      by true h k = h
-      by false h k = k
+pub list_short : (rs : List Row) → length (list_at rs) ≤ 1
+list_short [] = omega arith
+list_short (r ∷ behind) = by r.is_left_blank (list_short behind) (short_list r.begun)
+  where
+    by : (x : Bool) → length (list_at behind) ≤ 1 → length (list_begun r.begun) ≤ 1 → length (cond x (list_at behind) (list_begun r.begun)) ≤ 1
+    by true h k = h
+    by false h k = k
 
-  -- the list that goes on is that of the first container that does not
-  pub list_behind : (b : Before) (n : ℕ) (ls : List Line) → AllByRecursion (BeganBefore n) b.stack → let rs = rows_from on b n ls in IsFront (list_at rs) (flat_map frames_of (drop (going_on_at rs) b.stack))
-  list_behind b n [] old = front_none (flat_map frames_of b.stack)
-  list_behind b n (l ∷ ls) old = by (row_of on b n l).is_left_blank refl (list_behind (known_after on b (row_of on b n l)) (suc n) ls (old_after on b n l old)) (begun_are on b n l old).1
-    where
-      by : (x : Bool) → (row_of on b n l).is_left_blank ≡ x
-          → let behind = rows_from on (known_after on b (row_of on b n l)) (suc n) ls in
-          IsFront (list_at behind) (flat_map frames_of (drop (going_on_at behind) (known_after on b (row_of on b n l)).stack))
-          → IsFront (list_begun (row_of on b n l).begun) (flat_map frames_of (drop (length (row_of on b n l).went_on) b.stack))
-          → IsFront (cond x (list_at behind) (list_begun (row_of on b n l).begun)) (flat_map frames_of (drop (cond x (going_on_at behind) (length (row_of on b n l).went_on)) b.stack))
-      by true e h k =
-          let behind = rows_from on (known_after on b (row_of on b n l)) (suc n) ls in
-          let same : (known_after on b (row_of on b n l)).stack ≡ b.stack = ap (λ (x : Before). x.stack) (known_left on b n l e) in
-          subst (λ (cs : List Container). IsFront (list_at behind) (flat_map frames_of (drop (going_on_at behind) cs))) same h
-      by false e h k = k
+pub flat_parts : (g : ℕ) (cs : List Container) → flat_map frames_of (take g cs) ++ flat_map frames_of (drop g cs) ≡ flat_map frames_of cs
+flat_parts g cs = sym (flat_map-append frames_of (take g cs) (drop g cs)) ∙ ap (flat_map frames_of) (take-append-drop g cs)
 
-  pub flat_parts : (g : ℕ) (cs : List Container) → flat_map frames_of (take g cs) ++ flat_map frames_of (drop g cs) ≡ flat_map frames_of cs
-  flat_parts g cs = sym (flat_map-append frames_of (take g cs) (drop g cs)) ∙ ap (flat_map frames_of) (take-append-drop g cs)
+-- frames that a later line goes on with
+abbrev pub needed_at : List Container → List Row → List Frame
+needed_at stack rs = flat_map frames_of (take (going_on_at rs) stack) ++ list_at rs
 
-  -- frames that a later line goes on with
-  abbrev pub needed_at : List Container → List Row → List Frame
-  needed_at stack rs = flat_map frames_of (take (going_on_at rs) stack) ++ list_at rs
-
-  pub needed_front : (b : Before) (n : ℕ) (ls : List Line) → AllByRecursion (BeganBefore n) b.stack → IsFront (needed_at b.stack (rows_from on b n ls)) (flat_map frames_of b.stack)
-  needed_front b n ls old =
-      let rs = rows_from on b n ls in
-      let g = going_on_at rs in
-      let more = front_more (flat_map frames_of (take g b.stack)) (list_at rs) (flat_map frames_of (drop g b.stack)) (list_behind b n ls old) in
-      subst (IsFront (needed_at b.stack rs)) (flat_parts g b.stack) more
-
-  -- also of fewer containers, if they are more than go on
-  pub needed_in : (rs : List Row) (stack cs : List Container) → IsFront cs stack → going_on_at rs < length cs → IsFront (list_at rs) (flat_map frames_of (drop (going_on_at rs) stack)) → IsFront (needed_at stack rs) (flat_map frames_of cs)
-  needed_in rs stack cs front less list = by (drop (going_on_at rs) cs) refl
-    where
-      by : (ds : List Container) → drop (going_on_at rs) cs ≡ ds → IsFront (needed_at stack rs) (flat_map frames_of cs)
-      by [] e = absurd (let none : length (drop (going_on_at rs) cs) ≡ 0 = ap length e in let left = length-drop (going_on_at rs) cs in omega (arith, none, left, less))
-      by (d ∷ ds) e =
-          let k = going_on_at rs in
-          let same_front : take k cs ≡ take k stack = sym (take-append-le k cs front.0 (omega (arith, less))) ∙ ap (take k) (sym front.1) in
-          let rest : drop k stack ≡ d ∷ (ds ++ front.0) = ap (drop k) front.1 ∙ drop-append-le k cs front.0 (omega (arith, less)) ∙ ap (λ l. l ++ front.0) e in
-          let one : IsFront (list_at rs) (frames_of d) = short_front (list_at rs) (flat_map frames_of (ds ++ front.0)) d (list_short rs) (subst (λ (l : List Container). IsFront (list_at rs) (flat_map frames_of l)) rest list) in
-          let all : IsFront (list_at rs) (flat_map frames_of (drop k cs)) =
-          subst (λ (l : List Container). IsFront (list_at rs) (flat_map frames_of l)) (sym e) (front_trans (list_at rs) (frames_of d) (frames_of d ++ flat_map frames_of ds) one (front_append (frames_of d) (flat_map frames_of ds))) in
-          let more = front_more (flat_map frames_of (take k cs)) (list_at rs) (flat_map frames_of (drop k cs)) all in
-          subst (λ (l : List Container). IsFront (flat_map frames_of l ++ list_at rs) (flat_map frames_of cs)) same_front (subst (IsFront (flat_map frames_of (take k cs) ++ list_at rs)) (flat_parts k cs) more)
-
-  -- Spans that are open before a line: those of the containers that blank lines may stand in, and those that a later line goes on with
-  pub record AreOpen (fs : List Frame) (b : Before) (n : ℕ) (ls : List Line) : Type 0 where
-    pub old : AllByRecursion (BeganBefore n) b.stack
-    pub before : AllByRecursion (λ (f : Frame). f.line < n) fs
-    pub deep : IsFront (flat_map frames_of (kept_of (going_on_at (rows_from on b n ls)) (take b.depth b.stack))) fs
-    pub needed : IsFront (needed_at b.stack (rows_from on b n ls)) fs
-    pub none_open : (b.leaf ≡ closed) ⊎ (further (rows_from on b n ls) ≡ 0)
-
-  -- all containers are open
-  pub all_are_open : (fs : List Frame) (b : Before) (n : ℕ) (ls : List Line) → fs ≡ flat_map frames_of b.stack → AllByRecursion (BeganBefore n) b.stack → (b.leaf ≡ closed) ⊎ (further (rows_from on b n ls) ≡ 0) → AreOpen fs b n ls
-  all_are_open fs b n ls e old free =
-      let g = going_on_at (rows_from on b n ls) in
-      let some = take b.depth b.stack in
-      let whole : IsFront some b.stack = (drop b.depth b.stack, sym (take-append-drop b.depth b.stack)) in
-      let deep = flat_front (kept_of g some) b.stack (front_trans (kept_of g some) some b.stack (kept_front g some) whole) in
-      record {
-        old = old;
-        before = subst (AllByRecursion (λ (f : Frame). f.line < n)) (sym e) (all_before n b.stack old);
-        deep = subst (IsFront (flat_map frames_of (kept_of g some))) (sym e) deep;
-        needed = subst (IsFront (needed_at b.stack (rows_from on b n ls))) (sym e) (needed_front b n ls old);
-        none_open = free;
-      }
-
-  pub none_are_open : (ls : List Line) → AreOpen [] (nothing_known on) 1 ls
-  none_are_open ls = all_are_open [] (nothing_known on) 1 ls refl tt (inl refl)
-
-  -- ---- stretches
-
-  -- So many lines with which a stretch goes on: nothing begins in them, and the containers stay; behind them none goes on
-  pub record Stretch (b : Before) (n : ℕ) (ls : List Line) (k : ℕ) : Type 0 where
-    state : Before
-    number : ℕ
-    lines : List Line
-    rest : drop k (rows_from on b n ls) ≡ rows_from on state number lines
-    all : ls ≡ map (λ (r : Row). r.line) (take k (rows_from on b n ls)) ++ lines
-    same : state.stack ≡ b.stack
-    later : n ≤ number
-    none_begin : AllByRecursion (λ (r : Row). has_none r.begun ≡ true) (take k (rows_from on b n ls))
-    done : further (drop k (rows_from on b n ls)) ≡ 0
-
-  pub no_stretch : (b : Before) (n : ℕ) (ls : List Line) (k : ℕ) → k ≡ 0 → further (rows_from on b n ls) ≡ k → Stretch b n ls k
-  no_stretch b n ls zero e f = record { state = b; number = n; lines = ls; rest = refl; all = refl; same = refl; later = omega arith; none_begin = tt; done = f }
-  no_stretch b n ls (suc k) e f = absurd (omega (arith, e))
-
-  pub one_stretch : (b : Before) (n : ℕ) (l : Line) (ls : List Line) (k : ℕ) → let r = row_of on b n l in ((r.is_left_blank ≡ true) ⊎ (r.stays ≡ true)) → has_none r.begun ≡ true → Stretch (known_after on b r) (suc n) ls k → Stretch b n (l ∷ ls) (suc k)
-  one_stretch b n l ls k goes none s =
-      let later = s.later in
-      record {
-        state = s.state;
-        number = s.number;
-        lines = s.lines;
-        rest = s.rest;
-        all = ap (λ (x : List Line). l ∷ x) s.all;
-        same = s.same ∙ stack_stays on b n l goes;
-        later = omega (arith, later);
-        none_begin = (none, s.none_begin);
-        done = s.done;
-      }
-
-  pub stretches : (b : Before) (n : ℕ) (ls : List Line) → Stretch b n ls (further (rows_from on b n ls))
-  stretches b n [] = no_stretch b n [] 0 refl refl
-  stretches b n (l ∷ ls) =
-      by (row_of on b n l).is_left_blank (nat_le 1 (further (rows_from on (known_after on b (row_of on b n l)) (suc n) ls))) (row_of on b n l).stays refl refl refl (stretches (known_after on b (row_of on b n l)) (suc n) ls)
-    where
-      by : (x y z : Bool) → let r = row_of on b n l in let m = further (rows_from on (known_after on b r) (suc n) ls) in r.is_left_blank ≡ x → nat_le 1 m ≡ y → r.stays ≡ z
-          → Stretch (known_after on b r) (suc n) ls m → Stretch b n (l ∷ ls) (cond x (cond y (suc m) 0) (cond z (suc m) 0))
-      by true true z ex ey ez s = one_stretch b n l ls (further (rows_from on (known_after on b (row_of on b n l)) (suc n) ls)) (inl ex) (left_is on b n l ex).1 s
-      by true false z ex ey ez s =
-          let r = row_of on b n l in
-          let m = further (rows_from on (known_after on b r) (suc n) ls) in
-          no_stretch b n (l ∷ ls) 0 refl (λ k. cond (ex k) (cond (ey k) (suc m) 0) (cond r.stays (suc m) 0))
-      by false y true ex ey ez s = one_stretch b n l ls (further (rows_from on (known_after on b (row_of on b n l)) (suc n) ls)) (inr ez) (stays_is on b n l ez) s
-      by false y false ex ey ez s =
-          let r = row_of on b n l in
-          let m = further (rows_from on (known_after on b r) (suc n) ls) in
-          no_stretch b n (l ∷ ls) 0 refl (λ k. cond (ex k) (cond (nat_le 1 m) (suc m) 0) (cond (ez k) (suc m) 0))
-
-  -- ---- one part
-
-  -- The lines behind a part, of which so many are in it: nothing begins in those, and before the others these spans are open
-  pub record IsBehind (fs : List Frame) (b : Before) (n : ℕ) (ls : List Line) (k : ℕ) : Type 0 where
-    pub state : Before
-    pub number : ℕ
-    pub lines : List Line
-    pub rest : drop k (rows_from on b n ls) ≡ rows_from on state number lines
-    pub all : ls ≡ map (λ (r : Row). r.line) (take k (rows_from on b n ls)) ++ lines
-    pub none_begin : AllByRecursion (λ (r : Row). has_none r.begun ≡ true) (take k (rows_from on b n ls))
-    pub are_open : AreOpen fs state number lines
-
-  -- A part: the spans turn to those in which it stands, and these are open behind it
-  pub record IsPart (fs : List Frame) (b : Before) (n : ℕ) (l : Line) (ls : List Line) : Type 0 where
-    pub turn : let r = row_of on b n l in Turn fs (frames_at r (rows_from on (known_after on b r) (suc n) ls)) r.begun
-    pub behind : let r = row_of on b n l in let rs = rows_from on (known_after on b r) (suc n) ls in IsBehind (frames_at r rs) (known_after on b r) (suc n) ls (cond r.is_blank 0 (further rs))
-    pub stands : let r = row_of on b n l in let rs = rows_from on (known_after on b r) (suc n) ls in (r.is_blank ≡ false) ⊎ (has_none r.begun ≡ false) → standing r rs ≡ containers_of r.went_on ++ containers_of r.begun
-
-  module _ (fs : List Frame) (b : Before) (n : ℕ) (l : Line) (ls : List Line) (h : AreOpen fs b n (l ∷ ls)) where
-    abbrev pub head : Row
-    head = row_of on b n l
-
-    abbrev pub next : Before
-    next = known_after on b head
-
-    abbrev pub others : List Row
-    others = rows_from on next (suc n) ls
-
-    pub begin_here : BeginHere n head.begun
-    begin_here = (begun_are on b n l h.old).0
-
-    pub stands_in_all : (head.is_blank ≡ false) ⊎ (has_none head.begun ≡ false) → standing head others ≡ containers_of head.went_on ++ containers_of head.begun
-    stands_in_all e = elim e [ inl other ↦ standing_other head others other | inr some ↦ standing_begun head others begin_here some ]
-
-    abbrev pub went : List Container
-    went = containers_of head.went_on
-
-    abbrev pub g : ℕ
-    g = going_on_at others
-
-    -- the containers that go on
-    pub went_in : IsFront went b.stack
-    went_in = (drop (length head.went_on) b.stack, sym (take-append-drop (length head.went_on) b.stack) ∙ ap (λ (cs : List Container). cs ++ drop (length head.went_on) b.stack) (sym (went_are on b n l)))
-
-    pub went_deep : IsFront went (take b.depth b.stack)
-    went_deep =
-        let few = went_within on b n l in
-        let size = length-take b.depth b.stack in
-        let same : take (length head.went_on) (take b.depth b.stack) ≡ went = take_of_take (length head.went_on) b.depth b.stack (omega (arith, few.0, few.1, size)) ∙ sym (went_are on b n l) in
-        (drop (length head.went_on) (take b.depth b.stack), sym (take-append-drop (length head.went_on) (take b.depth b.stack)) ∙ ap (λ (cs : List Container). cs ++ drop (length head.went_on) (take b.depth b.stack)) same)
-
-    -- no line behind it is in the part
-    pub at_once : (gs : List Frame) → AreOpen gs next (suc n) ls → IsBehind gs next (suc n) ls 0
-    at_once gs k = record { state = next; number = suc n; lines = ls; rest = refl; all = refl; none_begin = tt; are_open = k }
-
-    -- a line that is left blank
-    module _ (left : head.is_left_blank ≡ true) where
-      abbrev pub stand : List Container
-      stand = kept_of g went
-
-      pub blank_stands : standing head others ≡ stand
-      blank_stands =
-          standing_blank head others (left_is on b n l left).0 (left_is on b n l left).1 (subst (AllByRecursion (BeganBefore n)) (sym (went_are on b n l)) (every_front (BeganBefore n) (length head.went_on) b.stack h.old))
-
-      abbrev pub blank_frames : Bool → List Frame
-      blank_frames y = flat_map frames_of stand ++ cond y (list_at others) []
-
-      pub frames_are_blank : frames_at head others ≡ blank_frames (length stand == g)
-      frames_are_blank = (λ k. flat_map frames_of (blank_stands k) ++ cond (left k && (length (blank_stands k) == g)) (list_at others) [])
-
-      pub blank_needed : IsFront (needed_at b.stack others) fs
-      blank_needed = subst (λ x. IsFront (flat_map frames_of (take (cond x g (length head.went_on)) b.stack) ++ cond x (list_at others) (list_begun head.begun)) fs) left h.needed
-
-      pub blank_deep : IsFront (flat_map frames_of stand) fs
-      blank_deep =
-          front_trans (flat_map frames_of stand) (flat_map frames_of (kept_of g (take b.depth b.stack))) fs (flat_front stand (kept_of g (take b.depth b.stack)) (kept_more g went (take b.depth b.stack) went_deep))
-          (subst (λ x. IsFront (flat_map frames_of (kept_of (cond x g (length head.went_on)) (take b.depth b.stack))) fs) left h.deep)
-
-      pub stand_in : IsFront stand b.stack
-      stand_in = front_trans stand went b.stack (kept_front g went) went_in
-
-      pub just_needed : (length stand == g) ≡ true → needed_at b.stack others ≡ flat_map frames_of stand ++ list_at others
-      just_needed e =
-          let size : length stand ≡ g = eqb-true (length stand) g e in
-          let same : take g b.stack ≡ stand = ap (λ k. take k b.stack) (sym size) ∙ front_take stand b.stack stand_in in
-          ap (λ (cs : List Container). flat_map frames_of cs ++ list_at others) same
-
-      pub blank_front : (y : Bool) → (length stand == g) ≡ y → IsFront (blank_frames y) fs
-      blank_front true e = subst (λ (xs : List Frame). IsFront xs fs) (just_needed e) blank_needed
-      blank_front false e = subst (λ (xs : List Frame). IsFront xs fs) (sym (append-nil (flat_map frames_of stand))) blank_deep
-
-      pub known : next ≡ record b { depth = length head.went_on; leaf = closed }
-      known = known_left on b n l left
-
-      pub blank_still : (y : Bool) → (length stand == g) ≡ y → IsFront (needed_at b.stack others) (blank_frames y)
-      blank_still true e = subst (λ (xs : List Frame). IsFront (needed_at b.stack others) xs) (just_needed e) (front_all (needed_at b.stack others))
-      blank_still false e =
-          let few = going_few_at next (suc n) ls in
-          let depth : next.depth ≡ length head.went_on = ap (λ (x : Before). x.depth) known in
-          let size : length went ≡ length head.went_on = length-map head.went_on (λ (p : Prefix). p.container) in
-          let long = kept_long g went (omega (arith, few, depth, size)) in
-          let less : g < length stand = grind (arith, nat_tests) in
-          let list = subst (λ (x : Before). IsFront (list_at others) (flat_map frames_of (drop g x.stack))) known (list_behind next (suc n) ls (old_after on b n l h.old)) in
-          subst (IsFront (needed_at b.stack others)) (sym (append-nil (flat_map frames_of stand))) (needed_in others b.stack stand stand_in less list)
-
-      pub blank_open : AreOpen (frames_at head others) next (suc n) ls
-      blank_open =
-          let y = length stand == g in
-          let gs = blank_frames y in
-          let same : take (length head.went_on) b.stack ≡ went = sym (went_are on b n l) in
-          let deep : IsFront (flat_map frames_of (kept_of g (take (length head.went_on) b.stack))) gs =
-          subst (λ (cs : List Container). IsFront (flat_map frames_of (kept_of g cs)) gs) (sym same) (front_append (flat_map frames_of stand) (cond y (list_at others) [])) in
-          subst (λ (xs : List Frame). AreOpen xs next (suc n) ls) (sym frames_are_blank)
-          (record {
-            old = old_after on b n l h.old;
-            before = every-map (λ (f : Frame). f.line < n) (λ (f : Frame). f.line < suc n) (λ f less. omega (arith, less)) gs (front_every (λ (f : Frame). f.line < n) gs fs (blank_front y refl) h.before);
-            deep = subst (λ (x : Before). IsFront (flat_map frames_of (kept_of g (take x.depth x.stack))) gs) (sym known) deep;
-            needed = subst (λ (x : Before). IsFront (needed_at x.stack others) gs) (sym known) (blank_still y refl);
-            none_open = inl (ap (λ (x : Before). x.leaf) known);
-          })
-
-      pub blank_turn : Turn fs (frames_at head others) head.begun
-      blank_turn =
-          let y = length stand == g in
-          let gs = blank_frames y in
-          let none : head.begun ≡ [] = none_is head.begun (left_is on b n l left).1 in
-          turns n fs (frames_at head others) gs head.begun begin_here h.before (blank_front y refl) (frames_are_blank ∙ sym (append-nil gs) ∙ ap (λ (ps : List Prefix). gs ++ all_entered ps) (sym none))
-
-      pub blank_part : IsPart fs b n l ls
-      blank_part = record {
-        turn = blank_turn;
-        behind = subst (λ x. IsBehind (frames_at head others) next (suc n) ls (cond x 0 (further others))) (sym (left_is on b n l left).0) (at_once (frames_at head others) blank_open);
-        stands = stands_in_all;
-      }
-
-    -- any other line
-    module _ (left : head.is_left_blank ≡ false) where
-      abbrev pub all_in : List Container
-      all_in = went ++ containers_of head.begun
-
-      pub is_fresh : (head.is_lazy ≡ false) × ((head.is_blank ≡ false) ⊎ (has_none head.begun ≡ false))
-      is_fresh = fresh on b n l others h.none_open left
-
-      pub frames_are_all : frames_at head others ≡ flat_map frames_of all_in
-      frames_are_all =
-          let stands = stands_in_all is_fresh.1 in
-          (λ k. flat_map frames_of (stands k) ++ cond (left k && (length (stands k) == g)) (list_at others) []) ∙ append-nil (flat_map frames_of all_in)
-
-      pub all_known : next.stack ≡ all_in
-      all_known = ap (λ (x : Before). x.stack) (known_other on b n l left is_fresh.0)
-
-      pub all_turn : Turn fs (frames_at head others) head.begun
-      all_turn =
-          let kept = flat_map frames_of went ++ list_begun head.begun in
-          let front = subst (λ x. IsFront (flat_map frames_of (take (cond x g (length head.went_on)) b.stack) ++ cond x (list_at others) (list_begun head.begun)) fs) left h.needed in
-          let here : IsFront kept fs = subst (λ (cs : List Container). IsFront (flat_map frames_of cs ++ list_begun head.begun) fs) (sym (went_are on b n l)) front in
-          turns n fs (frames_at head others) kept head.begun begin_here h.before here
-          (frames_are_all ∙ flat_map-append frames_of went (containers_of head.begun) ∙ ap (λ (xs : List Frame). flat_map frames_of went ++ xs) (begun_entered n head.begun begin_here)
-          ∙ sym (append_assoc (flat_map frames_of went) (list_begun head.begun) (all_entered head.begun)))
-
-      pub behind_all : (x : Bool) → head.is_blank ≡ x → IsBehind (frames_at head others) next (suc n) ls (cond x 0 (further others))
-      behind_all true blank =
-          let some : has_none head.begun ≡ false = elim is_fresh.1 [ inl other ↦ absurd (false≢true (sym other ∙ blank)) | inr some ↦ some ] in
-          at_once (frames_at head others) (all_are_open (frames_at head others) next (suc n) ls (frames_are_all ∙ ap (flat_map frames_of) (sym all_known)) (old_after on b n l h.old) (inl (begun_leaf on b n l left is_fresh.0 blank some)))
-      behind_all false other =
-          let s = stretches next (suc n) ls in
-          let later = s.later in
-          let old = every-map (BeganBefore (suc n)) (BeganBefore s.number) (began_later (suc n) s.number later) next.stack (old_after on b n l h.old) in
-          record {
-            state = s.state;
-            number = s.number;
-            lines = s.lines;
-            rest = s.rest;
-            all = s.all;
-            none_begin = s.none_begin;
-            are_open = all_are_open (frames_at head others) s.state s.number s.lines (frames_are_all ∙ ap (flat_map frames_of) (sym (s.same ∙ all_known))) (subst (AllByRecursion (BeganBefore s.number)) (sym s.same) old)
-                (inr (ap further (sym s.rest) ∙ s.done));
-          }
-
-      pub other_part : IsPart fs b n l ls
-      other_part = record { turn = all_turn; behind = behind_all head.is_blank refl; stands = stands_in_all }
-
-    pub is_part : IsPart fs b n l ls
-    is_part = by head.is_left_blank refl
-      where
-        by : (x : Bool) → head.is_left_blank ≡ x → IsPart fs b n l ls
-        by true left = blank_part left
-        by false left = other_part left
+-- also of fewer containers, if they are more than go on
+pub needed_in : (rs : List Row) (stack cs : List Container) → IsFront cs stack → going_on_at rs < length cs → IsFront (list_at rs) (flat_map frames_of (drop (going_on_at rs) stack)) → IsFront (needed_at stack rs) (flat_map frames_of cs)
+needed_in rs stack cs front less list = by (drop (going_on_at rs) cs) refl
+  where
+    by : (ds : List Container) → drop (going_on_at rs) cs ≡ ds → IsFront (needed_at stack rs) (flat_map frames_of cs)
+    by [] e = absurd (let none : length (drop (going_on_at rs) cs) ≡ 0 = ap length e in let left = length-drop (going_on_at rs) cs in omega (arith, none, left, less))
+    by (d ∷ ds) e =
+        let k = going_on_at rs in
+        let same_front : take k cs ≡ take k stack = sym (take-append-le k cs front.0 (omega (arith, less))) ∙ ap (take k) (sym front.1) in
+        let rest : drop k stack ≡ d ∷ (ds ++ front.0) = ap (drop k) front.1 ∙ drop-append-le k cs front.0 (omega (arith, less)) ∙ ap (λ l. l ++ front.0) e in
+        let one : IsFront (list_at rs) (frames_of d) = short_front (list_at rs) (flat_map frames_of (ds ++ front.0)) d (list_short rs) (subst (λ (l : List Container). IsFront (list_at rs) (flat_map frames_of l)) rest list) in
+        let all : IsFront (list_at rs) (flat_map frames_of (drop k cs)) =
+        subst (λ (l : List Container). IsFront (list_at rs) (flat_map frames_of l)) (sym e) (front_trans (list_at rs) (frames_of d) (frames_of d ++ flat_map frames_of ds) one (front_append (frames_of d) (flat_map frames_of ds))) in
+        let more = front_more (flat_map frames_of (take k cs)) (list_at rs) (flat_map frames_of (drop k cs)) all in
+        subst (λ (l : List Container). IsFront (flat_map frames_of l ++ list_at rs) (flat_map frames_of cs)) same_front (subst (IsFront (flat_map frames_of (take k cs) ++ list_at rs)) (flat_parts k cs) more)

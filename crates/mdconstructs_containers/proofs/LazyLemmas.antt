@@ -1,15 +1,14 @@
 -- Lemmas on lazy underlines of a document.
-use Rattle.std.proofs.Common.{◌≡◌, ℕ, suc, ◌+◌, ◌-◌, ◌*◌, ◌^◌, ◌<◌, ◌≤◌, Bool, true, false, cond, List, [], ◌∷◌, ◌++◌, length, take, drop, map, get_or, refl, sym, ap, ◌∙◌, subst, arith, append_assoc, length-drop}
-use Rattle.std.specs.Prelude.{◌==◌, ◌&&◌, ◌||◌, not, Option, Some, None, is_some}
-use Rattle.std.specs.List.{flat_map}
+use Rattle.std.proofs.Common.{◌≡◌, ℕ, suc, ◌+◌, ◌-◌, ◌*◌, ◌^◌, ◌<◌, ◌≤◌, Bool, true, false, cond, List, [], ◌∷◌, ◌++◌, length, take, drop, map, refl, sym, ap, ◌∙◌, arith, length-drop}
+use Rattle.std.specs.Prelude.{◌&&◌, ◌||◌, not, Some, None, is_some}
 use Rattle.std.proofs.lemmas.Bool.{false≢true}
 use Rattle.std.proofs.lemmas.List.{drop-append-le, length-map}
 use Rattle.markdown_base.specs.declared.configuration.Constructs.{Constructs}
 use Rattle.markdown_base.specs.declared.event.Point.{Point}
 use Rattle.markdown_base.specs.Virtual.{Seat, point}
 use Rattle.mdconstructs_machines.specs.LineEvents.{ending_of, line_text}
-use Rattle.mdconstructs_flow_read.specs.LeafBlocks.{bytes_of, text_of}
-use Rattle.mdconstructs_flow_read.specs.LineKinds.{begins_with, indent, is_blank_line, is_far, is_underline_of_marks, run, underline_rank, unindented}
+use Rattle.mdconstructs_flow_read.specs.LeafBlocks.{text_of}
+use Rattle.mdconstructs_flow_read.specs.LineKinds.{begins_with, indent, is_blank_line, is_far, run, underline_rank, unindented}
 use Rattle.mdconstructs_lines.specs.Containers.{Container}
 use Rattle.mdconstructs_lines.specs.Lines.{line_bytes, place_after}
 use Rattle.mdconstructs_containers.specs.declared.spans.RowAt.{RowAt}
@@ -19,11 +18,11 @@ use Rattle.mdconstructs_containers.specs.PlaceEvents.{HasColumns}
 use Rattle.mdconstructs_containers.specs.Rest.{AreLeft}
 use Rattle.mdconstructs_containers.specs.Rows.{Row, rest_of}
 use Rattle.mdconstructs_containers.specs.SeatPlaces.{AreSeatsAt}
-use Rattle.mdconstructs_containers.specs.Spans.{AreRowsIn, IsRowIn}
+use Rattle.mdconstructs_containers.specs.Spans.{IsRowIn}
 use Rattle.mdconstructs_containers.proofs.GoingLemmas.{begins_some}
 use Rattle.mdconstructs_containers.proofs.PartFacts.{line_size, next_few, next_outside, row, the_columns, the_inside}
-use Rattle.mdconstructs_containers.proofs.RestLemmas.{IsNext, next_of, none_left}
-use Rattle.mdconstructs_containers.proofs.RunLemmas.{line_parts, text_size}
+use Rattle.mdconstructs_containers.proofs.RestLemmas.{next_of, none_left}
+use Rattle.mdconstructs_containers.proofs.RunLemmas.{line_parts}
 use Rattle.mdconstructs_containers.proofs.SeatLemmas.{seats_drop}
 use Rattle.mdconstructs_containers.proofs.StretchLemmas.{row_bytes, row_seats}
 
@@ -67,15 +66,14 @@ module _ (t : ℕ) (bytes : List ℕ) (some : 0 < t) (limit : t * length bytes +
   pub rest_is : drop x.row.columns (line_bytes t x.span.number 1 x.span.start (drop x.span.start bytes)) ≡ rest_of r
   rest_is = λ k. drop (the.is.columns k) (row_bytes t bytes some limit has.stack has.left.number has.left.start x r the has.left.outside k)
 
-  -- the mark at its place
-  pub mark_is : is_some (underline_rank on (rest_of r)) ≡ true → (place_after t bytes (point x.span.number 1 x.span.start 0) (r.columns + indent (rest_of r))).index ∷ [] ≡ map (λ (s : Seat). s.point.index) (take 1 (drop (r.columns + indent (rest_of r)) r.line))
-  mark_is e =
+  -- where its text begins, if something is behind its white space
+  pub begin_index : 1 ≤ length (unindented (rest_of r)) → (place_after t bytes (point x.span.number 1 x.span.start 0) (r.columns + indent (rest_of r))).index ∷ [] ≡ map (λ (s : Seat). s.point.index) (take 1 (drop (r.columns + indent (rest_of r)) r.line))
+  begin_index more =
       let k = r.columns + indent (rest_of r) in
       let ss = line_text r.line in
       let size : length (text_of r.line) ≡ length ss = length-map ss (λ (s : Seat). s.byte) in
       let n : length (unindented (rest_of r)) ≡ length (rest_of r) - indent (rest_of r) = length-drop (indent (rest_of r)) (rest_of r) in
       let m : length (rest_of r) ≡ length (text_of r.line) - r.columns = length-drop r.columns (text_of r.line) in
-      let more = underline_some on (rest_of r) e in
       let w : k < length ss = omega (arith, size, n, m, more) in
       let split : drop k r.line ≡ drop k ss ++ ending_of r.line = ap (drop k) (line_parts t bytes some limit has.left.number has.left.start x the.placed r.line the.line has.left.outside) ∙ drop-append-le k ss (ending_of r.line) (omega (arith, w)) in
       let are : AreSeatsAt t bytes (place_after t bytes (point x.span.number 1 x.span.start 0) k) (drop k ss) = seats_drop t bytes (point x.span.number 1 x.span.start 0) ss k (row_seats t bytes some limit has.stack has.left.number has.left.start x r the has.left.outside) (omega (arith, w)) in
@@ -85,6 +83,10 @@ module _ (t : ℕ) (bytes : List ℕ) (some : 0 < t) (limit : t * length bytes +
           → (place_after t bytes (point x.span.number 1 x.span.start 0) (r.columns + indent (rest_of r))).index ∷ [] ≡ map (λ (s : Seat). s.point.index) (take 1 (ss ++ ending_of r.line))
       by [] are h = absurd (omega arith)
       by (s ∷ ss) are h = ap (λ (p : Point). p.index ∷ []) (sym are.1)
+
+  -- the mark at its place
+  pub mark_is : is_some (underline_rank on (rest_of r)) ≡ true → (place_after t bytes (point x.span.number 1 x.span.start 0) (r.columns + indent (rest_of r))).index ∷ [] ≡ map (λ (s : Seat). s.point.index) (take 1 (drop (r.columns + indent (rest_of r)) r.line))
+  mark_is e = begin_index (underline_some on (rest_of r) e)
 
   -- what is known of the line
   pub lazy_is : cond (x.row.is_lazy && is_some (underline_rank on (drop x.row.columns (line_bytes t x.span.number 1 x.span.start (drop x.span.start bytes)))))

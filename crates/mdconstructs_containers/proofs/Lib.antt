@@ -17,6 +17,7 @@ pub mod LineFacts
 pub mod ListLemmas
 pub mod ListNumbers
 pub mod ListSeenLemmas
+pub mod OpenFrames
 pub mod OverLemmas
 pub mod PartCosts
 pub mod PartFacts
@@ -32,6 +33,7 @@ pub mod PrefixSpans
 pub mod RestLemmas
 pub mod RowFacts
 pub mod RowLemmas
+pub mod RowReads
 pub mod RowSpans
 pub mod RunLemmas
 pub mod SeatFacts

@@ -4,6 +4,7 @@ use Rattle.std.specs.Prelude.{◌==◌, ◌&&◌, not, filter, slice_index, take
 use Rattle.std.specs.List.{prefix_len}
 use Rattle.std.proofs.lemmas.Bool.{false≢true}
 use Rattle.std.proofs.lemmas.List.{append-nil, drop-drop, get_or-drop, length-map}
+use Rattle.std.proofs.Math.Bool.{and-false}
 use Rattle.markdown_base.specs.declared.event.Point.{Point}
 use Rattle.markdown_base.specs.Places.{follows_cr, shown}
 use Rattle.markdown_base.specs.Virtual.{Seat, point, begins_with_lf, end_after, line_feed, virtual_from}
@@ -17,7 +18,6 @@ use Rattle.mdconstructs_containers.specs.Stretches.{IsOutside}
 use Rattle.mdconstructs_containers.proofs.DocumentRows.{filter_front, ending_is_none}
 use Rattle.mdconstructs_containers.proofs.GoingLemmas.{prefix_within}
 use Rattle.mdconstructs_containers.proofs.SpanLemmas.{Course, course_from, course_end, course_seats, course_inside}
-use Rattle.mdconstructs_lines.proofs.BreakLemmas.{and_false}
 
 -- ---- text and line ending
 
@@ -61,7 +61,7 @@ module _ (bytes : List ℕ) where
       λ k. cond (here k) (record { line = p.line; column = p.column; index = p.index - 1; vs = p.vs }) p
 
   pub outside_zero : IsOutside bytes 0
-  outside_zero = and_false (slice_index bytes 0 == 10)
+  outside_zero = and-false (slice_index bytes 0 == 10)
 
   -- what comes at an index
   pub byte_at : (i : ℕ) (bs : List ℕ) → drop i bytes ≡ bs → slice_index bytes i ≡ slice_index bs 0
@@ -86,7 +86,7 @@ module _ (bytes : List ℕ) where
       one b bs d true ecr true elf n =
           let two : suc (suc end) ≡ next = omega (arith, n) in
           let none : follows_cr bytes (suc (suc end)) ≡ false = ap (λ k. k == 13) (byte_at (suc end) bs (rest_at end b bs d)) ∙ lf_no_cr bs elf in
-          subst (IsOutside bytes) two (ap (λ v. (slice_index bytes (suc (suc end)) == 10) && v) none ∙ and_false (slice_index bytes (suc (suc end)) == 10))
+          subst (IsOutside bytes) two (ap (λ v. (slice_index bytes (suc (suc end)) == 10) && v) none ∙ and-false (slice_index bytes (suc (suc end)) == 10))
       one b bs d true ecr false elf n =
           let two : suc end ≡ next = omega (arith, n) in
           let none : (slice_index bytes (suc end) == 10) ≡ false = ap (λ k. k == 10) (byte_at (suc end) bs (rest_at end b bs d)) ∙ lf_first_byte bs false elf in
@@ -94,7 +94,7 @@ module _ (bytes : List ℕ) where
       one b bs d false ecr lf elf n =
           let two : suc end ≡ next = omega (arith, n) in
           let none : follows_cr bytes (suc end) ≡ false = ap (λ k. k == 13) (byte_at end (b ∷ bs) d) ∙ ecr in
-          subst (IsOutside bytes) two (ap (λ v. (slice_index bytes (suc end) == 10) && v) none ∙ and_false (slice_index bytes (suc end) == 10))
+          subst (IsOutside bytes) two (ap (λ v. (slice_index bytes (suc end) == 10) && v) none ∙ and-false (slice_index bytes (suc end) == 10))
 
       by : (bs : List ℕ) → drop end bytes ≡ bs → next ≡ end + ending_size bs → IsOutside bytes next
       by [] d n = let same : end ≡ next = omega (arith, n) in subst (IsOutside bytes) same h
@@ -123,4 +123,4 @@ module _ (bytes : List ℕ) where
       by (suc m) d f =
           let same : suc (start + m) ≡ end = omega (arith, f) in
           let none : follows_cr bytes (suc (start + m)) ≡ false = last_passes start (drop start bytes) m refl d in
-          subst (IsOutside bytes) same (ap (λ v. (slice_index bytes (suc (start + m)) == 10) && v) none ∙ and_false (slice_index bytes (suc (start + m)) == 10))
+          subst (IsOutside bytes) same (ap (λ v. (slice_index bytes (suc (start + m)) == 10) && v) none ∙ and-false (slice_index bytes (suc (start + m)) == 10))

@@ -1,5 +1,5 @@
 -- Lemmas on what a part costs that is written: its columns pay for it, and for what is kept open behind it.
-use Rattle.std.proofs.Common.{◌≡◌, ◌⊎◌, inl, inr, ℕ, zero, suc, ◌+◌, ◌-◌, ◌*◌, ◌<◌, ◌≤◌, Bool, true, false, cond, List, [], ◌∷◌, length, drop, map, min, refl, sym, ap, ◌∙◌, subst, arith}
+use Rattle.std.proofs.Common.{◌≡◌, ◌⊎◌, inl, inr, ℕ, suc, ◌+◌, ◌-◌, ◌*◌, ◌≤◌, Bool, true, false, cond, List, [], ◌∷◌, length, drop, min, refl, sym, ap, ◌∙◌, subst, arith}
 use Rattle.std.specs.Prelude.{◌&&◌, max, nat_le}
 use Rattle.std.proofs.lemmas.Bool.{false≢true}
 use Rattle.std.proofs.lemmas.List.{length-map}
@@ -121,7 +121,9 @@ module _ (r : Row) (rs : List Row) (paid : ArePaid (r ∷ rs)) (n : ℕ) (x : Co
           by true e =
               let turned = bare_turned budget t0 t1 t2 t3 t4 sc fl before.asked w k st (length x.begun.items) x.many size before.enough one two four least_w least_k (nothing_begun e) (asks_asked e) (stands_asked e) (front e) t5 h in
               omega (arith, turned)
-          by false e = other_turned budget t0 t1 t2 t3 t4 sc fl before.asked w k st (length x.begun.items) x.many size before.enough one two four least_w least_k all three within (counted e) most t5 h
+          by false e =
+              let turned = other_turned budget t0 t1 t2 t3 t4 sc fl before.asked w k st (length x.begun.items) x.many size before.enough one two four least_w least_k all three within (counted e) most in
+              omega (arith, turned, h)
 
       pub part_paid : (least_st : x.is_blank ≡ true → min all ahead.many ≤ st) (now first last lines fn t5 t6 extra : ℕ) → (x.is_left_blank ≡ false → x.is_lazy ≡ false → all ≡ now) → first ≡ cond bare st 0 → last ≡ cond bare all 0 → lines ≡ cond x.is_blank 0 ahead.further
           → t5 + fn ≤ t4 + fl + 3 * (st - k) + 1 → t6 ≤ t5 + extra → IsEnough t6 (budget + (7 * size + 1 + extra)) fn st first last now (drop lines rs)

@@ -11,6 +11,7 @@ use Rattle.markdown_base.specs.declared.event.Name.TheVariants as name
 use Rattle.markdown_base.specs.declared.event.Point.{Point}
 use Rattle.markdown_base.specs.Places.{shown}
 use Rattle.markdown_base.specs.Virtual.{Seat, end_after}
+use Rattle.markdown_base.proofs.Common.{every-take}
 use Rattle.markdown_tokenizer.proofs.Positions.Order.{every-back}
 use Rattle.mdconstructs_flow_read.proofs.Lines.WholeLines.{IsWhole, text-and-ending, whole-behind, whole-ending, whole-text}
 use Rattle.mdconstructs_flow_read.proofs.Marks.Courses.{Track, track-on, track-place}
@@ -22,21 +23,18 @@ use Rattle.mdconstructs_flow_read.specs.LeafEvents.{Mark, leaf_marks, white}
 use Rattle.mdconstructs_flow_read.specs.LineKinds.{is_blank_line}
 use Rattle.mdconstructs_machines.specs.LineEvents.{all_of, ending_of, line_text}
 use Rattle.mdconstructs_lines.specs.Containers.{Prefix}
-use Rattle.mdconstructs_containers.proofs.FrameFacts.{AreOpen, IsPart, all_entered, is_part, none_are_open, none_is, take_front, some_more}
+use Rattle.mdconstructs_containers.proofs.FrameFacts.{all_entered, none_is, take_front, some_more}
+use Rattle.mdconstructs_containers.proofs.OpenFrames.{AreOpen, IsPart, is_part, none_are_open, none_in}
 use Rattle.mdconstructs_containers.proofs.PartSpans.{Goes, RowFits, begun_goes, columns_front, exits_go, goes_both, goes_none, goes_over, goes_spanned, rows_fit}
 use Rattle.mdconstructs_containers.proofs.Pieces.{AreJoined, EndsLine, IsPrefixOver, Over, OverFrom, chunks_run, chunks_spanned, pieces_joined}
 use Rattle.mdconstructs_containers.proofs.PrefixSpans.{leaf_is_unlinked, leaf_over, prefixes_kept, prefixes_none, prefixes_over, prefixes_unlinked, take_more}
-use Rattle.mdconstructs_containers.proofs.RowFacts.{IsFront, every_front}
+use Rattle.mdconstructs_containers.proofs.RowFacts.{IsFront}
+use Rattle.mdconstructs_containers.proofs.RowReads.{plain_reads, rows_length}
 use Rattle.mdconstructs_containers.proofs.SeatFacts.{LineIs, LinesEnd, SeatEnds, behind_ends, drop_text, line_front, take_text, text_only}
 use Rattle.mdconstructs_containers.specs.Prefixes.{columns_of, containers_of}
 use Rattle.mdconstructs_containers.specs.Rows.{Before, Row, has_none, holds_ending, known_after, nothing_known, row_of, rows, rows_from}
 use Rattle.mdconstructs_containers.specs.Skeleton.{Frame, Part, Piece, begin_of, begun_all, behind_marks, chunks_of, end_of, ending_marks, exits, frames_at, further, inside_of, is_held, joined_pieces, last_line, last_of, part_marks, parts, parts_in, parts_marks, piece_of, pieces_of, prefixes_marks, shared, standing}
 use Rattle.mdconstructs_flow_read.proofs.Marks.LeafSpans.{text-shorter}
-
--- no rows have no parts
-pub none_in : (bound : ℕ) → parts_in bound [] ≡ []
-none_in zero = refl
-none_in (suc bound) = refl
 
 -- ---- the virtual bytes of a part
 
@@ -84,7 +82,7 @@ module _ (t : ℕ) (bytes : List ℕ) where
         unlinked = prefixes_unlinked bytes r.went_on r.line;
         none = prefixes_none bytes r.went_on r.line;
         in_line = text_only r.line (columns_of r.went_on) h.line.whole (omega (arith, within));
-        ends = every_front SeatEnds (columns_of r.went_on) r.line h.line.ends;
+        ends = every-take SeatEnds (columns_of r.went_on) r.line h.line.ends;
       })
 
   pub columns_few : (r : Row) → RowFits r → r.columns ≤ length (line_text r.line)
@@ -365,10 +363,6 @@ module _ (t : ℕ) (bytes : List ℕ) where
     lines_end_behind (x ∷ []) (y ∷ ys) h = h.1
     lines_end_behind (x ∷ z ∷ xs) ys h = lines_end_behind (z ∷ xs) ys h.1
 
-    pub rows_length : (b : Before) (n : ℕ) (ls : List Line) → length (rows_from on b n ls) ≡ length ls
-    rows_length b n [] = refl
-    rows_length b n (l ∷ ls) = ap suc (rows_length (known_after on b (row_of on b n l)) (suc n) ls)
-
     module _ (b : Before) (n : ℕ) (l : Line) (ls : List Line) where
       abbrev pub head : Row
       head = row_of on b n l
@@ -382,19 +376,19 @@ module _ (t : ℕ) (bytes : List ℕ) where
       abbrev pub part_at : Part
       part_at = record { first = head; more = take many behind; frames = frames_at head behind; stands = standing head behind }
 
-      pub part_fits : (fs : List Frame) → IsPart on fs b n l ls → AllByRecursion LineIs (l ∷ ls) → LinesEnd (l ∷ ls) → PartIs part_at
+      pub part_fits : (fs : List Frame) → IsPart on (plain_reads on) fs b n l ls → AllByRecursion LineIs (l ∷ ls) → LinesEnd (l ∷ ls) → PartIs part_at
       part_fits fs is lines ends =
           let fit = rows_fit on b n (l ∷ ls) lines in
           record {
             first = fit.0;
-            others = every_front RowFits many behind fit.1;
+            others = every-take RowFits many behind fit.1;
             none_begin = is.behind.none_begin;
             ends = lines_end_front (l ∷ lines_of (take many behind)) is.behind.lines (subst (λ (xs : List Line). LinesEnd (l ∷ xs)) is.behind.all ends);
             stands = is.stands;
             alone = λ e. ap (λ x. take (cond x 0 (further behind)) behind) e;
           }
 
-      pub all_lines : (fs : List Frame) (is : IsPart on fs b n l ls) → PartIs part_at
+      pub all_lines : (fs : List Frame) (is : IsPart on (plain_reads on) fs b n l ls) → PartIs part_at
           → all_of (l ∷ ls) ≡ seats_of (is_held part_at) head (take many behind) ++ (ending_seats (is_held part_at) head (take many behind) ++ all_of is.behind.lines)
       all_lines fs is fits =
           let xs = lines_of (take many behind) in
@@ -403,7 +397,7 @@ module _ (t : ℕ) (bytes : List ℕ) where
           ∙ append_assoc (seats_of (is_held part_at) head (take many behind)) (ending_seats (is_held part_at) head (take many behind)) (all_of ys)
 
     -- what comes behind a part
-    pub behind_goes : (bound : ℕ) (part : Part) → PartIs part → (q : Point) (b : Before) (n : ℕ) (ls : List Line) → AreOpen on part.frames b n ls → AllByRecursion LineIs ls → LinesEnd ls → shown bytes (end_of bytes part) ≡ q → length ls ≤ bound
+    pub behind_goes : (bound : ℕ) (part : Part) → PartIs part → (q : Point) (b : Before) (n : ℕ) (ls : List Line) → AreOpen on (plain_reads on) part.frames b n ls → AllByRecursion LineIs ls → LinesEnd ls → shown bytes (end_of bytes part) ≡ q → length ls ≤ bound
         → let ending = ending_seats (is_held part) part.first part.more in
         Track t bytes q (ending ++ all_of ls) → Goes t bytes part.frames q (behind_marks bytes part (parts_in bound (rows_from on b n ls))) [] (end_after q (ending ++ all_of ls))
     behind_goes bound part fits q b n [] spans lines ends here few track =
@@ -416,7 +410,7 @@ module _ (t : ℕ) (bytes : List ℕ) where
         (subst (Goes t bytes part.frames q (behind_marks bytes part []) []) all (goes_both t bytes part.frames q (exits bytes part.frames (end_of bytes part)) [] q (ending_marks bytes part) [] (end_after q ending) exit end))
     behind_goes zero part fits q b n (l ∷ ls) spans lines ends here few track = absurd (omega (arith, few))
     behind_goes (suc bound) part fits q b n (l ∷ ls) spans lines ends here few track =
-        let is = is_part on part.frames b n l ls spans in
+        let is = is_part on (plain_reads on) part.frames b n l ls spans in
         let next = part_at b n l ls in
         let next_fits = part_fits b n l ls part.frames is lines ends in
         let rest = is.behind.lines in
@@ -463,8 +457,8 @@ module _ (t : ℕ) (bytes : List ℕ) where
     all_parts_go [] p lines ends track = goes_none t bytes [] p
     all_parts_go (l ∷ ls) p lines ends track =
         let b = nothing_known on in
-        let spans = none_are_open on (l ∷ ls) in
-        let is = is_part on [] b 1 l ls spans in
+        let spans = none_are_open on (plain_reads on) b (l ∷ ls) refl refl in
+        let is = is_part on (plain_reads on) [] b 1 l ls spans in
         let next = part_at b 1 l ls in
         let next_fits = part_fits b 1 l ls [] is lines ends in
         let rest = is.behind.lines in
@@ -481,7 +475,7 @@ module _ (t : ℕ) (bytes : List ℕ) where
         let shows : shown bytes (end_of bytes next) ≡ c = end_of_rows (is_held next) next.first next.more (all_of rest) p next_fits.first next_fits.others track1 in
         let bound = length (behind b 1 l ls) in
         let size : length ls ≡ length (lines_of next.more) + length rest = ap (λ (xs : List Line). length xs) is.behind.all ∙ length-append (lines_of next.more) rest in
-        let same : bound ≡ length ls = rows_length (known_after on b (head b 1 l ls)) 2 ls in
+        let same : bound ≡ length ls = rows_length (row_of on) (known_after on) (known_after on b (head b 1 l ls)) 2 ls in
         let left = every-back LineIs (lines_of next.more) rest (subst (AllByRecursion LineIs) is.behind.all lines.1) in
         let left_end = lines_end_behind (l ∷ lines_of next.more) rest (subst (λ (xs : List Line). LinesEnd (l ∷ xs)) is.behind.all ends) in
         let others = behind_goes bound next next_fits c is.behind.state is.behind.number rest is.behind.are_open left left_end shows (omega (arith, size, same)) track2 in

@@ -1,21 +1,16 @@
 -- Lemmas on the containers in which a line stands.
-use Rattle.std.proofs.Common.{◌≡◌, ◌⊎◌, inl, inr, ℕ, zero, suc, ◌+◌, ◌-◌, ◌<◌, ◌≤◌, min, Bool, true, false, cond, List, [], ◌∷◌, ◌++◌, length, take, drop, map, get_or, length-take, refl, sym, ap, ◌∙◌, subst, arith}
-use Rattle.std.specs.Prelude.{◌&&◌, ◌||◌, not, max, nat_le, nat_lt, reverse}
+use Rattle.std.proofs.Common.{◌≡◌, ◌⊎◌, inl, inr, ℕ, zero, suc, ◌+◌, ◌-◌, ◌<◌, ◌≤◌, min, Bool, true, false, cond, List, [], ◌∷◌, length, take, map, get_or, length-take, refl, sym, ap, ◌∙◌, arith}
+use Rattle.std.specs.Prelude.{◌&&◌, not, max, nat_le, nat_lt, reverse}
 use Rattle.std.proofs.Math.ListN.{get_or-map}
 use Rattle.std.proofs.lemmas.Bool.{cases_lt, false≢true}
 use Rattle.std.proofs.lemmas.Bool.Decides.{nat_tests}
 use Rattle.std.proofs.lemmas.List.{get_or_default, get_or-take, length-map, length-reverse, length-take-le, map-append, reverse-append, reverse-reverse, take-map, take_all, take_more}
 use Rattle.mdconstructs_lines.specs.Containers.{Container, quote, item}
-use Rattle.mdconstructs_lines.specs.Views.{container_of}
 use Rattle.mdconstructs_containers.specs.declared.going.Open.{Open}
 use Rattle.mdconstructs_containers.specs.Over.{AreEarlier, is_earlier}
 use Rattle.mdconstructs_containers.specs.Parts.{stands_in}
 use Rattle.mdconstructs_containers.specs.Skeleton.{left_in}
 use Rattle.mdconstructs_containers.specs.Views.{open_of}
-
-pub both_none : (a b : Bool) → (a && b) ≡ true → (a ≡ true) × (b ≡ true)
-both_none true b e = (refl, e)
-both_none false b e = absurd (false≢true e)
 
 -- an item that began before, as the code says it
 pub earlier_is : (number : ℕ) (o : Open) → is_earlier number (open_of o) ≡ (not o.container.is_quote && nat_lt o.container.line number)

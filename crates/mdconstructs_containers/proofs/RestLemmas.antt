@@ -1,29 +1,26 @@
 -- Lemmas on the parts of a document, one behind the other.
-use Rattle.std.proofs.Common.{◌≡◌, ◌⊎◌, inl, inr, ℕ, zero, suc, ◌+◌, ◌-◌, ◌*◌, ◌^◌, ◌<◌, ◌≤◌, Bool, true, false, cond, List, [], ◌∷◌, ◌++◌, length, take, drop, map, min, refl, sym, ap, ◌∙◌, subst, arith, append_assoc, length-drop, length-take, length-append}
-use Rattle.std.specs.Prelude.{◌==◌, ◌&&◌, ◌||◌, not, nat_le, reverse, Option, Some, None}
-use Rattle.std.specs.List.{flat_map}
+use Rattle.std.proofs.Common.{◌≡◌, ◌⊎◌, inl, inr, ℕ, zero, suc, ◌+◌, ◌*◌, ◌^◌, ◌<◌, ◌≤◌, Bool, true, false, cond, List, [], ◌∷◌, ◌++◌, length, take, drop, map, refl, sym, ap, ◌∙◌, subst, arith, length-drop, length-take}
+use Rattle.std.specs.Prelude.{◌||◌, nat_le, reverse, None}
 use Rattle.std.proofs.lemmas.Bool.{false≢true}
-use Rattle.std.proofs.lemmas.List.{append-nil, drop-append-le, drop-drop, map-append, take_all, take-append-le, length-map, take-map}
+use Rattle.std.proofs.lemmas.List.{append-nil, drop-drop, map-append, take_all}
 use Rattle.markdown_base.specs.declared.event.Event.{Event}
 use Rattle.markdown_base.specs.declared.event.Kind.TheVariants.{Exit}
-use Rattle.markdown_base.specs.declared.event.Name.TheVariants as name
 use Rattle.markdown_base.specs.declared.event.Point.{Point}
 use Rattle.markdown_base.specs.Places.{shown}
-use Rattle.markdown_base.specs.Virtual.{Seat, end_after, point}
-use Rattle.mdconstructs_machines.specs.LineEvents.{ending_of, line_text}
-use Rattle.mdconstructs_machines.specs.Spans.{event}
-use Rattle.mdconstructs_flow_read.specs.LeafBlocks.{Line, text_of}
-use Rattle.mdconstructs_flow_read.specs.LeafEvents.{Mark, leaf_marks, white}
-use Rattle.mdconstructs_lines.specs.Containers.{Container, Prefix, quote, item, goes_on}
+use Rattle.markdown_base.specs.Virtual.{Seat}
+use Rattle.mdconstructs_machines.specs.LineEvents.{line_text}
+use Rattle.mdconstructs_flow_read.specs.LeafBlocks.{text_of}
+use Rattle.mdconstructs_flow_read.specs.LeafEvents.{Mark, white}
+use Rattle.mdconstructs_lines.specs.Containers.{Container, Prefix}
 use Rattle.mdconstructs_containers.specs.declared.parts.PartEnd.{PartEnd}
 use Rattle.mdconstructs_containers.specs.declared.spans.RowAt.{RowAt}
 use Rattle.mdconstructs_containers.specs.Parts.{ending_at, open_behind}
 use Rattle.mdconstructs_containers.specs.PlaceEvents.{event_at}
-use Rattle.mdconstructs_containers.specs.Prefixes.{columns_of, containers_of, going_on}
+use Rattle.mdconstructs_containers.specs.Prefixes.{columns_of, containers_of}
 use Rattle.mdconstructs_containers.specs.Rest.{AreLeft, ending_to, exits_to, rest_marks}
 use Rattle.mdconstructs_containers.specs.Rows.{Row, has_none}
 use Rattle.mdconstructs_containers.specs.SeatPlaces.{events_of}
-use Rattle.mdconstructs_containers.specs.Skeleton.{Frame, Part, Piece, behind_marks, chained_from, chunks_of, end_of, ending_marks, exits, frames_at, further, going_on_at, inside_of, is_held, joined_pieces, part_marks, parts, parts_in, parts_marks, pieces_of, prefixes_marks, shared, standing}
+use Rattle.mdconstructs_containers.specs.Skeleton.{Frame, Part, Piece, behind_marks, chained_from, chunks_of, end_of, ending_marks, exits, frames_at, further, inside_of, is_held, joined_pieces, part_marks, parts, parts_in, parts_marks, pieces_of, prefixes_marks, shared, standing}
 use Rattle.mdconstructs_containers.specs.Spans.{IsRowIn, AreRowsIn}
 use Rattle.mdconstructs_containers.specs.Stretches.{AreFurther, IsOutside, pieces_from}
 use Rattle.mdconstructs_containers.specs.Written.{NoChunk, Written}
@@ -133,6 +130,10 @@ module _ (t : ℕ) (bytes : List ℕ) (some : 0 < t) (limit : t * length bytes +
 pub plain_map : {A : Type 0} (f : A → Event) (xs : List A) → NoChunk (map (λ x. (f x, None)) xs)
 plain_map f [] = tt
 plain_map f (x ∷ xs) = plain_map f xs
+
+-- what is known before the first part
+abbrev pub no_end : PartEnd
+no_end = record { is_blank = false; place = record { line = 1; column = 1; index = 0; vs = 0 }; behind = None }
 
 module _ (bytes : List ℕ) where
   pub exits_shown : (fs : List Frame) (p q : Point) → shown bytes p ≡ q → exits bytes fs p ≡ exits_to fs q

@@ -16,7 +16,7 @@ use Rattle.mdconstructs_containers.proofs.GoingLemmas.{begins_within, goes_on_wi
 use Rattle.mdconstructs_containers.specs.Prefixes.{beginning, columns_of, containers_of, going_on, in_place_of, with_list}
 use Rattle.mdconstructs_containers.specs.Rows.{Before, Row, is_paragraph, is_raw, row_of}
 use Rattle.mdconstructs_containers.specs.Skeleton.{Frame, frames_of, list_begun, list_name}
-use Rattle.markdown_base.proofs.Common.{and-right}
+use Rattle.markdown_base.proofs.Common.{and-right, every-drop}
 
 -- ---- fronts of lists
 
@@ -214,16 +214,6 @@ module _ (n : ℕ) where
 
 -- ---- a line
 
-pub every_behind : {A : Type 0} (P : A → Type 0) (k : ℕ) (xs : List A) → AllByRecursion P xs → AllByRecursion P (drop k xs)
-every_behind P zero xs h = h
-every_behind P (suc k) [] h = tt
-every_behind P (suc k) (x ∷ xs) h = every_behind P k xs h.1
-
-pub every_front : {A : Type 0} (P : A → Type 0) (k : ℕ) (xs : List A) → AllByRecursion P xs → AllByRecursion P (take k xs)
-every_front P zero xs h = tt
-every_front P (suc k) [] h = tt
-every_front P (suc k) (x ∷ xs) h = (h.0, every_front P k xs h.1)
-
 module _ (on : Constructs) (b : Before) (n : ℕ) (line : Line) where
   abbrev pub row : Row
   row = row_of on b n line
@@ -248,7 +238,7 @@ module _ (on : Constructs) (b : Before) (n : ℕ) (line : Line) where
   pub begun_are : AllByRecursion (BeganBefore n) b.stack → BeginHere n row.begun × IsFront (list_begun row.begun) (flat_map frames_of (drop (length row.went_on) b.stack))
   begun_are old =
       by ((length row.went_on == b.depth) && is_raw b.leaf)
-      (listed n (drop (length row.went_on) b.stack) new (every_behind (BeganBefore n) (length row.went_on) b.stack old) (all_begin_here on n (length left) ((length row.went_on == b.depth) && is_paragraph b.leaf) left))
+      (listed n (drop (length row.went_on) b.stack) new (every-drop (BeganBefore n) (length row.went_on) b.stack old) (all_begin_here on n (length left) ((length row.went_on == b.depth) && is_paragraph b.leaf) left))
     where
       by : (x : Bool) → BeginHere n (with_list (drop (length row.went_on) b.stack) new) × IsFront (list_begun (with_list (drop (length row.went_on) b.stack) new)) (flat_map frames_of (drop (length row.went_on) b.stack))
           → BeginHere n (cond x [] (with_list (drop (length row.went_on) b.stack) new)) × IsFront (list_begun (cond x [] (with_list (drop (length row.went_on) b.stack) new))) (flat_map frames_of (drop (length row.went_on) b.stack))

@@ -19,6 +19,7 @@ use Rattle.markdown_edits.specs.OpenNames.{names_after, names_after_all}
 use Rattle.markdown_tokenizer.specs.Engine.{IsWellFormed}
 use Rattle.markdown_tokenizer.specs.Text.{Given, IsDocument}
 use Rattle.markdown_children.specs.Chains.{fits}
+use Rattle.markdown_children.specs.NextContent.{HasTextInGaps}
 use Rattle.markdown_children.specs.Ready.{IsGap, IsReadable, IsReady, IsShownPlace, place_at}
 use Rattle.markdown_children.proofs.ChainOrder.Following.{some_content}
 use Rattle.mdconstructs_machines.proofs.BlockReads.Accounts.{lines-are-all}
@@ -30,8 +31,7 @@ use Rattle.mdconstructs_containers.proofs.PartGoes.{all_parts_go}
 use Rattle.mdconstructs_containers.proofs.PartSpans.{Goes}
 use Rattle.mdconstructs_containers.proofs.SeatFacts.{document_lines, lines_end}
 use Rattle.mdconstructs_containers.proofs.SkeletonChains.{goes_forward, has_one_content, idle, joined_both, next_in, one_content_of}
-use Rattle.mdconstructs_containers.proofs.TightMarks.{skeletons_are_void_tight, skeletons_have_chunks}
-use Rattle.mdconstructs_containers.specs.Blocks.{document_skeleton}
+use Rattle.mdconstructs_containers.proofs.TightMarks.{Tight, events_chunks, events_tight, parts_tight}
 use Rattle.mdconstructs_containers.specs.Rows.{rows}
 use Rattle.mdconstructs_containers.specs.Skeleton.{chained_from, parts, parts_marks}
 use Rattle.mdconstructs_containers.specs.SkeletonLaws.{SkeletonsAreFormed, SkeletonsAreReady, SkeletonsHaveTextInGaps}
@@ -72,39 +72,26 @@ next_place p (x ∷ xs) q (suc k) e h at =
     let one : suc k + 1 ≡ suc (k + 1) = omega arith in
     ap (λ n. stands_before (place_at (x ∷ xs) n) (place_at xs k)) one ∙ next_place x.point xs q k e h.1 (sym (ap (slice_get (x ∷ xs)) one) ∙ at)
 
--- ---- a document
+-- ---- marks over a document
 
-module _ (g : Given) (is : IsDocument g) where
-  abbrev pub seats : List Seat
-  seats = virtual g.tab g.bytes
-
-  abbrev pub marks : List Mark
-  marks = parts_marks g.bytes (parts (rows g.options.constructs (lines_in seats)))
-
+-- Marks that go over the virtual bytes of a document and leave no span open: their events are well formed, and the chains can be read
+module _ (g : Given) (marks : List Mark) (finish : Point) (goes : Goes g.tab g.bytes [] (point 1 1 0 0) marks [] finish) (tight : Tight marks) where
   abbrev pub es : List Event
-  es = document_skeleton g
+  es = chained_from 0 None marks
 
   abbrev pub start : Point
   start = point 1 1 0 0
 
-  abbrev pub finish : Point
-  finish = end_after start (all_of (lines_in seats))
-
-  pub document_goes : Goes g.tab g.bytes [] start marks [] finish
-  document_goes =
-      all_parts_go g.tab g.bytes g.options.constructs (lines_in seats) start (document_lines g.tab g.bytes) (lines_end seats)
-      (subst (Track g.tab g.bytes start) (sym (lines-are-all seats)) (whole-track g.tab g.bytes is.tab.0))
-
   pub in_order : InOrder start es finish
-  in_order = order_chained start 0 None marks finish document_goes.order
+  in_order = order_chained start 0 None marks finish goes.order
 
   pub places : AllByRecursion (λ (e : Event). Place g.tab g.bytes e.point) es
-  places = places_chained (Place g.tab g.bytes) 0 None marks document_goes.places
+  places = places_chained (Place g.tab g.bytes) 0 None marks goes.places
 
-  pub formed : IsWellFormed g es
-  formed = record {
-    balanced = balanced_from_open es (names_chained (Some []) 0 None marks ∙ document_goes.names);
-    void_tight = skeletons_are_void_tight g.options.constructs g.bytes seats;
+  pub are_formed : IsWellFormed g es
+  are_formed = record {
+    balanced = balanced_from_open es (names_chained (Some []) 0 None marks ∙ goes.names);
+    void_tight = events_tight 0 None marks tight;
     at_places = All-from_recursion (λ (e : Event). IsPointOf g.tab g.bytes e.point) es (every-map (λ (e : Event). Place g.tab g.bytes e.point) (λ (e : Event). IsPointOf g.tab g.bytes e.point) (λ e h. h.is_point) es places);
     in_order = (
       order-pairs start es finish in_order,
@@ -118,8 +105,8 @@ module _ (g : Given) (is : IsDocument g) where
   pub readable : (wanted : Option Content) (k : ℕ) → fits wanted es k ≡ true → IsReadable g.tab g.bytes es k
   readable wanted k h =
       let (c, at) = some_content wanted (content_at es k) h in
-      let chunk = skeletons_have_chunks g.options.constructs g.bytes seats k c at in
-      let same = one_content_of 0 k c None marks idle document_goes.runs at in
+      let chunk = events_chunks 0 None marks tight k c at in
+      let same = one_content_of 0 k c None marks idle goes.runs at in
       record {
         content = λ flow. other (sym (ap Some same) ∙ sym at ∙ flow);
         from = shown_place k chunk.enter chunk.enter_at;
@@ -132,7 +119,7 @@ module _ (g : Given) (is : IsDocument g) where
 
   pub gap : (k d : ℕ) → next_of es k ≡ Some d → IsGap es k d
   gap k d at =
-      let n = next_in marks document_goes.runs k d at in
+      let n = next_in marks goes.runs k d at in
       record {
         forward = before-upto (place_at es (k + 1)) (place_at es d) n.further.later;
         in_line = inr (n.further.begins, n.further.line);
@@ -140,22 +127,45 @@ module _ (g : Given) (is : IsDocument g) where
         no_link = n.none;
       }
 
-  pub ready : (wanted : Option Content) → IsReady g.tab g.bytes wanted es
-  ready wanted = record {
-    balanced = formed.balanced;
-    chunks = skeletons_have_chunks g.options.constructs g.bytes seats;
-    joined = joined_both marks document_goes.runs;
-    forward = goes_forward marks document_goes.runs;
-    one_content = has_one_content marks document_goes.runs;
+  pub are_ready : (wanted : Option Content) → IsReady g.tab g.bytes wanted es
+  are_ready wanted = record {
+    balanced = are_formed.balanced;
+    chunks = events_chunks 0 None marks tight;
+    joined = joined_both marks goes.runs;
+    forward = goes_forward marks goes.runs;
+    one_content = has_one_content marks goes.runs;
     readable = readable wanted;
     gaps = λ k d fit at. gap k d at;
   }
 
+  pub have_text_in_gaps : (wanted : Option Content) → HasTextInGaps wanted es
+  have_text_in_gaps wanted k d fit at = inr (next_in marks goes.runs k d at).further.later
+
+-- ---- a document
+
+module _ (g : Given) (is : IsDocument g) where
+  abbrev pub seats : List Seat
+  seats = virtual g.tab g.bytes
+
+  abbrev pub marks : List Mark
+  marks = parts_marks g.bytes (parts (rows g.options.constructs (lines_in seats)))
+
+  abbrev pub finish : Point
+  finish = end_after (point 1 1 0 0) (all_of (lines_in seats))
+
+  pub document_goes : Goes g.tab g.bytes [] (point 1 1 0 0) marks [] finish
+  document_goes =
+      all_parts_go g.tab g.bytes g.options.constructs (lines_in seats) (point 1 1 0 0) (document_lines g.tab g.bytes) (lines_end seats)
+      (subst (Track g.tab g.bytes (point 1 1 0 0)) (sym (lines-are-all seats)) (whole-track g.tab g.bytes is.tab.0))
+
+  pub document_tight : Tight marks
+  document_tight = parts_tight g.bytes (parts (rows g.options.constructs (lines_in seats)))
+
 pub skeletons_are_formed : SkeletonsAreFormed
-skeletons_are_formed g is = formed g is
+skeletons_are_formed g is = are_formed g (marks g is) (finish g is) (document_goes g is) (document_tight g is)
 
 pub skeletons_are_ready : SkeletonsAreReady
-skeletons_are_ready g is wanted = ready g is wanted
+skeletons_are_ready g is wanted = are_ready g (marks g is) (finish g is) (document_goes g is) (document_tight g is) wanted
 
 pub skeletons_have_text_in_gaps : SkeletonsHaveTextInGaps
-skeletons_have_text_in_gaps g is wanted k d fit at = inr (next_in (marks g is) (document_goes g is).runs k d at).further.later
+skeletons_have_text_in_gaps g is wanted = have_text_in_gaps g (marks g is) (finish g is) (document_goes g is) (document_tight g is) wanted

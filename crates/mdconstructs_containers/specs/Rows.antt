@@ -76,6 +76,11 @@ pub record Row : Type 0 where
 abbrev pub rest_of : Row → List ℕ
 rest_of row = drop row.columns (text_of row.line)
 
+-- lines one after another, each read by what is known before it
+abbrev pub rows_by : {K : Type 0} → (row : K → ℕ → Line → Row) → (next : K → Row → K) → K → (number : ℕ) → List Line → List Row
+rows_by row next k number [] = []
+rows_by row next k number (line ∷ lines) = let r = row k number line in r ∷ rows_by row next (next k r) (suc number) lines
+
 module _ (on : Constructs) where
   -- A line goes on with a paragraph though not with all its containers, as "paragraph continuation text": it "will be parsed as part of the content
   -- of a paragraph, but does not occur at the beginning of the paragraph" (5.1, 5.2, "Laziness"). So no block begins there. "The setext heading
@@ -122,8 +127,7 @@ module _ (on : Constructs) where
       (cond row.is_lazy (record b { leaf = row.leaf }) (record { stack = all; depth = length all; leaf = row.leaf }))
 
   abbrev pub rows_from : Before → (number : ℕ) → List Line → List Row
-  rows_from b number [] = []
-  rows_from b number (line ∷ lines) = let row = row_of b number line in row ∷ rows_from (known_after b row) (suc number) lines
+  rows_from = rows_by row_of known_after
 
   -- what is known before the first line
   abbrev pub nothing_known : Before

@@ -17,14 +17,16 @@ use Rattle.mdconstructs_machines.proofs.BlockReads.Accounts.{lines-are-all}
 use Rattle.mdconstructs_machines.specs.Innermost.{AccountFor}
 use Rattle.mdconstructs_machines.specs.LineEvents.{all_of, ending_of, line_text, lines_in}
 use Rattle.mdconstructs_lines.specs.Containers.{Prefix}
-use Rattle.mdconstructs_containers.proofs.FrameFacts.{AreOpen, is_part, none_are_open, none_is}
+use Rattle.mdconstructs_containers.proofs.FrameFacts.{none_is}
 use Rattle.mdconstructs_containers.proofs.Innermost.Spans.{Accounts, both_account, begun_spans, chained_spans, exits_account, pieces_spans}
-use Rattle.mdconstructs_containers.proofs.PartGoes.{PartIs, all_in_front, all_lines, blank_seats, cut, cut_few, cut_is, ending_seats, first_piece, front_is, front_marks, last_fits, lines_end_behind, lines_of, no_prefix, other_pieces, part_at, part_fits, pieces_over, pieces_split, rows_length, seats_of, behind, head, none_in}
+use Rattle.mdconstructs_containers.proofs.OpenFrames.{AreOpen, is_part, none_are_open, none_in}
+use Rattle.mdconstructs_containers.proofs.PartGoes.{PartIs, all_in_front, all_lines, blank_seats, cut, cut_few, cut_is, ending_seats, first_piece, front_is, front_marks, last_fits, lines_end_behind, lines_of, no_prefix, other_pieces, part_at, part_fits, pieces_over, pieces_split, seats_of, behind, head}
 use Rattle.mdconstructs_containers.proofs.Pieces.{AreJoined, Over, pieces_joined}
 use Rattle.mdconstructs_containers.proofs.PrefixSpans.{prefixes_kept, take_more}
+use Rattle.mdconstructs_containers.proofs.RowReads.{plain_reads, rows_length}
 use Rattle.mdconstructs_containers.proofs.SeatFacts.{LineIs, LinesEnd, document_lines, drop_text, lines_end}
 use Rattle.mdconstructs_containers.specs.Prefixes.{columns_of}
-use Rattle.mdconstructs_containers.specs.Rows.{Before, Row, has_none, known_after, nothing_known, rows, rows_from}
+use Rattle.mdconstructs_containers.specs.Rows.{Before, Row, has_none, known_after, nothing_known, row_of, rows, rows_from}
 use Rattle.mdconstructs_containers.specs.Skeleton.{Part, Piece, begun_all, behind_marks, chunks_of, end_of, ending_marks, exits, inside_of, is_held, joined_pieces, last_of, part_marks, parts, parts_in, parts_marks, pieces_of, prefixes_marks, shared}
 use Rattle.mdconstructs_containers.specs.SkeletonSpans.{SkeletonsAccount}
 
@@ -118,7 +120,7 @@ module _ (t : ℕ) (bytes : List ℕ) where
 
   module _ (on : Constructs) where
     -- what comes behind a part
-    pub behind_accounts : (bound : ℕ) (part : Part) → PartIs t bytes part → (b : Before) (n : ℕ) (ls : List Line) → AreOpen on part.frames b n ls → AllByRecursion LineIs ls → LinesEnd ls → length ls ≤ bound
+    pub behind_accounts : (bound : ℕ) (part : Part) → PartIs t bytes part → (b : Before) (n : ℕ) (ls : List Line) → AreOpen on (plain_reads on) part.frames b n ls → AllByRecursion LineIs ls → LinesEnd ls → length ls ≤ bound
         → Accounts bytes (behind_marks bytes part (parts_in bound (rows_from on b n ls))) (ending_seats (is_held part) part.first part.more ++ all_of ls)
     behind_accounts bound part fits b n [] spans lines ends few =
         let exit = exits_account bytes part.frames (end_of bytes part) in
@@ -128,7 +130,7 @@ module _ (t : ℕ) (bytes : List ℕ) where
         (subst (Accounts bytes (behind_marks bytes part [])) (sym (append-nil ending)) (both_account bytes (exits bytes part.frames (end_of bytes part)) (ending_marks bytes part) [] ending exit end))
     behind_accounts zero part fits b n (l ∷ ls) spans lines ends few = absurd (omega (arith, few))
     behind_accounts (suc bound) part fits b n (l ∷ ls) spans lines ends few =
-        let is = is_part on part.frames b n l ls spans in
+        let is = is_part on (plain_reads on) part.frames b n l ls spans in
         let next = part_at t bytes on b n l ls in
         let next_fits = part_fits t bytes on b n l ls part.frames is lines ends in
         let rest = is.behind.lines in
@@ -151,8 +153,8 @@ module _ (t : ℕ) (bytes : List ℕ) where
     all_parts_account [] lines ends = λ events more h. h
     all_parts_account (l ∷ ls) lines ends =
         let b = nothing_known on in
-        let spans = none_are_open on (l ∷ ls) in
-        let is = is_part on [] b 1 l ls spans in
+        let spans = none_are_open on (plain_reads on) b (l ∷ ls) refl refl in
+        let is = is_part on (plain_reads on) [] b 1 l ls spans in
         let next = part_at t bytes on b 1 l ls in
         let next_fits = part_fits t bytes on b 1 l ls [] is lines ends in
         let rest = is.behind.lines in
@@ -161,7 +163,7 @@ module _ (t : ℕ) (bytes : List ℕ) where
         let all : all_of (l ∷ ls) ≡ seats ++ (last ++ all_of rest) = all_lines t bytes on b 1 l ls [] is next_fits in
         let bound = length (behind t bytes on b 1 l ls) in
         let size : length ls ≡ length (lines_of next.more) + length rest = ap (λ (xs : List Line). length xs) is.behind.all ∙ length-append (lines_of next.more) rest in
-        let same : bound ≡ length ls = rows_length t bytes on (known_after on b (head t bytes on b 1 l ls)) 2 ls in
+        let same : bound ≡ length ls = rows_length (row_of on) (known_after on) (known_after on b (head t bytes on b 1 l ls)) 2 ls in
         let left = every-back LineIs (lines_of next.more) rest (subst (AllByRecursion LineIs) is.behind.all lines.1) in
         let left_end = lines_end_behind t bytes on (l ∷ lines_of next.more) rest (subst (λ (xs : List Line). LinesEnd (l ∷ xs)) is.behind.all ends) in
         let others = behind_accounts bound next next_fits is.behind.state is.behind.number rest is.behind.are_open left left_end (omega (arith, size, same)) in

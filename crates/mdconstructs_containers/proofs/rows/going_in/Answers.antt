@@ -1,5 +1,6 @@
 use Rattle.std.proofs.Common.{◌≡◌, ◌<◌, ◌≤◌, ◌+◌, ℕ, List, length, take, map, get_or, sym, ap, subst, ◌∙◌, arith}
 use Rattle.std.proofs.lemmas.List.{get_or-take, length-take-le, take-map}
+use Rattle.markdown_base.proofs.Common.{every-take}
 use Rattle.mdconstructs_lines.specs.Containers.{Container}
 use Rattle.mdconstructs_containers.specs.declared.going.Open.{Open}
 use Rattle.mdconstructs_containers.specs.Costs.{HasSize, HaveSizes}
@@ -7,7 +8,6 @@ use Rattle.mdconstructs_containers.specs.Over.{AreBefore, AreOver}
 use Rattle.mdconstructs_containers.specs.Prefixes.{going_on, columns_of}
 use Rattle.mdconstructs_containers.specs.Views.{open_of}
 use Rattle.mdconstructs_containers.proofs.OverLemmas.{front_over, over_front}
-use Rattle.mdconstructs_containers.proofs.RowFacts.{every_front}
 use Rattle.mdconstructs_containers.proofs.rows.going_in.Goals as goal
 
 pub returns : goal.returns
@@ -35,5 +35,5 @@ going_on-requires g c =
     let size : length c.first_of.result.now ≡ c.args.before.now.depth = ap length front ∙ length-take-le c.args.before.now.depth c.args.before.now.stack.items c.requires.depth in
     record {
       over = subst (λ (n : ℕ). AreOver c.args.number c.args.before.now.over n c.first_of.result.now) (sym size) (front_over c.args.number c.args.before.now.over c.args.before.now.depth c.args.before.now.depth c.args.before.now.stack.items c.first_of.result.now front (omega arith) c.requires.over);
-      sizes = subst HaveSizes (sym (ap (map open_of) front ∙ sym (take-map open_of c.args.before.now.depth c.args.before.now.stack.items))) (every_front HasSize c.args.before.now.depth (map open_of c.args.before.now.stack.items) c.requires.sizes);
+      sizes = subst HaveSizes (sym (ap (map open_of) front ∙ sym (take-map open_of c.args.before.now.depth c.args.before.now.stack.items))) (every-take HasSize c.args.before.now.depth (map open_of c.args.before.now.stack.items) c.requires.sizes);
     }

@@ -1,8 +1,6 @@
-use Rattle.std.proofs.Common.{◌≡◌, ℕ, true, cond, List, ◌++◌, length, drop, map, refl, sym, ap, ◌∙◌, arith}
-use Rattle.std.specs.Prelude.{◌&&◌}
+use Rattle.std.proofs.Common.{ℕ, true, cond, List, ◌++◌, length, drop, map, sym, ap, ◌∙◌, arith}
 use Rattle.std.proofs.lemmas.List.{append-nil}
-use Rattle.mdconstructs_lines.specs.declared.containers.Prefix.{Prefix}
-use Rattle.mdconstructs_containers.specs.declared.going.Open.{Open}
+use Rattle.std.proofs.lemmas.Bool.{and_parts}
 use Rattle.mdconstructs_lines.specs.Lines.{line_bytes}
 use Rattle.mdconstructs_containers.specs.Prefixes.{columns_of, going_on}
 use Rattle.mdconstructs_containers.specs.Rows.{has_none}
@@ -10,13 +8,12 @@ use Rattle.mdconstructs_containers.specs.SeatPlaces.{events_of}
 use Rattle.mdconstructs_containers.specs.Skeleton.{begun_all, prefixes_marks}
 use Rattle.mdconstructs_containers.specs.Views.{begun_of, open_of}
 use Rattle.mdconstructs_containers.proofs.FrameFacts.{none_is}
-use Rattle.mdconstructs_containers.proofs.PartLemmas.{both_none}
 use Rattle.mdconstructs_containers.proofs.skeleton.begin_part.Goals as goal
 
 pub returns-then-has_no_prefix-clause-marks : goal.returns-then-has_no_prefix-clause-marks
 returns-then-has_no_prefix-clause-marks g c = λ seats are is.
     let s = c.args.at.now.span in
-    let none = both_none (has_none c.args.stack.now) (has_none c.args.at.now.row.begun.items) (sym c.has_no_prefix.ensures ∙ c.if-has_no_prefix.true) in
+    let none = and_parts (has_none c.args.stack.now) (has_none c.args.at.now.row.begun.items) (sym c.has_no_prefix.ensures ∙ c.if-has_no_prefix.true) in
     let stack = none_is c.args.stack.now none.0 in
     let begun = none_is c.args.at.now.row.begun.items none.1 in
     let t = line_bytes c.args.tab s.number 1 s.start (drop s.start c.args.bytes.now) in
@@ -26,7 +23,7 @@ returns-then-has_no_prefix-clause-marks g c = λ seats are is.
 pub returns-then-has_no_prefix-clause-columns : goal.returns-then-has_no_prefix-clause-columns
 returns-then-has_no_prefix-clause-columns g c =
     let s = c.args.at.now.span in
-    let none = both_none (has_none c.args.stack.now) (has_none c.args.at.now.row.begun.items) (sym c.has_no_prefix.ensures ∙ c.if-has_no_prefix.true) in
+    let none = and_parts (has_none c.args.stack.now) (has_none c.args.at.now.row.begun.items) (sym c.has_no_prefix.ensures ∙ c.if-has_no_prefix.true) in
     let stack = none_is c.args.stack.now none.0 in
     (λ k. cond (sym none.1 k) (columns_of (going_on (map open_of (sym stack k)) s.number (line_bytes c.args.tab s.number 1 s.start (drop s.start c.args.bytes.now)))) c.args.at.now.row.columns)
 

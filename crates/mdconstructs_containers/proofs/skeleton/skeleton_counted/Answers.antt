@@ -1,33 +1,29 @@
-use Rattle.std.proofs.Common.{◌≡◌, ℕ, ◌-◌, ◌<◌, List, [], length, drop, get_or, refl, sym, ap, ◌∙◌, subst, arith}
+use Rattle.std.proofs.Common.{◌≡◌, ◌<◌, List, [], length, refl, sym, ap, ◌∙◌, subst, arith}
 use Rattle.markdown_base.specs.Virtual.{virtual}
 use Rattle.mdconstructs_machines.specs.LineEvents.{lines_in}
 use Rattle.mdconstructs_containers.specs.declared.ahead.Ahead.{Ahead}
 use Rattle.mdconstructs_containers.specs.declared.spans.RowAt.{RowAt}
-use Rattle.mdconstructs_containers.specs.Ahead.{AreRows, ahead_of}
+use Rattle.mdconstructs_containers.specs.Ahead.{AreRows}
 use Rattle.mdconstructs_containers.specs.Costs.{columns_in}
-use Rattle.mdconstructs_containers.specs.Rows.{Row, nothing_known, rows}
+use Rattle.mdconstructs_containers.specs.Rows.{nothing_known, rows}
 use Rattle.mdconstructs_containers.specs.Spans.{AreRowsIn}
+use Rattle.mdconstructs_containers.proofs.AheadLemmas.{same_aheads}
 use Rattle.mdconstructs_containers.proofs.ColumnLemmas.{all_columns, many_columns}
-use Rattle.mdconstructs_containers.proofs.CostLemmas.{all_paid, first_paid}
+use Rattle.mdconstructs_containers.proofs.RowReads.{first_paid, plain_reads, rows_paid}
 use Rattle.mdconstructs_containers.proofs.RowSpans.{rows_in}
 use Rattle.mdconstructs_containers.proofs.skeleton.skeleton_counted.Goals as goal
-
--- what lies ahead, by equal lists
-same_aheads : (xs ys : List RowAt) (these those : List Ahead) (all : List Row) → xs ≡ ys → these ≡ those → ((d : Ahead) (k : ℕ) → k < length ys → get_or those k d ≡ ahead_of (drop (length ys - k) all))
-    → (d : Ahead) (k : ℕ) → k < length xs → get_or these k d ≡ ahead_of (drop (length xs - k) all)
-same_aheads xs ys these those all e f h =
-    subst (λ (l : List RowAt). (d : Ahead) (k : ℕ) → k < length l → get_or these k d ≡ ahead_of (drop (length l - k) all)) (sym e)
-    (subst (λ (l : List Ahead). (d : Ahead) (k : ℕ) → k < length ys → get_or l k d ≡ ahead_of (drop (length ys - k) all)) (sym f) h)
 
 pub skeleton_by-requires : goal.skeleton_by-requires
 skeleton_by-requires g c = λ lifetimes outlives.
     let t = c.args.tab in
     let bytes = c.args.bytes.now in
-    let all = rows c.args.on.now (lines_in (virtual t bytes)) in
+    let on = c.args.on.now in
+    let ls = lines_in (virtual t bytes) in
+    let all = rows on ls in
     let some : 0 < t = omega (arith, c.get-tab_size.ensures.least, c.get-tab_size.ensures.columns) in
     let items = c.in_ok-rows.rows.items in
     let one : c.as_slice-2.result.now ≡ c.as_slice.result.now = c.as_slice-2.ensures.value ∙ sym c.as_slice.ensures.value in
-    let are : AreRowsIn t bytes [] 1 0 items all = rows_in c.args.on.now t bytes some (nothing_known c.args.on.now) 1 0 items all refl c.in_ok-rows.ensures.rows c.in_ok-rows.ensures.placed tt in
+    let are : AreRowsIn t bytes [] 1 0 items all = rows_in on t bytes some (nothing_known on) 1 0 items all refl c.in_ok-rows.ensures.rows c.in_ok-rows.ensures.placed tt in
     let rows_are = c.in_ok-aheads.ensures.aheads all (subst (λ (l : List RowAt). AreRows l all) (sym c.as_slice.ensures.value) c.in_ok-rows.ensures.rows) in (
       outlives,
       (
@@ -38,7 +34,7 @@ skeleton_by-requires g c = λ lifetimes outlives.
             ap (λ (l : List Ahead). length l) c.as_slice-3.ensures.value ∙ c.in_ok-aheads.ensures.len ∙ ap (λ (l : List RowAt). length l) (sym one),
             (
               same_aheads c.as_slice-2.result.now c.as_slice.result.now c.as_slice-3.result.now c.in_ok-aheads.aheads.items all one c.as_slice-3.ensures.value rows_are,
-              (first_paid c.args.on.now (lines_in (virtual t bytes)), all_paid c.args.on.now (lines_in (virtual t bytes))),
+              (first_paid on (plain_reads on) (nothing_known on) 1 ls refl, rows_paid on (plain_reads on) (nothing_known on) 1 ls tt),
             ),
           ),
         ),

@@ -1,23 +1,17 @@
-use Rattle.std.proofs.Common.{◌≡◌, ◌⊎◌, inl, inr, ℕ, ◌+◌, ◌-◌, ◌<◌, ◌≤◌, ◌^◌, ◌*◌, Bool, true, false, cond, List, [], ◌∷◌, ◌++◌, length, take, drop, map, min, length-take, refl, sym, ap, ◌∙◌, subst, arith}
+use Rattle.std.proofs.Common.{◌≡◌, ℕ, ◌+◌, ◌<◌, ◌≤◌, ◌^◌, ◌*◌, true, false, cond, List, [], ◌++◌, length, take, drop, map, min, length-take, refl, sym, ap, ◌∙◌, subst, arith}
 use Rattle.std.specs.Prelude.{◌==◌, ◌&&◌, not, Some, None}
 use Rattle.std.specs.List.{flat_map}
-use Rattle.std.proofs.lemmas.List.{append-nil, length-map}
-use Rattle.markdown_base.specs.declared.event.Event.{Event}
+use Rattle.std.proofs.lemmas.List.{append-nil, length-map, length-take-le}
 use Rattle.markdown_base.specs.Virtual.{point}
 use Rattle.mdconstructs_flow_read.specs.LeafEvents.{Mark}
 use Rattle.mdconstructs_lines.specs.Containers.{Container, Prefix}
-use Rattle.mdconstructs_containers.specs.declared.frames.Frame.{Frame}
 use Rattle.mdconstructs_containers.specs.declared.going.Open.{Open}
-use Rattle.mdconstructs_containers.specs.declared.spans.RowAt.{RowAt}
-use Rattle.mdconstructs_containers.specs.Ahead.{ahead_of}
 use Rattle.mdconstructs_containers.specs.Costs.{IsEnough, columns_in}
 use Rattle.mdconstructs_containers.specs.Frames.{frame_of, frames_in}
 use Rattle.mdconstructs_containers.specs.Over.{AreEarlier}
-use Rattle.mdconstructs_containers.specs.Parts.{open_behind}
-use Rattle.mdconstructs_containers.specs.Rest.{AreLeft, ending_to, exits_to, rest_marks}
-use Rattle.mdconstructs_containers.specs.Rows.{Row, has_none, holds_ending}
-use Rattle.mdconstructs_containers.specs.SeatPlaces.{events_of}
-use Rattle.mdconstructs_containers.specs.Skeleton.{behind_marks, frames_at, frames_of, further, inside_of, is_held, parts, shared}
+use Rattle.mdconstructs_containers.specs.Rest.{AreLeft, rest_marks}
+use Rattle.mdconstructs_containers.specs.Rows.{has_none, holds_ending}
+use Rattle.mdconstructs_containers.specs.Skeleton.{behind_marks, frames_at, frames_of, further, is_held, parts}
 use Rattle.mdconstructs_containers.specs.Prefixes.{containers_of}
 use Rattle.mdconstructs_containers.specs.Stood.{IsStood}
 use Rattle.mdconstructs_containers.specs.Stretches.{HasFurther, InStretch, end_at, last_at}
@@ -34,9 +28,6 @@ use Rattle.mdconstructs_containers.proofs.RestLemmas.{part_of}
 use Rattle.mdconstructs_containers.proofs.StoodLemmas.{spans_all, spans_fewer, spans_own, spans_shown, stood_all, stood_own, stood_shown}
 use Rattle.mdconstructs_containers.proofs.skeleton.write_part.Goals as goal
 use Rattle.markdown_children.proofs.ChainOrder.Following.{by_test}
-
-least_is : (m n : ℕ) → m ≤ n → min m n ≡ m
-least_is m n h = omega (arith, h)
 
 pub begin_part-requires : goal.begin_part-requires
 begin_part-requires g c =
@@ -193,9 +184,9 @@ returns g c =
           let small : r.columns ≤ first.span.size = omega (arith, left.are.0.placed.columns, left.are.0.is.columns) in
           let the = the_row t bytes some limit stack first behind r rs left in
           let own : length c.first_of-own.result.now ≡ c.in_ok-all.all =
-          ap (λ (l : List Open). length l) (c.first_of-own.ensures ∙ ap (take c.in_ok-all.all) c.as_slice-2.ensures.value) ∙ length-take c.in_ok-all.all c.open_in.new.stack.items ∙ least_is c.in_ok-all.all (length c.open_in.new.stack.items) (c.in_ok-all.ensures.few few) in
+          ap (λ (l : List Open). length l) (c.first_of-own.ensures ∙ ap (take c.in_ok-all.all) c.as_slice-2.ensures.value) ∙ length-take-le c.in_ok-all.all c.open_in.new.stack.items (c.in_ok-all.ensures.few few) in
           let shown : length c.first_of-shown.result.now ≡ c.standing-stands.result =
-          ap (λ (l : List Open). length l) c.first_of-shown.ensures ∙ length-take c.standing-stands.result c.first_of-own.result.now ∙ least_is c.standing-stands.result (length c.first_of-own.result.now) c.standing-stands.ensures.few in
+          ap (λ (l : List Open). length l) c.first_of-shown.ensures ∙ length-take-le c.standing-stands.result c.first_of-own.result.now c.standing-stands.ensures.few in
           let turned = part_turned r rs paid first.span.number first.row the first.span.size small c.args.turns.now budget (length c.args.frames.now.items) c.args.stood.containers c.args.passed.from c.args.passed.to (length c.args.stack.now.items) before c.stood_in-went.new.turns c.stood_in-went.result.containers c.open_in.new.turns c.stood_in-went.ensures.turns c.open_in.ensures.turns
           few c.stood_in-went.ensures.least c.in_ok-all.all c.in_ok-all.ensures.fewer (c.in_ok-all.ensures.least few) c.args.ahead ae c.passed_in-seen.result c.passed_in-seen.ensures c.standing-stands.new.turns c.standing-stands.result
           (omega (arith, c.standing-stands.ensures.turns, own)) c.standing-stands.ensures.asked c.standing-stands.ensures.below (omega (arith, c.standing-stands.ensures.few, own)) c.stood_in-kept.new.turns c.stood_in-kept.result.containers c.stood_in-kept.ensures.turns c.stood_in-kept.ensures.least c.go_to_part.new.turns (omega (arith, c.go_to_part.ensures.turns, shown)) in
@@ -207,9 +198,9 @@ returns g c =
           let small : r.columns ≤ first.span.size = omega (arith, left.are.0.placed.columns, left.are.0.is.columns) in
           let the = the_row t bytes some limit stack first behind r rs left in
           let own : length c.first_of-own.result.now ≡ c.in_ok-all.all =
-          ap (λ (l : List Open). length l) (c.first_of-own.ensures ∙ ap (take c.in_ok-all.all) c.as_slice-2.ensures.value) ∙ length-take c.in_ok-all.all c.open_in.new.stack.items ∙ least_is c.in_ok-all.all (length c.open_in.new.stack.items) (c.in_ok-all.ensures.few few) in
+          ap (λ (l : List Open). length l) (c.first_of-own.ensures ∙ ap (take c.in_ok-all.all) c.as_slice-2.ensures.value) ∙ length-take-le c.in_ok-all.all c.open_in.new.stack.items (c.in_ok-all.ensures.few few) in
           let shown : length c.first_of-shown.result.now ≡ c.standing-stands.result =
-          ap (λ (l : List Open). length l) c.first_of-shown.ensures ∙ length-take c.standing-stands.result c.first_of-own.result.now ∙ least_is c.standing-stands.result (length c.first_of-own.result.now) c.standing-stands.ensures.few in
+          ap (λ (l : List Open). length l) c.first_of-shown.ensures ∙ length-take-le c.standing-stands.result c.first_of-own.result.now c.standing-stands.ensures.few in
           let line = line_size t bytes some limit stack first behind r rs left in
           let extra = 12 * first.span.size + 4 + 8 * columns_in (take c.lines_of-lines.result behind) in
           let enough = part_paid r rs paid first.span.number first.row the first.span.size small c.args.turns.now budget (length c.args.frames.now.items) c.args.stood.containers c.args.passed.from c.args.passed.to (length c.args.stack.now.items) before c.stood_in-went.new.turns c.stood_in-went.result.containers c.open_in.new.turns c.stood_in-went.ensures.turns c.open_in.ensures.turns
@@ -295,9 +286,9 @@ returns-in_err-next-clause-turns g c = λ r rs budget left ae paid before.
     let small : r.columns ≤ first.span.size = omega (arith, left.are.0.placed.columns, left.are.0.is.columns) in
     let few : first.row.many ≤ length c.args.stack.now.items = omega (arith, left.are.0.many, length-map c.args.stack.now.items open_of) in
     let own : length c.first_of-own.result.now ≡ c.in_ok-all.all =
-    ap (λ (l : List Open). length l) (c.first_of-own.ensures ∙ ap (take c.in_ok-all.all) c.as_slice-2.ensures.value) ∙ length-take c.in_ok-all.all c.open_in.new.stack.items ∙ least_is c.in_ok-all.all (length c.open_in.new.stack.items) (c.in_ok-all.ensures.few few) in
+    ap (λ (l : List Open). length l) (c.first_of-own.ensures ∙ ap (take c.in_ok-all.all) c.as_slice-2.ensures.value) ∙ length-take-le c.in_ok-all.all c.open_in.new.stack.items (c.in_ok-all.ensures.few few) in
     let shown : length c.first_of-shown.result.now ≡ c.standing-stands.result =
-    ap (λ (l : List Open). length l) c.first_of-shown.ensures ∙ length-take c.standing-stands.result c.first_of-own.result.now ∙ least_is c.standing-stands.result (length c.first_of-own.result.now) c.standing-stands.ensures.few in
+    ap (λ (l : List Open). length l) c.first_of-shown.ensures ∙ length-take-le c.standing-stands.result c.first_of-own.result.now c.standing-stands.ensures.few in
     let turned = part_turned r rs paid first.span.number first.row the first.span.size small c.args.turns.now budget (length c.args.frames.now.items) c.args.stood.containers c.args.passed.from c.args.passed.to (length c.args.stack.now.items) before c.stood_in-went.new.turns c.stood_in-went.result.containers c.open_in.new.turns c.stood_in-went.ensures.turns c.open_in.ensures.turns
     few c.stood_in-went.ensures.least c.in_ok-all.all c.in_ok-all.ensures.fewer (c.in_ok-all.ensures.least few) c.args.ahead ae c.passed_in-seen.result c.passed_in-seen.ensures c.standing-stands.new.turns c.standing-stands.result
     (omega (arith, c.standing-stands.ensures.turns, own)) c.standing-stands.ensures.asked c.standing-stands.ensures.below (omega (arith, c.standing-stands.ensures.few, own)) c.stood_in-kept.new.turns c.stood_in-kept.result.containers c.stood_in-kept.ensures.turns c.stood_in-kept.ensures.least c.go_to_part.new.turns (omega (arith, c.go_to_part.ensures.turns, shown)) in
@@ -315,9 +306,9 @@ returns-in_err-begin-clause-turns g c = λ r rs budget left ae paid before.
     let small : r.columns ≤ first.span.size = omega (arith, left.are.0.placed.columns, left.are.0.is.columns) in
     let few : first.row.many ≤ length c.args.stack.now.items = omega (arith, left.are.0.many, length-map c.args.stack.now.items open_of) in
     let own : length c.first_of-own.result.now ≡ c.in_ok-all.all =
-    ap (λ (l : List Open). length l) (c.first_of-own.ensures ∙ ap (take c.in_ok-all.all) c.as_slice-2.ensures.value) ∙ length-take c.in_ok-all.all c.open_in.new.stack.items ∙ least_is c.in_ok-all.all (length c.open_in.new.stack.items) (c.in_ok-all.ensures.few few) in
+    ap (λ (l : List Open). length l) (c.first_of-own.ensures ∙ ap (take c.in_ok-all.all) c.as_slice-2.ensures.value) ∙ length-take-le c.in_ok-all.all c.open_in.new.stack.items (c.in_ok-all.ensures.few few) in
     let shown : length c.first_of-shown.result.now ≡ c.standing-stands.result =
-    ap (λ (l : List Open). length l) c.first_of-shown.ensures ∙ length-take c.standing-stands.result c.first_of-own.result.now ∙ least_is c.standing-stands.result (length c.first_of-own.result.now) c.standing-stands.ensures.few in
+    ap (λ (l : List Open). length l) c.first_of-shown.ensures ∙ length-take-le c.standing-stands.result c.first_of-own.result.now c.standing-stands.ensures.few in
     let turned = part_turned r rs paid first.span.number first.row the first.span.size small c.args.turns.now budget (length c.args.frames.now.items) c.args.stood.containers c.args.passed.from c.args.passed.to (length c.args.stack.now.items) before c.stood_in-went.new.turns c.stood_in-went.result.containers c.open_in.new.turns c.stood_in-went.ensures.turns c.open_in.ensures.turns
     few c.stood_in-went.ensures.least c.in_ok-all.all c.in_ok-all.ensures.fewer (c.in_ok-all.ensures.least few) c.args.ahead ae c.passed_in-seen.result c.passed_in-seen.ensures c.standing-stands.new.turns c.standing-stands.result
     (omega (arith, c.standing-stands.ensures.turns, own)) c.standing-stands.ensures.asked c.standing-stands.ensures.below (omega (arith, c.standing-stands.ensures.few, own)) c.stood_in-kept.new.turns c.stood_in-kept.result.containers c.stood_in-kept.ensures.turns c.stood_in-kept.ensures.least c.go_to_part.new.turns (omega (arith, c.go_to_part.ensures.turns, shown)) in
@@ -336,9 +327,9 @@ returns-in_err-fill_part-clause-turns g c = λ r rs budget left ae paid before.
     let small : r.columns ≤ first.span.size = omega (arith, left.are.0.placed.columns, left.are.0.is.columns) in
     let few : first.row.many ≤ length c.args.stack.now.items = omega (arith, left.are.0.many, length-map c.args.stack.now.items open_of) in
     let own : length c.first_of-own.result.now ≡ c.in_ok-all.all =
-    ap (λ (l : List Open). length l) (c.first_of-own.ensures ∙ ap (take c.in_ok-all.all) c.as_slice-2.ensures.value) ∙ length-take c.in_ok-all.all c.open_in.new.stack.items ∙ least_is c.in_ok-all.all (length c.open_in.new.stack.items) (c.in_ok-all.ensures.few few) in
+    ap (λ (l : List Open). length l) (c.first_of-own.ensures ∙ ap (take c.in_ok-all.all) c.as_slice-2.ensures.value) ∙ length-take-le c.in_ok-all.all c.open_in.new.stack.items (c.in_ok-all.ensures.few few) in
     let shown : length c.first_of-shown.result.now ≡ c.standing-stands.result =
-    ap (λ (l : List Open). length l) c.first_of-shown.ensures ∙ length-take c.standing-stands.result c.first_of-own.result.now ∙ least_is c.standing-stands.result (length c.first_of-own.result.now) c.standing-stands.ensures.few in
+    ap (λ (l : List Open). length l) c.first_of-shown.ensures ∙ length-take-le c.standing-stands.result c.first_of-own.result.now c.standing-stands.ensures.few in
     let turned = part_turned r rs paid first.span.number first.row the first.span.size small c.args.turns.now budget (length c.args.frames.now.items) c.args.stood.containers c.args.passed.from c.args.passed.to (length c.args.stack.now.items) before c.stood_in-went.new.turns c.stood_in-went.result.containers c.open_in.new.turns c.stood_in-went.ensures.turns c.open_in.ensures.turns
     few c.stood_in-went.ensures.least c.in_ok-all.all c.in_ok-all.ensures.fewer (c.in_ok-all.ensures.least few) c.args.ahead ae c.passed_in-seen.result c.passed_in-seen.ensures c.standing-stands.new.turns c.standing-stands.result
     (omega (arith, c.standing-stands.ensures.turns, own)) c.standing-stands.ensures.asked c.standing-stands.ensures.below (omega (arith, c.standing-stands.ensures.few, own)) c.stood_in-kept.new.turns c.stood_in-kept.result.containers c.stood_in-kept.ensures.turns c.stood_in-kept.ensures.least c.go_to_part.new.turns (omega (arith, c.go_to_part.ensures.turns, shown)) in

@@ -1,66 +1,29 @@
-use Rattle.std.proofs.Common.{◌≡◌, ℕ, zero, suc, ◌+◌, ◌-◌, ◌*◌, ◌<◌, ◌≤◌, false, List, [], ◌∷◌, ◌++◌, length, take, drop, map, get_or, refl, sym, ap, ◌∙◌, subst, arith, length-drop, length-take}
+use Rattle.std.proofs.Common.{◌≡◌, ℕ, suc, ◌+◌, ◌-◌, ◌*◌, ◌≤◌, false, List, [], ◌∷◌, ◌++◌, length, take, drop, map, refl, sym, ap, ◌∙◌, subst, arith, length-drop}
 use Rattle.std.specs.Prelude.{None}
-use Rattle.std.proofs.lemmas.List.{drop_all, drop-drop, drop_more, take_rest}
+use Rattle.std.proofs.lemmas.List.{drop_all, drop-drop, take_rest}
 use Rattle.markdown_base.specs.declared.event.Event.{Event}
 use Rattle.mdconstructs_flow_read.specs.LeafEvents.{Mark}
-use Rattle.mdconstructs_lines.specs.Containers.{Container}
-use Rattle.mdconstructs_containers.specs.declared.ahead.Ahead.{Ahead}
 use Rattle.mdconstructs_containers.specs.declared.frames.Frame.{Frame}
 use Rattle.mdconstructs_containers.specs.declared.going.Open.{Open}
-use Rattle.mdconstructs_containers.specs.declared.parts.PartEnd.{PartEnd}
 use Rattle.mdconstructs_containers.specs.declared.spans.RowAt.{RowAt}
-use Rattle.mdconstructs_containers.specs.Ahead.{ahead_of}
-use Rattle.mdconstructs_containers.specs.Costs.{ArePaid, IsAsked, IsEnough, columns_in}
+use Rattle.mdconstructs_containers.specs.Costs.{ArePaid, IsEnough, columns_in}
 use Rattle.mdconstructs_containers.specs.Frames.{frame_of}
 use Rattle.mdconstructs_containers.specs.Over.{AreEarlier}
-use Rattle.mdconstructs_containers.specs.Parts.{open_behind}
-use Rattle.mdconstructs_containers.specs.Spans.{AreRowsIn}
-use Rattle.mdconstructs_containers.specs.Rest.{AreLeft, HasPart, ending_to, exits_to, rest_marks}
+use Rattle.mdconstructs_containers.specs.Rest.{AreLeft, ending_to, exits_to, rest_marks}
 use Rattle.mdconstructs_containers.specs.Rows.{Row}
 use Rattle.mdconstructs_containers.specs.SeatPlaces.{events_of}
 use Rattle.mdconstructs_containers.specs.Skeleton.{parts, parts_marks, shared}
 use Rattle.mdconstructs_containers.specs.Views.{open_of}
 use Rattle.mdconstructs_containers.specs.Written.{Written}
+use Rattle.mdconstructs_containers.proofs.AheadLemmas.{ahead_at, line_at_index, number_at}
 use Rattle.mdconstructs_containers.proofs.ColumnLemmas.{columns_add, columns_parts, few_columns}
-use Rattle.mdconstructs_containers.proofs.CostLemmas.{paid_behind}
+use Rattle.mdconstructs_containers.proofs.CostLemmas.{enough_before, next_one, paid_behind}
 use Rattle.mdconstructs_containers.proofs.LineFacts.{outside_zero}
 use Rattle.mdconstructs_containers.proofs.PartCosts.{asked_all}
 use Rattle.mdconstructs_containers.proofs.PartLemmas.{earlier_later}
-use Rattle.mdconstructs_containers.proofs.RestLemmas.{next_of, none_left, rest_init, write_last}
+use Rattle.mdconstructs_containers.proofs.RestLemmas.{next_of, no_end, none_left, rest_init, write_last}
 use Rattle.mdconstructs_containers.proofs.WrittenLemmas.{write_init}
 use Rattle.mdconstructs_containers.proofs.skeleton.write_parts.Goals as goal
-
-abbrev no_ahead : Ahead
-no_ahead = record { further = 0; many = 0; list = None }
-
-abbrev no_end : PartEnd
-no_end = record { is_blank = false; place = record { line = 1; column = 1; index = 0; vs = 0 }; behind = None }
-
--- a line at an index, and those behind it
-line_at_index : (rows : List RowAt) (i : ℕ) (x d : RowAt) → i < length rows → x ≡ get_or rows i d → drop i rows ≡ x ∷ take (length rows - (i + 1)) (drop (i + 1) rows)
-line_at_index rows i x d h e = drop_more rows i d h ∙ (λ k. sym e k ∷ sym (take_rest rows (i + 1)) k)
-
-ahead_at : (aheads : List Ahead) (all : List Row) (size i : ℕ) → i < size → ((d : Ahead) (k : ℕ) → k < size → get_or aheads k d ≡ ahead_of (drop (size - k) all)) → get_or aheads (size - 1 - i) no_ahead ≡ ahead_of (drop (i + 1) all)
-ahead_at aheads all size i h f =
-    let at : size - (size - 1 - i) ≡ i + 1 = omega arith in
-    f no_ahead (size - 1 - i) (omega arith) ∙ ap (λ k. ahead_of (drop k all)) at
-
--- the number of a line is that of its place
-numbers : (t : ℕ) (bytes : List ℕ) (stack : List Container) (number start : ℕ) (xs : List RowAt) (rs : List Row) (k : ℕ) (d : RowAt) → k < length xs → AreRowsIn t bytes stack number start xs rs → (get_or xs k d).span.number ≡ number + k
-numbers t bytes stack number start [] rs k d h are = absurd (omega (arith, h))
-numbers t bytes stack number start (x ∷ xs) [] k d h are = absurd are
-numbers t bytes stack number start (x ∷ xs) (r ∷ rs) zero d h are = omega (arith, are.0.placed.number_is)
-numbers t bytes stack number start (x ∷ xs) (r ∷ rs) (suc k) d h are = let e = numbers t bytes (open_behind stack r) (suc number) x.span.next xs rs k d (omega (arith, h)) are.1 in omega (arith, e)
-
-number_at : (t : ℕ) (bytes : List ℕ) (rows : List RowAt) (all : List Row) (i : ℕ) (x : RowAt) → i < length rows → x ≡ get_or rows i x → AreRowsIn t bytes [] 1 0 rows all → x.span.number ≡ i + 1
-number_at t bytes rows all i x h e are = let n = numbers t bytes [] 1 0 rows all i x h are in ap (λ (y : RowAt). y.span.number) e ∙ omega (arith, n)
-
-next_one : (n : ℕ) → 1 + n ≡ suc n
-next_one n = omega arith
-
--- one turn more
-enough_before : (turns more budget spans containers from to opens : ℕ) (rs qs : List Row) → more ≡ turns + 1 → rs ≡ qs → IsEnough turns budget spans containers from to opens rs → IsEnough more (budget + 1) spans containers from to opens qs
-enough_before turns more budget spans containers from to opens rs qs e is h = record { asked = h.asked; are = subst (IsAsked h.asked from to opens) is h.are; enough = omega (arith, e, h.enough) }
 
 pub loop-i-init : goal.loop-i-init
 loop-i-init g c =

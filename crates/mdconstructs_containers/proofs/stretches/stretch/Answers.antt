@@ -1,15 +1,15 @@
-use Rattle.std.proofs.Common.{◌≡◌, ◌<◌, ◌≤◌, ◌+◌, ◌*◌, ℕ, suc, Bool, List, ◌∷◌, ◌++◌, Vec, Global, length, drop, take, map, sym, ap, ◌∙◌, subst, arith, length-append}
+use Rattle.std.proofs.Common.{◌≡◌, ◌<◌, ◌+◌, ℕ, suc, Bool, List, ◌∷◌, ◌++◌, Vec, Global, length, drop, take, map, sym, ap, ◌∙◌, subst, arith, length-append}
 use Rattle.std.specs.Prelude.{Option, Some, None}
 use Rattle.std.proofs.lemmas.List.{drop_all, drop_more, length-map, take-map}
 use Rattle.markdown_base.specs.declared.event.Content.TheVariants as content
 use Rattle.markdown_base.specs.declared.event.Event.{Event}
 use Rattle.markdown_base.specs.declared.event.Point.{Point}
 use Rattle.markdown_base.specs.Virtual.{Seat, point}
+use Rattle.markdown_base.proofs.Common.{every-take}
 use Rattle.mdconstructs_flow_read.specs.LeafBlocks.{bytes_of}
 use Rattle.mdconstructs_flow_read.specs.LeafEvents.{Mark}
 use Rattle.mdconstructs_lines.specs.Containers.{Container}
 use Rattle.mdconstructs_lines.specs.Lines.{line_bytes, place_after}
-use Rattle.mdconstructs_containers.specs.declared.going.Open.{Open}
 use Rattle.mdconstructs_containers.specs.declared.spans.RowAt.{RowAt}
 use Rattle.mdconstructs_containers.specs.Costs.{HasSize, HaveSizes, columns_in}
 use Rattle.mdconstructs_containers.specs.Parts.{with_chunk}
@@ -19,7 +19,6 @@ use Rattle.mdconstructs_containers.specs.Skeleton.{prefixes_marks}
 use Rattle.mdconstructs_containers.specs.Stretches.{HasFurther, InStretch}
 use Rattle.mdconstructs_containers.specs.Views.{open_of}
 use Rattle.mdconstructs_containers.proofs.ColumnLemmas.{columns_more, few_columns}
-use Rattle.mdconstructs_containers.proofs.RowFacts.{every_front}
 use Rattle.mdconstructs_containers.proofs.StretchLemmas.{chunk_length, further_one, step_chunk, step_plain, stretch_last, stretch_nothing}
 use Rattle.mdconstructs_containers.proofs.stretches.stretch.Goals.{then-at-gt0+in_ok-index+in_ok-place, else-at-gt0}
 use Rattle.mdconstructs_containers.proofs.stretches.stretch.Goals as goal
@@ -51,7 +50,7 @@ prefixes_of-requires g c =
     record {
       inside = one.inside;
       columns = one.columns;
-      sizes = subst HaveSizes (sym (ap (map open_of) c.first_of-front.ensures ∙ sym (take-map open_of c.at-item.result.row.many c.args.stack.now))) (every_front HasSize c.at-item.result.row.many (map open_of c.args.stack.now) one.sizes);
+      sizes = subst HaveSizes (sym (ap (map open_of) c.first_of-front.ensures ∙ sym (take-map open_of c.at-item.result.row.many c.args.stack.now))) (every-take HasSize c.at-item.result.row.many (map open_of c.args.stack.now) one.sizes);
     }
 
 pub loop-at-preserved : goal.loop-at-preserved
