@@ -19,6 +19,7 @@ use Rattle.mdconstructs_definitions.specs.Laws.{begins_with_bracket}
 use Rattle.mdconstructs_definitions.specs.Sections.{defined_in, lines_defined, paragraph_of, text_in}
 use Rattle.mdconstructs_definitions.specs.Seen.{AreThese, begins_defining}
 use Rattle.mdconstructs_definitions.proofs.Without.{bare-paragraph, none-defined-in}
+use Rattle.mdconstructs_definitions.proofs.SectionLemmas.{nothing-in}
 
 one-before : (n : ℕ) → 1 + n ≡ suc n
 one-before n = omega (arith)
@@ -176,11 +177,7 @@ first-place t bytes x xs (r ∷ rs) these =
 
 -- nothing is defined behind a line that has no bracket in front
 pub bare-defined : (on : Constructs) (all : List Row) → begins_defining all ≡ false → 0 ≡ defined_in on all
-bare-defined on [] bare = by on.definition
-  where
-    by : (b : Bool) → 0 ≡ cond b (lines_defined (text_in (paragraph_of []))) 0
-    by true = refl
-    by false = refl
+bare-defined on [] bare = nothing-in on
 bare-defined on (r ∷ rs) bare = by on.definition (lines_defined (text_in (paragraph_of (r ∷ rs)))) (none-defined-in (text_in (paragraph_of (r ∷ rs))) (bare-paragraph r rs bare))
   where
     by : (b : Bool) (n : ℕ) → n ≡ 0 → 0 ≡ cond b n 0

@@ -4,13 +4,13 @@ use Rattle.std.specs.Prelude.{◌==◌, Option, None, Some}
 use Rattle.std.specs.List.{AllByRecursion, prefix_len}
 use Rattle.std.proofs.lemmas.Bool.{cases_lt, false≢true}
 use Rattle.std.proofs.lemmas.List.{drop-drop, drop-map, length-append, length-drop, length-map, map-append, take-append-drop}
-use Rattle.std.proofs.Math.Seq.{drop-append_seam}
+use Rattle.std.proofs.Math.Seq.{drop-append_seam, take-add}
 use Rattle.markdown_base.specs.declared.configuration.Constructs.{Constructs}
 use Rattle.markdown_base.specs.Virtual.{Seat}
+use Rattle.markdown_base.proofs.Common.{every-take, every-drop}
 use Rattle.mdconstructs_machines.specs.LineEvents.{ending_of, line_text}
 use Rattle.mdconstructs_flow_read.specs.LeafBlocks.{text_of as line_bytes}
 use Rattle.mdconstructs_containers.proofs.DocumentRows.{take_of_take}
-use Rattle.mdconstructs_containers.proofs.RowFacts.{every_behind, every_front}
 use Rattle.mdconstructs_containers.specs.Prefixes.{columns_of}
 use Rattle.mdconstructs_containers.specs.Rows.{Row, has_none, is_paragraph, rest_of}
 use Rattle.mdconstructs_containers.specs.Skeleton.{last_of, prefixes_marks}
@@ -20,7 +20,7 @@ use Rattle.mdconstructs_labels.specs.Definitions.{definition_at, definitions, re
 use Rattle.mdconstructs_labels.specs.Tails.{begins_with, line_ends}
 use Rattle.mdconstructs_definitions.specs.Definitions.{Place, byte_at, ending_at, is_byte, places_in, text_byte, text_of}
 use Rattle.mdconstructs_definitions.specs.Sections.{defined_in, lines_defined, lines_of, paragraph_of, text_in}
-use Rattle.mdconstructs_definitions.proofs.DefinitionSpans.{AreLaid, take-both}
+use Rattle.mdconstructs_definitions.proofs.DefinitionSpans.{AreLaid}
 use Rattle.mdconstructs_definitions.proofs.LaidParts.{IsLaid, definition-laid}
 use Rattle.mdconstructs_definitions.proofs.PlainLetters.{no-ending}
 use Rattle.mdconstructs_definitions.proofs.SectionLemmas.{tens-in}
@@ -89,7 +89,7 @@ module _ (bytes : List ℕ) where
       let t = rest_of r in
       let all : length (t ++ []) ≡ length t = ap (λ (l : List ℕ). length l) (append-nil t) in
       elim (cases_lt n (length t)) [
-        | inl less ↦ absurd (inside-line t [] n (every_behind (λ (c : ℕ). (c == 10) ≡ false) r.columns (line_bytes r.line) (no-ending r.line)) less ends)
+        | inl less ↦ absurd (inside-line t [] n (every-drop (λ (c : ℕ). (c == 10) ≡ false) r.columns (line_bytes r.line) (no-ending r.line)) less ends)
         | inr more ↦
             let same : length (t ++ []) ≡ n = omega (arith, all, few, more) in
             let on : length t + 1 ≡ n + 1 = omega (arith, all, same) in
@@ -100,7 +100,7 @@ module _ (bytes : List ℕ) where
       let u = text_in (q ∷ qs) in
       let all : length (t ++ 10 ∷ u) ≡ length t + suc (length u) = length-append t (10 ∷ u) in
       elim (cases_lt n (length t)) [
-        | inl less ↦ absurd (inside-line t (10 ∷ u) n (every_behind (λ (c : ℕ). (c == 10) ≡ false) r.columns (line_bytes r.line) (no-ending r.line)) less ends)
+        | inl less ↦ absurd (inside-line t (10 ∷ u) n (every-drop (λ (c : ℕ). (c == 10) ≡ false) r.columns (line_bytes r.line) (no-ending r.line)) less ends)
         | inr more ↦ later (λ m few ends. cut-at q qs m few ends) (n - length t) (omega (arith, more))
       ]
     where
@@ -233,7 +233,7 @@ module _ (bytes : List ℕ) where
           let j = cut.many in
           let others = drop j (r ∷ rs) in
           let some-lines = cut.some in
-          let more = later others (omega (arith, h, some-lines, length-drop j (r ∷ rs))) (every_behind IsFilled j (r ∷ rs) filled) in
+          let more = later others (omega (arith, h, some-lines, length-drop j (r ∷ rs))) (every-drop IsFilled j (r ∷ rs) filled) in
           let k = more.many in
           let left-few = more.few in
           let cut-few = cut.few in
@@ -249,7 +249,7 @@ module _ (bytes : List ℕ) where
           front : (j k : ℕ) (d : Definition) (ds : List Definition) → IsLaid text d → 1 ≤ j → length (text_in (take j (r ∷ rs))) ≡ d.size → AreLaid ds (places_in bytes (take k (drop j (r ∷ rs)))) → AreLaid (d ∷ ds) (places_in bytes (take (j + k) (r ∷ rs)))
           front zero k d ds laid some size more = absurd (omega (arith, some))
           front (suc j) k d ds laid some size more =
-              let both : take (suc j) (r ∷ rs) ++ take k (drop (suc j) (r ∷ rs)) ≡ take (suc j + k) (r ∷ rs) = take-both (suc j) k (r ∷ rs) in
+              let both : take (suc j) (r ∷ rs) ++ take k (drop (suc j) (r ∷ rs)) ≡ take (suc j + k) (r ∷ rs) = sym (take-add (suc j) k (r ∷ rs)) in
               let first : text ≡ text_of (places_in bytes (take (suc j + k) (r ∷ rs))) ++ (text-front (suc j + k) (r ∷ rs)).0 = (text-front (suc j + k) (r ∷ rs)).1 in
               subst (λ (l : List Row). AreLaid (d ∷ ds) (places_in bytes l)) both
               (more-laid d ds r (take j rs) (take k (drop j rs)) text (text-front (suc j + k) (r ∷ rs)).0 laid (first ∙ ap (λ (l : List Row). text_of (places_in bytes l) ++ (text-front (suc j + k) (r ∷ rs)).0) (sym both)) (size-is (r ∷ take j rs) ∙ size) more)
@@ -267,7 +267,7 @@ module _ (bytes : List ℕ) where
   lines-defined : (rs : List Row) → AllByRecursion IsFilled rs → (h : HasDefinitions rs) → lines_defined (text_in rs) ≡ h.many
   lines-defined rs filled h =
       let all = lines-are rs filled in
-      let left = ap lines_of h.left ∙ lines-are (drop h.many rs) (every_behind IsFilled h.many rs filled) in
+      let left = ap lines_of h.left ∙ lines-are (drop h.many rs) (every-drop IsFilled h.many rs filled) in
       let few = h.few in
       omega (arith, all, left, few, length-drop h.many rs)
 
@@ -299,7 +299,7 @@ module _ (bytes : List ℕ) where
   lines-are-defined on rs h is =
       let p = prefix_len (λ (r : Row). is_paragraph r.leaf) rs in
       let all-open = front-so (λ (r : Row). is_paragraph r.leaf) rs in
-      let filled = filled-front (paragraph_of rs) (every_front IsOpen p rs h) all-open in
+      let filled = filled-front (paragraph_of rs) (every-take IsOpen p rs h) all-open in
       let all = has-definitions (length (paragraph_of rs)) (paragraph_of rs) (omega arith) filled in
       let k = all.many in
       let few = all.few in
@@ -307,5 +307,5 @@ module _ (bytes : List ℕ) where
       let same : take k (paragraph_of rs) ≡ take (defined_in on rs) rs = take_of_take k p rs few ∙ ap (λ n. take n rs) (sym size) in
       record {
         laid = subst (λ (l : List Row). AreLaid (definitions (text_in (paragraph_of rs))) (places_in bytes l)) same all.laid;
-        open_behind = subst (AllByRecursion (λ (r : Row). is_paragraph r.leaf ≡ true)) same (every_front (λ (r : Row). is_paragraph r.leaf ≡ true) k (paragraph_of rs) all-open);
+        open_behind = subst (AllByRecursion (λ (r : Row). is_paragraph r.leaf ≡ true)) same (every-take (λ (r : Row). is_paragraph r.leaf ≡ true) k (paragraph_of rs) all-open);
       }

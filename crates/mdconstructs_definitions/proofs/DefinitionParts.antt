@@ -1,59 +1,35 @@
 -- How far the parts of a definition go: they are in the text.
 use Rattle.std.proofs.Common.{◌≡◌, ℕ, suc, ◌+◌, ◌<◌, ◌≤◌, Bool, true, false, cond, List, [], ◌∷◌, Option, Some, None, arith, drop, length, length-drop, refl, sym, ap, ◌∙◌}
-use Rattle.std.specs.Prelude.{◌==◌, ◌&&◌, ◌||◌, nat_le}
+use Rattle.std.specs.Prelude.{◌==◌, ◌||◌}
 use Rattle.std.specs.List.{prefix_len}
 use Rattle.std.specs.Option.{option_and_then, option_map, option_or}
-use Rattle.std.proofs.lemmas.Bool.{false≢true}
 use Rattle.std.proofs.lemmas.List.Sums.{prefix_len-le-length}
 use Rattle.std.proofs.lemmas.Option.{cond_some, none-some, same_Some}
 use Rattle.mdconstructs_labels.specs.declared.definitions.Definition.{Definition}
 use Rattle.mdconstructs_labels.specs.declared.definitions.Stretch.{Stretch}
 use Rattle.mdconstructs_labels.specs.Definitions.{end, end_of, ended, line_left, stretch_at, title_at, titled_or_not}
 use Rattle.mdconstructs_labels.specs.Labels.{hides}
-use Rattle.mdconstructs_labels.specs.Tails.{bare_behind, begins_with, depth_behind, destination_size, enclosed_size, gap, is_plain, is_raw_end, is_white, line_ends, marked_size, one_more, raw_end, raw_size, title_end, title_size}
+use Rattle.mdconstructs_labels.specs.Tails.{begins_with, destination_size, enclosed_size, gap, is_plain, is_white, line_ends, marked_size, one_more, raw_size, title_end, title_size}
+use Rattle.mdconstructs_labels.proofs.Sizes.{marked-within, raw-within, begins-some}
 
-pub marked-inside : (first last : ℕ) (bare hidden : Bool) (x : List ℕ) (n : ℕ) → marked_size first last bare hidden x ≡ Some n → n < length x
-marked-inside first last bare hidden [] n e = absurd (none-some n e)
-marked-inside first last bare hidden (b ∷ bs) n e =
-    by (is_plain last hidden b) (is_plain first hidden b || (bare && (b == 10))) (marked_size first last (bare_behind bare b) (hides hidden b) bs) (marked-inside first last (bare_behind bare b) (hides hidden b) bs) e
-  where
-    by : (p q : Bool) (o : Option ℕ) → ((m : ℕ) → o ≡ Some m → m < length bs) → cond p (Some 0) (cond q None (one_more o)) ≡ Some n → n < suc (length bs)
-    by true q o ih e = let same : 0 ≡ n = same_Some 0 n e in omega (arith, same)
-    by false true o ih e = absurd (none-some n e)
-    by false false None ih e = absurd (none-some n e)
-    by false false (Some m) ih e = let less = ih m refl in let same : m + 1 ≡ n = same_Some (m + 1) n e in omega (arith, less, same)
+-- one byte more, where a size is in what comes behind
+byte-inside : (q : Bool) (o : Option ℕ) (n size : ℕ) → ((m : ℕ) → o ≡ Some m → m < size) → cond q None (one_more o) ≡ Some n → n < suc size
+byte-inside true o n size ih e = absurd (none-some n e)
+byte-inside false None n size ih e = absurd (none-some n e)
+byte-inside false (Some m) n size ih e = let less = ih m refl in let same : m + 1 ≡ n = same_Some (m + 1) n e in omega (arith, less, same)
 
 enclosed-inside : (hidden : Bool) (x : List ℕ) (n : ℕ) → enclosed_size hidden x ≡ Some n → n < length x
 enclosed-inside hidden [] n e = absurd (none-some n e)
-enclosed-inside hidden (b ∷ bs) n e = by (is_plain 62 hidden b) (is_plain 60 hidden b || (b == 10)) (enclosed_size (hides hidden b) bs) (enclosed-inside (hides hidden b) bs) e
+enclosed-inside hidden (b ∷ bs) n e = by (is_plain 62 hidden b) (byte-inside (is_plain 60 hidden b || (b == 10)) (enclosed_size (hides hidden b) bs) n (length bs) (enclosed-inside (hides hidden b) bs)) e
   where
-    by : (p q : Bool) (o : Option ℕ) → ((m : ℕ) → o ≡ Some m → m < length bs) → cond p (Some 0) (cond q None (one_more o)) ≡ Some n → n < suc (length bs)
-    by true q o ih e = let same : 0 ≡ n = same_Some 0 n e in omega (arith, same)
-    by false true o ih e = absurd (none-some n e)
-    by false false None ih e = absurd (none-some n e)
-    by false false (Some m) ih e = let less = ih m refl in let same : m + 1 ≡ n = same_Some (m + 1) n e in omega (arith, less, same)
-
-raw-end-inside : (depth n m : ℕ) → raw_end depth ≡ Some n → n ≤ m
-raw-end-inside depth n m e = by (depth == 0) e
-  where
-    by : (p : Bool) → cond p (Some 0) None ≡ Some n → n ≤ m
-    by true q = let same : 0 ≡ n = same_Some 0 n q in omega (arith, same)
-    by false q = absurd (none-some n q)
-
-raw-inside : (depth : ℕ) (hidden : Bool) (x : List ℕ) (n : ℕ) → raw_size depth hidden x ≡ Some n → n ≤ length x
-raw-inside depth hidden [] n e = raw-end-inside depth n 0 e
-raw-inside depth hidden (b ∷ bs) n e =
-    by (is_raw_end depth hidden b) (is_plain 40 hidden b && nat_le 32 depth) (raw_size (depth_behind depth hidden b) (hides hidden b) bs) (raw-inside (depth_behind depth hidden b) (hides hidden b) bs) e
-  where
-    by : (p q : Bool) (o : Option ℕ) → ((m : ℕ) → o ≡ Some m → m ≤ length bs) → cond p (raw_end depth) (cond q None (one_more o)) ≡ Some n → n ≤ suc (length bs)
-    by true q o ih e = raw-end-inside depth n (suc (length bs)) e
-    by false true o ih e = absurd (none-some n e)
-    by false false None ih e = absurd (none-some n e)
-    by false false (Some m) ih e = let less = ih m refl in let same : m + 1 ≡ n = same_Some (m + 1) n e in omega (arith, less, same)
+    by : (p : Bool) → (cond (is_plain 60 hidden b || (b == 10)) None (one_more (enclosed_size (hides hidden b) bs)) ≡ Some n → n < suc (length bs))
+        → cond p (Some 0) (cond (is_plain 60 hidden b || (b == 10)) None (one_more (enclosed_size (hides hidden b) bs))) ≡ Some n → n < suc (length bs)
+    by true more e = let same : 0 ≡ n = same_Some 0 n e in omega (arith, same)
+    by false more e = more e
 
 pub destination-inside : (x : List ℕ) (n : ℕ) → destination_size x ≡ Some n → n ≤ length x
 destination-inside [] n e = absurd (none-some n e)
-destination-inside (b ∷ bs) n e = by (b == 60) (enclosed_size false bs) (raw_size 0 false (b ∷ bs)) (enclosed-inside false bs) (raw-inside 0 false (b ∷ bs)) e
+destination-inside (b ∷ bs) n e = by (b == 60) (enclosed_size false bs) (raw_size 0 false (b ∷ bs)) (enclosed-inside false bs) (raw-within 0 false (b ∷ bs)) e
   where
     filled : (p : Bool) (m : ℕ) → m ≤ suc (length bs) → cond p None (Some m) ≡ Some n → n ≤ suc (length bs)
     filled true m h e = absurd (none-some n e)
@@ -75,12 +51,7 @@ title-inside (b ∷ bs) n e = by (title_end b) e
 
     by : (o : Option ℕ) → option_and_then (λ close. option_map (λ k. k + 2) (marked_size b close false false bs)) o ≡ Some n → n ≤ suc (length bs)
     by None e = absurd (none-some n e)
-    by (Some close) e = one (marked_size b close false false bs) (marked-inside b close false false bs) e
-
--- a text that begins so has a byte
-pub some-begins : (c : ℕ) (x : List ℕ) → begins_with c x ≡ true → 0 < length x
-some-begins c [] e = absurd (false≢true e)
-some-begins c (b ∷ bs) e = omega arith
+    by (Some close) e = one (marked_size b close false false bs) (marked-within b close false false bs) e
 
 pub gap-inside : (z : List ℕ) → gap z ≤ length z
 gap-inside z = by (begins_with 10 (drop (prefix_len is_white z) z)) refl
@@ -90,7 +61,7 @@ gap-inside z = by (begins_with 10 (drop (prefix_len is_white z) z)) refl
 
     by : (p : Bool) → begins_with 10 (drop (prefix_len is_white z) z) ≡ p → cond p (prefix_len is_white z + 1 + prefix_len is_white (drop (prefix_len is_white z + 1) z)) (prefix_len is_white z) ≤ length z
     by true e =
-        let some = some-begins 10 (drop (prefix_len is_white z) z) e in
+        let some = begins-some 10 (drop (prefix_len is_white z) z) e in
         let more = prefix_len-le-length is_white (drop (prefix_len is_white z + 1) z) in
         omega (arith, some, more, length-drop (prefix_len is_white z) z, length-drop (prefix_len is_white z + 1) z)
     by false e = few

@@ -5,14 +5,15 @@ use Rattle.std.specs.List.{AllByRecursion, flat_map, prefix_len}
 use Rattle.std.proofs.lemmas.Bool.{false≢true}
 use Rattle.std.proofs.lemmas.Grind.{flat_map-append}
 use Rattle.std.proofs.lemmas.List.{drop-drop, drop-map, length-drop, length-map, length-take-le, take-append-drop, take-map, take_all}
+use Rattle.std.proofs.Math.Seq.{take-add}
 use Rattle.markdown_base.specs.declared.event.Name.{Name}
 use Rattle.markdown_base.specs.declared.event.Name.TheVariants as name
 use Rattle.markdown_base.specs.Events.{is_void}
 use Rattle.markdown_base.specs.Virtual.{Seat}
+use Rattle.markdown_base.proofs.Common.{every-take, every-drop}
 use Rattle.mdconstructs_flow_read.specs.LeafBlocks.{bytes_of}
 use Rattle.mdconstructs_flow_read.specs.LeafEvents.{Mark, leaf_marks, span_marks}
 use Rattle.mdconstructs_flow_read.specs.LineKinds.{indent}
-use Rattle.mdconstructs_containers.proofs.RowFacts.{every_behind, every_front}
 use Rattle.mdconstructs_labels.specs.declared.definitions.Definition.{Definition}
 use Rattle.mdconstructs_labels.specs.declared.definitions.Stretch.{Stretch}
 use Rattle.mdconstructs_labels.specs.Definitions.{end, end_of}
@@ -28,17 +29,11 @@ part-rest a e xs l =
     let there : e ≡ a + (e - a) = omega (arith, l) in
     ap (λ r. take (e - a) (drop a xs) ++ r) (ap (λ n. drop n xs) there ∙ sym (drop-drop (e - a) a xs)) ∙ take-append-drop (e - a) (drop a xs)
 
-pub take-both : {A : Type 0} (n m : ℕ) (xs : List A) → take n xs ++ take m (drop n xs) ≡ take (n + m) xs
-take-both zero m xs = let e : m ≡ 0 + m = omega arith in ap (λ k. take k xs) e
-take-both {A} (suc n) zero [] = let e : suc n ≡ suc n + 0 = omega arith in let none : List A = [] in ap (λ (k : ℕ). take k none) e
-take-both {A} (suc n) (suc m) [] = let e : suc (n + suc m) ≡ suc n + suc m = omega arith in let none : List A = [] in ap (λ (k : ℕ). take k none) e
-take-both (suc n) m (x ∷ xs) = let e : suc n + m ≡ suc (n + m) = omega arith in ap (λ l. x ∷ l) (take-both n m xs) ∙ sym (ap (λ k. take k (x ∷ xs)) e)
-
 between-both : (a b c : ℕ) (xs : List Place) → a ≤ b → b ≤ c → between a b xs ++ between b c xs ≡ between a c xs
 between-both a b c xs h k =
     let there : b ≡ a + (b - a) = omega (arith, h) in
     let size : (b - a) + (c - b) ≡ c - a = omega (arith, h, k) in
-    ap (λ (l : List Place). between a b xs ++ take (c - b) l) (ap (λ n. drop n xs) there ∙ sym (drop-drop (b - a) a xs)) ∙ take-both (b - a) (c - b) (drop a xs) ∙ ap (λ n. take n (drop a xs)) size
+    ap (λ (l : List Place). between a b xs ++ take (c - b) l) (ap (λ n. drop n xs) there ∙ sym (drop-drop (b - a) a xs)) ∙ sym (take-add (b - a) (c - b) (drop a xs)) ∙ ap (λ n. take n (drop a xs)) size
 
 between-size : (a b : ℕ) (xs : List Place) → a ≤ b → b ≤ length xs → length (between a b xs) ≡ b - a
 between-size a b xs h k = length-take-le (b - a) (drop a xs) (omega (arith, h, k, length-drop a xs))
@@ -87,7 +82,7 @@ module _ (bytes : List ℕ) (P : List Mark → List Seat → Type 0) (kept : IsK
   seats-both ms ns xs ys h k = subst (P (ms ++ ns)) (sym (flat_map-append all_seats xs ys)) (kept.both ms ns (seats_of xs) (seats_of ys) h k)
 
   hold-between : (a b : ℕ) (xs : List Place) → AllHold xs → AllHold (between a b xs)
-  hold-between a b xs h = every_front Holds (b - a) (drop a xs) (every_behind Holds a xs h)
+  hold-between a b xs h = every-take Holds (b - a) (drop a xs) (every-drop Holds a xs h)
 
   -- ---- line endings and white space
 
@@ -116,7 +111,7 @@ module _ (bytes : List ℕ) (P : List Mark → List Seat → Type 0) (kept : IsK
       let behind : take 1 (drop n xs) ++ drop (n + 1) xs ≡ drop n xs = ap (λ k. take k (drop n xs) ++ drop (n + 1) xs) (sym one) ∙ part-rest n (n + 1) xs (omega arith) in
       over (gap_marks bytes xs) (take n xs ++ (take 1 (drop n xs) ++ drop (n + 1) xs)) xs (ap (λ (l : List Place). take n xs ++ l) behind ∙ take-append-drop n xs)
       (seats-both (leaf_marks bytes name.SpaceOrTab (seats_of (take n xs))) (ending ++ leaf_marks bytes name.SpaceOrTab (seats_of (drop (n + 1) xs))) (take n xs) (take 1 (drop n xs) ++ drop (n + 1) xs) (kept.alone name.SpaceOrTab (seats_of (take n xs)))
-      (seats-both ending (leaf_marks bytes name.SpaceOrTab (seats_of (drop (n + 1) xs))) (take 1 (drop n xs)) (drop (n + 1) xs) (endings-kept (take 1 (drop n xs)) (first-ending xs) (every_front Holds 1 (drop n xs) (every_behind Holds n xs h)))
+      (seats-both ending (leaf_marks bytes name.SpaceOrTab (seats_of (drop (n + 1) xs))) (take 1 (drop n xs)) (drop (n + 1) xs) (endings-kept (take 1 (drop n xs)) (first-ending xs) (every-take Holds 1 (drop n xs) (every-drop Holds n xs h)))
       (kept.alone name.SpaceOrTab (seats_of (drop (n + 1) xs)))))
 
   -- ---- strings
@@ -202,7 +197,7 @@ module _ (bytes : List ℕ) (P : List Mark → List Seat → Type 0) (kept : IsK
     size = length-take-le d.size places inside
 
     hold : AllHold xs
-    hold = every_front Holds d.size places holds
+    hold = every-take Holds d.size places holds
 
     two-marks : (s : Stretch) → end s ≤ d.size → 2 ≤ s.size → 2 ≤ length (places_of s xs)
     two-marks s few two = let long = between-size s.from (end s) xs (omega arith) (omega (arith, few, size)) in omega (arith, long, two)
@@ -286,7 +281,7 @@ definitions-kept bytes P kept (d ∷ ds) xs laid h =
     let ending = flat_map (ending_marks bytes) (between n (n + 1) xs) in
     let rest = drop (n + 1) xs in
     let whole : take n xs ++ (between n (n + 1) xs ++ rest) ≡ xs = ap (λ (l : List Place). take n xs ++ l) (part-rest n (n + 1) xs (omega arith)) ∙ take-append-drop n xs in
-    let more = definitions-kept bytes P kept ds rest laid.2 (every_behind (Holds bytes P kept) (n + 1) xs h) in
+    let more = definitions-kept bytes P kept ds rest laid.2 (every-drop (Holds bytes P kept) (n + 1) xs h) in
     subst (λ (ys : List Place). P (definitions_marks bytes (d ∷ ds) xs) (seats_of ys)) whole
     (seats-both bytes P kept (definition_marks bytes d xs) (ending ++ definitions_marks bytes ds rest) (take n xs) (between n (n + 1) xs ++ rest) (definition-kept bytes P kept xs h d laid.0)
     (seats-both bytes P kept ending (definitions_marks bytes ds rest) (between n (n + 1) xs) rest (endings-kept bytes P kept (between n (n + 1) xs) laid.1 (hold-between bytes P kept n (n + 1) xs h)) more))

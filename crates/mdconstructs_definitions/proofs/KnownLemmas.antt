@@ -1,7 +1,6 @@
 -- Lemmas on what is known before a line, where paragraphs may begin with definitions.
-use Rattle.std.proofs.Common.{◌≡◌, inl, inr, ℕ, suc, ◌+◌, ◌*◌, ◌<◌, ◌≤◌, Bool, true, false, cond, List, [], ◌∷◌, ◌++◌, append_assoc, arith, drop, length, length-append, length-drop, refl, sym, ap, subst, ◌∙◌}
+use Rattle.std.proofs.Common.{◌≡◌, inl, inr, ℕ, suc, ◌+◌, ◌*◌, ◌<◌, ◌≤◌, Bool, true, false, cond, List, [], ◌∷◌, ◌++◌, append_assoc, arith, drop, length, length-append, refl, sym, ap, subst, ◌∙◌}
 use Rattle.std.specs.Prelude.{◌&&◌, ◌||◌, is_some, not}
-use Rattle.std.specs.List.{AllByRecursion}
 use Rattle.std.proofs.lemmas.Bool.{false≢true}
 use Rattle.std.proofs.lemmas.List.{append-nil, drop-drop}
 use Rattle.markdown_base.specs.declared.configuration.Constructs.{Constructs}
@@ -16,18 +15,15 @@ use Rattle.mdconstructs_containers.specs.declared.leaves.Leaf.{Leaf as CodeLeaf}
 use Rattle.mdconstructs_containers.specs.declared.rows.Row.{Row as CodeRow}
 use Rattle.mdconstructs_containers.specs.declared.spans.RowAt.{RowAt}
 use Rattle.mdconstructs_containers.specs.Ahead.{AreRows}
-use Rattle.mdconstructs_containers.specs.Prefixes.{containers_of}
-use Rattle.mdconstructs_containers.specs.Rows.{Before, Leaf, Row, closed, has_none, is_paragraph, nothing_known, open_fence, open_html, open_paragraph, rest_of}
+use Rattle.mdconstructs_containers.specs.Rows.{Leaf, Row, closed, has_none, is_paragraph, nothing_known, open_fence, open_html, open_paragraph}
 use Rattle.mdconstructs_containers.specs.Rows as without
 use Rattle.mdconstructs_containers.specs.Views.{IsRow, leaf_of}
 use Rattle.mdconstructs_containers.proofs.DocumentRows.{AreRowsBefore, are_rows_end, rows_push}
-use Rattle.mdconstructs_containers.proofs.FrameFacts.{old_after}
-use Rattle.mdconstructs_containers.proofs.RowFacts.{BeganBefore}
 use Rattle.mdconstructs_lines.proofs.LinesCut.{lines_follow}
 use Rattle.mdconstructs_definitions.specs.declared.rows.Known.{Known as CodeKnown}
 use Rattle.mdconstructs_definitions.specs.Known.{IsKept, IsKnown, IsNeverUsedUp, held, held_behind, is_held_used_up}
 use Rattle.mdconstructs_definitions.specs.Laws.{begins_with_bracket}
-use Rattle.mdconstructs_definitions.specs.Rows.{Known, is_used_up, known_after, row_of, rows, rows_from, text_after, underlines_nothing}
+use Rattle.mdconstructs_definitions.specs.Rows.{Known, is_used_up, known_after, row_of, rows, rows_from, text_after}
 use Rattle.mdconstructs_definitions.proofs.HeldTexts.{held-after}
 use Rattle.mdconstructs_definitions.proofs.Underlined.{underlined}
 
@@ -58,24 +54,6 @@ row-changed number row r x leaf is e = record {
   is_left_blank = is.is_left_blank;
   leaf = e;
 }
-
--- ---- the containers that are open
-
--- a line's leaf block opens none
-pub same-stack : (on : Constructs) (b : Before) (r : Row) (leaf : Leaf) → (without.known_after on b (record r { leaf = leaf })).stack ≡ (without.known_after on b r).stack
-same-stack on b r leaf = by r.is_left_blank r.is_lazy
-  where
-    by : (left lazy : Bool) → let all = containers_of r.went_on ++ containers_of r.begun in
-        (cond left (record b { depth = length r.went_on; leaf = closed }) (cond lazy (record b { leaf = leaf }) (record { stack = all; depth = length all; leaf = leaf }))).stack
-        ≡ (cond left (record b { depth = length r.went_on; leaf = closed }) (cond lazy (record b { leaf = r.leaf }) (record { stack = all; depth = length all; leaf = r.leaf }))).stack
-    by true lazy = refl
-    by false true = refl
-    by false false = refl
-
-pub began-after : (on : Constructs) (k : Known) (n : ℕ) (l : Line) → AllByRecursion (BeganBefore n) k.before.stack → AllByRecursion (BeganBefore (suc n)) (known_after on k (row_of on k n l)).before.stack
-began-after on k n l old =
-    let row = without.row_of on k.before n l in
-    subst (AllByRecursion (BeganBefore (suc n))) (sym (same-stack on k.before row (cond (underlines_nothing on k row) open_paragraph row.leaf))) (old_after on k.before n l old)
 
 -- ---- the lines that are left
 

@@ -10,6 +10,7 @@ pub mod Examples
 pub mod HeldLemmas
 pub mod HeldTexts
 pub mod KnownLemmas
+pub mod KnownReads
 pub mod KnownRows
 pub mod LaidParts
 pub mod Linked
@@ -29,7 +30,6 @@ pub mod RowTexts
 pub mod SectionCosts
 pub mod SectionCuts
 pub mod SectionFacts
-pub mod SectionFrames
 pub mod SectionGoes
 pub mod SectionGoing
 pub mod SectionLemmas

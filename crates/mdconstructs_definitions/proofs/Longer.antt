@@ -8,6 +8,7 @@ use Rattle.std.proofs.lemmas.List.{drop-append-le, drop-drop, drop_all, take-app
 use Rattle.std.proofs.lemmas.List.Sums.{prefix_len-le-length}
 use Rattle.std.proofs.lemmas.Option.{cond_some, none-some, same_Some}
 use Rattle.markdown_base.proofs.Common.{and-right}
+use Rattle.markdown_base.proofs.Facts.Bools.{cond-same}
 use Rattle.mdconstructs_containers.specs.Rows.{has_none}
 use Rattle.mdconstructs_labels.specs.declared.definitions.Definition.{Definition}
 use Rattle.mdconstructs_labels.specs.declared.definitions.Stretch.{Stretch}
@@ -16,7 +17,8 @@ use Rattle.mdconstructs_labels.specs.Labels.{hides, is_label}
 use Rattle.mdconstructs_labels.specs.Tails.{bare_behind, begins_title, begins_with, depth_behind, destination_size, enclosed_size, gap, is_plain, is_raw_end, is_white, label_size, line_ends, marked_size, one_more, raw_end, raw_size, title_end, title_size}
 use Rattle.mdconstructs_labels.proofs.Fronts.{no-rest, rest-more}
 use Rattle.mdconstructs_labels.proofs.GivenBack.{given-back}
-use Rattle.mdconstructs_definitions.proofs.DefinitionParts.{destination-inside, ended-inside, gap-inside, marked-inside, or-inside, some-begins, title-ends}
+use Rattle.mdconstructs_labels.proofs.Sizes.{marked-within, begins-some}
+use Rattle.mdconstructs_definitions.proofs.DefinitionParts.{destination-inside, ended-inside, gap-inside, or-inside, title-ends}
 
 -- ---- how far white space goes
 
@@ -168,14 +170,14 @@ module _ (w : List ℕ) where
           let none : label_at x ≡ None = ap (λ (b : Bool). cond b (sized (prefix_len is_white x) x (label_size (drop ((prefix_len is_white x) + 1) x))) None) begins ∙ ap (sized (prefix_len is_white x) x) size in
           absurd (none-some s (sym none ∙ e))
       two begins (Some n) size =
-          let some = some-begins 91 (drop (prefix_len is_white x) x) begins in
+          let some = begins-some 91 (drop (prefix_len is_white x) x) begins in
           let within : (prefix_len is_white x) + 1 ≤ length x = omega (arith, some, length-drop (prefix_len is_white x) x) in
-          let less = marked-inside 91 93 false false (drop ((prefix_len is_white x) + 1) x) n size in
+          let less = marked-within 91 93 false false (drop ((prefix_len is_white x) + 1) x) n size in
           let far : (prefix_len is_white x) + n + 2 ≤ length x = omega (arith, less, length-drop ((prefix_len is_white x) + 1) x) in
           let is : label_at x ≡ cond (test (prefix_len is_white x) x n) (Some (stretch_at (prefix_len is_white x) (n + 2))) None = ap (λ (b : Bool). cond b (sized (prefix_len is_white x) x (label_size (drop ((prefix_len is_white x) + 1) x))) None) begins ∙ ap (sized (prefix_len is_white x) x) size in
           let parts = cond_some (test (prefix_len is_white x) x n) (stretch_at (prefix_len is_white x) (n + 2)) s (sym is ∙ e) in
           let colon = and-right (is_label (take n (drop ((prefix_len is_white x) + 1) x))) (begins_with 58 (drop ((prefix_len is_white x) + n + 2) x)) parts.0 in
-          let behind = some-begins 58 (drop ((prefix_len is_white x) + n + 2) x) colon in
+          let behind = begins-some 58 (drop ((prefix_len is_white x) + n + 2) x) colon in
           let same : test (prefix_len is_white x) (x ++ 10 ∷ w) n ≡ test (prefix_len is_white x) x n =
           (λ k. is_label (take n (drop-longer ((prefix_len is_white x) + 1) x within k)) && begins_with 58 (drop-longer ((prefix_len is_white x) + n + 2) x far k))
           ∙ (λ k. is_label (take-append-le n (drop ((prefix_len is_white x) + 1) x) (10 ∷ w) (omega (arith, less)) k) && begins-longer 58 (drop ((prefix_len is_white x) + n + 2) x) refl k) in
@@ -232,16 +234,12 @@ module _ (w : List ℕ) where
               ∙ sym (drop-drop (1 + prefix_len is_white w) (length x) (x ++ 10 ∷ w))
               ∙ ap (drop (1 + prefix_len is_white w)) (drop-longer (length x) x (omega arith) ∙ ap (λ v. v ++ 10 ∷ w) (drop_all (length x) x (omega arith)))
               ∙ one-more-drop in
-              let long : title_at (x ++ 10 ∷ w) at ≡ None = ap (title_by (x ++ 10 ∷ w) at) (ap gap (drop-longer at x h) ∙ none.1) ∙ ap (λ o. cond (white == 0) None (option_map (stretch_at (at + white)) o)) (ap title_size place ∙ no-title) ∙ nothing (white == 0) in
+              let long : title_at (x ++ 10 ∷ w) at ≡ None = ap (title_by (x ++ 10 ∷ w) at) (ap gap (drop-longer at x h) ∙ none.1) ∙ ap (λ o. cond (white == 0) None (option_map (stretch_at (at + white)) o)) (ap title_size place ∙ no-title) ∙ cond-same (white == 0) None in
               let short : title_at x at ≡ None =
-              ap (λ o. cond (gap (drop at x) == 0) None (option_map (stretch_at (at + gap (drop at x))) o)) (ap title_size (sym (drop-drop (gap (drop at x)) at x) ∙ none.0)) ∙ nothing (gap (drop at x) == 0) in
+              ap (λ o. cond (gap (drop at x) == 0) None (option_map (stretch_at (at + gap (drop at x))) o)) (ap title_size (sym (drop-drop (gap (drop at x)) at x) ∙ none.0)) ∙ cond-same (gap (drop at x) == 0) None in
               inl (long ∙ sym short)
         ]
       where
-        nothing : (b : Bool) → cond {A = Option Stretch} b None None ≡ None
-        nothing true = refl
-        nothing false = refl
-
         one-more-drop : drop (1 + prefix_len is_white w) (10 ∷ w) ≡ drop (prefix_len is_white w) w
         one-more-drop = let on : 1 + prefix_len is_white w ≡ suc (prefix_len is_white w) = omega arith in λ k. drop (on k) (10 ∷ w)
 
@@ -256,7 +254,7 @@ module _ (w : List ℕ) where
             inl (ap (title_by (x ++ 10 ∷ w) at) same ∙ ap (λ o. cond (g == 0) None (option_map (stretch_at (at + g)) o)) (ap title_size (drop-longer (at + g) x within) ∙ k))
         by b e same (inr k) =
             let g = gap (drop at x) in
-            inr (ap (λ o. cond (g == 0) None (option_map (stretch_at (at + g)) o)) k.0 ∙ nothing (g == 0), k.1)
+            inr (ap (λ o. cond (g == 0) None (option_map (stretch_at (at + g)) o)) k.0 ∙ cond-same (g == 0) None, k.1)
 
     ended-longer : (x : List ℕ) (l de : Stretch) (t : Option Stretch) → end_of t de ≤ length x → ended (x ++ 10 ∷ w) l de t ≡ ended x l de t
     ended-longer x l de t h =
@@ -318,11 +316,8 @@ module _ (w : List ℕ) where
 
     -- a text of definitions alone is not of definitions alone with the line
     module _ (no-bracket : begins_with 91 (drop (prefix_len is_white w) w) ≡ false) (some-line : has_none w ≡ false) where
-      no-definition : (v : List ℕ) → begins_with 91 (drop (prefix_len is_white v) v) ≡ false → definition_at v ≡ None
-      no-definition v e = rw e refl
-
       pub line-is-left : (n : ℕ) (x : List ℕ) → length x ≤ n → rest x ≡ [] → has_none (rest (x ++ 10 ∷ w)) ≡ false
-      line-is-left n [] h used = ap has_none (no-rest (10 ∷ w) (no-definition (10 ∷ w) refl))
+      line-is-left n [] h used = ap has_none (no-rest (10 ∷ w) refl)
       line-is-left zero (b ∷ bs) h used = absurd (omega (arith, h))
       line-is-left (suc n) (b ∷ bs) h used = by (λ y few none. line-is-left n y few none) (definition_at (b ∷ bs)) refl
         where
@@ -343,5 +338,5 @@ module _ (w : List ℕ) where
                     let size : d.size + 1 ≡ length x + 1 = omega (arith, all, long.1) in
                     let behind : drop (d.size + 1) (x ++ 10 ∷ w) ≡ w =
                     ap (λ k. drop k (x ++ 10 ∷ w)) size ∙ sym (drop-drop 1 (length x) (x ++ 10 ∷ w)) ∙ ap (drop 1) (drop-longer (length x) x (omega arith) ∙ ap (λ v. v ++ 10 ∷ w) (drop_all (length x) x (omega arith))) in
-                    ap has_none (on ∙ ap rest behind ∙ no-rest w (no-definition w no-bracket)) ∙ some-line
+                    ap has_none (on ∙ ap rest behind ∙ no-rest w (rw no-bracket refl)) ∙ some-line
               ]

@@ -4,7 +4,7 @@ use Rattle.std.specs.Prelude.{◌==◌, not}
 use Rattle.std.specs.List.{AllByRecursion, flat_map, prefix_len}
 use Rattle.std.proofs.lemmas.Bool.{false≢true}
 use Rattle.std.proofs.lemmas.List.{append-nil, drop-drop, drop-map, drop_all, drop_more, length-map, map-append, take-append-le, take-map}
-use Rattle.markdown_base.proofs.Common.{every-append}
+use Rattle.markdown_base.proofs.Common.{every-append, every-drop}
 use Rattle.markdown_base.proofs.Seats.{end-after-append}
 use Rattle.markdown_base.specs.declared.event.Event.{Event}
 use Rattle.markdown_base.specs.declared.event.Kind.TheVariants.{Enter, Exit}
@@ -31,7 +31,6 @@ use Rattle.mdconstructs_containers.specs.Skeleton.{prefixes_marks}
 use Rattle.mdconstructs_containers.specs.Spans.{IsRowIn}
 use Rattle.mdconstructs_containers.specs.Stretches.{AreFurther, Begins, IsOutside, Run}
 use Rattle.mdconstructs_containers.proofs.DocumentRows.{text_of_line_at}
-use Rattle.mdconstructs_containers.proofs.RowFacts.{every_behind}
 use Rattle.mdconstructs_containers.proofs.RunLemmas.{behind_line, behind_text, end_run, ending_is, line_parts, text_columns, text_seats_at, text_size}
 use Rattle.mdconstructs_containers.proofs.SeatLemmas.{here, seats_drop, seats_end, span_is_leaf}
 use Rattle.mdconstructs_containers.proofs.StretchLemmas.{ends_before, row_bytes, row_columns, row_seats, went_again, went_marks, went_small}
@@ -93,7 +92,7 @@ plain-text (s ∷ ss) = by (s.byte == 10) refl (plain-text ss)
     by false e h = (sym (ap not e), h)
 
 plain-front : (r : Row) → AllByRecursion IsPlain (map byte_at (drop r.columns (line_text r.line)))
-plain-front r = subst (AllByRecursion IsPlain) (drop-map byte_at r.columns (line_text r.line)) (every_behind IsPlain r.columns (map byte_at (line_text r.line)) (plain-text r.line))
+plain-front r = subst (AllByRecursion IsPlain) (drop-map byte_at r.columns (line_text r.line)) (every-drop IsPlain r.columns (map byte_at (line_text r.line)) (plain-text r.line))
 
 module _ (bytes : List ℕ) where
   pub plain-places : (rows : List Row) → AllByRecursion IsPlain (places_in bytes rows)

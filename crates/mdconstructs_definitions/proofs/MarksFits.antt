@@ -2,10 +2,10 @@
 use Rattle.std.proofs.Common.{◌≡◌, ℕ, ◌+◌, ◌-◌, cond, List, [], ◌∷◌, Option, Some, None, drop, refl, sym, ap, ◌∙◌, subst, arith}
 use Rattle.std.specs.List.{AllByRecursion, prefix_len}
 use Rattle.std.proofs.lemmas.List.{drop-drop, drop-map, length-map}
+use Rattle.markdown_base.proofs.Common.{every-drop}
 use Rattle.mdconstructs_labels.specs.declared.definitions.Definition.{Definition}
 use Rattle.mdconstructs_labels.specs.declared.definitions.Stretch.{Stretch}
 use Rattle.mdconstructs_labels.specs.Definitions.{end, end_of}
-use Rattle.mdconstructs_containers.proofs.RowFacts.{every_behind}
 use Rattle.mdconstructs_definitions.specs.Cursor.{FitsDefinition, FitsDestination, FitsGap, FitsMarks, FitsTitle}
 use Rattle.mdconstructs_definitions.specs.Definitions.{Place, is_byte, text_byte, text_of}
 use Rattle.mdconstructs_definitions.proofs.MarksText.{TextDefinition, TextDestination, TextGap, TextMarks, TextTitle, in_line, run}
@@ -15,7 +15,7 @@ abbrev pub IsPlain : Place → Type 0
 IsPlain p = is_byte p ≡ in_line (text_byte p)
 
 plain-behind : (n : ℕ) (ps : List Place) → AllByRecursion IsPlain ps → AllByRecursion IsPlain (drop n ps)
-plain-behind n ps h = every_behind IsPlain n ps h
+plain-behind n ps h = every-drop IsPlain n ps h
 
 -- lines of places are those of their text
 pub plain-run : (ps : List Place) → AllByRecursion IsPlain ps → prefix_len is_byte ps ≡ run (text_of ps)

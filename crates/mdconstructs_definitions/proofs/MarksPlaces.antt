@@ -4,6 +4,7 @@ use Rattle.std.specs.List.{flat_map, prefix_len}
 use Rattle.std.proofs.lemmas.List.{append-nil, drop-drop, drop_all, take_all, take-take}
 use Rattle.std.proofs.lemmas.List.Concat.{flat_map-append}
 use Rattle.std.proofs.lemmas.List.Sums.{prefix_len-le-length}
+use Rattle.std.proofs.Math.Seq.{take-nil, take-add}
 use Rattle.markdown_base.specs.declared.event.Name.{Name}
 use Rattle.markdown_base.specs.declared.event.Name.TheVariants as name
 use Rattle.markdown_base.specs.Virtual.{Seat}
@@ -18,22 +19,14 @@ use Rattle.mdconstructs_definitions.specs.Definitions.{Place, StringLine, all_se
 
 -- ---- fronts of lists
 
-nothing-of : {A : Type 0} (n : ℕ) → take {A = A} n [] ≡ []
-nothing-of n = take_all n [] (omega arith)
-
 nothing-behind : {A : Type 0} (n : ℕ) → drop {A = A} n [] ≡ []
 nothing-behind n = drop_all n [] (omega arith)
 
 pub drop-front : {A : Type 0} (a b : ℕ) (xs : List A) → drop a (take b xs) ≡ take (b - a) (drop a xs)
 drop-front zero b xs = let same : b ≡ b - 0 = omega arith in ap (λ n. take n xs) same
-drop-front (suc a) b [] = ap (drop (suc a)) (nothing-of b) ∙ sym (nothing-of (b - suc a))
+drop-front (suc a) b [] = ap (drop (suc a)) (take-nil b) ∙ sym (take-nil (b - suc a))
 drop-front (suc a) zero (x ∷ xs) = let none : 0 ≡ 0 - suc a = omega arith in ap (λ n. take n (drop a xs)) none
 drop-front (suc a) (suc b) (x ∷ xs) = let same : b - a ≡ suc b - suc a = omega arith in drop-front a b xs ∙ ap (λ n. take n (drop a xs)) same
-
-pub take-split : {A : Type 0} (m n : ℕ) (xs : List A) → take (m + n) xs ≡ take m xs ++ take n (drop m xs)
-take-split zero n xs = let same : 0 + n ≡ n = omega arith in ap (λ k. take k xs) same
-take-split (suc m) n [] = nothing-of (suc m + n) ∙ sym (nothing-of n)
-take-split (suc m) n (x ∷ xs) = let same : suc m + n ≡ suc (m + n) = omega arith in ap (λ k. take k (x ∷ xs)) same ∙ ap (λ l. x ∷ l) (take-split m n xs)
 
 -- ---- lines of places
 
@@ -56,7 +49,7 @@ pub line-within : (ps : List Place) → prefix_len is_byte ps ≤ length ps
 line-within ps = prefix_len-le-length is_byte ps
 
 pub seats-split : (m n : ℕ) (ps : List Place) → seats_of (take (m + n) ps) ≡ seats_of (take m ps) ++ seats_of (take n (drop m ps))
-seats-split m n ps = ap seats_of (take-split m n ps) ∙ flat_map-append all_seats (take m ps) (take n (drop m ps))
+seats-split m n ps = ap seats_of (take-add m n ps) ∙ flat_map-append all_seats (take m ps) (take n (drop m ps))
 
 -- the virtual bytes of places in a line, one by one
 pub front-seats : (n k : ℕ) (ps : List Place) → n ≤ k → k ≤ prefix_len is_byte ps → take n (seats_of (take k ps)) ≡ seats_of (take n ps)

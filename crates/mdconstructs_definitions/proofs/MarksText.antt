@@ -1,9 +1,9 @@
 -- What the parts of a definition are in its text.
 use Rattle.std.proofs.Common.{◌≡◌, ◌⊎◌, inl, inr, ℕ, suc, ◌+◌, ◌-◌, ◌≤◌, Bool, true, false, cond, List, [], ◌∷◌, Option, Some, None, drop, length, take, refl, sym, ap, ◌∙◌, subst, arith, length-drop, add-one}
-use Rattle.std.specs.Prelude.{◌==◌, ◌&&◌, ◌||◌, not, nat_le}
+use Rattle.std.specs.Prelude.{◌==◌, ◌&&◌, ◌||◌, not}
 use Rattle.std.specs.List.{prefix_len}
 use Rattle.std.specs.Option.{option_map, option_and_then, option_or}
-use Rattle.std.proofs.lemmas.Bool.{eqb-true, false≢true}
+use Rattle.std.proofs.lemmas.Bool.{eqb-true, false≢true, and_parts, eq-eqb}
 use Rattle.std.proofs.lemmas.Bool.Decides.{nat_tests}
 use Rattle.std.proofs.lemmas.List.{drop-drop}
 use Rattle.std.proofs.lemmas.Option.{cond_some}
@@ -13,7 +13,8 @@ use Rattle.mdconstructs_labels.specs.declared.definitions.Definition.{Definition
 use Rattle.mdconstructs_labels.specs.declared.definitions.Stretch.{Stretch}
 use Rattle.mdconstructs_labels.specs.Definitions.{definition_at, definitions, definitions_from, destination_at, end, end_of, ended, label_at, line_left, stretch_at, title_at, titled_or_not}
 use Rattle.mdconstructs_labels.specs.Labels.{hides, is_label}
-use Rattle.mdconstructs_labels.specs.Tails.{bare_behind, begins_with, depth_behind, destination_size, enclosed_size, gap, is_plain, is_raw_end, is_white, label_size, line_ends, marked_size, one_more, raw_end, raw_size, title_end, title_size}
+use Rattle.mdconstructs_labels.specs.Tails.{bare_behind, begins_with, destination_size, enclosed_size, gap, is_plain, is_white, label_size, line_ends, marked_size, one_more, raw_size, title_end, title_size}
+use Rattle.mdconstructs_labels.proofs.Sizes.{raw-within, begins-some}
 
 -- a byte is in a line
 abbrev pub in_line : ℕ → Bool
@@ -65,11 +66,6 @@ then : {A B : Type 0} (f : A → Option B) (o : Option A) (b : B) → option_and
 then f None b e = absurd (cc)
 then f (Some a) b e = (a, refl, e)
 
-both : (a b : Bool) → (a && b) ≡ true → (a ≡ true) × (b ≡ true)
-both true true e = (refl, refl)
-both true false e = absurd (cc)
-both false b e = absurd (cc)
-
 -- ---- lines of a text
 
 white-runs : (bs : List ℕ) → prefix_len is_white bs ≤ run bs
@@ -86,10 +82,6 @@ mark-runs c [] e o = absurd (false≢true e)
 mark-runs c (b ∷ bs) e o =
     let other : (b == 10) ≡ false = ap (λ n. n == 10) (eqb-true b c e) ∙ o in
     rw other (omega arith)
-
-begun-some : (c : ℕ) (bs : List ℕ) → begins_with c bs ≡ true → 1 ≤ length bs
-begun-some c [] e = absurd (false≢true e)
-begun-some c (b ∷ bs) e = omega arith
 
 -- a line of white space
 white-line : (bs : List ℕ) → begins_with 10 (drop (prefix_len is_white bs) bs) ≡ true → run bs ≡ prefix_len is_white bs
@@ -116,7 +108,7 @@ gap-fits bs = by (begins_with 10 (drop n bs)) refl
         let same : run bs ≡ n = white-line bs e in
         let m = prefix_len is_white (drop (n + 1) bs) in
         let few : m ≤ length (drop (n + 1) bs) = prefix_len-le-length is_white (drop (n + 1) bs) in
-        let there : 1 ≤ length (drop n bs) = begun-some 10 (drop n bs) e in
+        let there : 1 ≤ length (drop n bs) = begins-some 10 (drop n bs) e in
         let more : m ≤ run (drop (n + 1) bs) = white-runs (drop (n + 1) bs) in
         let runs : run (drop (run bs + 1) bs) ≡ run (drop (n + 1) bs) = ap (λ k. run (drop (k + 1) bs)) same in
         record { within = omega (arith, few, there, length-drop n bs, length-drop (n + 1) bs); lines = omega (arith, same, more, runs) }
@@ -127,7 +119,7 @@ white-fits n bs e = record { within = omega (arith, e, prefix_len-le-length is_w
 -- ---- marks
 
 plain-is : (wanted : ℕ) (hidden : Bool) (b : ℕ) → is_plain wanted hidden b ≡ true → (b == wanted) ≡ true
-plain-is wanted hidden b e = (both (b == wanted) (not hidden) e).0
+plain-is wanted hidden b e = (and_parts (b == wanted) (not hidden) e).0
 
 marked-end : (first last : ℕ) (bare hidden : Bool) (bs : List ℕ) (n : ℕ) → marked_size first last bare hidden bs ≡ Some n → begins_with last (drop n bs) ≡ true
 marked-end first last bare hidden [] n e = absurd (cc)
@@ -151,20 +143,6 @@ enclosed-end hidden (b ∷ bs) n e = by (λ m. enclosed-end (hides hidden b) bs 
     by more false p false h =
         let m = mapped (λ k. k + 1) (enclosed_size (hides hidden b) bs) n h in
         ap (λ k. begins_with 62 (drop k (b ∷ bs))) (sym m.2 ∙ add-one m.0) ∙ more m.0 m.1
-
-raw-ends : (depth n : ℕ) → raw_end depth ≡ Some n → n ≡ 0
-raw-ends depth n e = let k = cond_some (depth == 0) 0 n e in sym k.1
-
-raw-within : (depth : ℕ) (hidden : Bool) (bs : List ℕ) (n : ℕ) → raw_size depth hidden bs ≡ Some n → n ≤ length bs
-raw-within depth hidden [] n e = omega (arith, raw-ends depth n e)
-raw-within depth hidden (b ∷ bs) n e = by (λ m. raw-within (depth_behind depth hidden b) (hides hidden b) bs m) (is_raw_end depth hidden b) (is_plain 40 hidden b && nat_le 32 depth) e
-  where
-    by : ((m : ℕ) → raw_size (depth_behind depth hidden b) (hides hidden b) bs ≡ Some m → m ≤ length bs) → (x y : Bool) → cond x (raw_end depth) (cond y None (one_more (raw_size (depth_behind depth hidden b) (hides hidden b) bs))) ≡ Some n → n ≤ suc (length bs)
-    by more true y h = omega (arith, raw-ends depth n h)
-    by more false true h = absurd (cc)
-    by more false false h =
-        let m = mapped (λ k. k + 1) (raw_size (depth_behind depth hidden b) (hides hidden b) bs) n h in
-        omega (arith, m.2, more m.0 m.1)
 
 -- a stretch between two marks, by what comes behind the first
 marks-fit : (a c m : ℕ) (bs : List ℕ) → begins_with a bs ≡ true → (a == 10) ≡ false → begins_with c (drop (m + 1) bs) ≡ true → (c == 10) ≡ false → TextMarks (m + 2) bs
@@ -193,7 +171,7 @@ label-is text s e = by (begins_with 91 (drop from text)) refl e
     by true p h =
         let n = then found (label_size (drop (from + 1) text)) s h in
         let is = cond_some (is_label (take n.0 (drop (from + 1) text)) && begins_with 58 (drop (from + n.0 + 2) text)) (stretch_at from (n.0 + 2)) s n.2 in
-        let colon = (both (is_label (take n.0 (drop (from + 1) text))) (begins_with 58 (drop (from + n.0 + 2) text)) is.0).1 in
+        let colon = (and_parts (is_label (take n.0 (drop (from + 1) text))) (begins_with 58 (drop (from + n.0 + 2) text)) is.0).1 in
         let last = marked-end 91 93 false false (drop (from + 1) text) n.0 n.1 in
         let place : drop n.0 (drop (from + 1) text) ≡ drop (n.0 + 1) (drop from text) = drop-drop n.0 (from + 1) text ∙ ap (λ k. drop k text) (omega arith) ∙ sym (drop-drop (n.0 + 1) from text) in
         subst (λ (x : Stretch). LabelIs x text) is.1
@@ -212,7 +190,7 @@ destination-fits bs n e = by (begins_with 60 bs) refl e
         let last = enclosed-end false (drop 1 bs) m.0 m.1 in
         let place : drop m.0 (drop 1 bs) ≡ drop (m.0 + 1) bs = drop-drop m.0 1 bs ∙ ap (λ k. drop k bs) (omega arith) in
         let fits : TextMarks n bs = subst (λ k. TextMarks k bs) m.2 (marks-fit 60 62 m.0 bs p refl (sym (ap (begins_with 62) place) ∙ last) refl) in
-        let there : 1 ≤ length (drop m.0 (drop 1 bs)) = begun-some 62 (drop m.0 (drop 1 bs)) last in
+        let there : 1 ≤ length (drop m.0 (drop 1 bs)) = begins-some 62 (drop m.0 (drop 1 bs)) last in
         record { within = omega (arith, there, ap (λ (l : List ℕ). length l) place, length-drop (m.0 + 1) bs, m.2); some = omega (arith, m.2); marks = λ q. fits }
     by false p h =
         let m = then (λ k. cond (k == 0) None (Some k)) (raw_size 0 false bs) n h in
@@ -238,10 +216,7 @@ title-fits (b ∷ bs) n e =
     let m = mapped (λ n. n + 2) (marked_size b close.0 false false bs) n close.2 in
     let other = title-marks b close.0 close.1 in
     let last = marked-end b close.0 false false bs m.0 m.1 in
-    subst (λ k. TextMarks k (b ∷ bs)) m.2 (marks-fit b close.0 m.0 (b ∷ bs) (eqb-same b) other.0 (ap (λ k. begins_with close.0 (drop k (b ∷ bs))) (add-one m.0) ∙ last) other.1)
-  where
-    eqb-same : (k : ℕ) → (k == k) ≡ true
-    eqb-same k = grind (arith, nat_tests)
+    subst (λ k. TextMarks k (b ∷ bs)) m.2 (marks-fit b close.0 m.0 (b ∷ bs) (eq-eqb b b refl) other.0 (ap (λ k. begins_with close.0 (drop k (b ∷ bs))) (add-one m.0) ∙ last) other.1)
 
 -- a title, if there is one
 title-is : (text : List ℕ) (at : ℕ) → TextTitle (title_at text at) at text

@@ -6,10 +6,12 @@ use Rattle.std.proofs.lemmas.Bool.{false≢true}
 use Rattle.std.proofs.lemmas.Grind.{flat_map-append}
 use Rattle.std.proofs.lemmas.List.{append-nil, map-append, take-append-drop, take_rest}
 use Rattle.std.proofs.lemmas.List.Folds.{list_any-append}
+use Rattle.std.proofs.Math.Bool.{or_assoc}
 use Rattle.markdown_base.specs.declared.configuration.Constructs.{Constructs}
 use Rattle.markdown_base.specs.declared.event.Event.{Event}
 use Rattle.markdown_base.specs.Virtual.{Seat, point}
 use Rattle.markdown_base.proofs.Facts.Bools.{and-left}
+use Rattle.markdown_base.proofs.Common.{every-take}
 use Rattle.mdconstructs_machines.specs.LineEvents.{line_text}
 use Rattle.mdconstructs_flow_read.specs.LeafBlocks.{bytes_of}
 use Rattle.mdconstructs_flow_read.specs.LeafEvents.{Mark}
@@ -39,7 +41,6 @@ use Rattle.mdconstructs_containers.proofs.PartCosts.{first_behind}
 use Rattle.mdconstructs_containers.proofs.PartFacts.{lines_is}
 use Rattle.mdconstructs_containers.proofs.PartWritten.{begin_columns, begun_marks_are, columns_all, going_is_first, more_is, prefix_marks_are, split}
 use Rattle.mdconstructs_containers.proofs.RestLemmas.{part_of, parts_more, plain_map}
-use Rattle.mdconstructs_containers.proofs.RowFacts.{every_front}
 use Rattle.mdconstructs_containers.proofs.StretchLemmas.{row_bytes, row_seats}
 use Rattle.mdconstructs_containers.proofs.WrittenLemmas.{plain_append, write_end, write_plain}
 use Rattle.mdconstructs_definitions.specs.Labelled.{is_one_of}
@@ -135,12 +136,8 @@ module _ (t : ℕ) (bytes : List ℕ) (some : 0 < t) (limit : t * length bytes +
       let here = cut on (part_of r rs) in
       let more = sections on (drop lines rs) in
       let both : is_one_of (flat_map f here ++ flat_map f more) label ≡ (is_one_of (flat_map f here) label || is_one_of (flat_map f more) label) = list_any-append _ (flat_map f here) (flat_map f more) in
-      ap (λ b. b || is_one_of (flat_map f more) label) e ∙ or-or old (is_one_of (flat_map f here) label) (is_one_of (flat_map f more) label)
+      ap (λ b. b || is_one_of (flat_map f more) label) e ∙ or_assoc old (is_one_of (flat_map f here) label) (is_one_of (flat_map f more) label)
       ∙ ap (λ b. old || b) (sym both ∙ ap (λ l. is_one_of l label) (sym (flat_map-append f here more) ∙ sym (ap (flat_map f) (sections-step on))))
-    where
-      or-or : (a b c : Bool) → ((a || b) || c) ≡ (a || (b || c))
-      or-or true b c = refl
-      or-or false b c = refl
 
   -- the line behind it does not go on lazily
   pub next-not-lazy : ArePaid (r ∷ rs) → FirstIsNotLazy (drop lines rs)
@@ -151,7 +148,7 @@ module _ (t : ℕ) (bytes : List ℕ) (some : 0 < t) (limit : t * length bytes +
       by false e = after_further rs paid.2
 
   pub part-texts : TextsAreFilled (r ∷ rs) → TextsAreFilled (all_rows (part_of r rs))
-  part-texts h = (h.0, every_front TextIsFilled (cond r.is_blank 0 (further rs)) rs h.1)
+  part-texts h = (h.0, every-take TextIsFilled (cond r.is_blank 0 (further rs)) rs h.1)
 
   module _ (open_now : List Container) (oe : open_now ≡ open_behind stack r) where
     -- its lines

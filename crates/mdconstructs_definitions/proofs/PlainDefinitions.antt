@@ -5,6 +5,7 @@ use Rattle.std.specs.List.{AllByRecursion, flat_map, prefix_len}
 use Rattle.markdown_base.specs.declared.event.Name.{Name}
 use Rattle.markdown_base.specs.declared.event.Name.TheVariants as name
 use Rattle.markdown_base.specs.Virtual.{Seat}
+use Rattle.markdown_base.proofs.Common.{every-take}
 use Rattle.mdconstructs_machines.specs.LineEvents.{ending_of, line_text}
 use Rattle.mdconstructs_flow_read.specs.LeafBlocks.{bytes_of}
 use Rattle.mdconstructs_flow_read.specs.LeafEvents.{Mark, leaf_marks, span_marks, white}
@@ -14,7 +15,6 @@ use Rattle.mdconstructs_containers.specs.Rows.{Row}
 use Rattle.mdconstructs_containers.specs.Skeleton.{prefixes_marks}
 use Rattle.mdconstructs_containers.specs.Written.{NoChunk}
 use Rattle.mdconstructs_containers.proofs.JoinLemmas.{plain_prefixes, plain_span}
-use Rattle.mdconstructs_containers.proofs.RowFacts.{every_front}
 use Rattle.mdconstructs_containers.proofs.WrittenLemmas.{plain_append}
 use Rattle.mdconstructs_labels.specs.declared.definitions.Definition.{Definition}
 use Rattle.mdconstructs_labels.specs.declared.definitions.Stretch.{Stretch}
@@ -31,7 +31,7 @@ abbrev ArePlain : List Place → Type 0
 ArePlain places = AllByRecursion IsPlain places
 
 plain-take : (n : ℕ) (ps : List Place) → ArePlain ps → ArePlain (take n ps)
-plain-take n ps h = every_front IsPlain n ps h
+plain-take n ps h = every-take IsPlain n ps h
 
 plain-drop : (n : ℕ) (ps : List Place) → ArePlain ps → ArePlain (drop n ps)
 plain-drop zero ps h = h

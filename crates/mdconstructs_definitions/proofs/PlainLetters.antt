@@ -4,7 +4,7 @@ use Rattle.std.specs.Prelude.{◌==◌, ◌&&◌, ◌||◌, not}
 use Rattle.std.specs.List.{AllByRecursion, flat_map, list_any}
 use Rattle.std.proofs.lemmas.Bool.{false≢true, eqb-true}
 use Rattle.std.proofs.lemmas.List.{drop-drop}
-use Rattle.markdown_base.proofs.Common.{and-right, every-append, every-map}
+use Rattle.markdown_base.proofs.Common.{and-right, every-append, every-map, every-take, every-drop}
 use Rattle.markdown_base.specs.declared.configuration.Constructs.{Constructs}
 use Rattle.markdown_base.specs.Virtual.{Seat, begins_with_lf, in_tab, line_feed, other_byte, tab_width, virtual, virtual_from}
 use Rattle.markdown_tokenizer.proofs.Positions.Order.{every-back, every-front}
@@ -15,11 +15,11 @@ use Rattle.mdconstructs_flow_read.specs.LeafBlocks.{Line, bytes_of, text_of}
 use Rattle.mdconstructs_flow_read.specs.LineKinds.{begins_with, indent, is_blank_line}
 use Rattle.mdconstructs_containers.proofs.CostLemmas.{blank_leaf, blank_not_lazy}
 use Rattle.mdconstructs_containers.proofs.PlainLetters.{AtMark, IsMarked, IsPlainAt, every_both, is_mark, lines_each, one_of, plain_from, text_byte, underline_plain, underlines_plain}
-use Rattle.mdconstructs_containers.proofs.RowFacts.{every_behind, every_front}
 use Rattle.mdconstructs_containers.specs.Letters.{is_plain, lazy_underline}
 use Rattle.mdconstructs_containers.specs.Rows.{Leaf, Row, closed, is_paragraph, leaf_after, nothing_known, open_paragraph, rest_of}
 use Rattle.mdconstructs_containers.specs.Rows as without
 use Rattle.mdconstructs_containers.specs.Skeleton.{Part, parts}
+use Rattle.mdconstructs_containers.proofs.RowReads.{blank_same}
 use Rattle.mdconstructs_labels.specs.declared.definitions.Definition.{Definition}
 use Rattle.mdconstructs_labels.specs.Definitions.{definitions}
 use Rattle.mdconstructs_definitions.specs.SkeletonLaws.{LettersArePlain}
@@ -27,7 +27,7 @@ use Rattle.mdconstructs_definitions.specs.Rows.{Known, known_after, row_of, rows
 use Rattle.mdconstructs_definitions.specs.Sections.{Inside, Section, before_defined, cut, defined, defined_in, defining, in_same, lines, paragraph_of, sections, sections_in, text_in, undefined}
 use Rattle.mdconstructs_definitions.specs.Skeleton.{all_rows, letters, letters_of_section, text_begin}
 use Rattle.mdconstructs_definitions.proofs.Covered.{rows_of, sections-hold-lines}
-use Rattle.mdconstructs_definitions.proofs.KnownRows.{blank-same}
+use Rattle.mdconstructs_definitions.proofs.KnownReads.{known-reads}
 
 -- ---- bytes of text
 
@@ -120,7 +120,7 @@ module _ (on : Constructs) where
       by false e = e
       by true e =
           let plain = none r.is_left_blank r.is_lazy (blank_not_lazy on k.before n line e) (leaf_after on (cond r.stays k.before.leaf closed) (rest_of r)) (blank_leaf on (cond r.stays k.before.leaf closed) (rest_of r) e) in
-          absurd (false≢true (sym plain ∙ ap (λ (x : Row). is_paragraph x.leaf) (sym (blank-same on k n line e)) ∙ is-open))
+          absurd (false≢true (sym plain ∙ ap (λ (x : Row). is_paragraph x.leaf) (sym (blank_same on (known-reads on) k n line e)) ∙ is-open))
 
 module _ (on : Constructs) (bytes : List ℕ) where
   -- what is known of a line: it is whole, and its text is plain
@@ -145,9 +145,9 @@ module _ (on : Constructs) (bytes : List ℕ) where
   begin-plain row h e =
       let t = text_of row.line in
       let n = row.columns + indent (rest_of row) in
-      let some = some-text (rest_of row) (every_behind (λ (c : ℕ). (c == 10) ≡ false) row.columns t (no-ending row.line)) e in
+      let some = some-text (rest_of row) (every-drop (λ (c : ℕ). (c == 10) ≡ false) row.columns t (no-ending row.line)) e in
       let there : begins_with some.0 (drop n t) ≡ true = ap (begins_with some.0) (sym (drop-drop (indent (rest_of row)) row.columns t)) ∙ some.1 in
-      plain-here some.0 some.2 (take 1 (drop n row.line)) (text_byte some.0 row.line n h.0 there) (every_front (AtText bytes 0) 1 (drop n row.line) (every_behind (AtText bytes 0) n row.line h.1))
+      plain-here some.0 some.2 (take 1 (drop n row.line)) (text_byte some.0 row.line n h.0 there) (every-take (AtText bytes 0) 1 (drop n row.line) (every-drop (AtText bytes 0) n row.line h.1))
 
   -- ---- sections
 

@@ -5,6 +5,7 @@ use Rattle.std.specs.List.{AllByRecursion}
 use Rattle.std.proofs.lemmas.Bool.{false≢true}
 use Rattle.std.proofs.lemmas.Grind.{flat_map-append}
 use Rattle.std.proofs.lemmas.List.{drop-append-le, drop-map, length-append, length-map, map-append, take-append-drop, take_all}
+use Rattle.std.proofs.Math.Bool.{and-false}
 use Rattle.markdown_base.proofs.Seats.{end-after-append}
 use Rattle.markdown_base.specs.declared.configuration.Constructs.{Constructs}
 use Rattle.markdown_base.specs.declared.event.Point.{Point}
@@ -262,13 +263,9 @@ module _ (t : ℕ) (bytes : List ℕ) where
       -- the virtual bytes of definitions: no line ending is held behind a paragraph
       pub defined-seats : (ds : List Definition) → AreDefined bytes ds (all_rows p) → place_seats (places_in bytes (all_rows p)) ≡ inner
       defined-seats ds d =
-          let none : is_held p ≡ false = ap (λ x. not (r.is_blank) && x) (not-held r p.more d.open_behind) ∙ by (not r.is_blank) in
+          let none : is_held p ≡ false = ap (λ x. not (r.is_blank) && x) (not-held r p.more d.open_behind) ∙ and-false (not r.is_blank) in
           seats-are bytes r p.more first-fits others-fit is.none_begin ∙ (λ k. drop (sym cut-is k) (seats_of (sym none k) r p.more))
         where
-          by : (x : Bool) → (x && false) ≡ false
-          by true = refl
-          by false = refl
-
           open-none : (leaf : Leaf) → is_paragraph leaf ≡ true → holds_ending leaf ≡ false
           open-none leaf e = ap holds_ending (paragraph-is leaf e)
 

@@ -1,6 +1,6 @@
 -- Lemmas on the sections of a part, as the code finds them.
 use Rattle.std.proofs.Common.{◌≡◌, ℕ, zero, suc, ◌+◌, ◌-◌, ◌<◌, ◌≤◌, Bool, true, false, cond, List, [], ◌∷◌, ◌++◌, append_assoc, arith, drop, get_or, length, length-drop, length-take, map, refl, sym, ap, subst, take, ◌∙◌}
-use Rattle.std.specs.Prelude.{◌==◌, ◌&&◌, None, filter, nat_le, not}
+use Rattle.std.specs.Prelude.{◌==◌, ◌&&◌, filter, nat_le, not}
 use Rattle.std.specs.List.{prefix_len}
 use Rattle.std.proofs.lemmas.Bool.{false≢true}
 use Rattle.std.proofs.lemmas.Bool.Decides.{nat_tests}
@@ -16,7 +16,7 @@ use Rattle.mdconstructs_containers.specs.Ahead.{AreRows, ahead_of}
 use Rattle.mdconstructs_containers.specs.Rows.{Row, has_none, is_paragraph, rest_of}
 use Rattle.mdconstructs_containers.specs.Skeleton.{Part, further, parts}
 use Rattle.mdconstructs_containers.specs.Views.{IsRow}
-use Rattle.mdconstructs_containers.proofs.AheadLemmas.{row_at}
+use Rattle.mdconstructs_containers.proofs.AheadLemmas.{row_at, no_ahead, rows_length}
 use Rattle.mdconstructs_containers.proofs.DocumentRows.{text_of_line_at}
 use Rattle.mdconstructs_containers.proofs.RestLemmas.{further_few, part_of, parts_more}
 use Rattle.mdconstructs_labels.specs.declared.definitions.Definition.{Definition}
@@ -42,12 +42,6 @@ rows-back (suc n) [] [] h = tt
 rows-back (suc n) [] (r ∷ rs) h = absurd h
 rows-back (suc n) (x ∷ xs) [] h = absurd h
 rows-back (suc n) (x ∷ xs) (r ∷ rs) h = rows-back n xs rs h.1
-
-pub rows-few : (xs : List RowAt) (all : List Row) → AreRows xs all → length xs ≡ length all
-rows-few [] [] h = refl
-rows-few [] (r ∷ rs) h = absurd h
-rows-few (x ∷ xs) [] h = absurd h
-rows-few (x ∷ xs) (r ∷ rs) h = ap suc (rows-few xs rs h.1)
 
 module _ (t : ℕ) (bytes : List ℕ) where
   texts-front : (n : ℕ) (xs : List RowAt) (all : List Row) → HaveTexts t bytes xs all → HaveTexts t bytes (take n xs) (take n all)
@@ -239,9 +233,6 @@ begins-is [] (r ∷ rs) h = absurd h
 begins-is (x ∷ xs) [] h = absurd h
 begins-is (x ∷ xs) (r ∷ rs) h = ap is_paragraph h.0.leaf
 
-abbrev no_ahead : Ahead
-no_ahead = record { further = 0; many = 0; list = None }
-
 -- a line at an index, and how many further lines its part has
 pub record IsLine (rows : List RowAt) (all : List Row) (i : ℕ) (x : RowAt) (n : ℕ) : Type 0 where
   pub row : Row
@@ -264,7 +255,7 @@ line-at rows aheads all i x n are h ex f en =
       is = is;
       rest = at.rest ∙ ap (λ m. at.row ∷ drop m all) one;
       size = size;
-      few = omega (arith, left, length-drop (i + 1) all, rows-few rows all are, h);
+      few = omega (arith, left, length-drop (i + 1) all, rows_length rows all are, h);
     }
   where
     small : (b : Bool) → n ≡ cond b 0 (further (drop (i + 1) all)) → n ≤ length (drop (i + 1) all)

@@ -1,23 +1,17 @@
 -- Lemmas on what is read as a letter of the lines of a section.
-use Rattle.std.proofs.Common.{◌≡◌, ℕ, ◌+◌, ◌-◌, ◌*◌, ◌^◌, ◌<◌, Bool, true, false, cond, List, [], ◌∷◌, ◌++◌, length, take, drop, map, refl, sym, ap, ◌∙◌, subst, arith, append_assoc, length-drop}
+use Rattle.std.proofs.Common.{◌≡◌, ℕ, ◌+◌, ◌*◌, ◌^◌, ◌<◌, Bool, true, false, cond, List, [], ◌∷◌, ◌++◌, length, drop, refl, sym, ap, ◌∙◌, subst, arith, append_assoc}
 use Rattle.std.specs.Prelude.{◌&&◌, is_some}
 use Rattle.std.specs.List.{flat_map}
-use Rattle.std.proofs.lemmas.List.{drop-append-le, drop-drop, length-map}
+use Rattle.std.proofs.lemmas.List.{drop-drop}
 use Rattle.markdown_base.specs.declared.configuration.Constructs.{Constructs}
 use Rattle.markdown_base.specs.declared.event.Point.{Point}
-use Rattle.markdown_base.specs.Virtual.{Seat, point}
-use Rattle.mdconstructs_machines.specs.LineEvents.{ending_of, line_text}
-use Rattle.mdconstructs_flow_read.specs.LeafBlocks.{text_of}
-use Rattle.mdconstructs_flow_read.specs.LineKinds.{indent, underline_rank, unindented}
+use Rattle.markdown_base.specs.Virtual.{point}
+use Rattle.mdconstructs_flow_read.specs.LineKinds.{indent, underline_rank}
 use Rattle.mdconstructs_lines.specs.Lines.{line_bytes, place_after}
 use Rattle.mdconstructs_containers.specs.declared.spans.RowAt.{RowAt}
 use Rattle.mdconstructs_containers.specs.Letters.{lazy_underline}
-use Rattle.mdconstructs_containers.specs.Rows.{Row, rest_of}
-use Rattle.mdconstructs_containers.specs.SeatPlaces.{AreSeatsAt}
-use Rattle.mdconstructs_containers.proofs.LazyLemmas.{HasLeft, lazy_behind, lazy_is, rest_is, the}
-use Rattle.mdconstructs_containers.proofs.RunLemmas.{line_parts}
-use Rattle.mdconstructs_containers.proofs.SeatLemmas.{seats_drop}
-use Rattle.mdconstructs_containers.proofs.StretchLemmas.{row_seats}
+use Rattle.mdconstructs_containers.specs.Rows.{Row}
+use Rattle.mdconstructs_containers.proofs.LazyLemmas.{HasLeft, begin_index, lazy_behind, lazy_is, rest_is, the}
 use Rattle.mdconstructs_definitions.specs.Sectioned.{AreFirst, IsFilled, letters_in}
 use Rattle.mdconstructs_definitions.specs.Skeleton.{text_begin}
 
@@ -33,23 +27,7 @@ module _ (t : ℕ) (bytes : List ℕ) (some : 0 < t) (limit : t * length bytes +
     begin-is : IsFilled r → place.index ∷ [] ≡ text_begin r
     begin-is more =
         let row = the t bytes some limit on x xs r rs has in
-        let k = r.columns + indent (rest_of r) in
-        let ss = line_text r.line in
-        let size : length (text_of r.line) ≡ length ss = length-map ss (λ (s : Seat). s.byte) in
-        let n : length (unindented (rest_of r)) ≡ length (rest_of r) - indent (rest_of r) = length-drop (indent (rest_of r)) (rest_of r) in
-        let m : length (rest_of r) ≡ length (text_of r.line) - r.columns = length-drop r.columns (text_of r.line) in
-        let w : k < length ss = omega (arith, size, n, m, more) in
-        let split : drop k r.line ≡ drop k ss ++ ending_of r.line =
-        ap (drop k) (line_parts t bytes some limit has.left.number has.left.start x row.placed r.line row.line has.left.outside) ∙ drop-append-le k ss (ending_of r.line) (omega (arith, w)) in
-        let are : AreSeatsAt t bytes (place_after t bytes (point x.span.number 1 x.span.start 0) k) (drop k ss) =
-        seats_drop t bytes (point x.span.number 1 x.span.start 0) ss k (row_seats t bytes some limit has.stack has.left.number has.left.start x r row has.left.outside) (omega (arith, w)) in
-        (λ i. (place_after t bytes (point x.span.number 1 x.span.start 0) (row.is.columns i + indent (rest_is t bytes some limit on x xs r rs has i))).index ∷ [])
-        ∙ by (drop k ss) are (omega (arith, w, length-drop k ss)) ∙ ap (λ (l : List Seat). map (λ (s : Seat). s.point.index) (take 1 l)) (sym split)
-      where
-        by : (ss : List Seat) → AreSeatsAt t bytes (place_after t bytes (point x.span.number 1 x.span.start 0) (r.columns + indent (rest_of r))) ss → 0 < length ss
-            → (place_after t bytes (point x.span.number 1 x.span.start 0) (r.columns + indent (rest_of r))).index ∷ [] ≡ map (λ (s : Seat). s.point.index) (take 1 (ss ++ ending_of r.line))
-        by [] are h = absurd (omega (arith, h))
-        by (s ∷ ss) are h = ap (λ (p : Point). p.index ∷ []) (sym are.1)
+        (λ i. (place_after t bytes (point x.span.number 1 x.span.start 0) (row.is.columns i + indent (rest_is t bytes some limit on x xs r rs has i))).index ∷ []) ∙ begin_index t bytes some limit on x xs r rs has more
 
     -- what is read as a letter of it
     pub letter-is : (b : Bool) → (b ≡ true → IsFilled r) → cond b (place.index ∷ []) (cond (x.row.is_lazy && is_some (underline_rank on here)) (place.index ∷ []) []) ≡ cond b (text_begin r) (lazy_underline on r)

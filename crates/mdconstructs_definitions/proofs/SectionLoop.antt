@@ -4,6 +4,7 @@ use Rattle.std.specs.Prelude.{◌||◌}
 use Rattle.std.specs.List.{flat_map, list_any}
 use Rattle.std.proofs.lemmas.List.{drop-append-le, drop_more, take-append-le}
 use Rattle.std.proofs.Math.Seq.{drop-length, take-length}
+use Rattle.std.proofs.Math.Bool.{or_assoc}
 use Rattle.mdconstructs_lines.specs.Containers.{Container}
 use Rattle.mdconstructs_containers.specs.declared.parts.PartEnd.{PartEnd}
 use Rattle.mdconstructs_containers.specs.declared.prefixes.At.{At}
@@ -75,14 +76,10 @@ any-both f (x ∷ xs) ys = by (f x) (any-both f xs ys)
     by true e = refl
     by false e = e
 
-or-three : (a b c : Bool) → ((a || b) || c) ≡ (a || (b || c))
-or-three true b c = refl
-or-three false b c = refl
-
 pub labels-next : (f : List ℕ → Bool) (g : Section → List (List ℕ)) (s : Section) (ss left : List Section) (old new all : Bool) → left ≡ s ∷ ss → new ≡ (old || list_any f (g s)) → (old || list_any f (flat_map g left)) ≡ all
     → (new || list_any f (flat_map g ss)) ≡ all
 labels-next f g s ss left old new all e w h =
-    ap (λ b. b || list_any f (flat_map g ss)) w ∙ or-three old (list_any f (g s)) (list_any f (flat_map g ss)) ∙ ap (λ b. old || b) (sym (any-both f (g s) (flat_map g ss))) ∙ ap (λ l. old || list_any f (flat_map g l)) (sym e) ∙ h
+    ap (λ b. b || list_any f (flat_map g ss)) w ∙ or_assoc old (list_any f (g s)) (list_any f (flat_map g ss)) ∙ ap (λ b. old || b) (sym (any-both f (g s) (flat_map g ss))) ∙ ap (λ l. old || list_any f (flat_map g l)) (sym e) ∙ h
 
 -- ---- their lines
 

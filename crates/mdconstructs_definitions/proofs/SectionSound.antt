@@ -3,10 +3,9 @@ use Rattle.std.proofs.Common.{◌≡◌, ℕ, zero, suc, ◌+◌, Bool, true, fa
 use Rattle.std.specs.Prelude.{◌&&◌}
 use Rattle.std.specs.List.{prefix_len}
 use Rattle.markdown_base.specs.declared.configuration.Constructs.{Constructs}
-use Rattle.markdown_base.proofs.Common.{and-right, every-append}
+use Rattle.markdown_base.proofs.Common.{and-right, every-append, every-take, every-drop}
 use Rattle.mdconstructs_containers.specs.Rows.{Row, is_paragraph}
 use Rattle.mdconstructs_containers.specs.Skeleton.{Part, further, parts_in}
-use Rattle.mdconstructs_containers.proofs.RowFacts.{every_behind, every_front}
 use Rattle.mdconstructs_labels.specs.Definitions.{definitions}
 use Rattle.mdconstructs_definitions.specs.Sectioned.{AreSectionsOf, AreSound, TextIsFilled, TextsAreFilled, IsSound}
 use Rattle.mdconstructs_definitions.specs.Sections.{Section, before_defined, cut, defined_in, defining, in_same, lines, lines_defined, paragraph_of, sections_in, text_in, undefined}
@@ -66,9 +65,9 @@ module _ (on : Constructs) where
       let front = undefined x around (take n all) in
       let middle = defining (definitions (text_in (paragraph_of behind))) around (take d behind) in
       let back = sections_in on b true around (drop d behind) in
-      let left : TextsAreFilled behind = every_behind TextIsFilled n all h in
-      every-append (λ (s : Section). IsSound s.part s.inside) front (middle ++ back) (undefined-sound x around (take n all) (every_front TextIsFilled n all h))
-      (every-append (λ (s : Section). IsSound s.part s.inside) middle back (defining-sound around behind d refl left) (sections-sound b true around (drop d behind) (every_behind TextIsFilled d behind left)))
+      let left : TextsAreFilled behind = every-drop TextIsFilled n all h in
+      every-append (λ (s : Section). IsSound s.part s.inside) front (middle ++ back) (undefined-sound x around (take n all) (every-take TextIsFilled n all h))
+      (every-append (λ (s : Section). IsSound s.part s.inside) middle back (defining-sound around behind d refl left) (sections-sound b true around (drop d behind) (every-drop TextIsFilled d behind left)))
 
   -- the sections of a part that is no blank line
   pub part-sections : (p : Part) → TextsAreFilled (all_rows p) → AreSectionsOf p (sections_in on (suc (length p.more)) false p (all_rows p))

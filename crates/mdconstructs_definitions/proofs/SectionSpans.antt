@@ -37,9 +37,6 @@ module _ (t : ℕ) (bytes : List ℕ) where
   abbrev P : List Mark → List Seat → Type 0
   P = AreSpans bytes
 
-  both-spans : (xs ys : List Mark) (a b : List Seat) → P xs a → P ys b → P (xs ++ ys) (a ++ b)
-  both-spans xs ys a b h k = (accounts-kept-by bytes).both xs ys a b h k
-
   module _ (s : Section) (is : SectionIs bytes s) (fits : AllByRecursion RowIs (all_rows s.part)) (ends : LinesEnd (lines_of (all_rows s.part))) where
     abbrev within : List Seat
     within = inner t bytes s is fits ends
@@ -56,7 +53,7 @@ module _ (t : ℕ) (bytes : List ℕ) where
         let x = text-behind t bytes s is fits ends filled in
         let chunks = chunks_of bytes false (record x.piece { before = [] } ∷ x.others) in
         let pieces = chunks_spans t bytes (part t bytes s is fits ends) (part-is t bytes s is fits ends) (x.piece ∷ x.others) x.piece.before x.behind x.piece.seats x.joined in
-        subst (λ (ms : List Mark). P ms within) (sym x.marks) (subst (P (white bytes x.front ++ chunks)) (sym x.splits) (both-spans (white bytes x.front) chunks x.front x.behind ((accounts-kept-by bytes).alone name.SpaceOrTab x.front) pieces))
+        subst (λ (ms : List Mark). P ms within) (sym x.marks) (subst (P (white bytes x.front ++ chunks)) (sym x.splits) ((accounts-kept-by bytes).both (white bytes x.front) chunks x.front x.behind ((accounts-kept-by bytes).alone name.SpaceOrTab x.front) pieces))
 
     defined-spans : (filled : s.part.first.is_blank ≡ false) (ds : List Definition) → AreDefined bytes ds (all_rows s.part) → P (definitions_marks bytes ds (places_in bytes (all_rows s.part))) within
     defined-spans filled ds d =
@@ -84,7 +81,7 @@ module _ (t : ℕ) (bytes : List ℕ) where
         let begun = begun_all bytes r.begun (drop (columns_of r.went_on) r.line) in
         let split : take n r.line ++ drop n all ≡ all = ap (λ l. l ++ drop n all) (sym (front_is t bytes q h)) ∙ take-append-drop n all in
         subst (λ (l : List Prefix). P (prefixes_marks bytes l r.line ++ (begun ++ ms)) all) (fitted t bytes s is fits ends).same
-        (subst (λ (l : List Mark). P l all) (append_assoc went begun ms) (subst (P ((went ++ begun) ++ ms)) split (both-spans (went ++ begun) ms (take n r.line) (drop n all) (front_spans t bytes q h) inside-are-spans)))
+        (subst (λ (l : List Mark). P l all) (append_assoc went begun ms) (subst (P ((went ++ begun) ++ ms)) split ((accounts-kept-by bytes).both (went ++ begun) ms (take n r.line) (drop n all) (front_spans t bytes q h) inside-are-spans)))
 
     section-ends-spans : P (ending_marks bytes s.part) (ending t bytes s is fits ends)
     section-ends-spans = ending_spans t bytes (part t bytes s is fits ends) (part-is t bytes s is fits ends)

@@ -66,7 +66,7 @@ module _ (bytes : List ℕ) where
   sections-tight (n ∷ ss) are-cut fits =
       tight_more (section_marks bytes n) (behind_marks bytes n.part ss) (section-tight n are-cut.1 (every-front RowIs (all_rows n.part) (rows_of ss) fits)) (behind-are-tight n.part ss are-cut.2 (every-back RowIs (all_rows n.part) (rows_of ss) fits))
 
-  all-sections-tight : (on : Constructs) (t : ℕ) → Tight (sections_marks bytes (sections on (rows on (lines_in (virtual t bytes)))))
+  pub all-sections-tight : (on : Constructs) (t : ℕ) → Tight (sections_marks bytes (sections on (rows on (lines_in (virtual t bytes)))))
   all-sections-tight on t =
       let ls = lines_in (virtual t bytes) in
       let are = document_lines t bytes in

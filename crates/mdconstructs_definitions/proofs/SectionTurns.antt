@@ -4,7 +4,7 @@ use Rattle.std.specs.Prelude.{◌&&◌}
 use Rattle.std.specs.List.{AllByRecursion, flat_map}
 use Rattle.std.proofs.lemmas.Bool.{false≢true}
 use Rattle.std.proofs.lemmas.List.{length-append, length-map}
-use Rattle.markdown_base.proofs.Common.{and-right, every-append, every-map}
+use Rattle.markdown_base.proofs.Common.{and-right, every-append, every-map, every-take, every-drop}
 use Rattle.markdown_base.specs.declared.configuration.Constructs.{Constructs}
 use Rattle.markdown_tokenizer.proofs.Positions.Order.{every-back, every-front}
 use Rattle.markdown_base.specs.Virtual.{Seat}
@@ -13,8 +13,9 @@ use Rattle.mdconstructs_flow_read.specs.LeafBlocks.{Line}
 use Rattle.mdconstructs_flow_read.specs.LineKinds.{is_blank_line}
 use Rattle.mdconstructs_lines.specs.Containers.{Container, Prefix}
 use Rattle.mdconstructs_containers.proofs.FrameFacts.{Turn, all_entered, none_is}
+use Rattle.mdconstructs_containers.proofs.OpenFrames.{AreTurned, IsAlone, IsTurned, document_turned}
 use Rattle.mdconstructs_containers.proofs.PartSpans.{RowFits}
-use Rattle.mdconstructs_containers.proofs.RowFacts.{begun_sizes, columns_within, every_behind, every_front}
+use Rattle.mdconstructs_containers.proofs.RowFacts.{begun_sizes, columns_within}
 use Rattle.mdconstructs_containers.proofs.RowSpans.{head_same}
 use Rattle.mdconstructs_containers.proofs.SeatFacts.{LineIs}
 use Rattle.mdconstructs_containers.specs.Prefixes.{containers_of}
@@ -27,7 +28,7 @@ use Rattle.mdconstructs_definitions.specs.Rows.{Known, known_after, row_of, rows
 use Rattle.mdconstructs_definitions.specs.Skeleton.{all_rows}
 use Rattle.mdconstructs_definitions.proofs.Covered.{lines-of-parts, part-lines, rows_of, sections-hold-lines}
 use Rattle.mdconstructs_definitions.proofs.DefinitionLines.{AreDefined, IsFilled, lines-are-defined}
-use Rattle.mdconstructs_definitions.proofs.SectionFrames.{AreTurned, IsTurned, all-turned, nothing}
+use Rattle.mdconstructs_definitions.proofs.KnownReads.{known-reads, nothing}
 use Rattle.mdconstructs_definitions.proofs.PlainLetters.{open-not-blank}
 use Rattle.mdconstructs_definitions.proofs.Within.{shared-all}
 
@@ -69,7 +70,7 @@ OnlyFirst (r ∷ rs) = AllByRecursion (λ (x : Row). has_none x.begun ≡ true) 
 only-front : (n : ℕ) (rs : List Row) → OnlyFirst rs → OnlyFirst (take n rs)
 only-front zero rs h = tt
 only-front (suc n) [] h = tt
-only-front (suc n) (r ∷ rs) h = every_front (λ (x : Row). has_none x.begun ≡ true) n rs h
+only-front (suc n) (r ∷ rs) h = every-take (λ (x : Row). has_none x.begun ≡ true) n rs h
 
 none-only : (rs : List Row) → AllByRecursion (λ (x : Row). has_none x.begun ≡ true) rs → OnlyFirst rs
 none-only [] h = tt
@@ -78,7 +79,7 @@ none-only (r ∷ rs) h = h.1
 only-behind : (n : ℕ) (rs : List Row) → OnlyFirst rs → OnlyFirst (drop n rs)
 only-behind zero rs h = h
 only-behind (suc n) [] h = tt
-only-behind (suc n) (r ∷ rs) h = none-only (drop n rs) (every_behind (λ (x : Row). has_none x.begun ≡ true) n rs h)
+only-behind (suc n) (r ∷ rs) h = none-only (drop n rs) (every-drop (λ (x : Row). has_none x.begun ≡ true) n rs h)
 
 module _ (bytes : List ℕ) where
   -- what is in a section
@@ -90,7 +91,7 @@ module _ (bytes : List ℕ) where
   pub record SectionIs (s : Section) : Type 0 where
     pub narrow : (s.part.first.is_blank ≡ false) ⊎ (has_none s.part.first.begun ≡ false) → length s.part.first.went_on ≤ length s.part.stands
     pub none_begin : AllByRecursion (λ (r : Row). has_none r.begun ≡ true) s.part.more
-    pub alone : s.part.first.is_blank ≡ true → s.part.more ≡ []
+    pub alone : IsAlone s.part
     pub inside : InsideIs s.part s.inside
 
   -- sections, one behind another, with the spans that are open before them
@@ -111,15 +112,15 @@ module _ (bytes : List ℕ) where
     record IsPiece (p : Part) : Type 0 where
       narrow : length p.first.went_on ≤ length around.stands
       none_begin : AllByRecursion (λ (r : Row). has_none r.begun ≡ true) p.more
-      alone : p.first.is_blank ≡ true → p.more ≡ []
+      alone : IsAlone p
 
     pieces : (bound : ℕ) (rs : List Row) → AllByRecursion IsIn rs → OnlyFirst rs → AllByRecursion IsPiece (parts_in bound rs)
     pieces zero rs h only = tt
     pieces (suc bound) [] h only = tt
     pieces (suc bound) (r ∷ rs) h only =
         let n = cond r.is_blank 0 (further rs) in (
-          record { narrow = h.0.1; none_begin = every_front (λ (x : Row). has_none x.begun ≡ true) n rs only; alone = λ e. ap (λ x. take (cond x 0 (further rs)) rs) e },
-          pieces bound (drop n rs) (every_behind IsIn n rs h.1) (none-only (drop n rs) (every_behind (λ (x : Row). has_none x.begun ≡ true) n rs only)),
+          record { narrow = h.0.1; none_begin = every-take (λ (x : Row). has_none x.begun ≡ true) n rs only; alone = λ e. ap (λ x. take (cond x 0 (further rs)) rs) e },
+          pieces bound (drop n rs) (every-drop IsIn n rs h.1) (none-only (drop n rs) (every-drop (λ (x : Row). has_none x.begun ≡ true) n rs only)),
         )
 
     one-inside : (p : Part) (inside : Inside) → IsPiece p → InsideIs (in_same around p) inside → IsInside (record { part = in_same around p; inside = inside })
@@ -153,7 +154,7 @@ module _ (bytes : List ℕ) where
         by : (x : Bool) → on.definition ≡ x → AllByRecursion IsInside (defining ds around (take (defined_in on rs) rs))
         by true e =
             let d = defined_in on rs in
-            defining-inside ds (take d rs) (lines-are-defined bytes on rs (every-map IsIn (λ (r : Row). is_paragraph r.leaf ≡ true → IsFilled r) (λ r k. is-filled r k.0) rs h) e) (every_front IsIn d rs h) (only-front d rs only)
+            defining-inside ds (take d rs) (lines-are-defined bytes on rs (every-map IsIn (λ (r : Row). is_paragraph r.leaf ≡ true → IsFilled r) (λ r k. is-filled r k.0) rs h) e) (every-take IsIn d rs h) (only-front d rs only)
         by false e =
             let none : 0 ≡ defined_in on rs = sym (ap (λ b. cond b (lines_defined (text_in (paragraph_of rs))) 0) e) in
             subst (λ n. AllByRecursion IsInside (defining ds around (take n rs))) none tt
@@ -169,10 +170,10 @@ module _ (bytes : List ℕ) where
         let front = undefined x around (take n all) in
         let middle = defining (definitions (text_in (paragraph_of behind))) around (take d behind) in
         let back = sections_in on b true around (drop d behind) in
-        let left = every_behind IsIn n all h in
+        let left = every-drop IsIn n all h in
         let only-left = only-behind n all only in
-        every-append IsInside front (middle ++ back) (undefined-inside x (take n all) (every_front IsIn n all h) (only-front n all only))
-        (every-append IsInside middle back (found-inside behind left only-left) (all-inside b true (drop d behind) (every_behind IsIn d behind left) (only-behind d behind only-left)))
+        every-append IsInside front (middle ++ back) (undefined-inside x (take n all) (every-take IsIn n all h) (only-front n all only))
+        (every-append IsInside middle back (found-inside behind left only-left) (all-inside b true (drop d behind) (every-drop IsIn d behind left) (only-behind d behind only-left)))
 
     -- ---- spans from one section to the next
 
@@ -203,7 +204,7 @@ module _ (bytes : List ℕ) where
 
   module _ (on : Constructs) where
     -- the sections of a part
-    part-is-cut : (fs : List Frame) (p : Part) → IsTurned on fs p → AllByRecursion RowIs (all_rows p) → AllByRecursion (IsInside on p) (cut on p) × AreCut fs (cut on p)
+    part-is-cut : (fs : List Frame) (p : Part) → IsTurned fs p → AllByRecursion RowIs (all_rows p) → AllByRecursion (IsInside on p) (cut on p) × AreCut fs (cut on p)
     part-is-cut fs p h ls = by p.first.is_blank refl (part-lines on p)
       where
         narrow : (p.first.is_blank ≡ false) ⊎ (has_none p.first.begun ≡ false) → length p.first.went_on ≤ length p.stands
@@ -228,7 +229,7 @@ module _ (bytes : List ℕ) where
             let inside = all-inside on p (suc (length p.more)) false (all_rows p) ((ls.0, narrow (inl e)), in-all p.more ls.1 h.narrow) h.none_begin in
             (inside, cut-first on p fs p.first p.more h.turn h.none_begin (cut_by false) inside all)
 
-    all-cut : (fs : List Frame) (ps : List Part) → AreTurned on fs ps → AllByRecursion RowIs (flat_map all_rows ps) → AreCut fs (flat_map (cut on) ps)
+    all-cut : (fs : List Frame) (ps : List Part) → AreTurned fs ps → AllByRecursion RowIs (flat_map all_rows ps) → AreCut fs (flat_map (cut on) ps)
     all-cut fs [] h ls = tt
     all-cut fs (p ∷ ps) h ls =
         let here = part-is-cut fs p h.0 (every-front RowIs (all_rows p) (flat_map all_rows ps) ls) in
@@ -261,7 +262,7 @@ module _ (bytes : List ℕ) where
     document-cut ls h =
         let rs = rows on ls in
         let all = rows-are-lines (nothing on) 1 ls h in
-        all-cut [] (parts rs) (all-turned on ls) (subst (AllByRecursion RowIs) (sym (lines-of-parts (length rs) rs (omega arith))) all)
+        all-cut [] (parts rs) (document_turned on (known-reads on) (nothing on) ls refl refl) (subst (AllByRecursion RowIs) (sym (lines-of-parts (length rs) rs (omega arith))) all)
 
     pub document-lines : (ls : List Line) → AllByRecursion LineIs ls → AllByRecursion RowIs (rows_of (sections on (rows on ls)))
     document-lines ls h = subst (AllByRecursion RowIs) (sym (sections-hold-lines on (rows on ls))) (rows-are-lines (nothing on) 1 ls h)

@@ -7,15 +7,17 @@ use Rattle.std.proofs.lemmas.Bool.{cases_lt, eqb-true}
 use Rattle.std.proofs.lemmas.List.{drop-drop, drop_all, nil_from_length, take-append-drop, take-append-le}
 use Rattle.std.proofs.lemmas.List.Sums.{prefix_len-le-length}
 use Rattle.std.proofs.lemmas.Option.{none-some, same_Some}
+use Rattle.markdown_base.proofs.Facts.Bools.{cond-same}
 use Rattle.mdconstructs_labels.specs.declared.definitions.Definition.{Definition}
 use Rattle.mdconstructs_labels.specs.declared.definitions.Stretch.{Stretch}
 use Rattle.mdconstructs_labels.specs.Definitions.{definition_at, definitions, destination_at, end, end_of, ended, label_at, line_left, rest, rest_from, stretch_at, title_at, titled_or_not}
 use Rattle.mdconstructs_labels.specs.Labels.{hides, is_label}
 use Rattle.mdconstructs_labels.specs.Tails.{bare_behind, begins_with, destination_size, gap, is_plain, is_white, label_size, line_ends, marked_size, one_more, title_end, title_size}
 use Rattle.mdconstructs_labels.proofs.Fronts.{no-more, no-rest, one-more, rest-more}
+use Rattle.mdconstructs_labels.proofs.Sizes.{marked-within, begins-some}
 use Rattle.mdconstructs_definitions.proofs.DefinitionsWithin.{definition-within, title-within}
 use Rattle.mdconstructs_definitions.specs.Labelled.{IsInText}
-use Rattle.mdconstructs_definitions.proofs.DefinitionParts.{gap-inside, marked-inside, some-begins}
+use Rattle.mdconstructs_definitions.proofs.DefinitionParts.{gap-inside}
 use Rattle.mdconstructs_definitions.proofs.Longer.{begins-longer, destination-longer, destination_by, drop-longer, gap-longer, label_by, line-longer, sized, test, title_by, white-longer}
 
 -- ---- the parts of a definition
@@ -63,10 +65,6 @@ module _ (w : List ℕ) where
     abbrev long : List ℕ
     long = x ++ 10 ∷ w
 
-    nothing : (b : Bool) → cond {A = Option Stretch} b None None ≡ None
-    nothing true = refl
-    nothing false = refl
-
     -- what begins in a further line
     far-title : (b : Bool) (from : ℕ) (o : Option ℕ) → length x < from → IfSome (cond b None (option_map (stretch_at from) o)) (λ t. length x < end t)
     far-title true from o h = tt
@@ -81,7 +79,7 @@ module _ (w : List ℕ) where
               let white = length (drop at x) + 1 + prefix_len is_white w in
               let is : title_at long at ≡ title_by w long at white = ap (title_by w long at) (ap gap (drop-longer w at x h) ∙ none.1) in
               let short : title_at x at ≡ None =
-              ap (λ o. cond (gap (drop at x) == 0) None (option_map (stretch_at (at + gap (drop at x))) o)) (ap title_size (sym (drop-drop (gap (drop at x)) at x) ∙ none.0)) ∙ nothing (gap (drop at x) == 0) in
+              ap (λ o. cond (gap (drop at x) == 0) None (option_map (stretch_at (at + gap (drop at x))) o)) (ap title_size (sym (drop-drop (gap (drop at x)) at x) ∙ none.0)) ∙ cond-same (gap (drop at x) == 0) None in
               inr (short, subst (λ (o : Option Stretch). IfSome o (λ t. length x < end t)) (sym is) (far-title (white == 0) (at + white) (title_size (drop (at + white) long)) (omega (arith, h, length-drop at x))))
         ]
       where
@@ -103,7 +101,7 @@ module _ (w : List ℕ) where
             elim k [
               | inl e ↦ inl (is ∙ ap (λ o. cond (g == 0) None (option_map (stretch_at (at + g)) o)) e)
               | inr e ↦ inr (
-                ap (λ o. cond (g == 0) None (option_map (stretch_at (at + g)) o)) e.0 ∙ nothing (g == 0),
+                ap (λ o. cond (g == 0) None (option_map (stretch_at (at + g)) o)) e.0 ∙ cond-same (g == 0) None,
                 subst (λ (o : Option Stretch). IfSome o (λ t. length x < end t)) (sym is) (far (g == 0) (title_size (drop (at + g) x ++ 10 ∷ w)) e.1),
               )
             ]
@@ -150,7 +148,7 @@ module _ (w : List ℕ) where
         one : p + 1 ≤ length x → (o : Option ℕ) → label_size (drop (p + 1) x) ≡ o → sized w p long o ≡ sized w p x o
         one within None e = refl
         one within (Some n) e =
-            let less = marked-inside 91 93 false false (drop (p + 1) x) n e in
+            let less = marked-within 91 93 false false (drop (p + 1) x) n e in
             let near : p + n + 2 ≤ length x = omega (arith, less, length-drop (p + 1) x) in
             let same : test w p long n ≡ test w p x n =
             (λ k. is_label (take n (drop-longer w (p + 1) x within k)) && begins_with 58 (drop-longer w (p + n + 2) x near k))
@@ -164,7 +162,7 @@ module _ (w : List ℕ) where
         by : (b : Bool) → begins_with 91 (drop p x) ≡ b → (label_at long ≡ label_at x) ⊎ IfSome (label_at long) (λ s. length x < end s)
         by false e = inl (at-long false e ∙ sym (at-short false e))
         by true e =
-            let within : p + 1 ≤ length x = omega (arith, some-begins 91 (drop p x) e, length-drop p x) in
+            let within : p + 1 ≤ length x = omega (arith, begins-some 91 (drop p x) e, length-drop p x) in
             let size = ap label_size (drop-longer w (p + 1) x within) in
             elim (marked-shorter 91 93 false false (drop (p + 1) x)) [
               | inl same ↦ inl (at-long true e ∙ ap (sized w p long) (size ∙ same) ∙ one within (label_size (drop (p + 1) x)) refl ∙ sym (at-short true e))

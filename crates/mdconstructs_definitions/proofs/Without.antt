@@ -20,7 +20,6 @@ use Rattle.mdconstructs_flow_read.specs.HtmlLines.{ends, waits_for_blank}
 use Rattle.mdconstructs_flow_read.specs.LeafBlocks.{Line, interrupts}
 use Rattle.mdconstructs_flow_read.specs.LeafEvents.{flow_events}
 use Rattle.mdconstructs_flow_read.specs.LineKinds.{closes, line_kind, underline_rank}
-use Rattle.mdconstructs_containers.proofs.PartGoes.{none_in}
 use Rattle.mdconstructs_containers.proofs.RestLemmas.{further_few}
 use Rattle.mdconstructs_containers.specs.Letters.{lazy_underline, with_letters}
 use Rattle.mdconstructs_containers.specs.Prefixes.{containers_of}
@@ -29,6 +28,7 @@ use Rattle.mdconstructs_containers.specs.Blocks as blocks
 use Rattle.mdconstructs_containers.specs.Rows as without
 use Rattle.mdconstructs_containers.specs.Skeleton.{Part, chained_from, frames_at, further, parts, parts_in, standing}
 use Rattle.mdconstructs_containers.specs.Skeleton as containers
+use Rattle.mdconstructs_containers.proofs.OpenFrames.{none_in}
 use Rattle.mdconstructs_labels.proofs.Fronts.{no-rest}
 use Rattle.mdconstructs_labels.specs.Definitions.{definition_at, definitions, destination_at, end, rest, stretch_at, title_at, titled_or_not}
 use Rattle.mdconstructs_labels.specs.Labels.{is_label, normalised}

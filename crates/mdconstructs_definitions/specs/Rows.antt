@@ -1,10 +1,10 @@
 -- The lines of a document with their containers, where paragraphs may begin with link reference definitions (CommonMark 0.31, 4.7). Of the lines
 -- before, one thing more is known: the text of the paragraph that is open, as definitions alone are no text of a heading.
-use Rattle.std.specs.Prelude.{ℕ, suc, ◌&&◌, Bool, cond, List, [], ◌∷◌, ◌++◌, is_some}
+use Rattle.std.specs.Prelude.{ℕ, ◌&&◌, Bool, cond, List, [], ◌∷◌, ◌++◌, is_some}
 use Rattle.markdown_base.specs.declared.configuration.Constructs.{Constructs}
 use Rattle.mdconstructs_flow_read.specs.LeafBlocks.{Line}
 use Rattle.mdconstructs_flow_read.specs.LineKinds.{underline_rank}
-use Rattle.mdconstructs_containers.specs.Rows.{Before, Row, has_none, is_paragraph, nothing_known, open_paragraph, rest_of}
+use Rattle.mdconstructs_containers.specs.Rows.{Before, Row, has_none, is_paragraph, nothing_known, open_paragraph, rest_of, rows_by}
 use Rattle.mdconstructs_containers.specs.Rows as without
 use Rattle.mdconstructs_labels.specs.Definitions.{rest}
 
@@ -42,8 +42,7 @@ module _ (on : Constructs) where
   known_after k row = record { before = without.known_after on k.before row; text = text_after k row }
 
   abbrev pub rows_from : Known → (number : ℕ) → List Line → List Row
-  rows_from k number [] = []
-  rows_from k number (line ∷ lines) = let row = row_of on k number line in row ∷ rows_from (known_after k row) (suc number) lines
+  rows_from = rows_by (row_of on) known_after
 
   -- The lines of a document, with their containers
   abbrev pub rows : List Line → List Row

@@ -1,10 +1,10 @@
 use Rattle.std.proofs.Common.{◌≡◌, take, map, refl, sym, ap, ◌∙◌, subst, arith, ◌+◌, drop, length}
 use Rattle.std.proofs.lemmas.List.{length-map, take-map}
 use Rattle.markdown_base.specs.Virtual.{point}
+use Rattle.markdown_base.proofs.Common.{every-take}
 use Rattle.mdconstructs_containers.specs.declared.spans.RowAt.{RowAt}
 use Rattle.mdconstructs_containers.specs.Costs.{HasSize, HaveSizes}
 use Rattle.mdconstructs_containers.specs.Views.{open_of}
-use Rattle.mdconstructs_containers.proofs.RowFacts.{every_front}
 use Rattle.mdconstructs_definitions.proofs.MarksCursor.{ending-goes, ending-written, next-columns, next-held, next-inside, next-many, next-marks, next-of, next-place, next-same, next-size, next-within, next-rows}
 use Rattle.mdconstructs_definitions.proofs.MarksCosts.{first-size, line-pays}
 use Rattle.mdconstructs_lines.specs.Lines.{line_bytes}
@@ -63,7 +63,7 @@ prefixes_of-requires-clause-sizes g c =
     let x = c.index-rows-row.result in
     let is = c.index-rows-row.is in
     let front : map open_of c.first_of-front.result.now ≡ take x.row.many stack = ap (map open_of) c.first_of-front.ensures ∙ sym (take-map open_of x.row.many c.args.stack.now) in
-    subst HaveSizes (sym front) (every_front HasSize x.row.many stack n.sizes)
+    subst HaveSizes (sym front) (every-take HasSize x.row.many stack n.sizes)
 
 pub returns-clause-events : goal.returns-clause-events
 returns-clause-events g c =

@@ -1,32 +1,28 @@
-use Rattle.std.proofs.Common.{◌≡◌, ℕ, zero, suc, ◌+◌, ◌-◌, ◌<◌, ◌≤◌, Bool, true, false, List, [], ◌∷◌, ◌++◌, length, take, drop, map, get_or, refl, sym, ap, ◌∙◌, subst, arith, length-drop, ◌*◌}
+use Rattle.std.proofs.Common.{◌≡◌, ℕ, suc, ◌+◌, ◌-◌, ◌≤◌, Bool, true, false, List, [], ◌∷◌, ◌++◌, length, take, drop, map, refl, sym, ap, ◌∙◌, subst, arith, length-drop, ◌*◌}
 use Rattle.std.specs.Prelude.{◌||◌, None}
 use Rattle.std.specs.List.{flat_map}
-use Rattle.std.proofs.lemmas.List.{append-nil, drop_all, drop-drop, drop_more, take_rest}
+use Rattle.std.proofs.lemmas.List.{append-nil, drop_all, drop-drop, take_rest}
 use Rattle.markdown_base.specs.declared.event.Event.{Event}
+use Rattle.markdown_base.proofs.Common.{every-drop}
 use Rattle.mdconstructs_flow_read.specs.LeafEvents.{Mark}
-use Rattle.mdconstructs_lines.specs.Containers.{Container}
-use Rattle.mdconstructs_containers.specs.declared.ahead.Ahead.{Ahead}
 use Rattle.mdconstructs_containers.specs.declared.frames.Frame.{Frame}
 use Rattle.mdconstructs_containers.specs.declared.going.Open.{Open}
-use Rattle.mdconstructs_containers.specs.declared.parts.PartEnd.{PartEnd}
 use Rattle.mdconstructs_containers.specs.declared.spans.RowAt.{RowAt}
 use Rattle.mdconstructs_containers.specs.Ahead.{ahead_of}
-use Rattle.mdconstructs_containers.specs.Costs.{ArePaid, FirstIsNotLazy, IsAsked, IsEnough, columns_in}
+use Rattle.mdconstructs_containers.specs.Costs.{ArePaid, FirstIsNotLazy, IsEnough, columns_in}
 use Rattle.mdconstructs_containers.specs.Frames.{frame_of}
 use Rattle.mdconstructs_containers.specs.Over.{AreEarlier}
-use Rattle.mdconstructs_containers.specs.Parts.{open_behind}
 use Rattle.mdconstructs_containers.specs.Rest.{AreLeft, ending_to, exits_to}
 use Rattle.mdconstructs_containers.specs.Rows.{Row}
 use Rattle.mdconstructs_containers.specs.SeatPlaces.{events_of}
 use Rattle.mdconstructs_containers.specs.Skeleton.{shared}
-use Rattle.mdconstructs_containers.specs.Spans.{AreRowsIn}
 use Rattle.mdconstructs_containers.specs.Views.{open_of}
 use Rattle.mdconstructs_containers.specs.Written.{Written}
-use Rattle.mdconstructs_containers.proofs.CostLemmas.{paid_behind}
+use Rattle.mdconstructs_containers.proofs.AheadLemmas.{ahead_at, line_at_index, number_at, rows_length}
+use Rattle.mdconstructs_containers.proofs.CostLemmas.{enough_before, next_one, paid_behind}
 use Rattle.mdconstructs_containers.proofs.LineFacts.{outside_zero}
 use Rattle.mdconstructs_containers.proofs.PartLemmas.{earlier_later}
-use Rattle.mdconstructs_containers.proofs.RestLemmas.{next_of, none_left}
-use Rattle.mdconstructs_containers.proofs.RowFacts.{every_behind}
+use Rattle.mdconstructs_containers.proofs.RestLemmas.{next_of, no_end, none_left}
 use Rattle.mdconstructs_containers.proofs.WrittenLemmas.{write_init}
 use Rattle.mdconstructs_labels.specs.Defined.{defines}
 use Rattle.mdconstructs_definitions.specs.Labelled.{is_one_of}
@@ -36,36 +32,10 @@ use Rattle.mdconstructs_definitions.specs.Skeleton.{labels_of_section, letters_o
 use Rattle.mdconstructs_definitions.specs.Within.{rest_sections}
 use Rattle.mdconstructs_definitions.proofs.PartSections.{lines-left, lines_from, write-end}
 use Rattle.mdconstructs_definitions.proofs.RowTexts.{these-in}
-use Rattle.mdconstructs_definitions.proofs.SectionLemmas.{rows-few}
 use Rattle.mdconstructs_definitions.proofs.Within.{sections-init}
 use Rattle.mdconstructs_containers.proofs.ColumnLemmas.{columns_add, columns_parts, few_columns}
 use Rattle.mdconstructs_containers.proofs.PartCosts.{asked_all}
 use Rattle.mdconstructs_definitions.proofs.parts.skeleton_by.Goals as goal
-
-abbrev no_ahead : Ahead
-no_ahead = record { further = 0; many = 0; list = None }
-
-abbrev no_end : PartEnd
-no_end = record { is_blank = false; place = record { line = 1; column = 1; index = 0; vs = 0 }; behind = None }
-
--- a line at an index, and those behind it
-line_at_index : (rows : List RowAt) (i : ℕ) (x d : RowAt) → i < length rows → x ≡ get_or rows i d → drop i rows ≡ x ∷ take (length rows - (i + 1)) (drop (i + 1) rows)
-line_at_index rows i x d h e = drop_more rows i d h ∙ (λ k. sym e k ∷ sym (take_rest rows (i + 1)) k)
-
-ahead_at : (aheads : List Ahead) (all : List Row) (size i : ℕ) → i < size → ((d : Ahead) (k : ℕ) → k < size → get_or aheads k d ≡ ahead_of (drop (size - k) all)) → get_or aheads (size - 1 - i) no_ahead ≡ ahead_of (drop (i + 1) all)
-ahead_at aheads all size i h f =
-    let at : size - (size - 1 - i) ≡ i + 1 = omega arith in
-    f no_ahead (size - 1 - i) (omega arith) ∙ ap (λ k. ahead_of (drop k all)) at
-
--- the number of a line is that of its place
-numbers : (t : ℕ) (bytes : List ℕ) (stack : List Container) (number start : ℕ) (xs : List RowAt) (rs : List Row) (k : ℕ) (d : RowAt) → k < length xs → AreRowsIn t bytes stack number start xs rs → (get_or xs k d).span.number ≡ number + k
-numbers t bytes stack number start [] rs k d h are = absurd (omega (arith, h))
-numbers t bytes stack number start (x ∷ xs) [] k d h are = absurd are
-numbers t bytes stack number start (x ∷ xs) (r ∷ rs) zero d h are = omega (arith, are.0.placed.number_is)
-numbers t bytes stack number start (x ∷ xs) (r ∷ rs) (suc k) d h are = let e = numbers t bytes (open_behind stack r) (suc number) x.span.next xs rs k d (omega (arith, h)) are.1 in omega (arith, e)
-
-number_at : (t : ℕ) (bytes : List ℕ) (rows : List RowAt) (all : List Row) (i : ℕ) (x : RowAt) → i < length rows → x ≡ get_or rows i x → AreRowsIn t bytes [] 1 0 rows all → x.span.number ≡ i + 1
-number_at t bytes rows all i x h e are = let n = numbers t bytes [] 1 0 rows all i x h are in ap (λ (y : RowAt). y.span.number) e ∙ omega (arith, n)
 
 or-none : (b : Bool) → (b || false) ≡ b
 or-none true = refl
@@ -109,22 +79,15 @@ write_part-requires g c = λ lifetimes outlives.
     let stack = map open_of c.loop-i.stack.items in
     let split = line_at_index rows i x _ c.loop-i-test.true c.index-rows-i.is in
     let next = next_of t bytes stack all x slice (drop i rows) i split c.loop-i.invariant.left in
-    let many : length rows ≡ length all = rows-few rows all (these-in t bytes [] 1 0 rows all c.requires.1.1.0).rows in
+    let many : length rows ≡ length all = rows_length rows all (these-in t bytes [] 1 0 rows all c.requires.1.1.0).rows in
     let given = lines-left rows all i next.row c.loop-i-test.true many next.is in
     let left = subst (λ (p : Row × List Row). AreLeft bytes t stack (x ∷ slice) (p.0 ∷ p.1)) (sym given) next.left in
     let ahead = ahead_at c.args.aheads.now all (length rows) i c.loop-i-test.true c.requires.1.1.1.1.0 ∙ ap (λ (p : Row × List Row). ahead_of p.1) (sym given) in
     let lazy = subst (λ (p : Row × List Row). FirstIsNotLazy (p.0 ∷ p.1)) (sym given) (subst FirstIsNotLazy next.is c.loop-i.invariant.lazy) in
     let paid = subst (λ (p : Row × List Row). ArePaid (p.0 ∷ p.1)) (sym given) (subst ArePaid next.is (paid_behind i all c.requires.1.1.1.1.1.1.0)) in
-    let texts = subst (λ (p : Row × List Row). TextsAreFilled (p.0 ∷ p.1)) (sym given) (subst TextsAreFilled next.is (every_behind TextIsFilled i all c.requires.1.1.1.1.1.1.1)) in
+    let texts = subst (λ (p : Row × List Row). TextsAreFilled (p.0 ∷ p.1)) (sym given) (subst TextsAreFilled next.is (every-drop TextIsFilled i all c.requires.1.1.1.1.1.1.1)) in
     let passed = subst (λ (n : ℕ). AreEarlier n c.loop-i.passed.from c.loop-i.passed.to stack) (sym (number_at t bytes rows all i x c.loop-i-test.true c.index-rows-i.is c.requires.1.1.0)) c.loop-i.invariant.passed in
     (outlives, (c.requires.1.0, (take_rest rows i ∙ split, (left, (ahead, (lazy, (paid, (texts, (c.loop-i.invariant.stood, (c.loop-i.invariant.spans, passed))))))))))
-
-next-one : (n : ℕ) → 1 + n ≡ suc n
-next-one n = omega arith
-
--- one turn more
-enough-before : (turns more budget spans containers from to opens : ℕ) (rs qs : List Row) → more ≡ turns + 1 → rs ≡ qs → IsEnough turns budget spans containers from to opens rs → IsEnough more (budget + 1) spans containers from to opens qs
-enough-before turns more budget spans containers from to opens rs qs e is h = record { asked = h.asked; are = subst (IsAsked h.asked from to opens) is h.are; enough = omega (arith, e, h.enough) }
 
 pub loop-i-preserved : goal.loop-i-preserved
 loop-i-preserved g c =
@@ -140,7 +103,7 @@ loop-i-preserved g c =
     let stack = map open_of c.write_part.new.stack.items in
     let split = line_at_index rows i x _ c.loop-i-test.true c.index-rows-i.is in
     let next = next_of t bytes (map open_of c.loop-i.stack.items) all x slice (drop i rows) i split c.loop-i.invariant.left in
-    let many : length rows ≡ length all = rows-few rows all (these-in t bytes [] 1 0 rows all c.requires.1.1.0).rows in
+    let many : length rows ≡ length all = rows_length rows all (these-in t bytes [] 1 0 rows all c.requires.1.1.0).rows in
     let given = lines-left rows all i next.row c.loop-i-test.true many next.is in
     let on : (i + 1) + lines ≡ i + (1 + lines) = omega arith in
     let rest : slice ≡ drop (i + 1) rows = take_rest rows (i + 1) in
@@ -150,10 +113,10 @@ loop-i-preserved g c =
     let here : (lines_from (length all - length (take (length rows - i) (drop i rows))) all).0 ∷ (lines_from (length all - length (take (length rows - i) (drop i rows))) all).1 ≡ drop i all =
     ap (λ (p : Row × List Row). p.0 ∷ p.1) given ∙ sym next.is in
     let mine = lines_from (length all - length (take (length rows - i) (drop i rows))) all in
-    let before = enough-before c.loop-i.turns c.add_one.new.self (c.args.turns.now + 150 * columns_in (take i rows)) (length c.loop-i.frames.items) c.loop-i.stood.containers c.loop-i.passed.from c.loop-i.passed.to (length c.loop-i.stack.items) (drop i all) (mine.0 ∷ mine.1) c.add_one.ensures (sym here) c.loop-i.invariant.enough in
+    let before = enough_before c.loop-i.turns c.add_one.new.self (c.args.turns.now + 150 * columns_in (take i rows)) (length c.loop-i.frames.items) c.loop-i.stood.containers c.loop-i.passed.from c.loop-i.passed.to (length c.loop-i.stack.items) (drop i all) (mine.0 ∷ mine.1) c.add_one.ensures (sym here) c.loop-i.invariant.enough in
     let behind = c.in_ok-part.ensures.paid (c.args.turns.now + 150 * columns_in (take i rows) + 1) before in
     let size = columns_add rows i (1 + lines) in
-    let one : columns_in (take (1 + lines) (drop i rows)) ≡ suc x.span.size + columns_in (take lines slice) = (λ k. columns_in (take (next-one lines k) (split k))) in
+    let one : columns_in (take (1 + lines) (drop i rows)) ≡ suc x.span.size + columns_in (take lines slice) = (λ k. columns_in (take (next_one lines k) (split k))) in
     let events = c.loop-i.skeleton.events.items in
     let new = c.write_part.new.skeleton in
     let f = letters_of_section c.args.on.now in
@@ -220,12 +183,12 @@ returns-in_err-part-clause-turns g c =
     let slice = take (length rows - (i + 1)) (drop (i + 1) rows) in
     let split = line_at_index rows i x _ c.loop-i-test.true c.index-rows-i.is in
     let next = next_of t bytes (map open_of c.loop-i.stack.items) all x slice (drop i rows) i split c.loop-i.invariant.left in
-    let many : length rows ≡ length all = rows-few rows all (these-in t bytes [] 1 0 rows all c.requires.1.1.0).rows in
+    let many : length rows ≡ length all = rows_length rows all (these-in t bytes [] 1 0 rows all c.requires.1.1.0).rows in
     let given = lines-left rows all i next.row c.loop-i-test.true many next.is in
     let here : (lines_from (length all - length (take (length rows - i) (drop i rows))) all).0 ∷ (lines_from (length all - length (take (length rows - i) (drop i rows))) all).1 ≡ drop i all =
     ap (λ (p : Row × List Row). p.0 ∷ p.1) given ∙ sym next.is in
     let mine = lines_from (length all - length (take (length rows - i) (drop i rows))) all in
-    let before = enough-before c.loop-i.turns c.add_one.new.self (c.args.turns.now + 150 * columns_in (take i rows)) (length c.loop-i.frames.items) c.loop-i.stood.containers c.loop-i.passed.from c.loop-i.passed.to (length c.loop-i.stack.items) (drop i all) (mine.0 ∷ mine.1) c.add_one.ensures (sym here) c.loop-i.invariant.enough in
+    let before = enough_before c.loop-i.turns c.add_one.new.self (c.args.turns.now + 150 * columns_in (take i rows)) (length c.loop-i.frames.items) c.loop-i.stood.containers c.loop-i.passed.from c.loop-i.passed.to (length c.loop-i.stack.items) (drop i all) (mine.0 ∷ mine.1) c.add_one.ensures (sym here) c.loop-i.invariant.enough in
     let behind = c.write_part.ensures.turns (c.args.turns.now + 150 * columns_in (take i rows) + 1) before in
     let size = columns_parts rows i in
     let one = ap columns_in split in

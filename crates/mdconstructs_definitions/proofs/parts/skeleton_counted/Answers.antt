@@ -1,24 +1,19 @@
-use Rattle.std.proofs.Common.{◌≡◌, ℕ, ◌-◌, ◌<◌, List, [], length, drop, get_or, refl, sym, ap, ◌∙◌, subst, arith}
+use Rattle.std.proofs.Common.{◌≡◌, ◌<◌, List, [], length, refl, sym, ap, ◌∙◌, subst, arith}
 use Rattle.markdown_base.specs.Virtual.{virtual}
 use Rattle.mdconstructs_machines.specs.LineEvents.{lines_in}
 use Rattle.mdconstructs_containers.specs.declared.ahead.Ahead.{Ahead}
 use Rattle.mdconstructs_containers.specs.declared.spans.RowAt.{RowAt}
-use Rattle.mdconstructs_containers.specs.Ahead.{AreRows, ahead_of}
-use Rattle.mdconstructs_containers.specs.Rows.{Row, nothing_known}
+use Rattle.mdconstructs_containers.specs.Ahead.{AreRows}
 use Rattle.mdconstructs_containers.specs.Spans.{AreRowsIn}
 use Rattle.mdconstructs_definitions.specs.Rows.{rows}
-use Rattle.mdconstructs_definitions.proofs.KnownRows.{all-paid, first-paid, known-in}
+use Rattle.mdconstructs_definitions.proofs.KnownReads.{known-reads, nothing}
+use Rattle.mdconstructs_definitions.proofs.KnownRows.{known-in}
 use Rattle.mdconstructs_definitions.proofs.PartTexts.{all-texts}
 use Rattle.mdconstructs_containers.specs.Costs.{columns_in}
+use Rattle.mdconstructs_containers.proofs.AheadLemmas.{same_aheads}
 use Rattle.mdconstructs_containers.proofs.ColumnLemmas.{all_columns, many_columns}
+use Rattle.mdconstructs_containers.proofs.RowReads.{first_paid, rows_paid}
 use Rattle.mdconstructs_definitions.proofs.parts.skeleton_counted.Goals as goal
-
--- what lies ahead, by equal lists
-same_aheads : (xs ys : List RowAt) (these those : List Ahead) (all : List Row) → xs ≡ ys → these ≡ those → ((d : Ahead) (k : ℕ) → k < length ys → get_or those k d ≡ ahead_of (drop (length ys - k) all))
-    → (d : Ahead) (k : ℕ) → k < length xs → get_or these k d ≡ ahead_of (drop (length xs - k) all)
-same_aheads xs ys these those all e f h =
-    subst (λ (l : List RowAt). (d : Ahead) (k : ℕ) → k < length l → get_or these k d ≡ ahead_of (drop (length l - k) all)) (sym e)
-    (subst (λ (l : List Ahead). (d : Ahead) (k : ℕ) → k < length ys → get_or l k d ≡ ahead_of (drop (length ys - k) all)) (sym f) h)
 
 pub skeleton_by-requires : goal.skeleton_by-requires
 skeleton_by-requires g c = λ lifetimes outlives.
@@ -30,11 +25,11 @@ skeleton_by-requires g c = λ lifetimes outlives.
     let some : 0 < t = omega (arith, c.get-tab_size.ensures.least, c.get-tab_size.ensures.columns) in
     let items = c.in_ok-rows.rows.items in
     let one : c.as_slice-2.result.now ≡ c.as_slice.result.now = c.as_slice-2.ensures.value ∙ sym c.as_slice.ensures.value in
-    let are : AreRowsIn t bytes [] 1 0 items all = known-in on t bytes some (record { before = nothing_known on; text = [] }) 1 0 items all refl c.in_ok-rows.ensures.rows c.in_ok-rows.ensures.placed tt in
+    let are : AreRowsIn t bytes [] 1 0 items all = known-in on t bytes some (nothing on) 1 0 items all refl c.in_ok-rows.ensures.rows c.in_ok-rows.ensures.placed tt in
     let aheads = c.in_ok-aheads.ensures.aheads all (subst (λ (l : List RowAt). AreRows l all) (sym c.as_slice.ensures.value) c.in_ok-rows.ensures.rows) in
     let sizes = ap (λ (l : List Ahead). length l) c.as_slice-3.ensures.value ∙ c.in_ok-aheads.ensures.len ∙ ap (λ (l : List RowAt). length l) (sym one) in
     let ahead_of_each = same_aheads c.as_slice-2.result.now c.as_slice.result.now c.as_slice-3.result.now c.in_ok-aheads.aheads.items all one c.as_slice-3.ensures.value aheads in
-    (outlives, (c.requires.limit, (subst (λ (l : List RowAt). AreRowsIn t bytes [] 1 0 l all) (sym c.as_slice-2.ensures.value) are, (sizes, (ahead_of_each, (first-paid on ls, (all-paid on ls, all-texts on ls)))))))
+    (outlives, (c.requires.limit, (subst (λ (l : List RowAt). AreRowsIn t bytes [] 1 0 l all) (sym c.as_slice-2.ensures.value) are, (sizes, (ahead_of_each, (first_paid on (known-reads on) (nothing on) 1 ls refl, (rows_paid on (known-reads on) (nothing on) 1 ls tt, all-texts on ls)))))))
 
 pub returns-in_err-aheads-clause-turns : goal.returns-in_err-aheads-clause-turns
 returns-in_err-aheads-clause-turns g c =

@@ -1,7 +1,7 @@
 use Rattle.std.proofs.Common.{◌≡◌, ℕ, suc, ◌+◌, ◌<◌, ◌≤◌, ◌*◌, true, cond, List, [], ◌∷◌, ◌++◌, length, take, drop, map, min, length-take, refl, sym, ap, ◌∙◌, subst, arith}
 use Rattle.std.specs.Prelude.{◌||◌, None, false}
 use Rattle.std.specs.List.{flat_map}
-use Rattle.std.proofs.lemmas.List.{append-nil, length-map}
+use Rattle.std.proofs.lemmas.List.{append-nil, length-map, length-take-le}
 use Rattle.mdconstructs_flow_read.specs.LeafEvents.{Mark}
 use Rattle.mdconstructs_lines.specs.Containers.{Container, Prefix}
 use Rattle.mdconstructs_containers.specs.declared.going.Open.{Open}
@@ -35,9 +35,6 @@ use Rattle.mdconstructs_containers.proofs.PartCosts.{part_open, part_paid, part_
 use Rattle.mdconstructs_definitions.specs.Costs.{bytes_in}
 use Rattle.mdconstructs_definitions.proofs.SectionFacts.{left-bytes}
 use Rattle.mdconstructs_definitions.proofs.parts.write_part.Goals as goal
-
-least-is : (m n : ℕ) → m ≤ n → min m n ≡ m
-least-is m n h = omega (arith, h)
 
 pub begin_part-requires : goal.begin_part-requires
 begin_part-requires g c =
@@ -235,9 +232,9 @@ returns g c =
           let small : r.columns ≤ first.span.size = omega (arith, left.are.0.placed.columns, left.are.0.is.columns) in
           let few : first.row.many ≤ length c.args.stack.now.items = omega (arith, left.are.0.many, length-map c.args.stack.now.items open_of) in
           let own : length c.first_of-own.result.now ≡ c.in_ok-all.all =
-          ap (λ (l : List Open). length l) (c.first_of-own.ensures ∙ ap (take c.in_ok-all.all) c.as_slice-2.ensures.value) ∙ length-take c.in_ok-all.all c.open_in.new.stack.items ∙ least-is c.in_ok-all.all (length c.open_in.new.stack.items) (c.in_ok-all.ensures.few few) in
+          ap (λ (l : List Open). length l) (c.first_of-own.ensures ∙ ap (take c.in_ok-all.all) c.as_slice-2.ensures.value) ∙ length-take-le c.in_ok-all.all c.open_in.new.stack.items (c.in_ok-all.ensures.few few) in
           let shown : length c.first_of-shown.result.now ≡ c.standing-stands.result =
-          ap (λ (l : List Open). length l) c.first_of-shown.ensures ∙ length-take c.standing-stands.result c.first_of-own.result.now ∙ least-is c.standing-stands.result (length c.first_of-own.result.now) c.standing-stands.ensures.few in
+          ap (λ (l : List Open). length l) c.first_of-shown.ensures ∙ length-take-le c.standing-stands.result c.first_of-own.result.now c.standing-stands.ensures.few in
           let turned = part_turned r rs paid first.span.number first.row the first.span.size small c.args.turns.now budget (length c.args.frames.now.items) c.args.stood.containers c.args.passed.from c.args.passed.to (length c.args.stack.now.items) before c.stood_in-went.new.turns c.stood_in-went.result.containers c.open_in.new.turns c.stood_in-went.ensures.turns c.open_in.ensures.turns
           few c.stood_in-went.ensures.least c.in_ok-all.all c.in_ok-all.ensures.fewer (c.in_ok-all.ensures.least few) c.args.ahead ae c.passed_in-seen.result c.passed_in-seen.ensures c.standing-stands.new.turns c.standing-stands.result
           (omega (arith, c.standing-stands.ensures.turns, own)) c.standing-stands.ensures.asked c.standing-stands.ensures.below (omega (arith, c.standing-stands.ensures.few, own)) c.stood_in-kept.new.turns c.stood_in-kept.result.containers c.stood_in-kept.ensures.turns c.stood_in-kept.ensures.least c.go_to_part.new.turns (omega (arith, c.go_to_part.ensures.turns, shown)) in
@@ -265,9 +262,9 @@ returns g c =
           let small : r.columns ≤ first.span.size = omega (arith, left.are.0.placed.columns, left.are.0.is.columns) in
           let few : first.row.many ≤ length c.args.stack.now.items = omega (arith, left.are.0.many, length-map c.args.stack.now.items open_of) in
           let own : length c.first_of-own.result.now ≡ c.in_ok-all.all =
-          ap (λ (l : List Open). length l) (c.first_of-own.ensures ∙ ap (take c.in_ok-all.all) c.as_slice-2.ensures.value) ∙ length-take c.in_ok-all.all c.open_in.new.stack.items ∙ least-is c.in_ok-all.all (length c.open_in.new.stack.items) (c.in_ok-all.ensures.few few) in
+          ap (λ (l : List Open). length l) (c.first_of-own.ensures ∙ ap (take c.in_ok-all.all) c.as_slice-2.ensures.value) ∙ length-take-le c.in_ok-all.all c.open_in.new.stack.items (c.in_ok-all.ensures.few few) in
           let shown : length c.first_of-shown.result.now ≡ c.standing-stands.result =
-          ap (λ (l : List Open). length l) c.first_of-shown.ensures ∙ length-take c.standing-stands.result c.first_of-own.result.now ∙ least-is c.standing-stands.result (length c.first_of-own.result.now) c.standing-stands.ensures.few in
+          ap (λ (l : List Open). length l) c.first_of-shown.ensures ∙ length-take-le c.standing-stands.result c.first_of-own.result.now c.standing-stands.ensures.few in
           let line = line_size t bytes some limit stack first behind r rs left in
           let lines = c.lines_of-lines.result in
           let one : lines + 1 ≡ suc lines = omega arith in
@@ -348,9 +345,9 @@ returns-in_err-next-clause-turns g c = λ budget before.
     let small : r.columns ≤ first.span.size = omega (arith, left.are.0.placed.columns, left.are.0.is.columns) in
     let few : first.row.many ≤ length c.args.stack.now.items = omega (arith, left.are.0.many, length-map c.args.stack.now.items open_of) in
     let own : length c.first_of-own.result.now ≡ c.in_ok-all.all =
-    ap (λ (l : List Open). length l) (c.first_of-own.ensures ∙ ap (take c.in_ok-all.all) c.as_slice-2.ensures.value) ∙ length-take c.in_ok-all.all c.open_in.new.stack.items ∙ least-is c.in_ok-all.all (length c.open_in.new.stack.items) (c.in_ok-all.ensures.few few) in
+    ap (λ (l : List Open). length l) (c.first_of-own.ensures ∙ ap (take c.in_ok-all.all) c.as_slice-2.ensures.value) ∙ length-take-le c.in_ok-all.all c.open_in.new.stack.items (c.in_ok-all.ensures.few few) in
     let shown : length c.first_of-shown.result.now ≡ c.standing-stands.result =
-    ap (λ (l : List Open). length l) c.first_of-shown.ensures ∙ length-take c.standing-stands.result c.first_of-own.result.now ∙ least-is c.standing-stands.result (length c.first_of-own.result.now) c.standing-stands.ensures.few in
+    ap (λ (l : List Open). length l) c.first_of-shown.ensures ∙ length-take-le c.standing-stands.result c.first_of-own.result.now c.standing-stands.ensures.few in
     let turned = part_turned r rs paid first.span.number first.row the first.span.size small c.args.turns.now budget (length c.args.frames.now.items) c.args.stood.containers c.args.passed.from c.args.passed.to (length c.args.stack.now.items) before c.stood_in-went.new.turns c.stood_in-went.result.containers c.open_in.new.turns c.stood_in-went.ensures.turns c.open_in.ensures.turns
     few c.stood_in-went.ensures.least c.in_ok-all.all c.in_ok-all.ensures.fewer (c.in_ok-all.ensures.least few) c.args.ahead ae c.passed_in-seen.result c.passed_in-seen.ensures c.standing-stands.new.turns c.standing-stands.result
     (omega (arith, c.standing-stands.ensures.turns, own)) c.standing-stands.ensures.asked c.standing-stands.ensures.below (omega (arith, c.standing-stands.ensures.few, own)) c.stood_in-kept.new.turns c.stood_in-kept.result.containers c.stood_in-kept.ensures.turns c.stood_in-kept.ensures.least c.go_to_part.new.turns (omega (arith, c.go_to_part.ensures.turns, shown)) in
@@ -374,9 +371,9 @@ returns-in_err-begin-clause-turns g c = λ budget before.
     let small : r.columns ≤ first.span.size = omega (arith, left.are.0.placed.columns, left.are.0.is.columns) in
     let few : first.row.many ≤ length c.args.stack.now.items = omega (arith, left.are.0.many, length-map c.args.stack.now.items open_of) in
     let own : length c.first_of-own.result.now ≡ c.in_ok-all.all =
-    ap (λ (l : List Open). length l) (c.first_of-own.ensures ∙ ap (take c.in_ok-all.all) c.as_slice-2.ensures.value) ∙ length-take c.in_ok-all.all c.open_in.new.stack.items ∙ least-is c.in_ok-all.all (length c.open_in.new.stack.items) (c.in_ok-all.ensures.few few) in
+    ap (λ (l : List Open). length l) (c.first_of-own.ensures ∙ ap (take c.in_ok-all.all) c.as_slice-2.ensures.value) ∙ length-take-le c.in_ok-all.all c.open_in.new.stack.items (c.in_ok-all.ensures.few few) in
     let shown : length c.first_of-shown.result.now ≡ c.standing-stands.result =
-    ap (λ (l : List Open). length l) c.first_of-shown.ensures ∙ length-take c.standing-stands.result c.first_of-own.result.now ∙ least-is c.standing-stands.result (length c.first_of-own.result.now) c.standing-stands.ensures.few in
+    ap (λ (l : List Open). length l) c.first_of-shown.ensures ∙ length-take-le c.standing-stands.result c.first_of-own.result.now c.standing-stands.ensures.few in
     let turned = part_turned r rs paid first.span.number first.row the first.span.size small c.args.turns.now budget (length c.args.frames.now.items) c.args.stood.containers c.args.passed.from c.args.passed.to (length c.args.stack.now.items) before c.stood_in-went.new.turns c.stood_in-went.result.containers c.open_in.new.turns c.stood_in-went.ensures.turns c.open_in.ensures.turns
     few c.stood_in-went.ensures.least c.in_ok-all.all c.in_ok-all.ensures.fewer (c.in_ok-all.ensures.least few) c.args.ahead ae c.passed_in-seen.result c.passed_in-seen.ensures c.standing-stands.new.turns c.standing-stands.result
     (omega (arith, c.standing-stands.ensures.turns, own)) c.standing-stands.ensures.asked c.standing-stands.ensures.below (omega (arith, c.standing-stands.ensures.few, own)) c.stood_in-kept.new.turns c.stood_in-kept.result.containers c.stood_in-kept.ensures.turns c.stood_in-kept.ensures.least c.go_to_part.new.turns (omega (arith, c.go_to_part.ensures.turns, shown)) in
@@ -401,9 +398,9 @@ returns-in_err-end-clause-turns g c = λ budget before.
     let small : r.columns ≤ first.span.size = omega (arith, left.are.0.placed.columns, left.are.0.is.columns) in
     let few : first.row.many ≤ length c.args.stack.now.items = omega (arith, left.are.0.many, length-map c.args.stack.now.items open_of) in
     let own : length c.first_of-own.result.now ≡ c.in_ok-all.all =
-    ap (λ (l : List Open). length l) (c.first_of-own.ensures ∙ ap (take c.in_ok-all.all) c.as_slice-2.ensures.value) ∙ length-take c.in_ok-all.all c.open_in.new.stack.items ∙ least-is c.in_ok-all.all (length c.open_in.new.stack.items) (c.in_ok-all.ensures.few few) in
+    ap (λ (l : List Open). length l) (c.first_of-own.ensures ∙ ap (take c.in_ok-all.all) c.as_slice-2.ensures.value) ∙ length-take-le c.in_ok-all.all c.open_in.new.stack.items (c.in_ok-all.ensures.few few) in
     let shown : length c.first_of-shown.result.now ≡ c.standing-stands.result =
-    ap (λ (l : List Open). length l) c.first_of-shown.ensures ∙ length-take c.standing-stands.result c.first_of-own.result.now ∙ least-is c.standing-stands.result (length c.first_of-own.result.now) c.standing-stands.ensures.few in
+    ap (λ (l : List Open). length l) c.first_of-shown.ensures ∙ length-take-le c.standing-stands.result c.first_of-own.result.now c.standing-stands.ensures.few in
     let turned = part_turned r rs paid first.span.number first.row the first.span.size small c.args.turns.now budget (length c.args.frames.now.items) c.args.stood.containers c.args.passed.from c.args.passed.to (length c.args.stack.now.items) before c.stood_in-went.new.turns c.stood_in-went.result.containers c.open_in.new.turns c.stood_in-went.ensures.turns c.open_in.ensures.turns
     few c.stood_in-went.ensures.least c.in_ok-all.all c.in_ok-all.ensures.fewer (c.in_ok-all.ensures.least few) c.args.ahead ae c.passed_in-seen.result c.passed_in-seen.ensures c.standing-stands.new.turns c.standing-stands.result
     (omega (arith, c.standing-stands.ensures.turns, own)) c.standing-stands.ensures.asked c.standing-stands.ensures.below (omega (arith, c.standing-stands.ensures.few, own)) c.stood_in-kept.new.turns c.stood_in-kept.result.containers c.stood_in-kept.ensures.turns c.stood_in-kept.ensures.least c.go_to_part.new.turns (omega (arith, c.go_to_part.ensures.turns, shown)) in

@@ -17,8 +17,10 @@ use Rattle.mdconstructs_containers.proofs.CostLemmas.{began_sizes}
 use Rattle.mdconstructs_containers.proofs.DocumentRows.{AreRowsBefore, placed_push}
 use Rattle.mdconstructs_containers.proofs.OverLemmas.{began_before}
 use Rattle.mdconstructs_containers.proofs.RowFacts.{BeganBefore}
+use Rattle.mdconstructs_containers.proofs.RowReads.{old_behind}
 use Rattle.mdconstructs_definitions.specs.Rows.{Known, known_after, row_of, rows}
-use Rattle.mdconstructs_definitions.proofs.KnownLemmas.{began-after, kept-more, kept-turns, known-all, known-init, known-more, known_left}
+use Rattle.mdconstructs_definitions.proofs.KnownReads.{known-reads}
+use Rattle.mdconstructs_definitions.proofs.KnownLemmas.{kept-more, kept-turns, known-all, known-init, known-more, known_left}
 use Rattle.mdconstructs_definitions.proofs.rows.rows_with_definitions.Goals as goal
 
 pub loop-start-init : goal.loop-start-init
@@ -64,7 +66,7 @@ loop-start-preserved g c =
       over = subst (λ (n : ℕ). AreOver n c.next_row.new.known.before.over c.next_row.new.known.before.depth c.next_row.new.known.before.stack.items) (sym (further ∙ later)) c.in_ok-at.ensures.over;
       began = subst (λ (n : ℕ). AllByRecursion (BeganBefore n) (before_of c.next_row.new.known.before).stack) (sym further)
           (subst (λ (b : Before). AllByRecursion (BeganBefore (suc (c.len-number.result + 1))) b.stack) (sym is.before)
-          (began-after c.args.on.now k (c.len-number.result + 1) line (subst (λ (n : ℕ). AllByRecursion (BeganBefore n) k.before.stack) number began)));
+          (old_behind c.args.on.now (known-reads c.args.on.now) k (c.len-number.result + 1) line (subst (λ (n : ℕ). AllByRecursion (BeganBefore n) k.before.stack) number began)));
       placed = placed_push c.args.tab c.args.bytes.now 1 0 xs c.push.new.self.items c.in_ok-at.at c.loop-start.start c.in_ok-push.ensures.items i.placed
           (subst (λ (n : ℕ). IsPlaced c.args.tab c.args.bytes.now n c.loop-start.start c.in_ok-at.at) one c.in_ok-at.ensures.placed);
       kept =

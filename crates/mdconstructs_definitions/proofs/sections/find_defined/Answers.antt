@@ -2,9 +2,10 @@ use Rattle.std.proofs.Common.{◌≡◌, ◌+◌, ◌-◌, false, List, [], ap, 
 use Rattle.std.proofs.lemmas.List.{drop_all, take_rest, drop_more}
 use Rattle.mdconstructs_containers.specs.declared.spans.RowAt.{RowAt}
 use Rattle.mdconstructs_containers.specs.Rows.{is_paragraph}
+use Rattle.mdconstructs_containers.proofs.AheadLemmas.{rows_length}
 use Rattle.mdconstructs_definitions.specs.Sections.{before_defined, defined_in}
 use Rattle.mdconstructs_definitions.specs.Seen.{AreHeld, AreThese}
-use Rattle.mdconstructs_definitions.proofs.SectionLemmas.{found-later, found-now, next-line, nothing-in, rows-few, these-back}
+use Rattle.mdconstructs_definitions.proofs.SectionLemmas.{found-later, found-now, next-line, nothing-in, these-back}
 use Rattle.mdconstructs_definitions.proofs.SectionCosts.{bytes-cut, bytes-first, found-paid, line-pays, look-within, none-paid, text-step}
 use Rattle.mdconstructs_definitions.specs.Costs.{bytes_in, bytes_of, text_rows}
 use Rattle.mdconstructs_definitions.proofs.sections.find_defined.Goals as goal
@@ -58,7 +59,7 @@ pub returns-clause-found : goal.returns-clause-found
 returns-clause-found g c = λ all these.
     let n = c.loop-before.before in
     let on = c.args.on.now in
-    let none : drop n all ≡ [] = drop_all n all (omega (arith, rows-few c.args.rows.now all these.rows)) in
+    let none : drop n all ≡ [] = drop_all n all (omega (arith, rows_length c.args.rows.now all these.rows)) in
     let sum : n + before_defined on c.loop-before.in_paragraph [] ≡ before_defined on false all = ap (λ l. n + before_defined on c.loop-before.in_paragraph l) (sym none) ∙ c.loop-before.invariant.sum all these in
     let zero : c.none.result.lines ≡ 0 = c.none.ensures in
     record {

@@ -1,8 +1,9 @@
 use Rattle.std.proofs.Common.{◌≡◌, ◌+◌, [], ap, arith, drop, refl, sym, ◌∙◌, ◌++◌}
 use Rattle.std.specs.Prelude.{◌&&◌}
 use Rattle.std.proofs.lemmas.List.{drop-drop, drop_all}
+use Rattle.mdconstructs_containers.proofs.AheadLemmas.{rows_length}
 use Rattle.mdconstructs_definitions.specs.Sections.{undefined}
-use Rattle.mdconstructs_definitions.proofs.SectionLemmas.{begins-is, line-at, pushed-end, pushed-init, pushed-more, rows-few}
+use Rattle.mdconstructs_definitions.proofs.SectionLemmas.{begins-is, line-at, pushed-end, pushed-init, pushed-more}
 use Rattle.mdconstructs_definitions.proofs.sections.push_lines.Goals as goal
 
 pub loop-i-init : goal.loop-i-init
@@ -44,5 +45,5 @@ loop-i-preserved g c =
 
 pub returns-clause-sections : goal.returns-clause-sections
 returns-clause-sections g c = λ all are around before are_before.
-    let none : drop c.loop-i.i all ≡ [] = drop_all c.loop-i.i all (omega (arith, rows-few c.args.rows.now all are)) in
+    let none : drop c.loop-i.i all ≡ [] = drop_all c.loop-i.i all (omega (arith, rows_length c.args.rows.now all are)) in
     pushed-end c.loop-i.sections.items c.loop-i.behind (drop c.loop-i.i all) around (before ++ undefined c.args.is_behind around all) none (c.loop-i.invariant.pushed all are around before are_before)

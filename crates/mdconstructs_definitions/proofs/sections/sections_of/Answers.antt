@@ -3,11 +3,12 @@ use Rattle.std.proofs.lemmas.Bool.{false≢true}
 use Rattle.std.proofs.lemmas.List.{drop-drop, drop_all, length-take-le, take_rest}
 use Rattle.mdconstructs_containers.specs.declared.spans.RowAt.{RowAt}
 use Rattle.mdconstructs_containers.specs.Rows.{Row}
+use Rattle.mdconstructs_containers.proofs.AheadLemmas.{rows_length}
 use Rattle.mdconstructs_definitions.specs.Costs.{bytes_in, text_rows}
 use Rattle.mdconstructs_definitions.specs.Sections.{defined_in, paragraph_of, sections_in, text_in}
 use Rattle.mdconstructs_labels.specs.Definitions.{definitions}
 use Rattle.mdconstructs_definitions.specs.Seen.{AreThese}
-use Rattle.mdconstructs_definitions.proofs.SectionLemmas.{cut-end, cut-init, cut-more, defined-few, goes-on, next-line, rows-few, these-back, these-front}
+use Rattle.mdconstructs_definitions.proofs.SectionLemmas.{cut-end, cut-init, cut-more, defined-few, goes-on, next-line, these-back, these-front}
 use Rattle.mdconstructs_definitions.proofs.SectionCosts.{bytes-cut, bytes-left, bytes-more, bytes-moved, bytes-some, debt-few, debt-none, found-text, none-left, passed-text}
 use Rattle.mdconstructs_definitions.proofs.sections.sections_of.Goals as goal
 
@@ -40,7 +41,7 @@ loop-i-preserved g c =
     let mine = c.in_ok-found.ensures.found (drop i held.all) (these-left t bytes rows held.all i held.are) in
     let within : i + n ≤ length rows = omega (arith, c.in_ok-found.ensures.within, ap (λ (l : List RowAt). length l) (take_rest rows i), length-drop i rows, c.loop-i-test.true) in
     let few = defined-few on (drop n (drop i held.all)) in
-    let size = rows-few rows held.all held.are.rows in
+    let size = rows_length rows held.all held.are.rows in
     let left_these = these-back t bytes i rows held.all held.are in
     let debt = passed-text t bytes on (drop i rows) (drop i held.all) left_these c.loop-i.is_behind (λ e. c.loop-i.invariant.nothing e held.all held.are) n d mine.before mine.lines in
     let text = found-text t bytes on (drop i rows) (drop i held.all) left_these c.loop-i.is_behind (λ e. c.loop-i.invariant.nothing e held.all held.are) n d mine.before mine.lines in
@@ -76,7 +77,7 @@ loop-i-preserved g c =
 
 pub returns-clause-sections : goal.returns-clause-sections
 returns-clause-sections g c = λ all these around.
-    let none : drop c.loop-i.i all ≡ [] = drop_all c.loop-i.i all (omega (arith, rows-few c.args.rows.now all these.rows)) in
+    let none : drop c.loop-i.i all ≡ [] = drop_all c.loop-i.i all (omega (arith, rows_length c.args.rows.now all these.rows)) in
     cut-end c.args.on.now c.loop-i.sections.items c.loop-i.is_behind (drop c.loop-i.i all) around (sections_in c.args.on.now (length all) false around all) none (c.loop-i.invariant.cut all these around)
 
 pub push_undefined-requires : goal.push_undefined-requires
@@ -96,7 +97,7 @@ overflow_add-i g c =
     let mine = c.in_ok-found.ensures.found (drop i held.all) (these-left c.args.tab c.args.bytes.now rows held.all i held.are) in
     let few = defined-few on (drop n (drop i held.all)) in
     let within = c.in_ok-found.ensures.within in
-    omega (arith, few, mine.lines, within, ap (λ (l : List RowAt). length l) (take_rest rows i), length-drop i rows, rows-few rows held.all held.are.rows, length-drop n (drop i held.all), length-drop i held.all)
+    omega (arith, few, mine.lines, within, ap (λ (l : List RowAt). length l) (take_rest rows i), length-drop i rows, rows_length rows held.all held.are.rows, length-drop n (drop i held.all), length-drop i held.all)
 
 pub loop-i-smaller : goal.loop-i-smaller
 loop-i-smaller g c =

@@ -1,5 +1,6 @@
 use Rattle.std.proofs.Common.{◌≡◌, ◌++◌, arith, drop, map, take, sym, ap, ◌∙◌, subst, append_assoc}
 use Rattle.std.proofs.lemmas.List.{take-map}
+use Rattle.markdown_base.proofs.Common.{every-take}
 use Rattle.mdconstructs_lines.specs.Lines.{line_bytes}
 use Rattle.mdconstructs_containers.specs.Costs.{HasSize, HaveSizes}
 use Rattle.mdconstructs_containers.specs.Parts.{ending_at}
@@ -8,7 +9,6 @@ use Rattle.mdconstructs_containers.specs.SeatPlaces.{events_of}
 use Rattle.mdconstructs_containers.specs.Skeleton.{prefixes_marks}
 use Rattle.mdconstructs_containers.specs.Views.{open_of}
 use Rattle.mdconstructs_containers.proofs.FrameLemmas.{ending_same}
-use Rattle.mdconstructs_containers.proofs.RowFacts.{every_front}
 use Rattle.mdconstructs_definitions.proofs.skeleton.go_to_section.Goals as goal
 
 pub prefixes_of-requires : goal.prefixes_of-requires
@@ -16,7 +16,7 @@ prefixes_of-requires g c =
     let stack = c.args.stack.now in
     let many = c.args.next.now.row.many in
     let front : map open_of c.first_of-front.result.now ≡ take many (map open_of stack) = ap (map open_of) c.first_of-front.ensures ∙ sym (take-map open_of many stack) in
-    record { inside = c.requires.inside; columns = c.requires.columns; sizes = subst HaveSizes (sym front) (every_front HasSize many (map open_of stack) c.requires.sizes) }
+    record { inside = c.requires.inside; columns = c.requires.columns; sizes = subst HaveSizes (sym front) (every-take HasSize many (map open_of stack) c.requires.sizes) }
 
 pub returns : goal.returns
 returns g c =
