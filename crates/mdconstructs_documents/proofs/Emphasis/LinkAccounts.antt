@@ -2,6 +2,7 @@
 use Rattle.mdconstructs_documents.proofs.Prelude.{◌≡◌, ℕ, ◌+◌, ◌<◌, Bool, true, false, cond, inl, inr, ◌⊎◌, List, [], ◌∷◌, ◌++◌, append_assoc, length, map, refl, sym, ap, ◌∙◌, subst, arith, append-nil, flat_map-append, every-back, every-front, slice_get, AllByRecursion, Event, Enter, Exit, Data, AttentionSequence, Point, IsBalanced, is_enter, same_name, shown, Seat, end_after, end-after-append, AreBeside, IsBeside, Run, markers_of_all, paired, same, unlinked_event, Standing, markers, standing, is_star_byte, Atom, InOneLine, OneLine, NoEnding, atom_seats, seats_of, is_delimiter, pairs-keep}
 use Rattle.markdown_base.specs.declared.event.Name.{Name}
 use Rattle.markdown_base.specs.declared.event.Name.TheVariants.{LabelImageMarker, LabelText}
+use Rattle.markdown_base.proofs.Facts.Lists.{some-front}
 use Rattle.mdconstructs_attention.proofs.Beside.Neighbours.{pairs-beside}
 use Rattle.mdconstructs_attention.specs.Beside.{AreUnpaired}
 use Rattle.mdconstructs_documents.proofs.Emphasis.Follow.{Follow, FollowFrom, follow-end, place-more, place-opens}
@@ -11,7 +12,6 @@ use Rattle.mdconstructs_documents.proofs.Emphasis.Runs.{balanced-opens, balanced
 use Rattle.mdconstructs_documents.proofs.Innermost.Lined.{LinedFor, lined-atoms, lined-enter, lined-exit, lined-none, lined-shut, lined-span}
 use Rattle.mdconstructs_links.proofs.Aligned.{links-keep-between}
 use Rattle.mdconstructs_links.specs.Between.{AreParts, IsKeptBetween, IsRunOf, is_marked, with_runs}
-use Rattle.mdconstructs_links.specs.Kept.{IsFresh}
 use Rattle.mdconstructs_links.specs.Linked.{Part, run, events, around, as_data, last_place, outermost_spans, runs_of_parts, spanning, with_links}
 
 -- ---- lists of atoms in two parts
@@ -231,10 +231,6 @@ module _ (bytes : List ℕ) where
       let spanned = over-enter m q (unlinked_event Enter LabelText (last_place e.point es)) behind refl (some-front text (exit ∷ f ∷ fs) some) (opens-front text (exit ∷ f ∷ fs) some (balanced-opens c)) inside in
       over-both p m q (e ∷ es) (spanning LabelText (last_place e.point es) f.point text ++ f ∷ fs) b h
       (subst (λ xs. Over m (unlinked_event Enter LabelText (last_place e.point es) ∷ xs) q) (sym same) spanned)
-    where
-      some-front : (xs ys : List Event) → 0 < length xs → 0 < length (xs ++ ys)
-      some-front [] ys some = absurd (omega (arith, some))
-      some-front (x ∷ xs) ys some = omega arith
 
   -- ---- emphasis
   abbrev AreOver : List Seat → List Part → List Seat → Type 0

@@ -1,6 +1,7 @@
 -- Balanced events begin with an enter and end with an exit; and so does an attention sequence.
-use Rattle.mdconstructs_documents.proofs.Prelude.{◌≡◌, true, inl, inr, ◌⊎◌, List, [], ◌∷◌, ◌++◌, refl, sym, subst, ◌&&◌, not, and-right, Event, Kind, Enter, Exit, AttentionSequence, IsBalanced, empty, is_enter, same_name, and-left, is_sequence}
+use Rattle.mdconstructs_documents.proofs.Prelude.{◌≡◌, true, inl, inr, ◌⊎◌, List, [], ◌∷◌, ◌++◌, refl, sym, subst, ◌&&◌, not, and-right, Event, Enter, Exit, AttentionSequence, IsBalanced, empty, is_enter, same_name, and-left, is_sequence}
 use Rattle.markdown_base.specs.Events.{span}
+use Rattle.markdown_base.proofs.Facts.Kinds.{enter-is, exit-is}
 use Rattle.mdconstructs_documents.proofs.Emphasis.Pairs.{Opens, Shut}
 
 -- ---- balanced events begin with an enter and end with an exit
@@ -24,19 +25,11 @@ opens-behind [] es b (inr h) = h
 opens-behind (t ∷ ts) es b h = balanced-opens b
 
 -- ---- attention sequences
-enters : (k : Kind) → is_enter k ≡ true → k ≡ Enter
-enters Enter h = refl
-enters Exit h = cc
-
-exits : (k : Kind) → not (is_enter k) ≡ true → k ≡ Exit
-exits Enter h = cc
-exits Exit h = refl
-
 pub sequence-kinds : (e f : Event) → is_sequence e f ≡ true → (e.kind ≡ Enter) × (f.kind ≡ Exit) × (same_name e.name AttentionSequence ≡ true)
 sequence-kinds e f h =
     let first = and-left (is_enter e.kind && same_name e.name AttentionSequence) (not (is_enter f.kind) && same_name f.name AttentionSequence) h in
     let second = and-right (is_enter e.kind && same_name e.name AttentionSequence) (not (is_enter f.kind) && same_name f.name AttentionSequence) h in (
-      enters e.kind (and-left (is_enter e.kind) (same_name e.name AttentionSequence) first),
-      exits f.kind (and-left (not (is_enter f.kind)) (same_name f.name AttentionSequence) second),
+      enter-is e.kind (and-left (is_enter e.kind) (same_name e.name AttentionSequence) first),
+      exit-is f.kind (and-left (not (is_enter f.kind)) (same_name f.name AttentionSequence) second),
       and-right (is_enter e.kind) (same_name e.name AttentionSequence) first,
     )

@@ -1,7 +1,7 @@
 -- Brackets among events: each holds its markers alone, one or two, so that data can take its place.
-use Rattle.mdconstructs_documents.proofs.Prelude.{◌≡◌, ℕ, zero, suc, ◌&&◌, ◌||◌, Bool, true, false, inl, inr, ◌⊎◌, List, [], ◌∷◌, ◌++◌, length, refl, sym, ap, ◌∙◌, subst, AllByRecursion, Event, Kind, Enter, Exit, is_enter, same_name}
-use Rattle.markdown_base.specs.declared.event.Name.{Name}
+use Rattle.mdconstructs_documents.proofs.Prelude.{◌≡◌, ℕ, zero, suc, ◌&&◌, ◌||◌, Bool, true, false, inl, inr, ◌⊎◌, List, [], ◌∷◌, ◌++◌, length, refl, sym, ap, ◌∙◌, subst, AllByRecursion, Event, Enter, Exit, is_enter, same_name}
 use Rattle.markdown_base.specs.declared.event.Name.TheVariants.{LabelImage, LabelImageMarker, LabelLink, LabelMarker}
+use Rattle.markdown_base.proofs.Facts.Kinds.{enter-is}
 use Rattle.mdconstructs_documents.proofs.Emphasis.LinkAccounts.{HoldsMarkers}
 use Rattle.mdconstructs_documents.proofs.Emphasis.RunAtoms.{IsOther, is_label, special-label}
 use Rattle.mdconstructs_links.proofs.Plain.{front-first}
@@ -78,16 +78,12 @@ two-holds e a b c d f more ke ka kb kc kd kf name from to = subst HoldsMarkers (
     six : (span_at 0 (e ∷ a ∷ b ∷ c ∷ d ∷ f ∷ more)).0 ≡ e ∷ a ∷ b ∷ c ∷ d ∷ f ∷ []
     six = rw (ke, ka, kb, kc, kd, kf) refl
 
-enters : (k : Kind) → is_enter k ≡ true → k ≡ Enter
-enters Enter h = refl
-enters Exit h = cc
-
 span-holds : (e : Event) (es : List Event) → IsShaped e es → HoldsMarkers (span_at 0 (e ∷ es)).0
 span-holds e es h =
     let first = front-first 0 e es in
     subst HoldsMarkers (sym first.1) (λ is.
     let known = marked-is (is_enter e.kind) (same_name e.name LabelLink) (same_name e.name LabelImage) (same_name e.name LabelMarker) is in
-    let first_enters = enters e.kind known.0 in
+    let first_enters = enter-is e.kind known.0 in
     subst HoldsMarkers first.1 (shaped first_enters (h first_enters known.1)) is)
   where
     shaped : e.kind ≡ Enter → Alone e es ⊎ WithOne e es ⊎ WithTwo e es → HoldsMarkers (span_at 0 (e ∷ es)).0

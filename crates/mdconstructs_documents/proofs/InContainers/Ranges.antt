@@ -1,4 +1,5 @@
 -- The virtual bytes of a chain's text are in its chunks: each is shown in one, and ends in it.
+use Rattle.std.proofs.lemmas.Bool.{not-true}
 use Rattle.mdconstructs_documents.proofs.Prelude.{◌≡◌, ℕ, ◌+◌, ◌<◌, Bool, true, false, cond, not, inl, inr, List, [], ◌∷◌, ◌++◌, Option, filter, refl, sym, ◌∙◌, subst, arith, and_parts, AllByRecursion, every-append, every-map, every-kept, Content, Event, Point, IsShown, shown, stands_before, stands-self, Seat, end_after, point, virtual, chain_of, IsReady, IsShownPlace, place_at, IsChain, whole-chain, chain-at, chain-split, text_of_chain, Given, IsDocument, Text, denotes_same, followed_by_all, in_range, chain_text}
 use Rattle.markdown_base.proofs.Orders.{upto-upto}
 use Rattle.markdown_children.proofs.ChainOrder.Following.{Fits, fits_next}
@@ -72,10 +73,6 @@ module _ (t : ℕ) (bytes : List ℕ) where
     -- a virtual byte is shown between two places, and ends there
     abbrev pub IsWithin : (a b : Point) → Seat → Type 0
     IsWithin a b s = (Upto a (shown bytes s.point) × Upto (shown bytes s.point) b) × (Upto a (shown bytes s.end) × Upto (shown bytes s.end) b)
-
-    not-true : (x : Bool) → not x ≡ true → x ≡ false
-    not-true true h = absurd (cc)
-    not-true false h = refl
 
     every-three : (P Q R S : Seat → Type 0) → ((s : Seat) → P s → Q s → R s → S s) → (xs : List Seat) → AllByRecursion P xs → AllByRecursion Q xs → AllByRecursion R xs → AllByRecursion S xs
     every-three P Q R S f [] p q r = tt
