@@ -47,7 +47,6 @@ NAMED = {
     ("mdconstructs_costs", "specs", "Documents"): "DocumentCosts",
     ("mdconstructs_costs", "specs", "Examples"): "CostExamples",
     ("mdconstructs_document_laws", "proofs", "Examples"): "LineStartExamples",
-    ("mdconstructs_document_laws", "proofs", "Elements"): "NameElements",
     ("mdconstructs_labels", "specs", "Costs"): "LabelCosts",
     ("mdconstructs_labels", "specs", "Labels"): "NormalLabels",
     ("mdconstructs_labels", "proofs", "Fronts"): "LabelFronts",

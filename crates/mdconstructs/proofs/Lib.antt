@@ -173,7 +173,6 @@ pub use Rattle.mdconstructs_documents.proofs.InContainers
 pub use Rattle.mdconstructs_document_laws.proofs.BlockPlaces
 pub use Rattle.mdconstructs_document_laws.proofs.ChildNames
 pub use Rattle.mdconstructs_document_laws.proofs.DocumentNames
-pub use Rattle.mdconstructs_document_laws.proofs.Elements as NameElements
 pub use Rattle.mdconstructs_document_laws.proofs.FlowNames
 pub use Rattle.mdconstructs_document_laws.proofs.HtmlStarts
 pub use Rattle.mdconstructs_document_laws.proofs.ItemNames

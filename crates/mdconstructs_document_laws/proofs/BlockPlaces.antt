@@ -1,10 +1,10 @@
 -- The events of a leaf block stand where virtual bytes of its lines begin or end, as its spans are over parts of these.
 use Rattle.std.proofs.Common.{◌≡◌, ℕ, zero, suc, ◌+◌, ◌-◌, ◌⊎◌, List, [], ◌∷◌, ◌++◌, Bool, true, false, cond, inl, inr, not, Some, None, Option, refl, ap, take, drop, length, min}
-use Rattle.std.proofs.lemmas.Bool.{cond_both}
 use Rattle.std.proofs.lemmas.List.Elements.{All-contains_itself, All-from_recursion, recursion_from_All}
 use Rattle.std.specs.List.{AllByRecursion, prefix_len}
 use Rattle.std.specs.Prelude.{Contains}
-use Rattle.markdown_base.proofs.Common.{every-append, every-filter}
+use Rattle.mdconstructs_containers.proofs.PlainLetters.{lines_each}
+use Rattle.markdown_base.proofs.Common.{every-append, every-filter, every-drop, every-take}
 use Rattle.markdown_base.specs.declared.configuration.Constructs.{Constructs}
 use Rattle.markdown_base.specs.declared.event.Event.{Event}
 use Rattle.markdown_base.specs.declared.event.Name.{Name}
@@ -12,13 +12,12 @@ use Rattle.markdown_base.specs.declared.event.Name.TheVariants as name
 use Rattle.markdown_base.specs.Places.{shown}
 use Rattle.markdown_base.specs.Virtual.{Seat, end_after}
 use Rattle.mdconstructs_machines.specs.Breaks.{is_white}
-use Rattle.mdconstructs_machines.specs.LineEvents.{all_of, ending_of, is_line_ending, joined, line_text, lines_in}
+use Rattle.mdconstructs_machines.specs.LineEvents.{all_of, ending_of, is_line_ending, line_text, lines_in}
 use Rattle.mdconstructs_flow_read.specs.BlockLines.{block_lines}
 use Rattle.mdconstructs_flow_read.specs.LeafBlocks.{Line, LeafBlock, atx_heading, blank_line, block_of_kind, blocks_in, break_line, bytes_of, ends_text, further_code, lines_through, lines_until, text_of, underlined, fenced_code, html_block, indented_code, leaf_blocks, paragraph, setext_heading}
 use Rattle.mdconstructs_flow_read.specs.LeafEvents.{Chunk, Mark, block_span, body, break_marks, chunk_span, code_fenced_around, code_marks, fence_around, fenced_marks, flow_events, heading_around, html_marks, last_end, leaf_block_marks, leaf_blocks_marks, leaf_marks, line_end, lines_marks, linked_from, sequence_marks, span_marks, string_chunk, text_chunk, text_marks, underline_marks, white}
 use Rattle.mdconstructs_flow_read.specs.LineKinds.{Fence, LineKind, blank, closes, fence, heading, heading_text, html, indent, indented, line_kind, run, text, thematic_break, underline_rank, unindented}
 use Rattle.mdconstructs_document_laws.specs.BlockPlaces.{BlocksStandInLines, LeafBlocksStandInTexts, StandsAtOne}
-use Rattle.mdconstructs_document_laws.proofs.Elements.{every-drop, every-take}
 
 module _ (bytes : List ℕ) (Q : Seat → Type 0) where
   -- an event stands where a virtual byte that is so begins or ends
@@ -261,17 +260,6 @@ module _ (on : Constructs) (Q : Line → Type 0) where
       let n = (block_of_kind on kind line lines).1 in
       (lines-of-kind kind line lines h, lines-of-blocks bound (drop n (line ∷ lines)) (every-drop Q n (line ∷ lines) h))
 
-lines-are-of : (Q : Seat → Type 0) (seats : List Seat) → AllByRecursion Q seats → AllByRecursion (AllByRecursion Q) (lines_in seats)
-lines-are-of Q [] h = tt
-lines-are-of Q (s ∷ ss) h = by (lines_in ss) (lines-are-of Q ss h.1)
-  where
-    joins : (lines : List Line) → AllByRecursion (AllByRecursion Q) lines → AllByRecursion (AllByRecursion Q) (joined s lines)
-    joins [] k = ((h.0, tt), tt)
-    joins (line ∷ lines) k = ((h.0, k.0), k.1)
-
-    by : (lines : List Line) → AllByRecursion (AllByRecursion Q) lines → AllByRecursion (AllByRecursion Q) (cond (is_line_ending s) ((s ∷ []) ∷ lines) (joined s lines))
-    by lines k = cond_both (is_line_ending s) ((s ∷ []) ∷ lines) (joined s lines) (AllByRecursion (AllByRecursion Q)) (λ e. ((h.0, tt), k)) (λ e. joins lines k)
-
 module _ (bytes : List ℕ) (Q : Seat → Type 0) where
   all-in : (blocks : List LeafBlock) → AllByRecursion (λ (b : LeafBlock). AllByRecursion (AllByRecursion Q) (block_lines b)) blocks → Are bytes Q (leaf_blocks_marks bytes blocks)
   all-in [] h = none bytes Q
@@ -287,6 +275,6 @@ pub leaf-blocks-stand-in-texts : LeafBlocksStandInTexts
 leaf-blocks-stand-in-texts on bytes seats =
     let Q : Seat → Type 0 = Contains seats in
     let lines = lines_in seats in
-    let of = lines-are-of Q seats (recursion_from_All (Contains seats) seats (All-contains_itself seats)) in
+    let of = lines_each Q seats (recursion_from_All (Contains seats) seats (All-contains_itself seats)) in
     let marks = all-in bytes Q (leaf_blocks on lines) (lines-of-blocks on (AllByRecursion Q) (length lines) lines of) in
     All-from_recursion (StandsAtOne bytes seats) (flow_events on bytes seats) (linked-stand bytes Q 0 (leaf_blocks_marks bytes (leaf_blocks on lines)) marks.all)

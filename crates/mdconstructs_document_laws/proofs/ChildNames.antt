@@ -4,7 +4,7 @@ use Rattle.std.proofs.Common.{◌≡◌, ℕ, ◌+◌, ◌==◌, List, [], ◌�
 use Rattle.std.proofs.lemmas.Bool.{cond_both}
 use Rattle.std.specs.List.{AllByRecursion, flat_map, prefix_len}
 use Rattle.std.specs.Prelude.{◌&&◌, if◌then◌else◌}
-use Rattle.markdown_base.proofs.Common.{every-append}
+use Rattle.markdown_base.proofs.Common.{every-append, every-drop, every-take}
 use Rattle.markdown_base.specs.declared.configuration.Constructs.{Constructs}
 use Rattle.markdown_base.specs.declared.event.Content.{Content}
 use Rattle.markdown_base.specs.declared.event.Event.{Event}
@@ -20,7 +20,6 @@ use Rattle.mdconstructs_strings.specs.Strings.{in_string_after, is_data, line_as
 use Rattle.mdconstructs_document_laws.specs.Names.{may_be_named}
 use Rattle.mdconstructs_document_laws.proofs.ItemNames.{strings-named}
 use Rattle.mdconstructs_document_laws.proofs.Named.{Named, and, no-events}
-use Rattle.mdconstructs_document_laws.proofs.Elements.{every-drop, every-take}
 
 module _ (P : Name → Type 0) where
   abbrev Are : List Event → Type 0

@@ -11,10 +11,10 @@ use Rattle.markdown_base.specs.Virtual.{Seat}
 use Rattle.mdconstructs_machines.specs.LineEvents.{ending_of, line_text, lines_in}
 use Rattle.mdconstructs_flow_read.specs.HtmlLines.{HtmlKind, html_kind}
 use Rattle.mdconstructs_flow_read.specs.LeafBlocks.{Line, LeafBlock, atx_heading, blank_line, block_of_kind, blocks_in, break_line, bytes_of, content_at, fenced_code, html_block, indented_code, leaf_blocks, paragraph, setext_heading, text_of, underlined}
-use Rattle.mdconstructs_flow_read.specs.LeafEvents.{Mark, block_span, body, break_marks, code_fenced_around, code_marks, fence_around, fenced_marks, flow_events, heading_around, html_marks, last_end, leaf_block_marks, leaf_marks, line_end, lines_marks, sequence_marks, span_marks, string_chunk, text_chunk, text_marks, underline_marks, white}
+use Rattle.mdconstructs_flow_read.specs.LeafEvents.{Mark, block_span, body, break_marks, code_fenced_around, code_marks, fence_around, fenced_marks, flow_events, heading_around, html_marks, last_end, leaf_block_marks, leaf_marks, line_end, lines_marks, sequence_marks, span_marks, string_chunk, text_chunk, text_marks, underline_marks}
 use Rattle.mdconstructs_flow_read.specs.LineKinds.{Fence, LineKind, blank, fence, heading, html, indent, indented, is_atx_heading, is_blank_line, is_far, is_fence_of, is_thematic_break, is_underline_of_marks, kind_of_rest, line_kind, run, text, thematic_break, underline_rank, unindented}
 use Rattle.mdconstructs_document_laws.specs.Names.{may_be_named}
-use Rattle.mdconstructs_document_laws.proofs.Named.{Marked, Named, alone, around, both, linked-named, marked-flat-by, none}
+use Rattle.mdconstructs_document_laws.proofs.Named.{Marked, Named, alone, around, both, linked-named, marked-flat-by, none, over, together, whites}
 
 -- ---- a block's construct is on
 module _ (on : Constructs) where
@@ -97,27 +97,15 @@ module _ (on : Constructs) (bytes : List ℕ) where
   abbrev Are : List Mark → Type 0
   Are marks = Marked May marks
 
-  together : (xs ys : List Mark) → Are xs → Are ys → Are (xs ++ ys)
-  together xs ys h k = both h k
-
-  over : (n : Name) (seats : List Seat) (inside : List Mark) → May n → Are inside → Are (span_marks bytes n seats inside)
-  over n seats inside p h = around bytes None n seats p h
-
-  leafs : (n : Name) (seats : List Seat) → May n → Are (leaf_marks bytes n seats)
-  leafs n seats p = alone bytes n seats p
-
-  whites : (seats : List Seat) → Are (white bytes seats)
-  whites seats = alone bytes name.SpaceOrTab seats refl
-
   endings : (line : Line) → Are (line_end bytes line)
   endings line = alone bytes name.LineEnding (ending_of line) refl
 
   sequences : (n : Name) (size : ℕ) (seats : List Seat) → May n → Are (sequence_marks bytes n size seats)
-  sequences n size seats p = both (whites _) (both (alone bytes n _ p) (whites _))
+  sequences n size seats p = both (whites on bytes _) (both (alone bytes n _ p) (whites on bytes _))
 
   breaks : (bound : ℕ) (seats : List Seat) → on.thematic_break ≡ true → Are (break_marks bytes bound seats)
   breaks zero seats h = none
-  breaks (suc bound) seats h = both (whites _) (both (alone bytes name.ThematicBreakSequence _ h) (breaks bound _ h))
+  breaks (suc bound) seats h = both (whites on bytes _) (both (alone bytes name.ThematicBreakSequence _ h) (breaks bound _ h))
 
   chunks : (seats : List Seat) → Are (text_chunk bytes seats)
   chunks seats = around bytes _ name.Data seats refl none
@@ -126,13 +114,13 @@ module _ (on : Constructs) (bytes : List ℕ) where
   strings seats = around bytes _ name.Data seats refl none
 
   headings : (seats : List Seat) → on.heading_atx ≡ true → Are (heading_around bytes (text_chunk bytes) seats)
-  headings seats h = search (together, sequences, over, chunks, h)
+  headings seats h = search (together on bytes, sequences, over on bytes, chunks, h)
 
   fences : (size : ℕ) (seats : List Seat) → on.code_fenced ≡ true → Are (fence_around bytes (string_chunk bytes) size seats)
-  fences size seats h = search (together, sequences, over, strings, whites, h) depth 9
+  fences size seats h = search (together on bytes, sequences, over on bytes, strings, whites on bytes, h) depth 9
 
   codes : (most : ℕ) (seats : List Seat) → May name.CodeFlowChunk → Are (code_marks bytes most seats)
-  codes most seats h = both (whites _) (alone bytes name.CodeFlowChunk _ h)
+  codes most seats h = both (whites on bytes _) (alone bytes name.CodeFlowChunk _ h)
 
   texts : (has_previous : Bool) (lines : List Line) → Are (text_marks bytes has_previous lines)
   texts has_previous [] = none
@@ -159,8 +147,8 @@ module _ (on : Constructs) (bytes : List ℕ) where
 
   closings : (f : Fence) (is_closed : Bool) (line : Line) → on.code_fenced ≡ true → May name.CodeFlowChunk
       → Are (cond is_closed (span_marks bytes name.CodeFencedFence (line_text line) (sequence_marks bytes name.CodeFencedFenceSequence (run f.byte (unindented (bytes_of (line_text line)))) (line_text line))) (code_marks bytes f.indent (line_text line) ++ line_end bytes line))
-  closings f true line h c = search (over, sequences, h)
-  closings f false line h c = search (together, codes, endings, c)
+  closings f true line h c = search (over on bytes, sequences, h)
+  closings f false line h c = search (together on bytes, codes, endings, c)
 
   in-fences : (f : Fence) (is_closed : Bool) (lines : List Line) → on.code_fenced ≡ true → May name.CodeFlowChunk → Are (fenced_marks bytes f is_closed lines)
   in-fences f is_closed [] h c = none
@@ -183,7 +171,7 @@ module _ (on : Constructs) (bytes : List ℕ) where
   underlines seats h = around bytes None name.HeadingSetextUnderline seats h (sequences name.HeadingSetextUnderlineSequence _ seats h)
 
   block-names : (block : LeafBlock) → IsOn on block → Are (leaf_block_marks bytes block)
-  block-names (blank_line line) h = both (whites (line_text line)) (alone bytes name.BlankLineEnding (ending_of line) refl)
+  block-names (blank_line line) h = both (whites on bytes (line_text line)) (alone bytes name.BlankLineEnding (ending_of line) refl)
   block-names (break_line line) h = over-block name.ThematicBreak false (line ∷ []) h (breaks (length line) (line_text line) h)
   block-names (atx_heading line) h = over-block name.HeadingAtx false (line ∷ []) h (headings (line_text line) h)
   block-names (paragraph lines) h = over-block name.Paragraph false lines refl (texts false lines)

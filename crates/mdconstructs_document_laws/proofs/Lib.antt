@@ -1,7 +1,6 @@
 pub mod BlockPlaces
 pub mod ChildNames
 pub mod DocumentNames
-pub mod Elements
 mod Examples
 pub mod FlowNames
 pub mod HtmlStarts

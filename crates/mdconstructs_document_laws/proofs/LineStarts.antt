@@ -76,37 +76,14 @@ html-first any_tag r e = elim (or_cases (is_open_tag r) (is_closing_tag r) e) [
   | inr two ↦ by-front 60 4 (drop 1 (codes "</")) r (and_parts (starts_with (codes "</") r) _ two).0 refl
 ]
 
+or-other : (kind : HtmlKind) (r : List ℕ) → (begins kind r ≡ false → group r ≡ 4) → group r ≡ 4
+or-other kind r other = elim (cases_Bool (begins kind r)) [ inl e ↦ html-first kind r e | inr e ↦ other e ]
+
 html-some : (r : List ℕ) → is_some (html_kind r) ≡ true → group r ≡ 4
 html-some r h =
-    elim (cases_Bool (begins raw r)) [
-      | inl e ↦ html-first raw r e
-      | inr e0 ↦
-          elim (cases_Bool (begins block_tag r)) [
-            | inl e ↦ html-first block_tag r e
-            | inr e1 ↦
-                elim (cases_Bool (begins comment r)) [
-                  | inl e ↦ html-first comment r e
-                  | inr e2 ↦
-                      elim (cases_Bool (begins instruction r)) [
-                        | inl e ↦ html-first instruction r e
-                        | inr e3 ↦
-                            elim (cases_Bool (begins declaration r)) [
-                              | inl e ↦ html-first declaration r e
-                              | inr e4 ↦
-                                  elim (cases_Bool (begins cdata r)) [
-                                    | inl e ↦ html-first cdata r e
-                                    | inr e5 ↦
-                                        elim (cases_Bool (begins any_tag r)) [
-                                          | inl e ↦ html-first any_tag r e
-                                          | inr e6 ↦
-                                              (let none : html_kind r ≡ None = rw (e0, e1, e2, e3, e4, e5, e6) refl in absurd (false≢true (sym (ap is_some none) ∙ h)))
-                                        ]
-                                  ]
-                            ]
-                      ]
-                ]
-          ]
-    ]
+    or-other raw r (λ e0. or-other block_tag r (λ e1. or-other comment r (λ e2. or-other instruction r (λ e3. or-other declaration r (λ e4. or-other cdata r (λ e5. or-other any_tag r (λ e6.
+    let none : html_kind r ≡ None = rw (e0, e1, e2, e3, e4, e5, e6) refl in
+    absurd (false≢true (sym (ap is_some none) ∙ h)))))))))
 
 -- ---- list markers
 digit-group : (b : ℕ) → (nat_le 48 b && nat_le b 57) ≡ true → group_at b ≡ 7

@@ -121,9 +121,6 @@ module _ (on : Constructs) where
   abbrev AreParts : List Part → Type 0
   AreParts ps = AllByRecursion IsPart ps
 
-  parts-append : (ps qs : List Part) → AreParts ps → AreParts qs → AreParts (ps ++ qs)
-  parts-append ps qs h k = every-append IsPart ps qs h k
-
   runs-of : (ps : List Part) → AreParts ps → AllByRecursion IsRunOn (runs_of_parts ps)
   runs-of [] h = tt
   runs-of (run r ∷ ps) h = (h.0, runs-of ps h.1)
@@ -189,7 +186,7 @@ module _ (on : Constructs) where
 
   all-parts : (ws : List Waiting) (behind : List Part) → AreWaiting ws → AreParts behind → AreParts (all_parts ws behind)
   all-parts [] behind h k = k
-  all-parts (w ∷ ws) behind h k = all-parts ws (w.before ++ events (as_data w.opener) ∷ behind) h.3 (parts-append w.before (events (as_data w.opener) ∷ behind) h.2 (data-of-it w.opener, k))
+  all-parts (w ∷ ws) behind h k = all-parts ws (w.before ++ events (as_data w.opener) ∷ behind) h.3 (every-append IsPart w.before (events (as_data w.opener) ∷ behind) h.2 (data-of-it w.opener, k))
 
   abbrev Left : List (List Event) → Part × List Run → Type 0
   Left spans p = IsPart p.0 × AllByRecursion IsRunOn p.1 × (runs_among spans ≤ length p.1)
@@ -209,29 +206,29 @@ module _ (on : Constructs) where
   is-added : (span : List Event) (spans : List (List Event)) (z : SoFar) → IsFine on span → is_bracket span ≡ false → IsSoFar (span ∷ spans) z → IsSoFar spans (added span z)
   is-added span spans z f o h =
       let p = is-part span spans z.runs f o h.runs h.few in
-      record { waits = h.waits; behind = parts-append z.behind ((part_of span z.runs).0 ∷ []) h.behind (p.0, tt); runs = p.1; few = p.2 }
+      record { waits = h.waits; behind = every-append IsPart z.behind ((part_of span z.runs).0 ∷ []) h.behind (p.0, tt); runs = p.1; few = p.2 }
 
   is-failed : (span : List Event) (spans : List (List Event)) (ws : List Waiting) (z : SoFar) → AreWaiting ws → IsSoFar (span ∷ spans) z → IsSoFar spans (failed span ws z)
   is-failed span spans [] z w h = record {
     waits = h.waits;
-    behind = parts-append z.behind (events (as_data span) ∷ []) h.behind (data-of-it span, tt);
+    behind = every-append IsPart z.behind (events (as_data span) ∷ []) h.behind (data-of-it span, tt);
     runs = h.runs;
     few = (let few = h.few in omega (arith, few));
   }
   is-failed span spans (w ∷ ws) z a h = record {
     waits = a.3;
     behind =
-        parts-append w.before (events (as_data w.opener) ∷ (z.behind ++ events (as_data span) ∷ [])) a.2
-        (data-of-it w.opener, parts-append z.behind (events (as_data span) ∷ []) h.behind (data-of-it span, tt));
+        every-append IsPart w.before (events (as_data w.opener) ∷ (z.behind ++ events (as_data span) ∷ [])) a.2
+        (data-of-it w.opener, every-append IsPart z.behind (events (as_data span) ∷ []) h.behind (data-of-it span, tt));
     runs = h.runs;
     few = (let few = h.few in omega (arith, few));
   }
 
   is-ended : (span tail : List Event) (spans : List (List Event)) (ws : List Waiting) (z : SoFar) → Are span → is_named LabelEnd span ≡ true → Are tail → AreWaiting ws → IsSoFar spans z → IsSoFar spans (ended span tail ws z)
-  is-ended span tail spans [] z b e l w h = record { waits = h.waits; behind = parts-append z.behind (events (span ++ tail) ∷ []) h.behind (and b l, tt); runs = h.runs; few = h.few }
+  is-ended span tail spans [] z b e l w h = record { waits = h.waits; behind = every-append IsPart z.behind (events (span ++ tail) ∷ []) h.behind (and b l, tt); runs = h.runs; few = h.few }
   is-ended span tail spans (w ∷ ws) z b e l a h = record {
     waits = a.3;
-    behind = parts-append w.before (events (made w.opener z.behind span tail) ∷ []) a.2 (is-made w.opener z.behind span tail a.0 a.1 h.behind b e l, tt);
+    behind = every-append IsPart w.before (events (made w.opener z.behind span tail) ∷ []) a.2 (is-made w.opener z.behind span tail a.0 a.1 h.behind b e l, tt);
     runs = h.runs;
     few = h.few;
   }

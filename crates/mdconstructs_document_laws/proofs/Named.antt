@@ -1,12 +1,15 @@
 -- What names lists of events and of marks have, by what they are made of.
-use Rattle.std.proofs.Common.{ℕ, ◌+◌, List, [], ◌∷◌, ◌++◌, Some, None, Option}
+use Rattle.std.proofs.Common.{◌≡◌, ℕ, ◌+◌, List, [], ◌∷◌, ◌++◌, true, Some, None, Option, refl}
 use Rattle.std.specs.List.{AllByRecursion, flat_map}
 use Rattle.markdown_base.proofs.Common.{every-append}
+use Rattle.markdown_base.specs.declared.configuration.Constructs.{Constructs}
 use Rattle.markdown_base.specs.declared.event.Event.{Event}
 use Rattle.markdown_base.specs.declared.event.Name.{Name}
+use Rattle.markdown_base.specs.declared.event.Name.TheVariants as name
 use Rattle.markdown_base.specs.Virtual.{Seat}
 use Rattle.mdconstructs_machines.specs.Spans.{leaf, span}
-use Rattle.mdconstructs_flow_read.specs.LeafEvents.{Chunk, Mark, chunk_span, leaf_marks, linked_from}
+use Rattle.mdconstructs_flow_read.specs.LeafEvents.{Chunk, Mark, chunk_span, leaf_marks, linked_from, span_marks, white}
+use Rattle.mdconstructs_document_laws.specs.Names.{may_be_named}
 
 module _ (P : Name → Type 0) where
   -- each event has a name of P
@@ -66,3 +69,23 @@ module _ {P : Name → Type 0} where
 
     pub leafed : (n : Name) (seats : List Seat) → P n → Named P (leaf bytes n seats)
     leafed n seats p = spanned n seats p no-events
+
+-- ---- marks of constructs that are on
+module _ (on : Constructs) (bytes : List ℕ) where
+  abbrev May : Name → Type 0
+  May n = may_be_named on n ≡ true
+
+  abbrev Are : List Mark → Type 0
+  Are marks = Marked May marks
+
+  pub together : (xs ys : List Mark) → Are xs → Are ys → Are (xs ++ ys)
+  together xs ys h k = both h k
+
+  pub over : (n : Name) (seats : List Seat) (inside : List Mark) → May n → Are inside → Are (span_marks bytes n seats inside)
+  over n seats inside p h = around bytes None n seats p h
+
+  pub leafs : (n : Name) (seats : List Seat) → May n → Are (leaf_marks bytes n seats)
+  leafs n seats p = alone bytes n seats p
+
+  pub whites : (seats : List Seat) → Are (white bytes seats)
+  whites seats = alone bytes name.SpaceOrTab seats refl

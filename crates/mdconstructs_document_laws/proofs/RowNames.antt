@@ -3,7 +3,7 @@ use Rattle.std.proofs.Common.{◌≡◌, ℕ, zero, suc, ◌==◌, List, [], ◌
 use Rattle.std.proofs.lemmas.Bool.{and_parts, cond_both}
 use Rattle.std.specs.List.{AllByRecursion, flat_map}
 use Rattle.std.specs.Prelude.{◌&&◌, ◌||◌, nat_le, nat_lt}
-use Rattle.markdown_base.proofs.Common.{every-append}
+use Rattle.markdown_base.proofs.Common.{every-append, every-drop, every-reverse, every-take}
 use Rattle.markdown_base.specs.declared.configuration.Constructs.{Constructs}
 use Rattle.markdown_base.specs.declared.event.Name.{Name}
 use Rattle.markdown_base.specs.declared.event.Name.TheVariants.{ListOrdered, ListUnordered}
@@ -19,7 +19,6 @@ use Rattle.mdconstructs_containers.specs.Skeleton.{Frame, Part, frames_at, frame
 use Rattle.mdconstructs_definitions.specs.Rows.{Known, known_after, row_of, rows, rows_from}
 use Rattle.mdconstructs_definitions.specs.Sections.{Inside, Section, before_defined, begins_text, cut, defined, defined_in, defining, in_same, lines, lines_defined, paragraph_of, sections, sections_in, sections_of, text_in, undefined}
 use Rattle.mdconstructs_document_laws.specs.Names.{may_be_named}
-use Rattle.mdconstructs_document_laws.proofs.Elements.{every-drop, every-reverse, every-take}
 
 module _ (on : Constructs) where
   abbrev May : Name → Type 0
@@ -122,7 +121,7 @@ module _ (on : Constructs) where
   abbrev pub FramesAreOn : List Frame → Type 0
   FramesAreOn fs = AllByRecursion (λ (f : Frame). May f.name) fs
 
-  list-on : (i : Item) → on.list_item ≡ true → May (list_name i)
+  pub list-on : (i : Item) → on.list_item ≡ true → May (list_name i)
   list-on i h = cond_both (nat_le 1 i.digits) ListOrdered ListUnordered May (λ e. h) (λ e. h)
 
   frames-of-on : (c : Container) → IsOn c → FramesAreOn (frames_of c)

@@ -2,7 +2,7 @@
 use Rattle.std.proofs.Common.{◌≡◌, ℕ, suc, ◌+◌, ◌-◌, ◌==◌, List, [], ◌∷◌, ◌++◌, Bool, true, false, cond, Some, None, Option, refl, take, drop, length, map, reverse}
 use Rattle.std.proofs.lemmas.Bool.{cond_both}
 use Rattle.std.specs.List.{AllByRecursion, flat_map, prefix_len}
-use Rattle.markdown_base.proofs.Common.{every-append}
+use Rattle.markdown_base.proofs.Common.{every-append, every-drop, every-reverse, every-take}
 use Rattle.markdown_base.specs.declared.configuration.Constructs.{Constructs}
 use Rattle.markdown_base.specs.declared.event.Kind.TheVariants.{Enter, Exit}
 use Rattle.markdown_base.specs.declared.event.Name.{Name}
@@ -16,21 +16,20 @@ use Rattle.mdconstructs_labels.specs.Tails.{begins_with}
 use Rattle.mdconstructs_machines.specs.LineEvents.{ending_of, line_text, lines_in}
 use Rattle.mdconstructs_machines.specs.Spans.{event}
 use Rattle.mdconstructs_flow_read.specs.LeafBlocks.{bytes_of}
-use Rattle.mdconstructs_flow_read.specs.LeafEvents.{Mark, leaf_marks, span_marks, white}
+use Rattle.mdconstructs_flow_read.specs.LeafEvents.{Mark, leaf_marks, white}
 use Rattle.mdconstructs_flow_read.specs.LineKinds.{indent}
-use Rattle.mdconstructs_lines.specs.Containers.{Container, Item, Prefix, item, quote}
+use Rattle.mdconstructs_lines.specs.Containers.{Container, Prefix, item, quote}
 use Rattle.mdconstructs_containers.specs.Prefixes.{columns_of}
 use Rattle.mdconstructs_containers.specs.Rows.{Row, has_none, rest_of}
 use Rattle.mdconstructs_containers.specs.Skeleton.{Frame, Part, Piece, begin_of, begun_all, begun_marks, chained_from, chunks_of, end_of, ending_marks, enters_of, exits, going_marks, inside_of, is_held, joined_pieces, last_line, list_name, pieces_of, prefixes_marks, shared}
-use Rattle.mdconstructs_definitions.specs.Definitions.{Place, StringLine, byte_at, definition_marks, definitions_marks, destination_marks, ending_at, further_line, gap_marks, is_byte, line_marks, marked, places_in, places_of, seats_of, string, string_lines, text_of}
+use Rattle.mdconstructs_definitions.specs.Definitions.{Place, StringLine, byte_at, definitions_marks, destination_marks, ending_at, further_line, gap_marks, is_byte, line_marks, marked, places_in, places_of, seats_of, string, string_lines, text_of}
 use Rattle.mdconstructs_definitions.specs.Definitions as definitions
 use Rattle.mdconstructs_definitions.specs.Rows.{rows}
 use Rattle.mdconstructs_definitions.specs.Sections.{Inside, Section, defined, lines}
 use Rattle.mdconstructs_definitions.specs.Skeleton.{all_rows, behind_definitions, behind_marks, inside_marks, section_marks, sections_in_seats, sections_marks, skeleton}
 use Rattle.mdconstructs_document_laws.specs.Names.{may_be_named}
-use Rattle.mdconstructs_document_laws.proofs.Named.{Marked, Named, alone, around, both, none}
-use Rattle.mdconstructs_document_laws.proofs.Elements.{every-drop, every-reverse, every-take}
-use Rattle.mdconstructs_document_laws.proofs.RowNames.{FramesAreOn, InsideIsOn, IsOn, PartIsOn, PrefixesAreOn, RowIsOn, RowsAreOn, SectionIsOn, SectionsAreOn, rows-on, sections-on}
+use Rattle.mdconstructs_document_laws.proofs.Named.{Marked, Named, around, both, none, leafs, over, together, whites}
+use Rattle.mdconstructs_document_laws.proofs.RowNames.{FramesAreOn, InsideIsOn, IsOn, PartIsOn, PrefixesAreOn, RowIsOn, RowsAreOn, SectionIsOn, SectionsAreOn, rows-on, sections-on, list-on}
 
 module _ (on : Constructs) (bytes : List ℕ) where
   abbrev May : Name → Type 0
@@ -39,38 +38,23 @@ module _ (on : Constructs) (bytes : List ℕ) where
   abbrev Are : List Mark → Type 0
   Are marks = Marked May marks
 
-  together : (xs ys : List Mark) → Are xs → Are ys → Are (xs ++ ys)
-  together xs ys h k = both h k
-
-  over : (n : Name) (seats : List Seat) (inside : List Mark) → May n → Are inside → Are (span_marks bytes n seats inside)
-  over n seats inside p h = around bytes None n seats p h
-
-  leafs : (n : Name) (seats : List Seat) → May n → Are (leaf_marks bytes n seats)
-  leafs n seats p = alone bytes n seats p
-
-  whites : (seats : List Seat) → Are (white bytes seats)
-  whites seats = alone bytes name.SpaceOrTab seats refl
-
   -- ---- prefixes
   goings : (c : Container) (seats : List Seat) → IsOn on c → Are (going_marks bytes c seats)
-  goings (quote line) seats h = search (together, over, leafs, whites, h)
-  goings (item i) seats h = whites seats
+  goings (quote line) seats h = search (together on bytes, over on bytes, leafs on bytes, whites on bytes, h)
+  goings (item i) seats h = whites on bytes seats
 
   begins : (c : Container) (seats : List Seat) → IsOn on c → Are (begun_marks bytes c seats)
   begins (quote line) seats h = goings (quote line) seats h
-  begins (item i) seats h = search (together, over, leafs, whites, h) depth 8
+  begins (item i) seats h = search (together on bytes, over on bytes, leafs on bytes, whites on bytes, h) depth 8
 
   prefixes : (ps : List Prefix) (seats : List Seat) → PrefixesAreOn on ps → Are (prefixes_marks bytes ps seats)
   prefixes [] seats h = none
   prefixes (p ∷ ps) seats h = both (goings p.container (take p.size seats) h.0) (prefixes ps (drop p.size seats) h.1)
 
-  list-may : (i : Item) → on.list_item ≡ true → May (list_name i)
-  list-may i h = cond_both _ name.ListOrdered name.ListUnordered May (λ e. h) (λ e. h)
-
   enters : (c : Container) (place : Point) → IsOn on c → Are (enters_of bytes c place)
   enters (quote line) place h = record { all = (h, tt) }
   enters (item i) place h =
-      let list : Are ((event bytes Enter (list_name i) place, None) ∷ []) = record { all = (list-may i h, tt) } in
+      let list : Are ((event bytes Enter (list_name i) place, None) ∷ []) = record { all = (list-on on i h, tt) } in
       let this : Are ((event bytes Enter name.ListItem place, None) ∷ []) = record { all = (h, tt) } in
       both (cond_both (i.list == i.line) ((event bytes Enter (list_name i) place, None) ∷ []) [] Are (λ e. list) (λ e. none)) this
 
@@ -101,7 +85,7 @@ module _ (on : Constructs) (bytes : List ℕ) where
   chunks has_previous (p ∷ ps) h = both h.0 (both (around bytes _ name.Data p.seats refl none) (chunks true ps h.1))
 
   insides : (part : Part) → PartIsOn on part → Are (inside_of bytes part)
-  insides part h = cond_both part.first.is_blank _ _ Are (λ e. whites _) (λ e. by (joined_pieces bytes (pieces_of bytes (is_held part) part.first part.more)) (joins _ (pieces (is_held part) part.first part.more h.first h.more)))
+  insides part h = cond_both part.first.is_blank _ _ Are (λ e. whites on bytes _) (λ e. by (joined_pieces bytes (pieces_of bytes (is_held part) part.first part.more)) (joins _ (pieces (is_held part) part.first part.more h.first h.more)))
     where
       by : (ps : List (Piece bytes)) → AllByRecursion PieceIs ps → Are (elim ps [ [] ↦ [] | p ∷ ps ↦ chunks_of bytes false (record p { before = [] } ∷ ps) ])
       by [] k = none
@@ -113,7 +97,7 @@ module _ (on : Constructs) (bytes : List ℕ) where
       by : (ps : List (Piece bytes)) → AllByRecursion PieceIs ps
           → Are (elim ps [ [] ↦ [] | p ∷ ps ↦ white bytes (take (indent (rest_of part.first)) p.seats) ++ chunks_of bytes false (record p { before = []; seats = drop (indent (rest_of part.first)) p.seats } ∷ ps) ])
       by [] k = none
-      by (p ∷ ps) k = both (whites (take (indent (rest_of part.first)) p.seats)) (chunks false (record p { before = []; seats = drop (indent (rest_of part.first)) p.seats } ∷ ps) (none, k.1))
+      by (p ∷ ps) k = both (whites on bytes (take (indent (rest_of part.first)) p.seats)) (chunks false (record p { before = []; seats = drop (indent (rest_of part.first)) p.seats } ∷ ps) (none, k.1))
 
   -- ---- definitions
   abbrev PlaceIs : Place → Type 0
@@ -138,10 +122,10 @@ module _ (on : Constructs) (bytes : List ℕ) where
   endings : (ps : List Place) → PlacesAre ps → Are (flat_map (definitions.ending_marks bytes) ps)
   endings [] h = none
   endings (byte_at s ∷ ps) h = both none (endings ps h.1)
-  endings (ending_at ending further marks ∷ ps) h = both (both (leafs name.LineEnding ending refl) h.0) (endings ps h.1)
+  endings (ending_at ending further marks ∷ ps) h = both (both (leafs on bytes name.LineEnding ending refl) h.0) (endings ps h.1)
 
   gaps : (ps : List Place) → PlacesAre ps → Are (gap_marks bytes ps)
-  gaps ps h = let n = prefix_len is_byte ps in both (whites (seats_of (take n ps))) (both (endings (take 1 (drop n ps)) (every-take PlaceIs 1 (drop n ps) (every-drop PlaceIs n ps h))) (whites (seats_of (drop (n + 1) ps))))
+  gaps ps h = let n = prefix_len is_byte ps in both (whites on bytes (seats_of (take n ps))) (both (endings (take 1 (drop n ps)) (every-take PlaceIs 1 (drop n ps) (every-drop PlaceIs n ps h))) (whites on bytes (seats_of (drop (n + 1) ps))))
 
   abbrev LineIs : StringLine → Type 0
   LineIs line = PlacesAre line.behind
@@ -156,30 +140,30 @@ module _ (on : Constructs) (bytes : List ℕ) where
       by (line ∷ ls) k = k
 
   further : (seats : List Seat) → Are (further_line bytes seats)
-  further seats = both (whites (take (indent (bytes_of seats)) seats)) (leafs name.Data (drop (indent (bytes_of seats)) seats) refl)
+  further seats = both (whites on bytes (take (indent (bytes_of seats)) seats)) (leafs on bytes name.Data (drop (indent (bytes_of seats)) seats) refl)
 
   of-lines : (is_first : Bool) (ls : List StringLine) → AllByRecursion LineIs ls → Are (line_marks bytes is_first ls)
   of-lines is_first [] h = none
   of-lines is_first (line ∷ ls) h =
-      both (cond_both is_first (leaf_marks bytes name.Data line.seats) (further_line bytes line.seats) Are (λ e. leafs name.Data line.seats refl) (λ e. further line.seats)) (both (endings line.behind h.0) (of-lines false ls h.1))
+      both (cond_both is_first (leaf_marks bytes name.Data line.seats) (further_line bytes line.seats) Are (λ e. leafs on bytes name.Data line.seats refl) (λ e. further line.seats)) (both (endings line.behind h.0) (of-lines false ls h.1))
 
   module _ (d-on : on.definition ≡ true) where
     strings : (n : Name) (ps : List Place) → May n → PlacesAre ps → Are (string bytes n ps)
-    strings n ps p h = over n (seats_of ps) _ p (of-lines true (string_lines ps) (string-lines-are ps h))
+    strings n ps p h = over on bytes n (seats_of ps) _ p (of-lines true (string_lines ps) (string-lines-are ps h))
 
     marked-are : (mark inside : Name) (ps : List Place) → May mark → May inside → PlacesAre ps → Are (marked bytes mark inside ps)
     marked-are mark inside ps m i h =
         let last = length ps - 1 in
-        both (leafs mark (seats_of (definitions.between 0 1 ps)) m) (both (strings inside (definitions.between 1 last ps) i (some-places 1 last ps h)) (leafs mark (seats_of (drop last ps)) m))
+        both (leafs on bytes mark (seats_of (definitions.between 0 1 ps)) m) (both (strings inside (definitions.between 1 last ps) i (some-places 1 last ps h)) (leafs on bytes mark (seats_of (drop last ps)) m))
 
     destinations : (ps : List Place) → PlacesAre ps → Are (destination_marks bytes ps)
     destinations ps h =
         let c = begins_with 60 (text_of ps) in
-        over name.DefinitionDestination (seats_of ps) _ d-on
+        over on bytes name.DefinitionDestination (seats_of ps) _ d-on
         (cond_both c (definitions.span bytes name.DefinitionDestinationLiteral ps (marked bytes name.DefinitionDestinationLiteralMarker name.DefinitionDestinationString ps))
         (definitions.span bytes name.DefinitionDestinationRaw ps (string bytes name.DefinitionDestinationString ps)) Are
-        (λ e. over name.DefinitionDestinationLiteral (seats_of ps) _ d-on (marked-are name.DefinitionDestinationLiteralMarker name.DefinitionDestinationString ps d-on d-on h))
-        (λ e. over name.DefinitionDestinationRaw (seats_of ps) _ d-on (strings name.DefinitionDestinationString ps d-on h)))
+        (λ e. over on bytes name.DefinitionDestinationLiteral (seats_of ps) _ d-on (marked-are name.DefinitionDestinationLiteralMarker name.DefinitionDestinationString ps d-on d-on h))
+        (λ e. over on bytes name.DefinitionDestinationRaw (seats_of ps) _ d-on (strings name.DefinitionDestinationString ps d-on h)))
 
     titles : (d : Definition) (ps : List Place) → PlacesAre ps → (title : Option Stretch)
         → Are (elim title [
@@ -192,14 +176,14 @@ module _ (on : Constructs) (bytes : List ℕ) where
     titles d ps h (Some t) =
         let k = some-places t.from (end t) ps h in
         both (gaps (definitions.between (end d.destination) t.from ps) (some-places (end d.destination) t.from ps h))
-        (over name.DefinitionTitle (seats_of (places_of t ps)) _ d-on (marked-are name.DefinitionTitleMarker name.DefinitionTitleString (places_of t ps) d-on d-on k))
+        (over on bytes name.DefinitionTitle (seats_of (places_of t ps)) _ d-on (marked-are name.DefinitionTitleMarker name.DefinitionTitleString (places_of t ps) d-on d-on k))
 
     of-parts : (d : Definition) (ps : List Place) → PlacesAre ps → Are (definitions.parts_marks bytes d ps)
     of-parts d ps h =
         let label = places_of d.label ps in
         both (gaps (definitions.between 0 d.label.from ps) (some-places 0 d.label.from ps h))
-        (both (over name.DefinitionLabel (seats_of label) _ d-on (marked-are name.DefinitionLabelMarker name.DefinitionLabelString label d-on d-on (some-places d.label.from (end d.label) ps h)))
-        (both (leafs name.DefinitionMarker (seats_of (definitions.between (end d.label) (end d.label + 1) ps)) d-on)
+        (both (over on bytes name.DefinitionLabel (seats_of label) _ d-on (marked-are name.DefinitionLabelMarker name.DefinitionLabelString label d-on d-on (some-places d.label.from (end d.label) ps h)))
+        (both (leafs on bytes name.DefinitionMarker (seats_of (definitions.between (end d.label) (end d.label + 1) ps)) d-on)
         (both (gaps (definitions.between (end d.label + 1) d.destination.from ps) (some-places (end d.label + 1) d.destination.from ps h))
         (both (destinations (places_of d.destination ps) (some-places d.destination.from (end d.destination) ps h))
         (both (titles d ps h d.title)
@@ -208,7 +192,7 @@ module _ (on : Constructs) (bytes : List ℕ) where
     all-defined : (ds : List Definition) (ps : List Place) → PlacesAre ps → Are (definitions_marks bytes ds ps)
     all-defined [] ps h = none
     all-defined (d ∷ ds) ps h =
-        both (over name.Definition (seats_of (take d.size ps)) _ d-on (of-parts d (take d.size ps) (every-take PlaceIs d.size ps h)))
+        both (over on bytes name.Definition (seats_of (take d.size ps)) _ d-on (of-parts d (take d.size ps) (every-take PlaceIs d.size ps h)))
         (both (endings (definitions.between d.size (d.size + 1) ps) (some-places d.size (d.size + 1) ps h)) (all-defined ds (drop (d.size + 1) ps) (every-drop PlaceIs (d.size + 1) ps h)))
 
   -- ---- sections
@@ -232,7 +216,7 @@ module _ (on : Constructs) (bytes : List ℕ) where
   ends : (part : Part) → Are (ending_marks bytes part)
   ends part =
       cond_both (is_held part) [] _ Are (λ e. none)
-      (λ e. leafs (cond part.first.is_blank name.BlankLineEnding name.LineEnding) (ending_of (last_line bytes part)) (cond_both part.first.is_blank name.BlankLineEnding name.LineEnding May (λ b. refl) (λ b. refl)))
+      (λ e. leafs on bytes (cond part.first.is_blank name.BlankLineEnding name.LineEnding) (ending_of (last_line bytes part)) (cond_both part.first.is_blank name.BlankLineEnding name.LineEnding May (λ b. refl) (λ b. refl)))
 
   behind : (part : Part) (ss : List Section) → PartIsOn on part → SectionsAreOn on ss → Are (behind_marks bytes part ss)
   behind part [] h k = both (all-exit part.frames (end_of bytes part) h.frames) (ends part)

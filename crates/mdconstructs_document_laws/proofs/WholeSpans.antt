@@ -1,7 +1,8 @@
 -- Lists of whole spans, one behind another: where a span is open they are passed over, and each outermost span that is a run is counted as one.
-use Rattle.std.proofs.Common.{◌≡◌, ℕ, zero, suc, ◌+◌, ◌-◌, ◌≤◌, ◌==◌, ◌∙◌, List, [], ◌∷◌, ◌++◌, Bool, true, false, cond, Option, Some, append_assoc, length-append, arith, length, refl, sym, ap, subst}
-use Rattle.std.proofs.lemmas.Bool.Decides.{nat_tests}
+use Rattle.std.proofs.Common.{◌≡◌, ℕ, zero, suc, ◌+◌, ◌-◌, ◌≤◌, ◌==◌, ◌∙◌, List, [], ◌∷◌, ◌++◌, true, false, cond, Option, Some, append_assoc, length-append, arith, length, refl, sym, ap, subst}
 use Rattle.std.specs.Prelude.{◌&&◌, slice_get}
+use Rattle.std.proofs.Math.Bool.{and-false}
+use Rattle.std.proofs.Math.Dec.{eqb-suc-zero}
 use Rattle.markdown_base.specs.declared.event.Event.{Event}
 use Rattle.markdown_base.specs.declared.event.Kind.{Kind}
 use Rattle.markdown_base.specs.declared.event.Kind.TheVariants.{Enter, Exit}
@@ -44,19 +45,16 @@ both-whole xs ys h k = record {
       (second.0, second.1, ap (runs_from bytes i (suc d) before) (append_assoc xs ys rest) ∙ first.2 ∙ second.2);
 }
 
-open-yet : (d : ℕ) → (suc d == 0) ≡ false
-open-yet d = grind (arith, nat_tests)
-
 -- behind an event, with so many spans open
 deeper : (e : Event) (d : ℕ) (es : List Event) → depth_after e.kind d ≡ suc (depth_after e.kind d - 1) → span_at d (e ∷ es) ≡ (e ∷ (span_at (depth_after e.kind d) es).0, (span_at (depth_after e.kind d) es).1)
 deeper e d es h =
-    let more : (depth_after e.kind d == 0) ≡ false = ap (λ n. n == 0) h ∙ open-yet (depth_after e.kind d - 1) in
+    let more : (depth_after e.kind d == 0) ≡ false = ap (λ n. n == 0) h ∙ eqb-suc-zero (depth_after e.kind d - 1) in
     ap (λ b. cond b (e ∷ [], es) (e ∷ (span_at (depth_after e.kind d) es).0, (span_at (depth_after e.kind d) es).1)) more
 
 step : (bytes : List ℕ) (i d m : ℕ) (before : Option ℕ) (e : Event) (es : List Event) → depth_after e.kind (suc d) ≡ m → runs_from bytes i (suc d) before (e ∷ es) ≡ runs_from bytes (i + 1) m (Some e.point.index) es
 step bytes i d m before e [] h = refl
 step bytes i d m before e (f ∷ es) h =
-    ap (λ b. cond (b && is_sequence e f) (run_at bytes i e f before (index_of_event (slice_get es 0)) ∷ runs_from bytes (i + 2) (suc d) (Some f.point.index) es) (runs_from bytes (i + 1) (depth_after e.kind (suc d)) (Some e.point.index) (f ∷ es))) (open-yet d)
+    ap (λ b. cond (b && is_sequence e f) (run_at bytes i e f before (index_of_event (slice_get es 0)) ∷ runs_from bytes (i + 2) (suc d) (Some f.point.index) es) (runs_from bytes (i + 1) (depth_after e.kind (suc d)) (Some e.point.index) (f ∷ es))) (eqb-suc-zero d)
     ∙ ap (λ k. runs_from bytes (i + 1) k (Some e.point.index) (f ∷ es)) h
 
 module _ (bytes : List ℕ) (n : Name) (s : Seat) (ss : List Seat) (inside : List Event) (h : IsWhole inside) where
@@ -127,11 +125,7 @@ long-no-run e f [] g = refl
 long-no-run e f (x ∷ xs) g = refl
 
 open-no-run : (e x : Event) → x.kind ≡ Enter → is_sequence e x ≡ false
-open-no-run e x h = rw h (both-false (is_enter e.kind && same_name e.name AttentionSequence))
-  where
-    both-false : (b : Bool) → (b && false) ≡ false
-    both-false true = refl
-    both-false false = refl
+open-no-run e x h = rw h (and-false (is_enter e.kind && same_name e.name AttentionSequence))
 
 module _ (bytes : List ℕ) (n : Name) (s : Seat) (ss : List Seat) where
   -- a span alone may be a run, and one around others is none
