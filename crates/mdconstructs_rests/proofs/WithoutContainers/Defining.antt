@@ -1,5 +1,5 @@
 -- A document that defines nothing has the blocks of its containers alone, and no label is defined in it.
-use Rattle.mdconstructs_rests.proofs.Prelude.{◌≡◌, ℕ, List, [], ◌∷◌, Bool, true, false, map, refl, sym, ap, and-left, and-right, AllByRecursion}
+use Rattle.mdconstructs_rests.proofs.Prelude.{◌≡◌, ℕ, List, [], ◌∷◌, Bool, true, false, map, refl, ap, and-left, and-right, AllByRecursion, not-true}
 use Rattle.std.specs.Prelude.{◌||◌, not}
 use Rattle.std.specs.List.{list_all}
 use Rattle.markdown_base.specs.declared.configuration.ParseOptions.{ParseOptions}
@@ -18,16 +18,12 @@ use Rattle.mdconstructs_labels.specs.Labels.{normalised}
 use Rattle.mdconstructs_machines.specs.LineEvents.{lines_in}
 use Rattle.mdconstructs_rests.specs.WithoutContainers.{defines_nothing}
 
-is-other : (b : Bool) → not b ≡ true → b ≡ false
-is-other true h = sym h
-is-other false h = refl
-
 every-bare : (all : List Row) → list_all (λ (row : Row). not (begins_with_bracket (rest_of row))) all ≡ true → AllByRecursion HasNoBracket all
 every-bare [] h = tt
 every-bare (row ∷ all) h =
     let here = not (begins_with_bracket (rest_of row)) in
     let more = list_all (λ (other : Row). not (begins_with_bracket (rest_of other))) all in
-    (is-other (begins_with_bracket (rest_of row)) (and-left here more h), every-bare all (and-right here more h))
+    (not-true (begins_with_bracket (rest_of row)) (and-left here more h), every-bare all (and-right here more h))
 
 -- so its definitions are none, and their labels are none
 none-normalised : (labels : List (List ℕ)) → map normalised labels ≡ [] → labels ≡ []

@@ -1,12 +1,12 @@
 -- The parts of lines in which no container begins: blank lines, and one stretch at most; and the marks of their skeleton.
-use Rattle.mdconstructs_rests.proofs.Prelude.{◌≡◌, ℕ, zero, suc, ◌+◌, ◌≤◌, ◌==◌, ◌&&◌, nat_le, List, [], ◌∷◌, ◌++◌, Bool, true, false, cond, not, length, take, drop, length-drop, refl, sym, ap, ◌∙◌, subst, arith, append_assoc, append-nil, map, AllByRecursion, flat_map, Constructs, Line, blank_line, Mark, alone, chunk_span, is_blank_line, last_end, leaf_block_marks, leaf_blocks_marks, leaf_marks, and-left, text_of, white, ending_of, line_text, Seat}
+use Rattle.mdconstructs_rests.proofs.Prelude.{◌≡◌, ℕ, zero, suc, ◌≤◌, ◌==◌, ◌&&◌, nat_le, List, [], ◌∷◌, ◌++◌, Bool, true, false, cond, not, length, take, drop, length-drop, refl, sym, ap, ◌∙◌, subst, arith, append_assoc, append-nil, map, AllByRecursion, flat_map, Constructs, Line, blank_line, Mark, alone, chunk_span, is_blank_line, last_end, leaf_block_marks, leaf_blocks_marks, leaf_marks, and-left, text_of, white, ending_of, line_text, Seat}
 use Rattle.std.specs.Prelude.{reverse}
 use Rattle.std.proofs.lemmas.Bool.{le-leb}
 use Rattle.markdown_base.specs.declared.event.Content.TheVariants as content
 use Rattle.markdown_base.specs.declared.event.Name.TheVariants as name
+use Rattle.markdown_base.proofs.Common.{every-drop}
 use Rattle.mdconstructs_flow_read.specs.BlocksRead.{block_seats}
 use Rattle.mdconstructs_containers.proofs.JoinLemmas.{join, join_is}
-use Rattle.mdconstructs_containers.proofs.RowFacts.{every_behind}
 use Rattle.mdconstructs_lines.specs.Containers.{Container}
 use Rattle.mdconstructs_containers.specs.Prefixes.{columns_of, containers_of}
 use Rattle.mdconstructs_containers.specs.Rows.{Leaf, Row, has_none, holds_ending}
@@ -53,7 +53,7 @@ parts-alone zero rows h = tt
 parts-alone (suc bound) [] h = tt
 parts-alone (suc bound) (row ∷ behind) h =
     let n = cond row.is_blank 0 (further behind) in
-    (record { frames = no-frames row behind h.0 h.1; stands = no-standing row behind h.0; begun = h.0.1 }, parts-alone bound (drop n behind) (every_behind IsBare n behind h.1))
+    (record { frames = no-frames row behind h.0 h.1; stands = no-standing row behind h.0; begun = h.0.1 }, parts-alone bound (drop n behind) (every-drop IsBare n behind h.1))
 
 module _ (bytes : List ℕ) where
   -- what is in a part, and the line ending behind it

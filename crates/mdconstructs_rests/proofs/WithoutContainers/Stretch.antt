@@ -1,12 +1,12 @@
 -- The leaf blocks of lines, where no container begins: those of the lines up to the last that is not left blank, and blank lines behind them.
-use Rattle.mdconstructs_rests.proofs.Prelude.{◌≡◌, ℕ, zero, suc, ◌+◌, ◌-◌, ◌≤◌, ◌&&◌, nat_le, List, [], ◌∷◌, ◌++◌, Bool, true, false, cond, length, take, drop, length-append, length-take, length-drop, refl, sym, ap, ◌∙◌, subst, arith, append_assoc, append-nil, map, AllByRecursion, Constructs, Line, LeafBlock, blank_line, paragraph, setext_heading, block_of_kind, bytes_of, ends_text, lines_until, underlined, underline_rank, Option, None, Some, Mark, is_blank_line, last_end, leaf_block_marks, leaf_blocks, leaf_blocks_marks, line_kind, text_of, cut, block_lines, LineKind, blank, indented, heading, fence, html, thematic_break, text, is_blank}
+use Rattle.mdconstructs_rests.proofs.Prelude.{◌≡◌, ℕ, zero, suc, ◌+◌, ◌≤◌, ◌&&◌, nat_le, List, [], ◌∷◌, ◌++◌, Bool, true, false, cond, length, take, drop, length-append, length-take, length-drop, refl, sym, ap, ◌∙◌, subst, arith, append_assoc, append-nil, map, AllByRecursion, Constructs, Line, LeafBlock, blank_line, paragraph, setext_heading, block_of_kind, bytes_of, ends_text, lines_until, underlined, underline_rank, Option, None, Some, Mark, is_blank_line, last_end, leaf_block_marks, leaf_blocks, leaf_blocks_marks, line_kind, text_of, cut, block_lines, LineKind, blank, indented, heading, fence, html, thematic_break, text, is_blank}
 use Rattle.std.proofs.Math.Seq.{drop-append_seam, take-append_seam}
 use Rattle.std.proofs.lemmas.Bool.{le-leb}
 use Rattle.std.proofs.lemmas.List.{drop-drop}
+use Rattle.markdown_base.proofs.Common.{every-take, every-drop}
 use Rattle.mdconstructs_flow_read.proofs.Lines.WholeLines.{IsWhole}
 use Rattle.mdconstructs_flow_read.proofs.Marks.Cuts.{IsCut}
 use Rattle.mdconstructs_flow_read.specs.LineKinds.{is_far, kind_of_rest, indent, unindented}
-use Rattle.mdconstructs_containers.proofs.RowFacts.{every_behind, every_front}
 use Rattle.mdconstructs_containers.specs.Rows.{Leaf, closed, holds_ending, leaf_after}
 use Rattle.mdconstructs_rests.proofs.Rests.{leaf-step}
 use Rattle.mdconstructs_rests.proofs.WithoutContainers.Ends.{IsNoBlank, closed-cut, cut_last, length-cut, text-twice}
@@ -174,7 +174,7 @@ module _ (on : Constructs) where
           let zs = cut_last ahead in
           let lines-are : block_lines c.0 ≡ ahead = is.lines in
           let own : with_lines c.0 ahead ≡ c.0 = own-lines line lines in
-          let block = closed-cut bytes c.0 some is.long (subst (AllByRecursion IsWhole) (sym lines-are) (every_front IsWhole c.1 all whole)) shut in
+          let block = closed-cut bytes c.0 some is.long (subst (AllByRecursion IsWhole) (sym lines-are) (every-take IsWhole c.1 all whole)) shut in
           let first : marks_of (leaf_blocks on ahead) ≡ leaf_block_marks bytes c.0 = ap marks_of (alone-blocks ahead (agree-take c.1 all) ahead-length) ∙ append-nil (leaf_block_marks bytes (with_lines c.0 ahead)) ∙ ap (leaf_block_marks bytes) own in
           let second : marks_of (leaf_blocks on zs) ≡ leaf_block_marks bytes (with_lines c.0 zs) =
           ap marks_of (alone-blocks zs (agree-trans zs ahead all (cut-agree ahead) (agree-take c.1 all)) (length-cut ahead ∙ ahead-length)) ∙ append-nil (leaf_block_marks bytes (with_lines c.0 zs)) in
@@ -304,7 +304,7 @@ module _ (on : Constructs) where
         let n = (block_at line lines).1 in
         let some = (cut on line lines).some in
         let rest = drop n all in
-        let more = stretch bound rest (omega (arith, l, some, length-drop n all)) (every_behind IsWhole n all whole) in
+        let more = stretch bound rest (omega (arith, l, some, length-drop n all)) (every-drop IsWhole n all whole) in
         elim (is_blank_line (text_of line)) as (λ b. is_blank_line (text_of line) ≡ b → IsStretch bytes all (kept on closed all) (holds_ending (leaf_behind on closed (take (kept on closed all) all)))) [
           | true ↦ λ e. blank-stretch line lines (kept on closed rest) refl e more
           | false ↦ λ e. full-stretch line lines (kept on closed rest) refl (no-blank (line_kind on (text_of line)) line lines (full-kind line e (is_blank on (line_kind on (text_of line))) refl)) whole (front on line lines e) more
