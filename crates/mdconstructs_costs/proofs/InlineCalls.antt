@@ -1,13 +1,8 @@
 -- Inline text and strings are read in linear time, whatever gaps their texts have.
-use Rattle.mdconstructs_costs.proofs.Prelude.{Bool, List, Some, [], ap, arith, cond, false, length, refl, subst, suc, sym, true, zero, ℕ, ◌&&◌, ◌*◌, ◌+◌, ◌-◌, ◌<◌, ◌==◌, ◌^◌, ◌≡◌, ◌≤◌, ◌∷◌, length-map, Contains, Content, Event, Seat, begins, content_at, text_from, Child, IsChild, IsDocument, Given, Option, IsReady, ReadsWithin}
-use Rattle.std.proofs.Math.Bool.{and-false}
+use Rattle.mdconstructs_costs.proofs.Prelude.{Bool, List, Some, [], arith, length, refl, subst, suc, sym, true, zero, ℕ, ◌*◌, ◌+◌, ◌-◌, ◌<◌, ◌^◌, ◌≡◌, ◌≤◌, ◌∷◌, length-map, Contains, Content, Event, Seat, begins, content_at, text_from, Child, IsChild, IsDocument, Given, Option, IsReady, ReadsWithin}
 use Rattle.markdown_base.specs.declared.configuration.Constructs.{Constructs}
 use Rattle.markdown_base.specs.declared.event.Content.TheVariants.{String, Text as TextContent}
 use Rattle.markdown_base.specs.declared.state.TheConstants.Name.{StringStart, TextStart}
-use Rattle.mdconstructs_full_references.proofs.Looks.{looks-are-linear as references-few}
-use Rattle.mdconstructs_full_references.specs.FullReferenceLooks.{full_reference_look, looks as reference_looks}
-use Rattle.mdconstructs_resources.proofs.Looks.Linear.{looks-are-linear}
-use Rattle.mdconstructs_resources.specs.ResourceLooks.{looks, resource_look}
 use Rattle.mdconstructs_text.specs.Parts.{bytes_of}
 use Rattle.mdconstructs_inlines.proofs.InlineMemory.{inlines-read}
 use Rattle.mdconstructs_inlines.proofs.InlinePrices.{looks_left}
@@ -16,30 +11,14 @@ use Rattle.mdconstructs_inlines.proofs.InlinesCounted.{calls-within as counted-w
 use Rattle.mdconstructs_inlines.proofs.StringCalls.{string_budget, strings-within}
 use Rattle.mdconstructs_inlines.specs.InlineRules.{inlines_rules}
 use Rattle.mdconstructs_inlines.specs.StringEvents.{string_events}
+use Rattle.mdconstructs_inlines.proofs.TailLooks.{tail-looks-linear}
 use Rattle.mdconstructs_costs.proofs.ChainCalls.{calls-within, content-of, is-text, only-one, reads-from}
 
 -- looks for tails of links, one at each `]`, are linear together
-looks-few : (on : Constructs) (seats : List Seat) → looks_left on seats ≤ 4 * looks (bytes_of seats) + (2 * reference_looks (bytes_of seats) + 10 * length seats)
-looks-few on [] = omega arith
-looks-few on (s ∷ ss) =
-    let bs = bytes_of ss in
-    let rest = looks-few on ss in
-    elim (s.byte == 93) as (λ t. cond (on.label_end && t) (4 * resource_look bs + (2 * full_reference_look bs + 10)) 0 + looks_left on ss
-    ≤ 4 * (cond t (resource_look bs) 0 + looks bs) + (2 * (cond t (full_reference_look bs) 0 + reference_looks bs) + 10 * suc (length ss))) [
-      | true ↦ elim on.label_end as (λ u. cond (u && true) (4 * resource_look bs + (2 * full_reference_look bs + 10)) 0 + looks_left on ss
-          ≤ 4 * (resource_look bs + looks bs) + (2 * (full_reference_look bs + reference_looks bs) + 10 * suc (length ss))) [
-            | true ↦ omega (arith, rest)
-            | false ↦ omega (arith, rest)
-          ]
-      | false ↦
-          let none : cond (on.label_end && false) (4 * resource_look bs + (2 * full_reference_look bs + 10)) 0 ≡ 0 = ap (λ t. cond t (4 * resource_look bs + (2 * full_reference_look bs + 10)) 0) (and-false on.label_end) in
-          omega (arith, none, rest)
-    ]
-
 looks-linear : (on : Constructs) (seats : List Seat) → looks_left on seats ≤ 236 * length seats
 looks-linear on seats =
     let size : length (bytes_of seats) ≡ length seats = length-map seats (λ (s : Seat). s.byte) in
-    omega (arith, looks-few on seats, looks-are-linear (bytes_of seats), references-few (bytes_of seats), size)
+    omega (arith, tail-looks-linear on (bytes_of seats), size)
 
 -- what is among two is one of them
 by-two : {P : Type 0} (v w c : Content) → Contains (v ∷ w ∷ []) c → (c ≡ v → P) → (c ≡ w → P) → P
