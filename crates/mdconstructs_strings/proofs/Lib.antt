@@ -6,9 +6,11 @@ pub mod Fronts
 pub mod Kept
 pub mod Laid
 pub mod Listed
+pub mod Nexts
 pub mod Orders
 pub mod Places
 pub mod Plain
 pub mod PlainRanges
 pub mod Ranges
+pub mod Rewritten
 pub mod Stretches

@@ -4,5 +4,6 @@
 mod items;
 pub mod laws;
 mod placed;
+mod rewriting;
 mod seats;
 pub mod strings;

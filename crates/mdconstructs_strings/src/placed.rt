@@ -8,11 +8,12 @@ ghost use Rattle.mdconstructs_strings.specs.Laid.{bare, found_of, item_between, 
 ghost use Rattle.mdconstructs_inline_constructs.specs.StringItems.{string_seat_events};
 
 use crate::items::{Item, Kind, item_at, marks, size};
+use crate::rewriting::Rewriting;
 use crate::seats::Range;
 use markdown_base::configuration::Constructs;
 use markdown_base::event::{self, Event, Name, Point};
 use mdconstructs_turns::Turns;
-use std::alloc::AllocError;
+use std::alloc::{AllocError, Global};
 use std::sync::ledger::Ledger;
 
 /// Adds an event without a link.
@@ -166,6 +167,33 @@ pub(crate) fn push_items<L: Ledger>(
         turns.add_one();
         let item = item_at(on, &text[next..], turns);
         push_item(out, range.places.as_slice(), next, item)?;
+        next += size(item);
+    }
+    Ok(())
+}
+
+/// Writes the events of a range, read as a string, as [`push_items`] adds them.
+pub(crate) fn write_items<L: Ledger>(
+    alloc: Global,
+    on: &Constructs,
+    range: &Range,
+    list: &mut Rewriting,
+    turns: &mut Turns<L>,
+) -> Result<(), AllocError>
+    requires many { IsRange range.now }
+    ensures items { OnOk result ((bytes : List ℕ) (seats : List Seat) → IsRangeOf bytes seats range.now → list.new ≡ (list.old.0 ++ string_seat_events on.now bytes seats, list.old.1)) }
+    ensures turns { OnOk result (turns.new ≤ turns.old + 2 * length range.now.bytes.items) }
+{
+    let text = range.bytes.as_slice();
+    let mut events = Vec::new(alloc);
+    let mut next = 0;
+    while next < text.len() {
+        turns.add_one();
+        let item = item_at(on, &text[next..], turns);
+        events.clear();
+        push_item(&mut events, range.places.as_slice(), next, item)?;
+        let more = events.as_slice();
+        list.add(more)?;
         next += size(item);
     }
     Ok(())

@@ -1,15 +1,16 @@
 //! Strings among events: each line of a string that stands as data is read, and its escapes and character references come in its place.
 
-ghost use Rattle.std.specs.Prelude.{◌≡◌, ◌+◌, ◌*◌, ◌<◌, ◌≤◌, ◌++◌, ◌∷◌, [], ◌&&◌, drop, length, true, None, IfOk, OnOk};
+ghost use Rattle.std.specs.Prelude.{◌≡◌, ◌+◌, ◌*◌, ◌<◌, ◌≤◌, ◌++◌, ◌∷◌, [], ◌&&◌, drop, take, length, true, None, IfOk, OnOk};
 ghost use Rattle.markdown_base.specs.declared.configuration.Constructs.{Constructs};
 ghost use Rattle.markdown_base.specs.Places.{IsPointOf};
 ghost use Rattle.markdown_base.specs.Virtual.{IsWithinLimit};
 ghost use Rattle.markdown_tokenizer.specs.AtPlaces.{AreAtPlaces};
-ghost use Rattle.mdconstructs_strings.specs.Costs.{string_size};
+ghost use Rattle.mdconstructs_strings.specs.Costs.{string_size, string_size_from};
 ghost use Rattle.mdconstructs_strings.specs.Reached.{begins_with_data};
-ghost use Rattle.mdconstructs_strings.specs.Strings.{in_string_after, is_data, is_string, line_as_string, seats_between, with_strings};
+ghost use Rattle.mdconstructs_strings.specs.Strings.{in_string_after, is_data, is_string, line_as_string, seats_between, with_strings, with_strings_from};
 
-use crate::placed::push_items;
+use crate::placed::{push_items, write_items};
+use crate::rewriting::Rewriting;
 use crate::seats::{are_plain_between, range_between};
 use markdown_base::configuration::{Constructs, TabSize};
 use markdown_base::event::{Event, Kind, Name, Point};
@@ -235,20 +236,30 @@ fn is_plain_data<L: Ledger>(
     are_plain_between(bytes, tab, &enter.point, &exit.point, turns)
 }
 
-/// Whether all data in strings is plain. Then nothing changes where strings are read. May return false where it is.
-fn are_plain<L: Ledger>(bytes: &[u8], tab: TabSize, events: &[Event], turns: &mut Turns<L>) -> bool
+/// How many events come before the first data of a string that is not plain, or all; and whether the event behind them stands in a string, by
+/// whether the first one does. Data that is plain may be taken for some that is not.
+fn plain_events<L: Ledger>(
+    bytes: &[u8],
+    tab: TabSize,
+    events: &[Event],
+    first: bool,
+    turns: &mut Turns<L>,
+) -> (usize, bool)
     requires limit { IsWithinLimit tab bytes.now }
     requires places { AreAtPlaces tab bytes.now events.now }
-    ensures plain { result ≡ true → (on : Constructs) → with_strings on tab bytes.now events.now ≡ events.now }
-    ensures linear { turns.new ≤ turns.old + length events.now + string_size tab bytes.now events.now }
+    ensures plain { (on : Constructs) → with_strings_from on tab bytes.now first events.now ≡ take result.0 events.now ++ with_strings_from on tab bytes.now result.1 (drop result.0 events.now) }
+    ensures within { result.0 ≤ length events.now }
+    ensures data { result.0 < length events.now → (result.1 && begins_with_data (drop result.0 events.now)) ≡ true }
+    ensures size { string_size_from tab bytes.now result.1 (drop result.0 events.now) ≤ string_size_from tab bytes.now first events.now }
+    ensures linear { turns.new + string_size_from tab bytes.now result.1 (drop (result.0 + 2) events.now) ≤ turns.old + result.0 + 1 + string_size_from tab bytes.now first events.now }
 {
-    let mut inside = false;
+    let mut inside = first;
     let mut next = 0;
     while next < events.len() {
         turns.add_one();
         if is_string_data(inside, events, next) {
             if !is_plain_data(bytes, tab, &events[next], &events[next + 1], turns) {
-                return false;
+                return (next, inside);
             }
             next += 2;
         } else {
@@ -256,11 +267,62 @@ fn are_plain<L: Ledger>(bytes: &[u8], tab: TabSize, events: &[Event], turns: &mu
             next += 1;
         }
     }
-    true
+    (next, inside)
 }
 
-/// The events of a document with their strings read, as `put_strings_counted` has them. If the data of all strings is plain, they are given back,
-/// and no memory is taken.
+/// Reads what is between two places of a document as a string, and writes its events, as `read_line_counted` adds them.
+fn write_line<L: Ledger>(
+    alloc: Global,
+    on: &Constructs,
+    bytes: &[u8],
+    tab: TabSize,
+    from: &Point,
+    to: &Point,
+    list: &mut Rewriting,
+    turns: &mut Turns<L>,
+) -> Result<(), AllocError>
+    requires limit { IsWithinLimit tab bytes.now }
+    requires place { IsPointOf tab bytes.now from.now }
+    ensures events { OnOk result (list.new ≡ (list.old.0 ++ line_as_string on.now tab bytes.now from.now to.now, list.old.1)) }
+    ensures linear { OnOk result (turns.new ≤ turns.old + 3 * length (seats_between tab bytes.now from.now to.now)) }
+{
+    let line = range_between(alloc, bytes, tab, from, to, turns)?;
+    write_items(alloc, on, &line, list, turns)
+}
+
+/// Writes the events that are left up to the first data of a string that is not plain, and reads this data, if there is one. Returns whether the
+/// event behind it stands in a string, by whether the first event that is left does.
+fn write_next<L: Ledger>(
+    alloc: Global,
+    on: &Constructs,
+    bytes: &[u8],
+    tab: TabSize,
+    list: &mut Rewriting,
+    first: bool,
+    turns: &mut Turns<L>,
+) -> Result<bool, AllocError>
+    requires limit { IsWithinLimit tab bytes.now }
+    requires places { AreAtPlaces tab bytes.now list.old.1 }
+    requires some { 0 < length list.old.1 }
+    ensures events { IfOk result (λ inside. list.new.0 ++ with_strings_from on.now tab bytes.now inside list.new.1 ≡ list.old.0 ++ with_strings_from on.now tab bytes.now first list.old.1) }
+    ensures places { OnOk result (AreAtPlaces tab bytes.now list.new.1) }
+    ensures fewer { OnOk result (length list.new.1 < length list.old.1) }
+    ensures linear { IfOk result (λ inside. turns.new + 2 * length list.new.1 + 4 * string_size_from tab bytes.now inside list.new.1 ≤ turns.old + 2 * length list.old.1 + 4 * string_size_from tab bytes.now first list.old.1) }
+{
+    let (count, inside) = plain_events(bytes, tab, list.left(), first, turns);
+    list.keep(count);
+    if list.left().is_empty() {
+        return Ok(inside);
+    }
+    let from = list.left()[0].point;
+    let to = list.left()[1].point;
+    list.skip(2);
+    write_line(alloc, on, bytes, tab, &from, &to, list, turns)?;
+    Ok(inside)
+}
+
+/// The events of a document with their strings read, as `put_strings_counted` has them, in the memory of these: it grows by an eighth at a time.
+/// What is plain stays where it is. If the data of all strings is plain, no memory is taken.
 pub fn with_strings_counted<L: Ledger>(
     alloc: Global,
     on: &Constructs,
@@ -274,10 +336,12 @@ pub fn with_strings_counted<L: Ledger>(
     ensures events { IfOk result (λ out. out.items ≡ with_strings on.now tab bytes.now events.items) }
     ensures linear { OnOk result (turns.new ≤ turns.old + 2 * length events.items + 4 * string_size tab bytes.now events.items) }
 {
-    if are_plain(bytes, tab, &events, turns) {
-        return Ok(events);
+    let mut list = Rewriting::new(events);
+    let mut inside = false;
+    while !list.left().is_empty() {
+        inside = write_next(alloc, on, bytes, tab, &mut list, inside, turns)?;
     }
-    put_strings_counted(alloc, on, bytes, tab, &events, turns)
+    Ok(list.into_events())
 }
 
 /// The events with their strings read, counted from nothing.
