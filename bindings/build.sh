@@ -1,8 +1,11 @@
 #!/bin/sh
-# Proves and builds the static library, and puts it with what it needs of the kit into bindings/out: only liblimecove.a is to be linked.
-# usage: bindings/build.sh [WORD..]. The words are passed to `rt lib`, as --jobs 2.
+# Proves and builds the static library for x86-64 Linux, or for the targets that are named, and puts it with the functions through which it
+# allocates into bindings/out: as liblimecove.a, or for another target as TARGET/liblimecove.a. Only that file is to be linked.
+# usage: bindings/build.sh [TARGET..] [-WORD..]. The words are passed to rt, as --jobs 2 or --cpu x86-64-v3. Targets that rt can build are
+# x86_64-unknown-linux-gnu and aarch64-unknown-linux-gnu.
+# Behind the gate it takes minutes, as it proves limecove alone (archive.py). Without it rt proves all crates, in an hour or more.
 set -eu
-for tool in rt ar; do
+for tool in rt python3; do
     if ! command -v "$tool" >/dev/null; then
         echo "bindings: $tool is missing" >&2
         exit 1
@@ -10,11 +13,29 @@ for tool in rt ar; do
 done
 here=$(cd "$(dirname "$0")" && pwd)
 kit=$(dirname "$(rt doc)")
-# x86-64 is every processor of that kind. Without the flag the code would need x86-64-v2, and end by a signal where that is lacking.
-(cd "$here/../crates/limecove" && rt lib --cpu x86-64 "$@")
-rm -rf "$here/out"
-mkdir -p "$here/out"
-cp "$here/../crates/limecove/out/liblimecove.a" "$here/out"
-# the three functions of the kit through which the library calls malloc, realloc and free
-(cd "$here/out" && ar x "$kit/c/liblibc_c.a" && ar q liblimecove.a ./*.o && rm -f ./*.o)
-ls -l "$here/out/liblimecove.a"
+native=x86_64-unknown-linux-gnu
+targets=
+while [ $# -gt 0 ] && [ "${1#-}" = "$1" ]; do
+    targets="$targets $1"
+    shift
+done
+targets=${targets:-$native}
+work=$(mktemp -d)
+trap 'rm -rf "$work"' EXIT
+# shellcheck disable=SC2086
+python3 "$here/archive.py" "$work" $targets "$@"
+for target in $targets; do
+    archive=$work/$target.a to=$here/out/$target
+    mkdir "$work/$target"
+    # the three functions through which the library calls malloc, realloc and free: the kit has them for its own processor
+    if [ "$target" = "$native" ]; then
+        to=$here/out
+        (cd "$work/$target" && "$kit/toolchain/bin/llvm-ar" x "$kit/c/liblibc_c.a")
+    else
+        "$kit/toolchain/bin/clang" --target="$target" -std=c99 -O2 -fPIC -c -o "$work/$target/heap.o" "$here/heap.c"
+    fi
+    "$kit/toolchain/bin/llvm-ar" q "$archive" "$work/$target"/*.o
+    mkdir -p "$to"
+    mv "$archive" "$to/liblimecove.a"
+    ls -l "$to/liblimecove.a"
+done

@@ -1,31 +1,48 @@
 #!/bin/sh
-# Makes a folder that builds, and passes its tests, where there is no rt: the library as .a and .so, header, limecove.pc, the crates
-# limecove-sys and limecove, the tests in C, html.py, and a test.sh. If bindings/out/liblimecove.a is not there, or older than a source,
-# bindings/build.sh first makes and proves it, with rt. Beside that it needs cc.
-# usage: bindings/release.sh FOLDER [WORD..]   (FOLDER must not be there yet; the words are passed to bindings/build.sh)
+# Makes a folder that builds, and passes its tests, where there is no rt. For each target it has a folder with the library as .a and .so,
+# the header and limecove.pc; and for all the crates limecove-sys and limecove, the tests in C, html.py, and a test.sh. Libraries that are
+# not in bindings/out, or older than a source, bindings/build.sh first makes and proves, with rt. Beside that it needs a C compiler: cc,
+# and for the .so of another target than this machine's the one that Debian names after it, as aarch64-linux-gnu-gcc. Without that one
+# the release has no such .so.
+# usage: bindings/release.sh FOLDER [-WORD..]   (FOLDER must not be there yet; the words are passed to bindings/build.sh)
+# TARGETS names the targets; if it is not set, they are all that rt can build.
 set -eu
 here=$(cd "$(dirname "$0")" && pwd)
-archive=$here/out/liblimecove.a
+targets=${TARGETS:-x86_64-unknown-linux-gnu aarch64-unknown-linux-gnu}
 if [ $# = 0 ] || [ -e "$1" ]; then
-    echo "usage: bindings/release.sh FOLDER [WORD..]   (FOLDER must not be there yet)" >&2
+    echo "usage: bindings/release.sh FOLDER [-WORD..]   (FOLDER must not be there yet)" >&2
     exit 1
 fi
 folder=$1
 shift
+archive_of() {
+    case $1 in
+    x86_64-unknown-linux-gnu) echo "$here/out/liblimecove.a" ;;
+    *) echo "$here/out/$1/liblimecove.a" ;;
+    esac
+}
 # a source that is newer than the archive, if there is one
-newer() { find "$here/../crates.txt" "$here"/../crates/*/src "$here"/../crates/*/specs "$here"/../crates/*/proofs -type f -newer "$archive" | head -n 1; }
-if [ ! -f "$archive" ] || [ -n "$(newer)" ]; then
-    "$here/build.sh" "$@"
+newer() { find "$here/heap.c" "$here/../crates.txt" "$here"/../crates/*/src "$here"/../crates/*/specs "$here"/../crates/*/proofs -type f -newer "$1" | head -n 1; }
+lacking=
+for target in $targets; do
+    archive=$(archive_of "$target")
+    if [ ! -f "$archive" ] || [ -n "$(newer "$archive")" ]; then
+        lacking="$lacking $target"
+    fi
+done
+if [ -n "$lacking" ]; then
+    # shellcheck disable=SC2086
+    "$here/build.sh" $lacking "$@"
 fi
 version=$(sed -n 's/^version = "\(.*\)"$/\1/p' "$here/rust/limecove/Cargo.toml")
 layout=$(sed -n 's/^#define LIMECOVE_VERSION \([0-9]*\)$/\1/p' "$here/limecove.h")
 # the commit of the sources, if that is known, and whether something differs from it
 commit=$(git -C "$here" describe --always --dirty=", and changes" --abbrev=40 --exclude='*' 2>/dev/null || echo unknown)
-mkdir -p "$folder/include" "$folder/lib/pkgconfig" "$folder/rust"
+# shellcheck disable=SC2086
+names=$(printf ', %s' $targets)
+mkdir -p "$folder/rust"
 out=$(cd "$folder" && pwd)
 cp "$here/../LICENSE" "$here/html.py" "$out"
-cp "$here/limecove.h" "$out/include"
-cp "$archive" "$out/lib"
 cp -r "$here/c" "$out/c"
 # the programs include the header of the release by its name
 sed -i 's|"../limecove.h"|<limecove.h>|' "$out"/c/*.c "$out"/c/cases.h
@@ -38,13 +55,12 @@ cp "$here/rust/limecove-sys/build.rs" "$out/rust/limecove-sys"
 cp -r "$here/rust/limecove/examples" "$out/rust/limecove"
 rm "$out/rust/limecove/tests/names.rs"
 cp "$here/rust/Cargo.toml" "$out/rust"
-# a shared library with the functions of the header, and no other names
-printf '{ global: limecove_*; local: *; };\n' >"$out/lib/limecove.map"
-cc -shared -o "$out/lib/liblimecove.so.$layout" -Wl,-soname,"liblimecove.so.$layout" -Wl,--version-script="$out/lib/limecove.map" \
-    -Wl,--whole-archive "$archive" -Wl,--no-whole-archive -Wl,-z,defs
-rm "$out/lib/limecove.map"
-ln -s "liblimecove.so.$layout" "$out/lib/liblimecove.so"
-cat >"$out/lib/pkgconfig/limecove.pc" <<EOF
+for target in $targets; do
+    archive=$(archive_of "$target") lib=$out/$target/lib
+    mkdir -p "$out/$target/include" "$lib/pkgconfig"
+    cp "$here/limecove.h" "$out/$target/include"
+    cp "$archive" "$lib"
+    cat >"$lib/pkgconfig/limecove.pc" <<PC
 prefix=\${pcfiledir}/../..
 includedir=\${prefix}/include
 libdir=\${prefix}/lib
@@ -54,50 +70,93 @@ Description: A proved tokenizer engine for Markdown
 Version: $version
 Cflags: -I\${includedir}
 Libs: -L\${libdir} -llimecove
-EOF
-cat >"$out/README.md" <<EOF
-# Limecove $version for x86-64 Linux
+PC
+    compiler=$(echo "$target" | sed 's/-unknown//')-gcc
+    if [ "$target" = "$(uname -m)-unknown-linux-gnu" ]; then
+        compiler=cc
+    elif ! command -v "$compiler" >/dev/null; then
+        echo "bindings: $target gets no liblimecove.so, as there is no $compiler" >&2
+        continue
+    fi
+    # a shared library with the functions of the header, and no other names
+    printf '{ global: limecove_*; local: *; };\n' >"$lib/limecove.map"
+    "$compiler" -shared -o "$lib/liblimecove.so.$layout" -Wl,-soname,"liblimecove.so.$layout" -Wl,--version-script="$lib/limecove.map" \
+        -Wl,--whole-archive "$archive" -Wl,--no-whole-archive -Wl,-z,defs
+    rm "$lib/limecove.map"
+    ln -s "liblimecove.so.$layout" "$lib/liblimecove.so"
+done
+cat >"$out/README.md" <<MD
+# Limecove $version
 
 The library was proved and built from its sources by \`bindings/build.sh\`; this folder needs no prover. Their commit: $commit.
+Each target has a folder: ${names#, }.
 
-- C: \`cc -Iinclude prog.c lib/liblimecove.a\`, or \`cc prog.c \$(PKG_CONFIG_PATH=lib/pkgconfig pkg-config --cflags --libs limecove)\`, which
-  links \`lib/liblimecove.so.$layout\`. \`include/limecove.h\` says what each function does. To install, copy \`include\` and \`lib\` to \`/usr/local\`.
-- Rust: \`limecove = { path = ".../rust/limecove" }\` in \`Cargo.toml\`. It finds \`lib\` by itself. It needs Rust 1.63.
+- C: let T be the folder of your target. \`cc -IT/include prog.c T/lib/liblimecove.a\`, or
+  \`cc prog.c \$(PKG_CONFIG_PATH=T/lib/pkgconfig pkg-config --cflags --libs limecove)\`, which links \`T/lib/liblimecove.so.$layout\` if that is
+  there. \`limecove.h\` says what each function does. To install, copy \`include\` and \`lib\` of T to \`/usr/local\`.
+- Rust: \`limecove = { path = ".../rust/limecove" }\` in \`Cargo.toml\`. It finds the target's \`lib\` by itself. It needs Rust 1.63.
 - Examples: \`c/outline.c\`, and in \`rust/limecove/examples\` linters, a highlighter, a list of links and a writer of HTML.
 - \`./html.py SPEC\` runs CommonMark's examples, which are not here, through that writer: 650 of the 652 of 0.30 are right.
 - \`./test.sh\` compares \`SHA256SUMS\`, and builds and runs the tests: it needs cc, and for the crates cargo. It takes a minute or two, and no
-  network.
-EOF
-cat >"$out/test.sh" <<'EOF'
+  network. \`TARGET=aarch64-unknown-linux-gnu ./test.sh\` tests another target than the machine's, by qemu.
+MD
+cat >"$out/test.sh" <<'SH'
 #!/bin/sh
 # Compares the checksums, and builds and runs the tests of this release. Needs cc; for the crates cargo. No network. If SPEC names a
-# spec.json of CommonMark, html.py runs its examples, with python3.
+# spec.json of CommonMark, html.py runs its examples, with python3. If TARGET names another target than this machine's, its C compiler and
+# an emulator are needed, as aarch64-linux-gnu-gcc and qemu-aarch64, and for the crates Rust's libraries for that target.
 set -eu
 here=$(cd "$(dirname "$0")" && pwd)
+own=$(uname -m)-unknown-linux-gnu
+target=${TARGET:-$own}
 echo "release: each file is the one that was made"
 (cd "$here" && sha256sum --quiet --check SHA256SUMS)
-export CPATH="$here/include"
-"$here/c/tests_of_c.sh" "$here/include/limecove.h" "$here/lib/liblimecove.a" "$here/c" 100 40
+prefix=$here/$target
+if [ ! -d "$prefix" ]; then
+    echo "release: there is no library for $target" >&2
+    exit 1
+fi
+CPATH=$prefix/include
+export CPATH
+# words for cargo test: an emulator is too slow for the tests of examples, which have limits of time
+tests=--workspace
+if [ "$target" != "$own" ]; then
+    gnu=$(echo "$target" | sed 's/-unknown//')
+    CC=$gnu-gcc RUN="qemu-${target%%-*} -L /usr/$gnu"
+    export CC RUN
+    variable=CARGO_TARGET_$(echo "$target" | tr 'a-z-' 'A-Z_')
+    export CARGO_BUILD_TARGET="$target" "${variable}_LINKER=$CC" "${variable}_RUNNER=$RUN"
+    tests="--workspace --lib --test *"
+fi
+"$here/c/tests_of_c.sh" "$prefix/include/limecove.h" "$prefix/lib/liblimecove.a" "$here/c" 100 40
 work=$(mktemp -d)
 trap 'rm -rf "$work"' EXIT
-echo "release: the example, with the shared library"
-set -- "-I$here/include" "-L$here/lib" -llimecove
-if command -v pkg-config >/dev/null; then
-    eval "set -- $(PKG_CONFIG_PATH="$here/lib/pkgconfig" pkg-config --cflags --libs limecove)"
+if [ -e "$prefix/lib/liblimecove.so" ]; then
+    echo "release: the example, with the shared library"
+    set -- "-I$prefix/include" "-L$prefix/lib" -llimecove
+    if command -v pkg-config >/dev/null; then
+        eval "set -- $(PKG_CONFIG_PATH="$prefix/lib/pkgconfig" pkg-config --cflags --libs limecove)"
+    fi
+    "${CC:-cc}" -std=c99 -o "$work/example" "$here/c/example.c" "$@"
+    # shellcheck disable=SC2086
+    env LD_LIBRARY_PATH="$prefix/lib" ${RUN:-} "$work/example" | diff "$here/c/example.out" -
 fi
-cc -std=c99 -o "$work/example" "$here/c/example.c" "$@"
-LD_LIBRARY_PATH="$here/lib" "$work/example" | diff "$here/c/example.out" -
 if command -v cargo >/dev/null; then
-    echo "release: the crates"
-    export CARGO_TARGET_DIR="$work/target"
-    (cd "$here/rust" && cargo test --offline --quiet --workspace)
-    if [ -n "${SPEC:-}" ]; then
+    if [ "$target" != "$own" ] && [ ! -d "$(rustc --print sysroot)/lib/rustlib/$target" ]; then
+        echo "release: the crates are not tested, as Rust has no libraries for $target here"
+    else
+        echo "release: the crates"
+        export CARGO_TARGET_DIR="$work/target"
+        # shellcheck disable=SC2086
+        (cd "$here/rust" && set -f && cargo test --offline --quiet $tests)
+    fi
+    if [ -n "${SPEC:-}" ] && [ "$target" = "$own" ]; then
         echo "release: the examples of CommonMark"
         python3 "$here/html.py" "$SPEC"
     fi
 fi
 echo "release: all is well"
-EOF
+SH
 chmod +x "$out/test.sh"
-(cd "$out" && find . -type f ! -name SHA256SUMS | LC_ALL=C sort | xargs sha256sum >SHA256SUMS)
+(cd "$out" && find . -type f ! -name SHA256SUMS | LC_ALL=C sort | tr '\n' '\0' | xargs -0 sha256sum >SHA256SUMS)
 echo "$out: version $version, layout $layout"

@@ -1,7 +1,7 @@
 #!/bin/sh
 # Builds the library and the program, and tests the library: from C, from Rust with random documents against the program, and as a
-# release. It needs rt, ar, cc, clang, cargo and python3, and no network.
-# usage: bindings/test.sh [WORD..]. The words are passed to `rt`, as --jobs 2.
+# release. It needs rt, ar, cc, clang, cargo and python3, and no network; for the library of aarch64 also gcc-aarch64-linux-gnu and qemu-user.
+# usage: bindings/test.sh [-WORD..]. The words are passed to `rt`, as --jobs 2.
 set -eu
 for tool in rt ar cc clang cargo python3; do
     if ! command -v "$tool" >/dev/null; then
@@ -17,12 +17,18 @@ say() { echo "bindings: $*"; }
 say "the names are those that are proved, and the layouts and numbers are the same in Rattle, C and Rust"
 python3 "$here/names.py" --check
 say "build the library and the program"
-"$here/build.sh" "$@"
+"$here/build.sh" x86_64-unknown-linux-gnu aarch64-unknown-linux-gnu "$@"
 if ! (cd "$here/../crates/mdevents" && rt run "$@" </dev/null >"$work/log" 2>&1); then
     cat "$work/log" >&2
     exit 1
 fi
 "$here/tests_of_c.sh" "$here/limecove.h" "$here/out/liblimecove.a" "$here/c"
+say "heap.c does what the toolchain's object does"
+for compiler in cc clang; do
+    "$compiler" -std=c99 -Wall -Wextra -pedantic -Werror -c -o "$work/heap.o" "$here/heap.c"
+    "$compiler" -std=c99 -Wall -Wextra -pedantic -Werror -o "$work/heap" "$here/c/heap.c" "$work/heap.o"
+    "$work/heap"
+done
 
 say "random documents, read by the library and by the program"
 "$here/random.sh" 5000

@@ -4,6 +4,11 @@
 use std::env;
 use std::path::PathBuf;
 
+/// What cargo says of the target.
+fn target(what: &str) -> String {
+    env::var(format!("CARGO_CFG_TARGET_{}", what)).unwrap_or_default()
+}
+
 /// The folders that may have the library, or why there are none.
 fn folders() -> Result<Vec<PathBuf>, String> {
     if let Some(named) = env::var_os("LIMECOVE_LIB").map(PathBuf::from) {
@@ -16,7 +21,15 @@ fn folders() -> Result<Vec<PathBuf>, String> {
         };
     }
     let here = PathBuf::from(env::var_os("CARGO_MANIFEST_DIR").expect("cargo sets it"));
-    Ok(vec![here.join("../../lib"), here.join("../../out")])
+    let name = format!("{}-unknown-linux-gnu", target("ARCH"));
+    let built = here.join("../../out");
+    Ok(vec![
+        here.join("../..").join(&name).join("lib"),
+        match name.starts_with("x86_64-") {
+            true => built,
+            false => built.join(name),
+        },
+    ])
 }
 
 /// The folder that has it, or why none has.
@@ -39,9 +52,11 @@ fn found() -> Result<PathBuf, String> {
 fn main() {
     println!("cargo:rerun-if-changed=build.rs");
     println!("cargo:rerun-if-env-changed=LIMECOVE_LIB");
-    let target = |what| env::var(format!("CARGO_CFG_TARGET_{}", what)).unwrap_or_default();
-    if (target("ARCH").as_str(), target("OS").as_str()) != ("x86_64", "linux") {
-        println!("cargo:warning=liblimecove.a is for x86-64 Linux");
+    let is_built_for = matches!(target("ARCH").as_str(), "x86_64" | "aarch64")
+        && (target("OS"), target("POINTER_WIDTH"), target("ENDIAN"))
+            == ("linux".into(), "64".into(), "little".into());
+    if !is_built_for {
+        println!("cargo:warning=liblimecove.a is for Linux on x86-64 and aarch64");
     }
     match found() {
         Ok(folder) => {
