@@ -118,7 +118,7 @@ if [ ! -d "$prefix" ]; then
 fi
 CPATH=$prefix/include
 export CPATH
-# words for cargo test: an emulator is too slow for the tests of examples, which have limits of time
+# words for cargo test: an emulator is too slow for some other tests, which have limits of time
 tests=--workspace
 if [ "$target" != "$own" ]; then
     gnu=$(echo "$target" | sed 's/-unknown//')
@@ -126,7 +126,7 @@ if [ "$target" != "$own" ]; then
     export CC RUN
     variable=CARGO_TARGET_$(echo "$target" | tr 'a-z-' 'A-Z_')
     export CARGO_BUILD_TARGET="$target" "${variable}_LINKER=$CC" "${variable}_RUNNER=$RUN"
-    tests="--workspace --lib --test *"
+    tests="--workspace --test layout --test calls --test failing --test tree"
 fi
 "$here/c/tests_of_c.sh" "$prefix/include/limecove.h" "$prefix/lib/liblimecove.a" "$here/c" 100 40
 work=$(mktemp -d)
@@ -148,7 +148,7 @@ if command -v cargo >/dev/null; then
         echo "release: the crates"
         export CARGO_TARGET_DIR="$work/target"
         # shellcheck disable=SC2086
-        (cd "$here/rust" && set -f && cargo test --offline --quiet $tests)
+        (cd "$here/rust" && cargo test --offline --quiet $tests)
     fi
     if [ -n "${SPEC:-}" ] && [ "$target" = "$own" ]; then
         echo "release: the examples of CommonMark"
