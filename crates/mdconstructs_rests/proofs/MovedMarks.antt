@@ -1,6 +1,8 @@
 -- The marks of leaf blocks depend on the places of their virtual bytes alone, and on how these are shown: where places move, marks move.
 use Rattle.mdconstructs_rests.proofs.Prelude.{◌≡◌, ℕ, zero, suc, ◌+◌, ◌-◌, List, [], ◌∷◌, ◌++◌, Bool, true, false, cond, not, length, min, take, drop, refl, sym, ap, ◌∙◌, Option, None, map, AllByRecursion, flat_map, prefix_len, drop-map, length-map, map-append, take-map, Event, Kind, Enter, Exit, Link, Name, Point, Line, LeafBlock, blank_line, break_line, atx_heading, paragraph, setext_heading, indented_code, fenced_code, html_block, bytes_of, Chunk, Mark, block_around, block_span, body, break_marks, chunk_span, code_fenced_around, code_marks, fence_around, fenced_marks, heading_around, html_marks, last_end, leaf_blocks_marks, leaf_marks, line_end, lines_marks, sequence_marks, span_marks, string_chunk, text_chunk, text_marks, underline_marks, white, all_of, ending_of, is_line_ending, line_text, Fence, heading_text, indent, run, unindented, shown, block_lines, event, Seat, end_after, is_white}
+use Rattle.markdown_base.proofs.Common.{every-drop, every-take}
 use Rattle.markdown_base.specs.declared.event.Name.TheVariants as name
+use Rattle.mdconstructs_rests.proofs.TextLines.{AnySeat, AreInner, AreTextLines, any-blocks, inner-body, inner-text, texts-front}
 
 -- places of one document, B, and where they are in another, C
 module _ (B C : List ℕ) (f : Point → Point) (g : Option Link → Option Link) (none : g None ≡ None) (Ok : Point → Type 0) (sh : (p : Point) → Ok p → shown C (f p) ≡ f (shown B p)) where
@@ -118,6 +120,11 @@ module _ (B C : List ℕ) (f : Point → Point) (g : Option Link → Option Link
   joined-parts : (s r s2 r2 : List Seat) → Part s r → Part s2 r2 → Part (s ++ s2) (r ++ r2)
   joined-parts s r s2 r2 p q = record { is = (λ i. p.is i ++ q.is i) ∙ sym (map-append fs r r2); ok = ok-append r r2 p.ok q.ok }
 
+  -- virtual bytes that are others, moved, and are of a text
+  pub record Text (Inner : Seat → Type 0) (s r : List Seat) : Type 0 where
+    pub part : Part s r
+    pub inner : AreInner Inner r
+
   -- ---- marks that are others, moved
   event-moved : (kind : Kind) (n : Name) (p : Point) → Ok p → event C kind n (f p) ≡ fe (event B kind n p)
   event-moved kind n p h = let e = sh p h in let l = sym none in (λ i. let v : Event = record { kind = kind; name = n; point = e i; link = l i } in v)
@@ -168,20 +175,23 @@ module _ (B C : List ℕ) (f : Point → Point) (g : Option Link → Option Link
       two _ _ _ _ (whites _ _ (tk s r _ _ c p))
       (two _ _ _ _ (leaf name.ThematicBreakSequence _ _ (tk _ _ _ _ (λ i. e i - c i) (dr s r _ _ c p))) (breaks bound _ _ (dr s r _ _ e p)))
 
-  module _ (read2 read : List Seat → List Mark) (reads : (s r : List Seat) → Part s r → read2 s ≡ mk (read r)) where
-    heading : (s r : List Seat) → Part s r → heading_around C read2 s ≡ mk (heading_around B read r)
-    heading s r p =
+  module _ (Inner : Seat → Type 0) (read2 read : List Seat → List Mark) (reads : (s r : List Seat) → Text Inner s r → read2 s ≡ mk (read r)) where
+    read-front : (n k n2 k2 : ℕ) (s r : List Seat) → n ≡ n2 → k ≡ k2 → Part s r → AreInner Inner r → read2 (take n (drop k s)) ≡ mk (read (take n2 (drop k2 r)))
+    read-front n k n2 k2 s r e f p i = reads _ _ (record { part = tk _ _ n n2 e (dr s r k k2 f p); inner = every-take Inner n2 (drop k2 r) (every-drop Inner k2 r i) })
+
+    heading : (s r : List Seat) → Part s r → AreInner Inner r → heading_around C read2 s ≡ mk (heading_around B read r)
+    heading s r p i =
         let t = bs s r p in
         let signs = λ (t : List ℕ). indent t + run 35 (unindented t) in
         let start = λ (t : List ℕ). signs t + indent (drop (signs t) t) in
         let end = λ (t : List ℕ). start t + length (heading_text (drop (start t) t)) in
         let part = tk _ _ _ _ (ap (λ t. end t - start t) t) (dr s r _ _ (ap start t) p) in
         two _ _ _ _ (sequence name.HeadingAtxSequence _ _ _ _ (ap (λ t. run 35 (unindented t)) t) (tk s r _ _ (ap start t) p))
-        (two _ _ _ _ (span None name.HeadingAtxText _ _ _ _ part (reads _ _ part))
+        (two _ _ _ _ (span None name.HeadingAtxText _ _ _ _ part (read-front _ _ _ _ s r (ap (λ t. end t - start t) t) (ap start t) p i))
         (sequence name.HeadingAtxSequence _ _ _ _ (ap (λ t. run 35 (unindented (drop (end t) t))) t) (dr s r _ _ (ap end t) p)))
 
-    fence-around : (size : ℕ) (s r : List Seat) → Part s r → fence_around C read2 size s ≡ mk (fence_around B read size r)
-    fence-around size s r p =
+    fence-around : (size : ℕ) (s r : List Seat) → Part s r → AreInner Inner r → fence_around C read2 size s ≡ mk (fence_around B read size r)
+    fence-around size s r p i =
         let t = bs s r p in
         let signs = λ (t : List ℕ). indent t + size in
         let start = λ (t : List ℕ). signs t + indent (drop (signs t) t) in
@@ -191,8 +201,8 @@ module _ (B C : List ℕ) (f : Point → Point) (g : Option Link → Option Link
         let meta = dr s r _ _ (ap rest t) p in
         span None name.CodeFencedFence _ _ _ _ p
         (two _ _ _ _ (sequence name.CodeFencedFenceSequence size size _ _ refl (tk s r _ _ (ap start t) p))
-        (two _ _ _ _ (span None name.CodeFencedFenceInfo _ _ _ _ info (reads _ _ info))
-        (two _ _ _ _ (whites _ _ (tk _ _ _ _ (ap (λ t. rest t - word t) t) (dr s r _ _ (ap word t) p))) (span None name.CodeFencedFenceMeta _ _ _ _ meta (reads _ _ meta)))))
+        (two _ _ _ _ (span None name.CodeFencedFenceInfo _ _ _ _ info (read-front _ _ _ _ s r (ap (λ t. word t - start t) t) (ap start t) p i))
+        (two _ _ _ _ (whites _ _ (tk _ _ _ _ (ap (λ t. rest t - word t) t) (dr s r _ _ (ap word t) p))) (span None name.CodeFencedFenceMeta _ _ _ _ meta (reads _ _ (record { part = meta; inner = every-drop Inner _ r i }))))))
 
   code : (most : ℕ) (s r : List Seat) → Part s r → code_marks C most s ≡ mk (code_marks B most r)
   code most s r p =
@@ -217,10 +227,13 @@ module _ (B C : List ℕ) (f : Point → Point) (g : Option Link → Option Link
   last-end (line ∷ []) h = line-end _ _ (whole line h.0)
   last-end (line ∷ next ∷ lines) h = last-end (next ∷ lines) h.1
 
-  pub bodies : (lines : List Line) → AreLinesOk lines → Part (body (mls lines)) (body lines)
+  bodies : (lines : List Line) → AreLinesOk lines → Part (body (mls lines)) (body lines)
   bodies [] h = whole [] tt
   bodies (line ∷ []) h = txt _ _ (whole line h.0)
   bodies (line ∷ next ∷ lines) h = joined-parts _ _ _ _ (whole line h.0) (bodies (next ∷ lines) h.1)
+
+  pub text-bodies : (Inner : Seat → Type 0) (lines : List Line) → AreLinesOk lines → AreTextLines Inner lines → Text Inner (body (mls lines)) (body lines)
+  text-bodies Inner lines h i = record { part = bodies lines h; inner = inner-body Inner lines i }
 
   all : (lines : List Line) → AreLinesOk lines → Part (all_of (mls lines)) (all_of lines)
   all [] h = whole [] tt
@@ -238,13 +251,13 @@ module _ (B C : List ℕ) (f : Point → Point) (g : Option Link → Option Link
   fenced fence false (line ∷ []) h = let p = whole line h.0 in two _ _ _ _ (code fence.indent _ _ (txt _ _ p)) (line-end _ _ p)
   fenced fence is_closed (line ∷ next ∷ lines) h = let p = whole line h.0 in two _ _ _ _ (code fence.indent _ _ (txt _ _ p)) (two _ _ _ _ (line-end _ _ p) (fenced fence is_closed (next ∷ lines) h.1))
 
-  code-fenced : (read2 read : List Seat → List Mark) → ((s r : List Seat) → Part s r → read2 s ≡ mk (read r)) → (fence : Fence) (is_closed : Bool) (lines : List Line) → AreLinesOk lines
+  code-fenced : (Inner : Seat → Type 0) (read2 read : List Seat → List Mark) → ((s r : List Seat) → Text Inner s r → read2 s ≡ mk (read r)) → (fence : Fence) (is_closed : Bool) (lines : List Line) → AreLinesOk lines → AreTextLines Inner lines
       → code_fenced_around C read2 fence is_closed (mls lines) ≡ mk (code_fenced_around B read fence is_closed lines)
-  code-fenced read2 read reads fence is_closed [] h = refl
-  code-fenced read2 read reads fence is_closed (line ∷ []) h = let p = whole line h.0 in two _ _ _ _ (fence-around read2 read reads fence.size _ _ (txt _ _ p)) (line-end _ _ p)
-  code-fenced read2 read reads fence is_closed (line ∷ next ∷ lines) h =
+  code-fenced Inner read2 read reads fence is_closed [] h i = refl
+  code-fenced Inner read2 read reads fence is_closed (line ∷ []) h i = let p = whole line h.0 in two _ _ _ _ (fence-around Inner read2 read reads fence.size _ _ (txt _ _ p) i) (line-end _ _ p)
+  code-fenced Inner read2 read reads fence is_closed (line ∷ next ∷ lines) h i =
       let p = whole line h.0 in
-      two _ _ _ _ (fence-around read2 read reads fence.size _ _ (txt _ _ p)) (two _ _ _ _ (line-end _ _ p) (fenced fence is_closed (next ∷ lines) h.1))
+      two _ _ _ _ (fence-around Inner read2 read reads fence.size _ _ (txt _ _ p) (inner-text Inner line i.0)) (two _ _ _ _ (line-end _ _ p) (fenced fence is_closed (next ∷ lines) h.1))
 
   htmls : (is_open : Bool) (lines : List Line) → AreLinesOk lines → html_marks C is_open (mls lines) ≡ mk (html_marks B is_open lines)
   htmls is_open [] h = refl
@@ -268,6 +281,9 @@ module _ (B C : List ℕ) (f : Point → Point) (g : Option Link → Option Link
   abbrev pub IsBlockOk : LeafBlock → Type 0
   IsBlockOk block = AreLinesOk (block_lines block)
 
+  abbrev pub AreBlockTexts : (Inner : Seat → Type 0) → LeafBlock → Type 0
+  AreBlockTexts Inner block = AreTextLines Inner (block_lines block)
+
   lines-front : (xs ys : List Line) → AreLinesOk (xs ++ ys) → AreLinesOk xs
   lines-front [] ys h = tt
   lines-front (x ∷ xs) ys h = (h.0, lines-front xs ys h.1)
@@ -277,29 +293,31 @@ module _ (B C : List ℕ) (f : Point → Point) (g : Option Link → Option Link
   lines-back (x ∷ xs) ys h = lines-back xs ys h.1
 
   -- the marks of a block, by what its texts and strings are read as
-  module _ (text2 text : List Seat → List Mark) (text-reads : (s r : List Seat) → Part s r → text2 s ≡ mk (text r))
-      (lines2 lines1 : List Line → List Mark) (lines-reads : (lines : List Line) → AreLinesOk lines → lines2 (mls lines) ≡ mk (lines1 lines))
-      (string2 string : List Seat → List Mark) (string-reads : (s r : List Seat) → Part s r → string2 s ≡ mk (string r)) where
-    block : (b : LeafBlock) → IsBlockOk b → block_around C text2 lines2 string2 (mb b) ≡ mk (block_around B text lines1 string b)
-    block (blank_line line) h = let p = whole line h.0 in two _ _ _ _ (whites _ _ (txt _ _ p)) (leaf name.BlankLineEnding _ _ (ending _ _ p))
-    block (break_line line) h =
+  module _ (Inner : Seat → Type 0) (text2 text : List Seat → List Mark) (text-reads : (s r : List Seat) → Text Inner s r → text2 s ≡ mk (text r))
+      (lines2 lines1 : List Line → List Mark) (lines-reads : (lines : List Line) → AreLinesOk lines → AreTextLines Inner lines → lines2 (mls lines) ≡ mk (lines1 lines))
+      (string2 string : List Seat → List Mark) (string-reads : (s r : List Seat) → Text Inner s r → string2 s ≡ mk (string r)) where
+    block : (b : LeafBlock) → IsBlockOk b → AreBlockTexts Inner b → block_around C text2 lines2 string2 (mb b) ≡ mk (block_around B text lines1 string b)
+    block (blank_line line) h i = let p = whole line h.0 in two _ _ _ _ (whites _ _ (txt _ _ p)) (leaf name.BlankLineEnding _ _ (ending _ _ p))
+    block (break_line line) h i =
         let p = whole line h.0 in
         block-span name.ThematicBreak false (line ∷ []) _ _ h (ap (λ n. break_marks C n (line_text (ms line))) (length-map line fs) ∙ breaks (length line) _ _ (txt _ _ p))
-    block (atx_heading line) h = block-span name.HeadingAtx false (line ∷ []) _ _ h (heading text2 text text-reads _ _ (txt _ _ (whole line h.0)))
-    block (paragraph lines) h = block-span name.Paragraph false lines _ _ h (lines-reads lines h)
-    block (setext_heading rank lines below) h =
+    block (atx_heading line) h i = block-span name.HeadingAtx false (line ∷ []) _ _ h (heading Inner text2 text text-reads _ _ (txt _ _ (whole line h.0)) i)
+    block (paragraph lines) h i = block-span name.Paragraph false lines _ _ h (lines-reads lines h i)
+    block (setext_heading rank lines below) h i =
         let front = lines-front lines (below ∷ []) h in
         let back = lines-back lines (below ∷ []) h in
-        let inside = two _ _ _ _ (span None name.HeadingSetextText _ _ _ _ (bodies lines front) (lines-reads lines front)) (two _ _ _ _ (last-end lines front) (underlines _ _ (txt _ _ (whole below back.0)))) in
+        let read = lines-reads lines front (texts-front Inner lines (below ∷ []) i) in
+        let inside = two _ _ _ _ (span None name.HeadingSetextText _ _ _ _ (bodies lines front) read) (two _ _ _ _ (last-end lines front) (underlines _ _ (txt _ _ (whole below back.0)))) in
         let x = span_marks C name.HeadingSetextText (body (mls lines)) (lines2 (mls lines)) ++ (last_end C (mls lines) ++ underline_marks C (line_text (ms below))) in
         ap (λ ls. block_span C name.HeadingSetext false ls x) (sym (map-append ms lines (below ∷ []))) ∙ block-span name.HeadingSetext false (lines ++ below ∷ []) _ _ h inside
-    block (indented_code lines) h = block-span name.CodeIndented false lines _ _ h (lines-marks (code_marks C 4) (code_marks B 4) (code 4) false lines h)
-    block (fenced_code fence is_closed lines) h = block-span name.CodeFenced (not is_closed) lines _ _ h (code-fenced string2 string string-reads fence is_closed lines h)
-    block (html_block kind is_closed lines) h = block-span name.HtmlFlow (not is_closed) lines _ _ h (htmls (not is_closed) lines h)
+    block (indented_code lines) h i = block-span name.CodeIndented false lines _ _ h (lines-marks (code_marks C 4) (code_marks B 4) (code 4) false lines h)
+    block (fenced_code fence is_closed lines) h i = block-span name.CodeFenced (not is_closed) lines _ _ h (code-fenced Inner string2 string string-reads fence is_closed lines h i)
+    block (html_block kind is_closed lines) h i = block-span name.HtmlFlow (not is_closed) lines _ _ h (htmls (not is_closed) lines h)
 
-    pub around-moved : (blocks : List LeafBlock) → AllByRecursion IsBlockOk blocks → flat_map (block_around C text2 lines2 string2) (map mb blocks) ≡ mk (flat_map (block_around B text lines1 string) blocks)
-    around-moved [] h = refl
-    around-moved (b ∷ blocks) h = two _ _ _ _ (block b h.0) (around-moved blocks h.1)
+    pub around-moved : (blocks : List LeafBlock) → AllByRecursion IsBlockOk blocks → AllByRecursion (AreBlockTexts Inner) blocks → flat_map (block_around C text2 lines2 string2) (map mb blocks) ≡ mk (flat_map (block_around B text lines1 string) blocks)
+    around-moved [] h i = refl
+    around-moved (b ∷ blocks) h i = two _ _ _ _ (block b h.0 i.0) (around-moved blocks h.1 i.1)
 
   pub blocks-marks-moved : (blocks : List LeafBlock) → AllByRecursion IsBlockOk blocks → leaf_blocks_marks C (map mb blocks) ≡ mk (leaf_blocks_marks B blocks)
-  blocks-marks-moved blocks h = around-moved (text_chunk C) (text_chunk B) text-chunk (text_marks C false) (text_marks B false) (texts false) (string_chunk C) (string_chunk B) string-chunk blocks h
+  blocks-marks-moved blocks h =
+      around-moved AnySeat (text_chunk C) (text_chunk B) (λ s r t. text-chunk s r t.part) (text_marks C false) (text_marks B false) (λ lines h i. texts false lines h) (string_chunk C) (string_chunk B) (λ s r t. string-chunk s r t.part) blocks h (any-blocks blocks)

@@ -4,8 +4,14 @@ use Rattle.mdconstructs_documents.proofs.FlowTexts.Segments.{HasByte}
 use Rattle.mdconstructs_rests.proofs.Both.{blocks-of-both}
 use Rattle.mdconstructs_rests.proofs.Events.{all-known, block-goes, block-stays, full-lines, goes, in-blocks, in-lines, map-ext, map-same, same-line, stays}
 use Rattle.mdconstructs_rests.proofs.Links.{Back, around-back, linked-moved, nothing, two}
-use Rattle.mdconstructs_rests.proofs.MovedMarks.{Part, around-moved, bodies}
+use Rattle.mdconstructs_rests.proofs.MovedMarks.{Text, around-moved, text-bodies}
+use Rattle.mdconstructs_rests.proofs.MovedReads.{inlines-move, strings-moved}
 use Rattle.mdconstructs_rests.proofs.Shown.{shown-behind, shown-front, within}
+use Rattle.mdconstructs_rests.proofs.TextLines.{AnySeat, any-blocks, lines-of-texts, text-blocks, virtual-texts}
+use Rattle.mdconstructs_rests.specs.ReadTexts.{FlowInlinesOfBoth, StandsBefore}
+use Rattle.mdconstructs_documents.specs.FlowTexts.{inline_seat_events}
+use Rattle.mdconstructs_inlines.specs.InlineRules.{no_labels}
+use Rattle.mdconstructs_inline_constructs.specs.StringItems.{string_seat_events}
 
 -- marks of events that begin no chunk
 abbrev bare : List Event → List Mark
@@ -21,29 +27,30 @@ bare-moved l n k (e ∷ es) = ap (λ r. (moved_event l n k e, None) ∷ r) (bare
 
 module _ (a b : List ℕ) (h : begins_line b a ≡ true) where
   abbrev PartFront : List Seat → List Seat → Type 0
-  PartFront s r = Part a (a ++ b) (λ p. p) (λ l. l) refl (λ p. p.index ≤ length a) (λ p l. shown-front a b h p l) s r
+  PartFront s r = Text a (a ++ b) (λ p. p) (λ l. l) refl (λ p. p.index ≤ length a) (λ p l. shown-front a b h p l) (StandsBefore (length a)) s r
 
   abbrev PartBehind : (k : ℕ) → List Seat → List Seat → Type 0
-  PartBehind k s r = Part b (a ++ b) (moved_point (line_endings a) (length a)) (moved_link k) refl (λ p. Unit {0}) (λ p l. shown-behind a b h (line_endings a) p) s r
+  PartBehind k s r = Text b (a ++ b) (moved_point (line_endings a) (length a)) (moved_link k) refl (λ p. Unit {0}) (λ p l. shown-behind a b h (line_endings a) p) AnySeat s r
 
   module _ (reads : List ℕ → List Seat → List Event) (move : ReadsMove reads) where
     reads-front : (s r : List Seat) → PartFront s r → bare (reads (a ++ b) s) ≡ map (λ m. m) (bare (reads a r))
-    reads-front s r p = ap (λ s. bare (reads (a ++ b) s)) (p.is ∙ same-line r) ∙ ap bare ((move a b h).0 r p.ok) ∙ sym (map-same (λ m. m) (λ m. refl) (bare (reads a r)))
+    reads-front s r p = ap (λ s. bare (reads (a ++ b) s)) (p.part.is ∙ same-line r) ∙ ap bare ((move a b h).0 r p.inner) ∙ sym (map-same (λ m. m) (λ m. refl) (bare (reads a r)))
 
     reads-behind : (k : ℕ) (s r : List Seat) → PartBehind k s r → bare (reads (a ++ b) s) ≡ map (λ m. (moved_event (line_endings a) (length a) k m.0, m.1)) (bare (reads b r))
-    reads-behind k s r p = ap (λ s. bare (reads (a ++ b) s)) p.is ∙ ap bare ((move a b h).1 (line_endings a) k r) ∙ bare-moved (line_endings a) (length a) k (reads b r)
+    reads-behind k s r p = ap (λ s. bare (reads (a ++ b) s)) p.part.is ∙ ap bare ((move a b h).1 (line_endings a) k r) ∙ bare-moved (line_endings a) (length a) k (reads b r)
 
   module _ (texts strings : List ℕ → List Seat → List Event) (move : ReadsMove texts) (move_strings : ReadsMove strings) (on : Constructs) (t : ℕ) where
     front : flat_map (block_texts (texts (a ++ b)) (strings (a ++ b)) (a ++ b)) (leaf_blocks on (lines_in (virtual t a))) ≡ flat_map (block_texts (texts a) (strings a) a) (leaf_blocks on (lines_in (virtual t a)))
     front =
         let blocks = leaf_blocks on (lines_in (virtual t a)) in
         let known = in-blocks _ on (lines_in (virtual t a)) (in-lines _ (virtual t a) (within t (length a) a 1 1 0 (omega arith))) in
+        let inner = text-blocks (StandsBefore (length a)) on (lines_in (virtual t a)) (lines-of-texts (StandsBefore (length a)) (virtual t a) (virtual-texts t (length a) b a 1 1 0 h (omega arith))) in
         sym (ap (flat_map (block_texts (texts (a ++ b)) (strings (a ++ b)) (a ++ b))) (map-same (stays a b h) (block-stays a b h) blocks))
-        ∙ around-moved a (a ++ b) (λ p. p) (λ l. l) refl (λ p. p.index ≤ length a) (λ p l. shown-front a b h p l)
+        ∙ around-moved a (a ++ b) (λ p. p) (λ l. l) refl (λ p. p.index ≤ length a) (λ p l. shown-front a b h p l) (StandsBefore (length a))
         (read_marks (texts (a ++ b)) (a ++ b)) (read_marks (texts a) a) (reads-front texts move)
         (λ lines. read_marks (texts (a ++ b)) (a ++ b) (body lines)) (λ lines. read_marks (texts a) a (body lines))
-        (λ lines ok. reads-front texts move _ _ (bodies a (a ++ b) (λ p. p) (λ l. l) refl (λ p. p.index ≤ length a) (λ p l. shown-front a b h p l) lines ok))
-        (read_marks (strings (a ++ b)) (a ++ b)) (read_marks (strings a) a) (reads-front strings move_strings) blocks known
+        (λ lines ok inner. reads-front texts move _ _ (text-bodies a (a ++ b) (λ p. p) (λ l. l) refl (λ p. p.index ≤ length a) (λ p l. shown-front a b h p l) (StandsBefore (length a)) lines ok inner))
+        (read_marks (strings (a ++ b)) (a ++ b)) (read_marks (strings a) a) (reads-front strings move_strings) blocks known inner
         ∙ map-same (λ m. m) (λ m. refl) (flat_map (block_texts (texts a) (strings a) a) blocks)
 
     behind : (k : ℕ) → flat_map (block_texts (texts (a ++ b)) (strings (a ++ b)) (a ++ b)) (map (moved_block (line_endings a) (length a)) (leaf_blocks on (lines_in (virtual t b))))
@@ -52,11 +59,11 @@ module _ (a b : List ℕ) (h : begins_line b a ≡ true) where
         let blocks = leaf_blocks on (lines_in (virtual t b)) in
         let known = in-blocks _ on (lines_in (virtual t b)) (in-lines _ (virtual t b) (all-known (virtual t b))) in
         ap (flat_map (block_texts (texts (a ++ b)) (strings (a ++ b)) (a ++ b))) (map-ext (moved_block (line_endings a) (length a)) (goes a b h k) (block-goes a b h k) blocks)
-        ∙ around-moved b (a ++ b) (moved_point (line_endings a) (length a)) (moved_link k) refl (λ p. Unit {0}) (λ p l. shown-behind a b h (line_endings a) p)
+        ∙ around-moved b (a ++ b) (moved_point (line_endings a) (length a)) (moved_link k) refl (λ p. Unit {0}) (λ p l. shown-behind a b h (line_endings a) p) AnySeat
         (read_marks (texts (a ++ b)) (a ++ b)) (read_marks (texts b) b) (reads-behind texts move k)
         (λ lines. read_marks (texts (a ++ b)) (a ++ b) (body lines)) (λ lines. read_marks (texts b) b (body lines))
-        (λ lines ok. reads-behind texts move k _ _ (bodies b (a ++ b) (moved_point (line_endings a) (length a)) (moved_link k) refl (λ p. Unit {0}) (λ p l. shown-behind a b h (line_endings a) p) lines ok))
-        (read_marks (strings (a ++ b)) (a ++ b)) (read_marks (strings b) b) (reads-behind strings move_strings k) blocks known
+        (λ lines ok inner. reads-behind texts move k _ _ (text-bodies b (a ++ b) (moved_point (line_endings a) (length a)) (moved_link k) refl (λ p. Unit {0}) (λ p l. shown-behind a b h (line_endings a) p) AnySeat lines ok inner))
+        (read_marks (strings (a ++ b)) (a ++ b)) (read_marks (strings b) b) (reads-behind strings move_strings k) blocks known (any-blocks blocks)
 
 pub read-events-of-both : ReadEventsOfBoth
 read-events-of-both texts strings move move_strings on t a b h =
@@ -77,3 +84,6 @@ read-events-of-both texts strings move move_strings on t a b h =
     ∙ (let f = front a b torn texts strings move move_strings on t in let g = behind a b torn texts strings move move_strings on t k in (λ i. linked_from 0 (f i ++ g i)))
     ∙ linked-append 0 first (map (λ m. (moved_event l n k m.0, m.1)) marks)
     ∙ ap (λ r. linked_from 0 first ++ r) (linked-moved l n k marks 0 (0 + length first) same back)
+
+pub flow-inlines-of-both : FlowInlinesOfBoth
+flow-inlines-of-both on = read-events-of-both (inline_seat_events no_labels on) (string_seat_events on) (inlines-move no_labels on) (strings-moved on) on

@@ -1,7 +1,7 @@
 //! Laws about leaf blocks. Each is a function that does nothing; its contract is the law.
 
 ghost use Rattle.mdconstructs_rests.specs.Moved.{BlocksMove, BlocksOfBoth, EventsOfBoth, LinesAreCounted, LinesOfBoth, VirtualOfBoth};
-ghost use Rattle.mdconstructs_rests.specs.ReadTexts.{ReadEventsOfBoth};
+ghost use Rattle.mdconstructs_rests.specs.ReadTexts.{FlowInlinesOfBoth, InlinesMove, ReadEventsOfBoth, StringsMove};
 ghost use Rattle.mdconstructs_rests.specs.Rests.{RestsCutBlocks, RestsForget, WideRestsCutBlocks};
 ghost use Rattle.mdconstructs_rests.specs.Sections.{FirstLineTells, RestsOfBoth, SectionsGiveEvents};
 ghost use Rattle.mdconstructs_rests.specs.WithoutContainers.{DocumentsWithoutContainers, NoneBeginsWhereOff};
@@ -69,6 +69,21 @@ pub fn sections_give_events()
 /// Events of leaf blocks with texts read by any reading that moves are those of the parts, moved.
 pub fn read_events_of_both()
     ensures { ReadEventsOfBoth }
+{}
+
+/// Inline text of a part of a document is read as in the part alone, and moved, whatever labels are defined.
+pub fn inlines_move()
+    ensures { InlinesMove }
+{}
+
+/// Strings of a part of a document are read as in the part alone, and moved.
+pub fn strings_move()
+    ensures { StringsMove }
+{}
+
+/// Events of leaf blocks with inline text and strings are those of the parts, moved.
+pub fn flow_inlines_of_both()
+    ensures { FlowInlinesOfBoth }
 {}
 
 /// A document in which no line begins a block quote or a list item, and none has a bracket in front, is read as its leaf blocks are, with their

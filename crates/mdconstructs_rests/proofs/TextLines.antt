@@ -1,0 +1,149 @@
+-- Texts of lines: their virtual bytes without the ending of the last one. In bytes that end a line they end before the last byte.
+use Rattle.std.proofs.Common.{◌≡◌, ℕ, zero, suc, ◌+◌, ◌<◌, ◌==◌, ◌&&◌, ◌||◌, not, Bool, true, false, cond, List, [], ◌∷◌, ◌++◌, length, refl, sym, subst, arith}
+use Rattle.std.specs.List.{AllByRecursion, flat_map}
+use Rattle.markdown_base.specs.declared.configuration.Constructs.{Constructs}
+use Rattle.markdown_base.proofs.Common.{every-append}
+use Rattle.markdown_tokenizer.proofs.Positions.Order.{every-all}
+use Rattle.markdown_base.specs.Virtual.{Seat, begins_with_lf, end_in_tab, in_tab, line_feed, other_byte, point, tab_width, virtual_from}
+use Rattle.mdconstructs_machines.specs.LineEvents.{is_line_ending, joined, line_text, lines_in}
+use Rattle.mdconstructs_flow_read.proofs.Marks.Cuts.{leaf-blocks-lines}
+use Rattle.mdconstructs_flow_read.specs.BlockLines.{block_lines}
+use Rattle.mdconstructs_flow_read.specs.LeafBlocks.{LeafBlock, Line, leaf_blocks}
+use Rattle.mdconstructs_flow_read.specs.LeafEvents.{body}
+use Rattle.mdconstructs_rests.specs.Moved.{begins_line}
+use Rattle.mdconstructs_rests.specs.ReadTexts.{StandsBefore}
+use Rattle.mdconstructs_rests.proofs.Virtual.{step}
+
+module _ (Inner : Seat → Type 0) where
+  abbrev pub AreInner : List Seat → Type 0
+  AreInner seats = AllByRecursion Inner seats
+
+  -- of each line but the last all virtual bytes are inner ones; of the last those of its text
+  abbrev pub AreTextLines : List Line → Type 0
+  AreTextLines [] = Unit {0}
+  AreTextLines (line ∷ []) = AreInner (line_text line)
+  AreTextLines (line ∷ next ∷ lines) = AreInner line × AreTextLines (next ∷ lines)
+
+  pub inner-text : (s : List Seat) → AreInner s → AreInner (line_text s)
+  inner-text [] h = tt
+  inner-text (x ∷ s) h = by (not (is_line_ending x)) (inner-text s h.1)
+    where
+      by : (c : Bool) → AreInner (line_text s) → AreInner (cond c (x ∷ line_text s) (line_text s))
+      by true k = (h.0, k)
+      by false k = k
+
+  pub texts-front : (xs ys : List Line) → AreTextLines (xs ++ ys) → AreTextLines xs
+  texts-front [] ys h = tt
+  texts-front (x ∷ []) [] h = h
+  texts-front (x ∷ []) (y ∷ ys) h = inner-text x h.0
+  texts-front (x ∷ next ∷ xs) ys h = (h.0, texts-front (next ∷ xs) ys h.1)
+
+  pub texts-back : (xs ys : List Line) → AreTextLines (xs ++ ys) → AreTextLines ys
+  texts-back [] ys h = h
+  texts-back (x ∷ []) [] h = tt
+  texts-back (x ∷ []) (y ∷ ys) h = h.1
+  texts-back (x ∷ next ∷ xs) ys h = texts-back (next ∷ xs) ys h.1
+
+  pub inner-body : (lines : List Line) → AreTextLines lines → AreInner (body lines)
+  inner-body [] h = tt
+  inner-body (line ∷ []) h = h
+  inner-body (line ∷ next ∷ lines) h = every-append Inner line (body (next ∷ lines)) h.0 (inner-body (next ∷ lines) h.1)
+
+  of-blocks : (blocks : List LeafBlock) → AreTextLines (flat_map block_lines blocks) → AllByRecursion (λ b. AreTextLines (block_lines b)) blocks
+  of-blocks [] h = tt
+  of-blocks (b ∷ blocks) h = (texts-front (block_lines b) (flat_map block_lines blocks) h, of-blocks blocks (texts-back (block_lines b) (flat_map block_lines blocks) h))
+
+  -- so it is in the lines of each leaf block
+  pub text-blocks : (on : Constructs) (lines : List Line) → AreTextLines lines → AllByRecursion (λ b. AreTextLines (block_lines b)) (leaf_blocks on lines)
+  text-blocks on lines h = of-blocks (leaf_blocks on lines) (subst AreTextLines (sym (leaf-blocks-lines on lines)) h)
+
+  -- ---- of virtual bytes of which all are inner ones, but for a line ending at the end
+  abbrev pub AreTextSeats : List Seat → Type 0
+  AreTextSeats [] = Unit {0}
+  AreTextSeats (s ∷ []) = is_line_ending s ≡ false → Inner s
+  AreTextSeats (s ∷ next ∷ ss) = Inner s × AreTextSeats (next ∷ ss)
+
+  behind-inner : (s : Seat) (ss : List Seat) → Inner s → AreTextSeats ss → AreTextSeats (s ∷ ss)
+  behind-inner s [] h k = λ e. h
+  behind-inner s (next ∷ ss) h k = (h, k)
+
+  text-one : (s : Seat) → (is_line_ending s ≡ false → Inner s) → AreInner (line_text (s ∷ []))
+  text-one s h = elim (is_line_ending s) as (λ c. is_line_ending s ≡ c → AreInner (cond (not c) (s ∷ []) [])) [ true ↦ λ e. tt | false ↦ λ e. (h e, tt) ] refl
+
+  text-more : (s : Seat) (line : List Seat) → Inner s → AreInner (line_text line) → AreInner (line_text (s ∷ line))
+  text-more s line h k = elim (is_line_ending s) as (λ c. AreInner (cond (not c) (s ∷ line_text line) (line_text line))) [ true ↦ k | false ↦ (h, k) ]
+
+  line-more : (s : Seat) (lines : List Line) → Inner s → AreTextLines lines → AreTextLines ((s ∷ []) ∷ lines)
+  line-more s [] h k = text-more s [] h tt
+  line-more s (line ∷ lines) h k = ((h, tt), k)
+
+  joined-more : (s : Seat) (lines : List Line) → Inner s → AreTextLines lines → AreTextLines (joined s lines)
+  joined-more s [] h k = text-more s [] h tt
+  joined-more s (line ∷ []) h k = text-more s line h k
+  joined-more s (line ∷ next ∷ lines) h k = ((h, k.0), k.1)
+
+  pub lines-of-texts : (seats : List Seat) → AreTextSeats seats → AreTextLines (lines_in seats)
+  lines-of-texts [] h = tt
+  lines-of-texts (s ∷ []) h = elim (is_line_ending s) as (λ c. AreTextLines (cond c ((s ∷ []) ∷ []) ((s ∷ []) ∷ []))) [ true ↦ text-one s h | false ↦ text-one s h ]
+  lines-of-texts (s ∷ next ∷ ss) h = by (is_line_ending s) (lines-of-texts (next ∷ ss) h.1)
+    where
+      by : (c : Bool) → AreTextLines (lines_in (next ∷ ss)) → AreTextLines (cond c ((s ∷ []) ∷ lines_in (next ∷ ss)) (joined s (lines_in (next ∷ ss))))
+      by true k = line-more s (lines_in (next ∷ ss)) h.0 k
+      by false k = joined-more s (lines_in (next ∷ ss)) h.0 k
+
+-- ---- where all virtual bytes are inner ones
+abbrev pub AnySeat : Seat → Type 0
+AnySeat s = Unit {0}
+
+any-seats : (seats : List Seat) → AreInner AnySeat seats
+any-seats seats = every-all AnySeat (λ s. tt) seats
+
+any-lines : (lines : List Line) → AreTextLines AnySeat lines
+any-lines [] = tt
+any-lines (line ∷ []) = any-seats (line_text line)
+any-lines (line ∷ next ∷ lines) = (any-seats line, any-lines (next ∷ lines))
+
+pub any-blocks : (blocks : List LeafBlock) → AllByRecursion (λ b. AreTextLines AnySeat (block_lines b)) blocks
+any-blocks blocks = every-all (λ b. AreTextLines AnySeat (block_lines b)) (λ b. any-lines (block_lines b)) blocks
+
+-- ---- virtual bytes of bytes that end a line
+module _ (t n : ℕ) where
+  tab-texts : (byte k line column index vs : ℕ) (ss : List Seat) → suc index < n → AreTextSeats (StandsBefore n) ss → AreTextSeats (StandsBefore n) (in_tab byte k line column index vs ++ ss)
+  tab-texts byte zero line column index vs ss l h = h
+  tab-texts byte (suc zero) line column index vs ss l h =
+      let s : Seat = record { byte = byte; point = point line column index vs; end = end_in_tab 0 line column index vs } in
+      let low : index < n = omega (arith, l) in
+      behind-inner (StandsBefore n) s ss (low, l) h
+  tab-texts byte (suc (suc k)) line column index vs ss l h =
+      let s : Seat = record { byte = byte; point = point line column index vs; end = end_in_tab (suc k) line column index vs } in
+      let low : index < n = omega (arith, l) in
+      behind-inner (StandsBefore n) s (in_tab 32 (suc k) line (suc column) index (suc vs) ++ ss) (low, low) (tab-texts 32 (suc k) line (suc column) index (suc vs) ss l h)
+
+  step-texts : (is_lf is_cr lf_comes is_tab : Bool) (x line column index : ℕ) (rest : ℕ → ℕ → ℕ → List Seat) → ((line column : ℕ) → AreTextSeats (StandsBefore n) (rest line column (suc index))) → suc index < n
+      → AreTextSeats (StandsBefore n) (step is_lf is_cr lf_comes is_tab t x line column index rest)
+  step-texts true is_cr lf_comes is_tab x line column index rest h l =
+      let low : index < n = omega (arith, l) in
+      behind-inner (StandsBefore n) (line_feed line column index) (rest (suc line) 1 (suc index)) (low, l) (h (suc line) 1)
+  step-texts false true true is_tab x line column index rest h l = h line column
+  step-texts false true false is_tab x line column index rest h l =
+      let low : index < n = omega (arith, l) in
+      behind-inner (StandsBefore n) (line_feed line column index) (rest (suc line) 1 (suc index)) (low, l) (h (suc line) 1)
+  step-texts false false lf_comes true x line column index rest h l = tab-texts 9 (tab_width t column) line column index 0 (rest line (column + tab_width t column) (suc index)) l (h line (column + tab_width t column))
+  step-texts false false lf_comes false x line column index rest h l =
+      let low : index < n = omega (arith, l) in
+      behind-inner (StandsBefore n) (other_byte x line column index) (rest line (suc column) (suc index)) (low, l) (h line (suc column))
+
+  last-texts : (b : List ℕ) (x line column index : ℕ) → begins_line b (x ∷ []) ≡ true → AreTextSeats (StandsBefore n) (virtual_from t line column index (x ∷ []))
+  last-texts b x line column index h = by (x == 10) (x == 13) (x == 9) h
+    where
+      by : (is_lf is_cr is_tab : Bool) → (is_lf || (is_cr && not (begins_with_lf b))) ≡ true → AreTextSeats (StandsBefore n) (step is_lf is_cr false is_tab t x line column index (λ line column index. []))
+      by true is_cr is_tab h = λ e. absurd (cc)
+      by false true is_tab h = λ e. absurd (cc)
+      by false false is_tab h = absurd (cc)
+
+  pub virtual-texts : (b a : List ℕ) (line column index : ℕ) → begins_line b a ≡ true → index + length a ≡ n → AreTextSeats (StandsBefore n) (virtual_from t line column index a)
+  virtual-texts b [] line column index h e = tt
+  virtual-texts b (x ∷ []) line column index h e = last-texts b x line column index h
+  virtual-texts b (x ∷ y ∷ a) line column index h e =
+      step-texts (x == 10) (x == 13) (begins_with_lf (y ∷ a)) (x == 9) x line column index (λ line column index. virtual_from t line column index (y ∷ a)) (λ line column. virtual-texts b (y ∷ a) line column (suc index) h (omega (arith, e)))
+      (omega (arith, e))
