@@ -1,7 +1,10 @@
 -- A document as sections, each of which is read by itself.
-use Rattle.mdconstructs_rests.proofs.Prelude.{◌≡◌, ℕ, suc, ◌≤◌, ◌==◌, ◌&&◌, ◌||◌, List, [], ◌∷◌, ◌++◌, Bool, true, false, cond, not, length, refl, sym, ap, ◌∙◌, arith, leb-true, nat_le, map, append-nil, and-right, and-left, Constructs, Line, LeafBlock, blank_line, break_line, atx_heading, paragraph, setext_heading, indented_code, fenced_code, html_block, leaf_blocks, flow_events, lines_in, begins_at_rest, begins_line, first_at_rest, line_endings, moved_block, moved_event, moved_lines, begins_near, is_open, is_open_behind, kind_of_line, last_passes, FirstLineTells, RestsOfBoth, SectionsGiveEvents, are_sections, document_of, events_of_sections, begins_with_lf, virtual}
+use Rattle.mdconstructs_rests.proofs.Prelude.{◌≡◌, ℕ, suc, ◌≤◌, ◌==◌, ◌&&◌, ◌||◌, List, [], ◌∷◌, ◌++◌, Bool, true, false, cond, not, length, refl, sym, ap, ◌∙◌, arith, leb-true, nat_le, map, append-nil, and-right, and-left, Constructs, Event, Line, LeafBlock, blank_line, break_line, atx_heading, paragraph, setext_heading, indented_code, fenced_code, html_block, leaf_blocks, flow_events, lines_in, begins_at_rest, begins_line, first_at_rest, line_endings, moved_block, moved_event, moved_lines, begins_near, is_open, is_open_behind, kind_of_line, last_passes, FirstLineTells, RestsOfBoth, SectionsGiveEvents, are_sections, document_of, events_of_sections, begins_with_lf, virtual}
 use Rattle.mdconstructs_rests.proofs.Both.{blocks-of-both}
 use Rattle.mdconstructs_rests.proofs.Events.{events-of-both}
+use Rattle.mdconstructs_documents.specs.FlowTexts.{flow_inlines}
+use Rattle.mdconstructs_rests.specs.Sections.{SectionsGiveInlines}
+use Rattle.mdconstructs_rests.proofs.ReadTexts.{flow-inlines-of-both}
 use Rattle.mdconstructs_rests.proofs.Rests.{last-append}
 use Rattle.mdconstructs_rests.proofs.Virtual.{lines-are-counted, lines-of-both}
 
@@ -106,16 +109,21 @@ module _ (on : Constructs) (t : ℕ) where
       let ends = line-ahead next third (document_of more) some ∙ and-left (begins_line third next) _ rest in
       first-line-tells on t s next (third ++ document_of more) (some-document next (third ∷ more) sections) ends (and-left (begins_line next s) _ h) ∙ h
 
-  give : (sections : List (List ℕ)) → are_sections on t sections ≡ true → flow_events on (document_of sections) (virtual t (document_of sections)) ≡ events_of_sections on t sections
-  give [] h = refl
-  give (s ∷ []) h = ap (λ d. flow_events on d (virtual t d)) (append-nil s) ∙ sym (append-nil (flow_events on s (virtual t s)))
-  give (s ∷ next ∷ more) h =
-      let behind = and-right (nat_le 1 (length s)) (begins_at_rest on t s next && are_sections on t (next ∷ more)) h in
-      let rest = and-left (begins_at_rest on t s next) (are_sections on t (next ∷ more)) behind in
-      let sections = and-right (begins_at_rest on t s next) (are_sections on t (next ∷ more)) behind in
-      let first = flow_events on s (virtual t s) in
-      events-of-both on t s (next ++ document_of more) (rest-ahead s next more rest sections)
-      ∙ ap (λ es. first ++ map (moved_event (line_endings s) (length s) (length first)) es) (give (next ∷ more) sections)
+  -- the events of sections are those of the document, if those of two parts are
+  module _ (read : List ℕ → List Event) (none : read [] ≡ [])
+      (both : (a b : List ℕ) → begins_at_rest on t a b ≡ true → read (a ++ b) ≡ read a ++ map (moved_event (line_endings a) (length a) (length (read a))) (read b)) where
+    give : (sections : List (List ℕ)) → are_sections on t sections ≡ true → read (document_of sections) ≡ events_of_sections read sections
+    give [] h = none
+    give (s ∷ []) h = ap read (append-nil s) ∙ sym (append-nil (read s))
+    give (s ∷ next ∷ more) h =
+        let behind = and-right (nat_le 1 (length s)) (begins_at_rest on t s next && are_sections on t (next ∷ more)) h in
+        let rest = and-left (begins_at_rest on t s next) (are_sections on t (next ∷ more)) behind in
+        let sections = and-right (begins_at_rest on t s next) (are_sections on t (next ∷ more)) behind in
+        let first = read s in
+        both s (next ++ document_of more) (rest-ahead s next more rest sections) ∙ ap (λ es. first ++ map (moved_event (line_endings s) (length s) (length first)) es) (give (next ∷ more) sections)
 
 pub sections-give-events : SectionsGiveEvents
-sections-give-events on t sections h = give on t sections h
+sections-give-events on t = give on t (λ bytes. flow_events on bytes (virtual t bytes)) refl (events-of-both on t)
+
+pub sections-give-inlines : SectionsGiveInlines
+sections-give-inlines on t = give on t (λ bytes. flow_inlines on bytes (virtual t bytes)) refl (flow-inlines-of-both on t)

@@ -3,6 +3,7 @@ use Rattle.std.specs.Prelude.{◌≡◌, ℕ, ◌≤◌, ◌&&◌, nat_le, Bool,
 use Rattle.std.specs.List.{flat_map}
 use Rattle.markdown_base.specs.declared.configuration.Constructs.{Constructs}
 use Rattle.markdown_base.specs.declared.event.Event.{Event}
+use Rattle.mdconstructs_documents.specs.FlowTexts.{flow_inlines}
 use Rattle.mdconstructs_flow_read.specs.LeafEvents.{flow_events}
 use Rattle.mdconstructs_rests.specs.Moved.{begins_at_rest, begins_line, line_endings, moved_event}
 use Rattle.markdown_base.specs.Virtual.{virtual}
@@ -24,13 +25,17 @@ are_sections on t (s ∷ next ∷ more) = nat_le 1 (length s) && (begins_at_rest
 abbrev pub document_of : List (List ℕ) → List ℕ
 document_of sections = flat_map (λ s. s) sections
 
--- the events of sections, each read by itself, one behind the other
-abbrev pub events_of_sections : Constructs → (t : ℕ) → List (List ℕ) → List Event
-events_of_sections on t [] = []
-events_of_sections on t (s ∷ more) =
-    let first = flow_events on s (virtual t s) in
-    first ++ map (moved_event (line_endings s) (length s) (length first)) (events_of_sections on t more)
+-- the events of sections, each read by itself, one behind the other; `read` are the events of bytes that are a document
+abbrev pub events_of_sections : (read : List ℕ → List Event) → List (List ℕ) → List Event
+events_of_sections read [] = []
+events_of_sections read (s ∷ more) = let first = read s in first ++ map (moved_event (line_endings s) (length s) (length first)) (events_of_sections read more)
 
--- are the events of the document
+-- The events of leaf blocks of sections are those of the document
 abbrev pub SectionsGiveEvents : Type 0
-SectionsGiveEvents = (on : Constructs) (t : ℕ) (sections : List (List ℕ)) → are_sections on t sections ≡ true → flow_events on (document_of sections) (virtual t (document_of sections)) ≡ events_of_sections on t sections
+SectionsGiveEvents = (on : Constructs) (t : ℕ) (sections : List (List ℕ)) → are_sections on t sections ≡ true
+    → let read = λ (bytes : List ℕ). flow_events on bytes (virtual t bytes) in read (document_of sections) ≡ events_of_sections read sections
+
+-- So are they with inline text and strings
+abbrev pub SectionsGiveInlines : Type 0
+SectionsGiveInlines = (on : Constructs) (t : ℕ) (sections : List (List ℕ)) → are_sections on t sections ≡ true
+    → let read = λ (bytes : List ℕ). flow_inlines on bytes (virtual t bytes) in read (document_of sections) ≡ events_of_sections read sections

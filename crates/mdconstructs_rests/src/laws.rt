@@ -3,7 +3,7 @@
 ghost use Rattle.mdconstructs_rests.specs.Moved.{BlocksMove, BlocksOfBoth, EventsOfBoth, LinesAreCounted, LinesOfBoth, VirtualOfBoth};
 ghost use Rattle.mdconstructs_rests.specs.ReadTexts.{FlowInlinesOfBoth, InlinesMove, ReadEventsOfBoth, StringsMove};
 ghost use Rattle.mdconstructs_rests.specs.Rests.{RestsCutBlocks, RestsForget, WideRestsCutBlocks};
-ghost use Rattle.mdconstructs_rests.specs.Sections.{FirstLineTells, RestsOfBoth, SectionsGiveEvents};
+ghost use Rattle.mdconstructs_rests.specs.Sections.{FirstLineTells, RestsOfBoth, SectionsGiveEvents, SectionsGiveInlines};
 ghost use Rattle.mdconstructs_rests.specs.WithoutContainers.{DocumentsWithoutContainers, NoneBeginsWhereOff};
 
 /// At a rest leaf blocks are cut apart.
@@ -84,6 +84,11 @@ pub fn strings_move()
 /// Events of leaf blocks with inline text and strings are those of the parts, moved.
 pub fn flow_inlines_of_both()
     ensures { FlowInlinesOfBoth }
+{}
+
+/// The events of sections with inline text and strings, each read by itself and moved, are those of the document.
+pub fn sections_give_inlines()
+    ensures { SectionsGiveInlines }
 {}
 
 /// A document in which no line begins a block quote or a list item, and none has a bracket in front, is read as its leaf blocks are, with their
