@@ -1,9 +1,11 @@
+pub mod Asked
 pub mod Both
 pub mod Events
 mod Examples
 pub mod Fuel
 pub mod Links
 pub mod Longer
+pub mod MovedAsked
 pub mod MovedBlocks
 pub mod MovedItems
 pub mod MovedLinks

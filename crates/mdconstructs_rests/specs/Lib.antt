@@ -1,3 +1,4 @@
+pub mod Asked
 pub mod Moved
 pub mod ReadTexts
 pub mod Rests

@@ -1,5 +1,6 @@
 //! Laws about leaf blocks. Each is a function that does nothing; its contract is the law.
 
+ghost use Rattle.mdconstructs_rests.specs.Asked.{AskedLabelsMove, LabelsDecide};
 ghost use Rattle.mdconstructs_rests.specs.Moved.{BlocksMove, BlocksOfBoth, EventsOfBoth, LinesAreCounted, LinesOfBoth, VirtualOfBoth};
 ghost use Rattle.mdconstructs_rests.specs.ReadTexts.{FlowInlinesOfBoth, InlinesMove, ReadEventsOfBoth, StringsMove};
 ghost use Rattle.mdconstructs_rests.specs.Rests.{RestsCutBlocks, RestsForget, WideRestsCutBlocks};
@@ -89,6 +90,16 @@ pub fn flow_inlines_of_both()
 /// The events of sections with inline text and strings, each read by itself and moved, are those of the document.
 pub fn sections_give_inlines()
     ensures { SectionsGiveInlines }
+{}
+
+/// Which labels are defined matters to inline text for those alone that are looked up while it is read.
+pub fn labels_decide()
+    ensures { LabelsDecide }
+{}
+
+/// The labels that are looked up in inline text of a part of a document are those in the part alone.
+pub fn asked_labels_move()
+    ensures { AskedLabelsMove }
 {}
 
 /// A document in which no line begins a block quote or a list item, and none has a bracket in front, is read as its leaf blocks are, with their
