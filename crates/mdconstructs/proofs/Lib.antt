@@ -183,17 +183,27 @@ pub use Rattle.mdconstructs_document_laws.proofs.RowNames
 pub use Rattle.mdconstructs_document_laws.proofs.SkeletonNames
 pub use Rattle.mdconstructs_document_laws.proofs.SpanNames
 pub use Rattle.mdconstructs_document_laws.proofs.WholeSpans
+pub use Rattle.mdconstructs_rests.proofs.Asked
 pub use Rattle.mdconstructs_rests.proofs.Both
 pub use Rattle.mdconstructs_rests.proofs.Events
 pub use Rattle.mdconstructs_rests.proofs.Fuel
 pub use Rattle.mdconstructs_rests.proofs.Links
 pub use Rattle.mdconstructs_rests.proofs.Longer
+pub use Rattle.mdconstructs_rests.proofs.MovedAsked
 pub use Rattle.mdconstructs_rests.proofs.MovedBlocks
+pub use Rattle.mdconstructs_rests.proofs.MovedItems
+pub use Rattle.mdconstructs_rests.proofs.MovedLinks
 pub use Rattle.mdconstructs_rests.proofs.MovedMarks
+pub use Rattle.mdconstructs_rests.proofs.MovedPlaces
+pub use Rattle.mdconstructs_rests.proofs.MovedReads
+pub use Rattle.mdconstructs_rests.proofs.MovedRuns
+pub use Rattle.mdconstructs_rests.proofs.MovedTexts
 pub use Rattle.mdconstructs_rests.proofs.ReadTexts
 pub use Rattle.mdconstructs_rests.proofs.Rests
+pub use Rattle.mdconstructs_rests.proofs.Seams
 pub use Rattle.mdconstructs_rests.proofs.Sections
 pub use Rattle.mdconstructs_rests.proofs.Shown
+pub use Rattle.mdconstructs_rests.proofs.TextLines
 pub use Rattle.mdconstructs_rests.proofs.Virtual
 pub use Rattle.mdconstructs_rests.proofs.WithoutContainers
 pub use Rattle.mdconstructs_targets.proofs.CostLemmas as TargetCostLemmas

@@ -208,6 +208,7 @@ pub use Rattle.mdconstructs_document_laws.specs.BlockPlaces
 pub use Rattle.mdconstructs_document_laws.specs.LineStarts
 pub use Rattle.mdconstructs_document_laws.specs.Names
 pub use Rattle.mdconstructs_document_laws.specs.NamesOff
+pub use Rattle.mdconstructs_rests.specs.Asked
 pub use Rattle.mdconstructs_rests.specs.Moved
 pub use Rattle.mdconstructs_rests.specs.ReadTexts
 pub use Rattle.mdconstructs_rests.specs.Rests
