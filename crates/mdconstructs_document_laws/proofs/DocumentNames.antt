@@ -9,7 +9,7 @@ use Rattle.markdown_base.specs.declared.event.Content.TheVariants.{Content, Stri
 use Rattle.markdown_base.specs.declared.event.Event.{Event}
 use Rattle.markdown_base.specs.declared.event.Name.{Name}
 use Rattle.markdown_base.specs.Events.{same_name}
-use Rattle.markdown_base.specs.Virtual.{virtual}
+use Rattle.markdown_base.specs.Virtual.{Seat, virtual}
 use Rattle.markdown_edits.proofs.Balanced.{same_name-true}
 use Rattle.markdown_tokenizer.specs.Text.{Given, Text as TextOf}
 use Rattle.markdown_children.specs.Reads.{text_from}
@@ -20,11 +20,12 @@ use Rattle.mdconstructs_definitions.specs.Blocks.{document_blocks, document_skel
 use Rattle.mdconstructs_definitions.specs.Labelled.{is_one_of}
 use Rattle.mdconstructs_definitions.specs.Rows.{rows}
 use Rattle.mdconstructs_definitions.specs.Sections.{Inside, Section, defined, lines, text_in}
-use Rattle.mdconstructs_definitions.specs.Skeleton.{all_rows, labels_in, labels_of_section, sections_in_seats}
+use Rattle.mdconstructs_definitions.specs.Skeleton.{all_rows, labels_in, labels_of_section, sections_in_seats, skeleton}
 use Rattle.mdconstructs_inlines.specs.InlineEvents.{inline_events}
 use Rattle.mdconstructs_inlines.specs.LawStatements.{with_inlines}
 use Rattle.mdconstructs_inlines.specs.StringEvents.{string_events}
 use Rattle.mdconstructs_machines.specs.LineEvents.{lines_in}
+use Rattle.mdconstructs_strings.specs.StringItems.{string_seat_events}
 use Rattle.mdconstructs_documents.specs.DocumentEvents.{document_events, document_texts, is_defined_in}
 use Rattle.mdconstructs_document_laws.specs.Names.{may_be_named}
 use Rattle.mdconstructs_document_laws.specs.NamesOff.{AreDefinedIfOn, DocumentsAreNamed, InlinesAreNamed, LeafBlocksAreNamed, OffIsLeftOut, SkeletonsAreNamed, StringsAreNamed}
@@ -32,7 +33,8 @@ use Rattle.mdconstructs_document_laws.proofs.ChildNames.{children-named, with-st
 use Rattle.mdconstructs_document_laws.proofs.FlowNames.{flow-named}
 use Rattle.mdconstructs_document_laws.proofs.ItemNames.{read-outer, strings-named}
 use Rattle.mdconstructs_document_laws.proofs.LinkNames.{links-named}
-use Rattle.mdconstructs_document_laws.proofs.Named.{Named}
+use Rattle.mdconstructs_document_laws.proofs.Inside.{StandsInside, inside-may}
+use Rattle.mdconstructs_document_laws.proofs.Named.{Named, weaker}
 use Rattle.mdconstructs_document_laws.proofs.RowNames.{InsideIsOn, SectionsAreOn, rows-on, sections-on}
 use Rattle.mdconstructs_document_laws.proofs.SkeletonNames.{skeleton-named}
 
@@ -45,14 +47,30 @@ all-named on events h = All-from_recursion (λ (e : Event). may_be_named on e.na
 pub leaf-blocks-named : LeafBlocksAreNamed
 leaf-blocks-named on bytes seats = all-named on _ (flow-named on bytes seats)
 
-pub strings-are-named : StringsAreNamed
-strings-are-named on bytes seats = all-named on _ (strings-named on bytes seats).named
+-- strings, containers and definitions, and inline text have none of the names that tell of headings
+pub string-inside : (on : Constructs) (bytes : List ℕ) (seats : List Seat) → Named (StandsInside on) (string_seat_events on bytes seats)
+string-inside on bytes seats = (strings-named on bytes seats).named
 
-pub skeletons-named : SkeletonsAreNamed
-skeletons-named on bytes seats = all-named on _ (skeleton-named on bytes seats)
+pub skeleton-inside : (on : Constructs) (bytes : List ℕ) (seats : List Seat) → Named (StandsInside on) (skeleton on bytes seats)
+skeleton-inside on bytes seats = skeleton-named on bytes seats
+
+pub inline-inside : (labels : List ℕ → Bool) (g : Given) (text : TextOf) → AreDefinedIfOn labels g.options.constructs → Named (StandsInside g.options.constructs) (inline_events labels g text)
+inline-inside labels g text h = links-named g.options.constructs g.bytes _ (read-outer g.options.constructs labels g.bytes h text.seats)
+
+string-named : (on : Constructs) (bytes : List ℕ) (seats : List Seat) → Named (May on) (string_seat_events on bytes seats)
+string-named on bytes seats = weaker (inside-may on) (string_seat_events on bytes seats) (string-inside on bytes seats)
+
+bare-named : (on : Constructs) (bytes : List ℕ) (seats : List Seat) → Named (May on) (skeleton on bytes seats)
+bare-named on bytes seats = weaker (inside-may on) (skeleton on bytes seats) (skeleton-inside on bytes seats)
 
 inline-named : (labels : List ℕ → Bool) (g : Given) (text : TextOf) → AreDefinedIfOn labels g.options.constructs → Named (May g.options.constructs) (inline_events labels g text)
-inline-named labels g text h = links-named g.options.constructs g.bytes _ (read-outer g.options.constructs labels g.bytes h text.seats)
+inline-named labels g text h = weaker (inside-may g.options.constructs) (inline_events labels g text) (inline-inside labels g text h)
+
+pub strings-are-named : StringsAreNamed
+strings-are-named on bytes seats = all-named on _ (string-named on bytes seats)
+
+pub skeletons-named : SkeletonsAreNamed
+skeletons-named on bytes seats = all-named on _ (bare-named on bytes seats)
 
 pub inlines-named : InlinesAreNamed
 inlines-named labels g text h = all-named g.options.constructs _ (inline-named labels g text h)
@@ -74,7 +92,7 @@ module _ (on : Constructs) (label : List ℕ) where
   of-sections [] h e = absurd (false≢true e)
   of-sections (s ∷ ss) h e = one-of-both (labels_of_section s) (flat_map labels_of_section ss) (of-inside s s.inside h.0.inside) (of-sections ss h.1) e
 
-defined-if-on : (g : Given) → AreDefinedIfOn (is_defined_in g) g.options.constructs
+pub defined-if-on : (g : Given) → AreDefinedIfOn (is_defined_in g) g.options.constructs
 defined-if-on g label e =
     let on = g.options.constructs in
     let seats = virtual g.tab g.bytes in
@@ -84,7 +102,7 @@ defined-if-on g label e =
 blocks-named : (g : Given) → Named (May g.options.constructs) (document_blocks g)
 blocks-named g =
     let on = g.options.constructs in
-    children-named (May on) (Some Content) (document_skeleton g) (λ c. flow_events on (shown_as_text g).bytes (text_from (shown_as_text g) (document_skeleton g) c).seats) (skeleton-named on g.bytes (virtual g.tab g.bytes))
+    children-named (May on) (Some Content) (document_skeleton g) (λ c. flow_events on (shown_as_text g).bytes (text_from (shown_as_text g) (document_skeleton g) c).seats) (bare-named on g.bytes (virtual g.tab g.bytes))
     (λ c. flow-named on (shown_as_text g).bytes (text_from (shown_as_text g) (document_skeleton g) c).seats)
 
 texts-named : (g : Given) → Named (May g.options.constructs) (document_texts g)
@@ -94,7 +112,7 @@ texts-named g =
     let inlines = with_inlines (is_defined_in g) g blocks in
     children-named (May on) (Some String) inlines (λ c. string_events g (chain_text g inlines c))
     (children-named (May on) (Some Text) blocks (λ c. inline_events (is_defined_in g) g (chain_text g blocks c)) (blocks-named g) (λ c. inline-named (is_defined_in g) g (chain_text g blocks c) (defined-if-on g)))
-    (λ c. (strings-named on g.bytes (chain_text g inlines c).seats).named)
+    (λ c. string-named on g.bytes (chain_text g inlines c).seats)
 
 document-named : (g : Given) → Named (May g.options.constructs) (document_events g)
 document-named g = with-strings-named g.options.constructs g.tab g.bytes (document_texts g) (texts-named g)

@@ -101,11 +101,11 @@ module _ (on : Constructs) (bytes : List ℕ) where
   endings line = alone bytes name.LineEnding (ending_of line) refl
 
   sequences : (n : Name) (size : ℕ) (seats : List Seat) → May n → Are (sequence_marks bytes n size seats)
-  sequences n size seats p = both (whites on bytes _) (both (alone bytes n _ p) (whites on bytes _))
+  sequences n size seats p = both (whites May refl bytes _) (both (alone bytes n _ p) (whites May refl bytes _))
 
   breaks : (bound : ℕ) (seats : List Seat) → on.thematic_break ≡ true → Are (break_marks bytes bound seats)
   breaks zero seats h = none
-  breaks (suc bound) seats h = both (whites on bytes _) (both (alone bytes name.ThematicBreakSequence _ h) (breaks bound _ h))
+  breaks (suc bound) seats h = both (whites May refl bytes _) (both (alone bytes name.ThematicBreakSequence _ h) (breaks bound _ h))
 
   chunks : (seats : List Seat) → Are (text_chunk bytes seats)
   chunks seats = around bytes _ name.Data seats refl none
@@ -114,13 +114,13 @@ module _ (on : Constructs) (bytes : List ℕ) where
   strings seats = around bytes _ name.Data seats refl none
 
   headings : (seats : List Seat) → on.heading_atx ≡ true → Are (heading_around bytes (text_chunk bytes) seats)
-  headings seats h = search (together on bytes, sequences, over on bytes, chunks, h)
+  headings seats h = search (together May refl bytes, sequences, over May refl bytes, chunks, h)
 
   fences : (size : ℕ) (seats : List Seat) → on.code_fenced ≡ true → Are (fence_around bytes (string_chunk bytes) size seats)
-  fences size seats h = search (together on bytes, sequences, over on bytes, strings, whites on bytes, h) depth 9
+  fences size seats h = search (together May refl bytes, sequences, over May refl bytes, strings, whites May refl bytes, h) depth 9
 
   codes : (most : ℕ) (seats : List Seat) → May name.CodeFlowChunk → Are (code_marks bytes most seats)
-  codes most seats h = both (whites on bytes _) (alone bytes name.CodeFlowChunk _ h)
+  codes most seats h = both (whites May refl bytes _) (alone bytes name.CodeFlowChunk _ h)
 
   texts : (has_previous : Bool) (lines : List Line) → Are (text_marks bytes has_previous lines)
   texts has_previous [] = none
@@ -147,8 +147,8 @@ module _ (on : Constructs) (bytes : List ℕ) where
 
   closings : (f : Fence) (is_closed : Bool) (line : Line) → on.code_fenced ≡ true → May name.CodeFlowChunk
       → Are (cond is_closed (span_marks bytes name.CodeFencedFence (line_text line) (sequence_marks bytes name.CodeFencedFenceSequence (run f.byte (unindented (bytes_of (line_text line)))) (line_text line))) (code_marks bytes f.indent (line_text line) ++ line_end bytes line))
-  closings f true line h c = search (over on bytes, sequences, h)
-  closings f false line h c = search (together on bytes, codes, endings, c)
+  closings f true line h c = search (over May refl bytes, sequences, h)
+  closings f false line h c = search (together May refl bytes, codes, endings, c)
 
   in-fences : (f : Fence) (is_closed : Bool) (lines : List Line) → on.code_fenced ≡ true → May name.CodeFlowChunk → Are (fenced_marks bytes f is_closed lines)
   in-fences f is_closed [] h c = none
@@ -170,8 +170,8 @@ module _ (on : Constructs) (bytes : List ℕ) where
   underlines : (seats : List Seat) → on.heading_setext ≡ true → Are (underline_marks bytes seats)
   underlines seats h = around bytes None name.HeadingSetextUnderline seats h (sequences name.HeadingSetextUnderlineSequence _ seats h)
 
-  block-names : (block : LeafBlock) → IsOn on block → Are (leaf_block_marks bytes block)
-  block-names (blank_line line) h = both (whites on bytes (line_text line)) (alone bytes name.BlankLineEnding (ending_of line) refl)
+  pub block-names : (block : LeafBlock) → IsOn on block → Are (leaf_block_marks bytes block)
+  block-names (blank_line line) h = both (whites May refl bytes (line_text line)) (alone bytes name.BlankLineEnding (ending_of line) refl)
   block-names (break_line line) h = over-block name.ThematicBreak false (line ∷ []) h (breaks (length line) (line_text line) h)
   block-names (atx_heading line) h = over-block name.HeadingAtx false (line ∷ []) h (headings (line_text line) h)
   block-names (paragraph lines) h = over-block name.Paragraph false lines refl (texts false lines)

@@ -1,13 +1,20 @@
 pub mod BlockPlaces
+pub mod ChildEvents
 pub mod ChildNames
 pub mod DocumentNames
+pub mod DocumentRanks
 mod Examples
+pub mod FlowHeads
 pub mod FlowNames
+pub mod HeadChildren
+pub mod Heads
 pub mod HtmlStarts
+pub mod Inside
 pub mod ItemNames
 pub mod LineStarts
 pub mod LinkNames
 pub mod Named
+pub mod Ranks
 pub mod RowNames
 pub mod SkeletonNames
 pub mod SpanNames

@@ -14,14 +14,15 @@ use Rattle.markdown_edits.proofs.Balanced.{same_name-true}
 use Rattle.mdconstructs_attention.specs.Emphasis.{Pair, Run, all_in_pairs, closings, data_of, emphasised, events_of_runs, later, markers_of, markers_of_all, openings, paired, pairs}
 use Rattle.mdconstructs_attention.specs.Runs.{depth_after, index_of_event, is_sequence, run_at, runs_from, runs_in}
 use Rattle.mdconstructs_links.specs.Linked.{Part, SoFar, Waiting, added, all_parts, around, as_data, emphasised_parts, ended, events, failed, is_bracket, is_named, is_run, is_tail, label_text, last_place, linked_from, made, opened, outermost_spans, part_of, run, runs_of_parts, spanning, spans_in, taken, text_before, text_behind, with_links}
-use Rattle.mdconstructs_document_laws.specs.Names.{has_labels, may_be_named}
+use Rattle.mdconstructs_document_laws.specs.Names.{has_labels}
+use Rattle.mdconstructs_document_laws.proofs.Inside.{stands_inside}
 use Rattle.mdconstructs_document_laws.proofs.Named.{Named, and, no-events}
 use Rattle.mdconstructs_document_laws.proofs.WholeSpans.{AreFound, runs_among}
 use Rattle.mdconstructs_document_laws.proofs.SpanNames.{IsFine, MayRun, Outer}
 
 module _ (on : Constructs) where
   abbrev May : Name → Type 0
-  May n = may_be_named on n ≡ true
+  May n = stands_inside on n ≡ true
 
   abbrev Are : List Event → Type 0
   Are es = Named May es

@@ -1,15 +1,13 @@
 -- What names lists of events and of marks have, by what they are made of.
-use Rattle.std.proofs.Common.{◌≡◌, ℕ, ◌+◌, List, [], ◌∷◌, ◌++◌, true, Some, None, Option, refl}
+use Rattle.std.proofs.Common.{ℕ, ◌+◌, List, [], ◌∷◌, ◌++◌, Some, None, Option}
 use Rattle.std.specs.List.{AllByRecursion, flat_map}
-use Rattle.markdown_base.proofs.Common.{every-append}
-use Rattle.markdown_base.specs.declared.configuration.Constructs.{Constructs}
+use Rattle.markdown_base.proofs.Common.{every-append, every-map}
 use Rattle.markdown_base.specs.declared.event.Event.{Event}
 use Rattle.markdown_base.specs.declared.event.Name.{Name}
 use Rattle.markdown_base.specs.declared.event.Name.TheVariants as name
 use Rattle.markdown_base.specs.Virtual.{Seat}
 use Rattle.mdconstructs_machines.specs.Spans.{leaf, span}
 use Rattle.mdconstructs_flow_read.specs.LeafEvents.{Chunk, Mark, chunk_span, leaf_marks, linked_from, span_marks, white}
-use Rattle.mdconstructs_document_laws.specs.Names.{may_be_named}
 
 module _ (P : Name → Type 0) where
   -- each event has a name of P
@@ -18,6 +16,13 @@ module _ (P : Name → Type 0) where
 
   pub record Marked (marks : List Mark) : Type 0 where
     pub all : AllByRecursion (λ m. P m.0.name) marks
+
+-- what one predicate says of names another may say too
+pub weaker : {P Q : Name → Type 0} → ((n : Name) → P n → Q n) → (events : List Event) → Named P events → Named Q events
+weaker {P} {Q} f events h = record { all = every-map (λ (e : Event). P e.name) (λ (e : Event). Q e.name) (λ e p. f e.name p) events h.all }
+
+pub marked-weaker : {P Q : Name → Type 0} → ((n : Name) → P n → Q n) → (marks : List Mark) → Marked P marks → Marked Q marks
+marked-weaker {P} {Q} f marks h = record { all = every-map (λ (m : Mark). P m.0.name) (λ (m : Mark). Q m.0.name) (λ m p. f m.0.name p) marks h.all }
 
 -- ---- lists of marks
 module _ {P : Name → Type 0} where
@@ -70,22 +75,16 @@ module _ {P : Name → Type 0} where
     pub leafed : (n : Name) (seats : List Seat) → P n → Named P (leaf bytes n seats)
     leafed n seats p = spanned n seats p no-events
 
--- ---- marks of constructs that are on
-module _ (on : Constructs) (bytes : List ℕ) where
-  abbrev May : Name → Type 0
-  May n = may_be_named on n ≡ true
-
-  abbrev Are : List Mark → Type 0
-  Are marks = Marked May marks
-
-  pub together : (xs ys : List Mark) → Are xs → Are ys → Are (xs ++ ys)
+-- ---- marks whose names may be those of white space too, by lists that are given
+module _ (P : Name → Type 0) (space : P name.SpaceOrTab) (bytes : List ℕ) where
+  pub together : (xs ys : List Mark) → Marked P xs → Marked P ys → Marked P (xs ++ ys)
   together xs ys h k = both h k
 
-  pub over : (n : Name) (seats : List Seat) (inside : List Mark) → May n → Are inside → Are (span_marks bytes n seats inside)
+  pub over : (n : Name) (seats : List Seat) (inside : List Mark) → P n → Marked P inside → Marked P (span_marks bytes n seats inside)
   over n seats inside p h = around bytes None n seats p h
 
-  pub leafs : (n : Name) (seats : List Seat) → May n → Are (leaf_marks bytes n seats)
+  pub leafs : (n : Name) (seats : List Seat) → P n → Marked P (leaf_marks bytes n seats)
   leafs n seats p = alone bytes n seats p
 
-  pub whites : (seats : List Seat) → Are (white bytes seats)
-  whites seats = alone bytes name.SpaceOrTab seats refl
+  pub whites : (seats : List Seat) → Marked P (white bytes seats)
+  whites seats = alone bytes name.SpaceOrTab seats space

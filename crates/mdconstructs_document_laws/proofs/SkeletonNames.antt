@@ -27,25 +27,25 @@ use Rattle.mdconstructs_definitions.specs.Definitions as definitions
 use Rattle.mdconstructs_definitions.specs.Rows.{rows}
 use Rattle.mdconstructs_definitions.specs.Sections.{Inside, Section, defined, lines}
 use Rattle.mdconstructs_definitions.specs.Skeleton.{all_rows, behind_definitions, behind_marks, inside_marks, section_marks, sections_in_seats, sections_marks, skeleton}
-use Rattle.mdconstructs_document_laws.specs.Names.{may_be_named}
+use Rattle.mdconstructs_document_laws.proofs.Inside.{stands_inside}
 use Rattle.mdconstructs_document_laws.proofs.Named.{Marked, Named, around, both, none, leafs, over, together, whites}
 use Rattle.mdconstructs_document_laws.proofs.RowNames.{FramesAreOn, InsideIsOn, IsOn, PartIsOn, PrefixesAreOn, RowIsOn, RowsAreOn, SectionIsOn, SectionsAreOn, rows-on, sections-on, list-on}
 
 module _ (on : Constructs) (bytes : List ℕ) where
   abbrev May : Name → Type 0
-  May n = may_be_named on n ≡ true
+  May n = stands_inside on n ≡ true
 
   abbrev Are : List Mark → Type 0
   Are marks = Marked May marks
 
   -- ---- prefixes
   goings : (c : Container) (seats : List Seat) → IsOn on c → Are (going_marks bytes c seats)
-  goings (quote line) seats h = search (together on bytes, over on bytes, leafs on bytes, whites on bytes, h)
-  goings (item i) seats h = whites on bytes seats
+  goings (quote line) seats h = search (together May refl bytes, over May refl bytes, leafs May refl bytes, whites May refl bytes, h)
+  goings (item i) seats h = whites May refl bytes seats
 
   begins : (c : Container) (seats : List Seat) → IsOn on c → Are (begun_marks bytes c seats)
   begins (quote line) seats h = goings (quote line) seats h
-  begins (item i) seats h = search (together on bytes, over on bytes, leafs on bytes, whites on bytes, h) depth 8
+  begins (item i) seats h = search (together May refl bytes, over May refl bytes, leafs May refl bytes, whites May refl bytes, h) depth 8
 
   prefixes : (ps : List Prefix) (seats : List Seat) → PrefixesAreOn on ps → Are (prefixes_marks bytes ps seats)
   prefixes [] seats h = none
@@ -85,7 +85,7 @@ module _ (on : Constructs) (bytes : List ℕ) where
   chunks has_previous (p ∷ ps) h = both h.0 (both (around bytes _ name.Data p.seats refl none) (chunks true ps h.1))
 
   insides : (part : Part) → PartIsOn on part → Are (inside_of bytes part)
-  insides part h = cond_both part.first.is_blank _ _ Are (λ e. whites on bytes _) (λ e. by (joined_pieces bytes (pieces_of bytes (is_held part) part.first part.more)) (joins _ (pieces (is_held part) part.first part.more h.first h.more)))
+  insides part h = cond_both part.first.is_blank _ _ Are (λ e. whites May refl bytes _) (λ e. by (joined_pieces bytes (pieces_of bytes (is_held part) part.first part.more)) (joins _ (pieces (is_held part) part.first part.more h.first h.more)))
     where
       by : (ps : List (Piece bytes)) → AllByRecursion PieceIs ps → Are (elim ps [ [] ↦ [] | p ∷ ps ↦ chunks_of bytes false (record p { before = [] } ∷ ps) ])
       by [] k = none
@@ -97,7 +97,7 @@ module _ (on : Constructs) (bytes : List ℕ) where
       by : (ps : List (Piece bytes)) → AllByRecursion PieceIs ps
           → Are (elim ps [ [] ↦ [] | p ∷ ps ↦ white bytes (take (indent (rest_of part.first)) p.seats) ++ chunks_of bytes false (record p { before = []; seats = drop (indent (rest_of part.first)) p.seats } ∷ ps) ])
       by [] k = none
-      by (p ∷ ps) k = both (whites on bytes (take (indent (rest_of part.first)) p.seats)) (chunks false (record p { before = []; seats = drop (indent (rest_of part.first)) p.seats } ∷ ps) (none, k.1))
+      by (p ∷ ps) k = both (whites May refl bytes (take (indent (rest_of part.first)) p.seats)) (chunks false (record p { before = []; seats = drop (indent (rest_of part.first)) p.seats } ∷ ps) (none, k.1))
 
   -- ---- definitions
   abbrev PlaceIs : Place → Type 0
@@ -122,10 +122,10 @@ module _ (on : Constructs) (bytes : List ℕ) where
   endings : (ps : List Place) → PlacesAre ps → Are (flat_map (definitions.ending_marks bytes) ps)
   endings [] h = none
   endings (byte_at s ∷ ps) h = both none (endings ps h.1)
-  endings (ending_at ending further marks ∷ ps) h = both (both (leafs on bytes name.LineEnding ending refl) h.0) (endings ps h.1)
+  endings (ending_at ending further marks ∷ ps) h = both (both (leafs May refl bytes name.LineEnding ending refl) h.0) (endings ps h.1)
 
   gaps : (ps : List Place) → PlacesAre ps → Are (gap_marks bytes ps)
-  gaps ps h = let n = prefix_len is_byte ps in both (whites on bytes (seats_of (take n ps))) (both (endings (take 1 (drop n ps)) (every-take PlaceIs 1 (drop n ps) (every-drop PlaceIs n ps h))) (whites on bytes (seats_of (drop (n + 1) ps))))
+  gaps ps h = let n = prefix_len is_byte ps in both (whites May refl bytes (seats_of (take n ps))) (both (endings (take 1 (drop n ps)) (every-take PlaceIs 1 (drop n ps) (every-drop PlaceIs n ps h))) (whites May refl bytes (seats_of (drop (n + 1) ps))))
 
   abbrev LineIs : StringLine → Type 0
   LineIs line = PlacesAre line.behind
@@ -140,30 +140,30 @@ module _ (on : Constructs) (bytes : List ℕ) where
       by (line ∷ ls) k = k
 
   further : (seats : List Seat) → Are (further_line bytes seats)
-  further seats = both (whites on bytes (take (indent (bytes_of seats)) seats)) (leafs on bytes name.Data (drop (indent (bytes_of seats)) seats) refl)
+  further seats = both (whites May refl bytes (take (indent (bytes_of seats)) seats)) (leafs May refl bytes name.Data (drop (indent (bytes_of seats)) seats) refl)
 
   of-lines : (is_first : Bool) (ls : List StringLine) → AllByRecursion LineIs ls → Are (line_marks bytes is_first ls)
   of-lines is_first [] h = none
   of-lines is_first (line ∷ ls) h =
-      both (cond_both is_first (leaf_marks bytes name.Data line.seats) (further_line bytes line.seats) Are (λ e. leafs on bytes name.Data line.seats refl) (λ e. further line.seats)) (both (endings line.behind h.0) (of-lines false ls h.1))
+      both (cond_both is_first (leaf_marks bytes name.Data line.seats) (further_line bytes line.seats) Are (λ e. leafs May refl bytes name.Data line.seats refl) (λ e. further line.seats)) (both (endings line.behind h.0) (of-lines false ls h.1))
 
   module _ (d-on : on.definition ≡ true) where
     strings : (n : Name) (ps : List Place) → May n → PlacesAre ps → Are (string bytes n ps)
-    strings n ps p h = over on bytes n (seats_of ps) _ p (of-lines true (string_lines ps) (string-lines-are ps h))
+    strings n ps p h = over May refl bytes n (seats_of ps) _ p (of-lines true (string_lines ps) (string-lines-are ps h))
 
     marked-are : (mark inside : Name) (ps : List Place) → May mark → May inside → PlacesAre ps → Are (marked bytes mark inside ps)
     marked-are mark inside ps m i h =
         let last = length ps - 1 in
-        both (leafs on bytes mark (seats_of (definitions.between 0 1 ps)) m) (both (strings inside (definitions.between 1 last ps) i (some-places 1 last ps h)) (leafs on bytes mark (seats_of (drop last ps)) m))
+        both (leafs May refl bytes mark (seats_of (definitions.between 0 1 ps)) m) (both (strings inside (definitions.between 1 last ps) i (some-places 1 last ps h)) (leafs May refl bytes mark (seats_of (drop last ps)) m))
 
     destinations : (ps : List Place) → PlacesAre ps → Are (destination_marks bytes ps)
     destinations ps h =
         let c = begins_with 60 (text_of ps) in
-        over on bytes name.DefinitionDestination (seats_of ps) _ d-on
+        over May refl bytes name.DefinitionDestination (seats_of ps) _ d-on
         (cond_both c (definitions.span bytes name.DefinitionDestinationLiteral ps (marked bytes name.DefinitionDestinationLiteralMarker name.DefinitionDestinationString ps))
         (definitions.span bytes name.DefinitionDestinationRaw ps (string bytes name.DefinitionDestinationString ps)) Are
-        (λ e. over on bytes name.DefinitionDestinationLiteral (seats_of ps) _ d-on (marked-are name.DefinitionDestinationLiteralMarker name.DefinitionDestinationString ps d-on d-on h))
-        (λ e. over on bytes name.DefinitionDestinationRaw (seats_of ps) _ d-on (strings name.DefinitionDestinationString ps d-on h)))
+        (λ e. over May refl bytes name.DefinitionDestinationLiteral (seats_of ps) _ d-on (marked-are name.DefinitionDestinationLiteralMarker name.DefinitionDestinationString ps d-on d-on h))
+        (λ e. over May refl bytes name.DefinitionDestinationRaw (seats_of ps) _ d-on (strings name.DefinitionDestinationString ps d-on h)))
 
     titles : (d : Definition) (ps : List Place) → PlacesAre ps → (title : Option Stretch)
         → Are (elim title [
@@ -176,14 +176,14 @@ module _ (on : Constructs) (bytes : List ℕ) where
     titles d ps h (Some t) =
         let k = some-places t.from (end t) ps h in
         both (gaps (definitions.between (end d.destination) t.from ps) (some-places (end d.destination) t.from ps h))
-        (over on bytes name.DefinitionTitle (seats_of (places_of t ps)) _ d-on (marked-are name.DefinitionTitleMarker name.DefinitionTitleString (places_of t ps) d-on d-on k))
+        (over May refl bytes name.DefinitionTitle (seats_of (places_of t ps)) _ d-on (marked-are name.DefinitionTitleMarker name.DefinitionTitleString (places_of t ps) d-on d-on k))
 
     of-parts : (d : Definition) (ps : List Place) → PlacesAre ps → Are (definitions.parts_marks bytes d ps)
     of-parts d ps h =
         let label = places_of d.label ps in
         both (gaps (definitions.between 0 d.label.from ps) (some-places 0 d.label.from ps h))
-        (both (over on bytes name.DefinitionLabel (seats_of label) _ d-on (marked-are name.DefinitionLabelMarker name.DefinitionLabelString label d-on d-on (some-places d.label.from (end d.label) ps h)))
-        (both (leafs on bytes name.DefinitionMarker (seats_of (definitions.between (end d.label) (end d.label + 1) ps)) d-on)
+        (both (over May refl bytes name.DefinitionLabel (seats_of label) _ d-on (marked-are name.DefinitionLabelMarker name.DefinitionLabelString label d-on d-on (some-places d.label.from (end d.label) ps h)))
+        (both (leafs May refl bytes name.DefinitionMarker (seats_of (definitions.between (end d.label) (end d.label + 1) ps)) d-on)
         (both (gaps (definitions.between (end d.label + 1) d.destination.from ps) (some-places (end d.label + 1) d.destination.from ps h))
         (both (destinations (places_of d.destination ps) (some-places d.destination.from (end d.destination) ps h))
         (both (titles d ps h d.title)
@@ -192,7 +192,7 @@ module _ (on : Constructs) (bytes : List ℕ) where
     all-defined : (ds : List Definition) (ps : List Place) → PlacesAre ps → Are (definitions_marks bytes ds ps)
     all-defined [] ps h = none
     all-defined (d ∷ ds) ps h =
-        both (over on bytes name.Definition (seats_of (take d.size ps)) _ d-on (of-parts d (take d.size ps) (every-take PlaceIs d.size ps h)))
+        both (over May refl bytes name.Definition (seats_of (take d.size ps)) _ d-on (of-parts d (take d.size ps) (every-take PlaceIs d.size ps h)))
         (both (endings (definitions.between d.size (d.size + 1) ps) (some-places d.size (d.size + 1) ps h)) (all-defined ds (drop (d.size + 1) ps) (every-drop PlaceIs (d.size + 1) ps h)))
 
   -- ---- sections
@@ -216,7 +216,7 @@ module _ (on : Constructs) (bytes : List ℕ) where
   ends : (part : Part) → Are (ending_marks bytes part)
   ends part =
       cond_both (is_held part) [] _ Are (λ e. none)
-      (λ e. leafs on bytes (cond part.first.is_blank name.BlankLineEnding name.LineEnding) (ending_of (last_line bytes part)) (cond_both part.first.is_blank name.BlankLineEnding name.LineEnding May (λ b. refl) (λ b. refl)))
+      (λ e. leafs May refl bytes (cond part.first.is_blank name.BlankLineEnding name.LineEnding) (ending_of (last_line bytes part)) (cond_both part.first.is_blank name.BlankLineEnding name.LineEnding May (λ b. refl) (λ b. refl)))
 
   behind : (part : Part) (ss : List Section) → PartIsOn on part → SectionsAreOn on ss → Are (behind_marks bytes part ss)
   behind part [] h k = both (all-exit part.frames (end_of bytes part) h.frames) (ends part)

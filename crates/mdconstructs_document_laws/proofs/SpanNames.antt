@@ -12,13 +12,13 @@ use Rattle.markdown_base.specs.Virtual.{Seat}
 use Rattle.markdown_edits.proofs.Balanced.{same_name-true}
 use Rattle.mdconstructs_links.specs.Linked.{is_bracket, is_run, spans_in}
 use Rattle.mdconstructs_machines.specs.Spans.{leaf, span}
-use Rattle.mdconstructs_document_laws.specs.Names.{may_be_named}
+use Rattle.mdconstructs_document_laws.proofs.Inside.{stands_inside}
 use Rattle.mdconstructs_document_laws.proofs.Named.{Named, and, no-events, spanned}
 use Rattle.mdconstructs_document_laws.proofs.WholeSpans.{AreFound, IsWhole, around-whole, both-whole, first-span, found-more, none-whole}
 
 module _ (on : Constructs) where
   abbrev pub May : Name → Type 0
-  May n = may_be_named on n ≡ true
+  May n = stands_inside on n ≡ true
 
   -- an outermost span has such names; or it is a run; or it is a bracket, and then it has them if ends of labels are on
   pub record IsFine (es : List Event) : Type 0 where

@@ -2,3 +2,4 @@ pub mod BlockPlaces
 pub mod LineStarts
 pub mod Names
 pub mod NamesOff
+pub mod Ranks

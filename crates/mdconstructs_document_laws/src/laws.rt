@@ -3,6 +3,7 @@
 ghost use Rattle.mdconstructs_document_laws.specs.BlockPlaces.{BlocksStandInLines, LeafBlocksStandInTexts};
 ghost use Rattle.mdconstructs_document_laws.specs.LineStarts.{BlankStartsNothing, HtmlExcludes, KindsHaveNoOrder, StartsExclude};
 ghost use Rattle.mdconstructs_document_laws.specs.NamesOff.{DocumentsAreNamed, InlinesAreNamed, LeafBlocksAreNamed, OffIsLeftOut, SkeletonsAreNamed, StringsAreNamed};
+ghost use Rattle.mdconstructs_document_laws.specs.Ranks.{EachHeadingTellsItsRank, HeadingsHaveRanks, HeadingsTellTheirRanks};
 
 /// A construct that is off leaves no span: each event of leaf blocks, of strings, of inline text, and of containers and definitions has a name
 /// of the constructs that are on. Which names these are is a table of its own.
@@ -18,6 +19,15 @@ pub fn parts_have_names_of_constructs()
 pub fn documents_have_names_of_constructs()
     ensures on { DocumentsAreNamed }
     ensures off { OffIsLeftOut }
+{}
+
+/// The events of each document tell the ranks of its headings, in their order, whatever stands in their texts and in which containers they are: of an ATX
+/// heading the span of its first sequence of signs has as many bytes as its rank, and of a setext heading the byte at its underline is `=` or `-`.
+/// So what is behind each event that enters a heading tells a rank from 1 to 6.
+pub fn documents_tell_ranks_of_headings()
+    ensures ranks { HeadingsTellTheirRanks }
+    ensures within { HeadingsHaveRanks }
+    ensures each { EachHeadingTellsItsRank }
 {}
 
 /// A line begins with one thing at most: an ATX heading, a fence, HTML, a thematic break, an underline, a block quote or a list item; but for thematic

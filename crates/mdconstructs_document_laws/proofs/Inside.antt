@@ -1,0 +1,30 @@
+-- The names that stand around leaf blocks and in their texts: those that a document may have, but for those that tell of headings.
+use Rattle.std.proofs.Common.{◌≡◌, Bool, true, false, not, refl}
+use Rattle.std.proofs.lemmas.Bool.{and_parts}
+use Rattle.std.specs.Prelude.{◌&&◌, ◌||◌}
+use Rattle.markdown_base.specs.declared.configuration.Constructs.{Constructs}
+use Rattle.markdown_base.specs.declared.event.Name.{Name}
+use Rattle.markdown_base.specs.declared.event.Name.TheVariants as name
+use Rattle.markdown_base.specs.Events.{same_name}
+use Rattle.mdconstructs_document_laws.specs.Names.{may_be_named}
+
+-- the names of headings, and of the sequences that tell their ranks
+abbrev pub is_of_heading : Name → Bool
+is_of_heading n = same_name n name.HeadingAtx || (same_name n name.HeadingSetext || (same_name n name.HeadingAtxSequence || same_name n name.HeadingSetextUnderlineSequence))
+
+-- a document may have the name, and it is none of these
+abbrev pub stands_inside : Constructs → Name → Bool
+stands_inside on n = not (is_of_heading n) && may_be_named on n
+
+abbrev pub StandsInside : Constructs → Name → Type 0
+StandsInside on n = stands_inside on n ≡ true
+
+pub inside-may : (on : Constructs) (n : Name) → stands_inside on n ≡ true → may_be_named on n ≡ true
+inside-may on n h = (and_parts (not (is_of_heading n)) (may_be_named on n) h).1
+
+none : (b : Bool) → not b ≡ true → b ≡ false
+none true h = absurd (cc)
+none false h = refl
+
+pub inside-other : (on : Constructs) (n : Name) → stands_inside on n ≡ true → is_of_heading n ≡ false
+inside-other on n h = none (is_of_heading n) (and_parts (not (is_of_heading n)) (may_be_named on n) h).0
