@@ -33,7 +33,7 @@ use Rattle.mdconstructs_document_laws.proofs.ChildNames.{children-named, with-st
 use Rattle.mdconstructs_document_laws.proofs.FlowNames.{flow-named}
 use Rattle.mdconstructs_document_laws.proofs.ItemNames.{read-outer, strings-named}
 use Rattle.mdconstructs_document_laws.proofs.LinkNames.{links-named}
-use Rattle.mdconstructs_document_laws.proofs.Inside.{StandsInside, inside-may}
+use Rattle.mdconstructs_document_laws.proofs.Inside.{StandsAround, StandsInside, around-inside, inside-may}
 use Rattle.mdconstructs_document_laws.proofs.Named.{Named, weaker}
 use Rattle.mdconstructs_document_laws.proofs.RowNames.{InsideIsOn, SectionsAreOn, rows-on, sections-on}
 use Rattle.mdconstructs_document_laws.proofs.SkeletonNames.{skeleton-named}
@@ -51,8 +51,11 @@ leaf-blocks-named on bytes seats = all-named on _ (flow-named on bytes seats)
 pub string-inside : (on : Constructs) (bytes : List ℕ) (seats : List Seat) → Named (StandsInside on) (string_seat_events on bytes seats)
 string-inside on bytes seats = (strings-named on bytes seats).named
 
+pub skeleton-around : (on : Constructs) (bytes : List ℕ) (seats : List Seat) → Named (StandsAround on) (skeleton on bytes seats)
+skeleton-around on bytes seats = skeleton-named on bytes seats
+
 pub skeleton-inside : (on : Constructs) (bytes : List ℕ) (seats : List Seat) → Named (StandsInside on) (skeleton on bytes seats)
-skeleton-inside on bytes seats = skeleton-named on bytes seats
+skeleton-inside on bytes seats = weaker (around-inside on) (skeleton on bytes seats) (skeleton-around on bytes seats)
 
 pub inline-inside : (labels : List ℕ → Bool) (g : Given) (text : TextOf) → AreDefinedIfOn labels g.options.constructs → Named (StandsInside g.options.constructs) (inline_events labels g text)
 inline-inside labels g text h = links-named g.options.constructs g.bytes _ (read-outer g.options.constructs labels g.bytes h text.seats)

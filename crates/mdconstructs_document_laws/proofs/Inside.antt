@@ -28,3 +28,16 @@ none false h = refl
 
 pub inside-other : (on : Constructs) (n : Name) → stands_inside on n ≡ true → is_of_heading n ≡ false
 inside-other on n h = none (is_of_heading n) (and_parts (not (is_of_heading n)) (may_be_named on n) h).0
+
+-- around leaf blocks stands no character reference either
+abbrev pub stands_around : Constructs → Name → Bool
+stands_around on n = not (same_name n name.CharacterReference) && stands_inside on n
+
+abbrev pub StandsAround : Constructs → Name → Type 0
+StandsAround on n = stands_around on n ≡ true
+
+pub around-inside : (on : Constructs) (n : Name) → stands_around on n ≡ true → stands_inside on n ≡ true
+around-inside on n h = (and_parts (not (same_name n name.CharacterReference)) (stands_inside on n) h).1
+
+pub around-other : (on : Constructs) (n : Name) → stands_around on n ≡ true → same_name n name.CharacterReference ≡ false
+around-other on n h = none (same_name n name.CharacterReference) (and_parts (not (same_name n name.CharacterReference)) (stands_inside on n) h).0

@@ -60,7 +60,7 @@ module _ (on : Constructs) where
     pub opens : MayOpen f.mark
     pub names : (bytes : List ℕ) (seats : List Seat) → Are (f.events bytes seats)
 
-  abbrev IfItem : Option Found → Type 0
+  abbrev pub IfItem : Option Found → Type 0
   IfItem None = Unit {0}
   IfItem (Some f) = IsItem f
 
@@ -177,7 +177,7 @@ module _ (on : Constructs) where
   references-fit text h = cond_both _ (body_at (drop 1 text)) None IfItem (λ e. bodies-fit (drop 1 text) h) (λ e. tt)
 
   -- ---- the first construct that is there
-  abbrev Fits : Grammar Found → Type 0
+  abbrev pub Fits : Grammar Found → Type 0
   Fits grammar = grammar.on on ≡ true → (text : List ℕ) → IfItem (grammar.front text)
 
   or-item : (o : Option Found) (other : Found) → IfItem o → IsItem other → IsItem (or_else o other)
@@ -189,10 +189,10 @@ module _ (on : Constructs) where
   first-item (grammar ∷ grammars) text other h k =
       or-item (if_on (grammar.on on) (grammar.front text)) (first_there grammars on text other) (cond_both (grammar.on on) (grammar.front text) None IfItem (λ e. h.0 e text) (λ e. tt)) (first-item grammars text other h.1 k)
 
-  strings-fit : AllByRecursion Fits string_grammars
+  pub strings-fit : AllByRecursion Fits string_grammars
   strings-fit = (λ h text. escapes-fit text h, (λ h text. references-fit text h, tt))
 
-  inlines-fit : AllByRecursion Fits inline_grammars
+  pub inlines-fit : AllByRecursion Fits inline_grammars
   inlines-fit = (
     λ h text. codes-fit text h,
     (
@@ -329,7 +329,7 @@ module _ (on : Constructs) where
     tailed None h = tt
     tailed (Some f) h = end-item f h
 
-    ends-fit : (b : Bracket) (m : Memory) (behind : List ℕ) → IsItem (end_of_last defined bytes b m behind)
+    pub ends-fit : (b : Bracket) (m : Memory) (behind : List ℕ) → IsItem (end_of_last defined bytes b m behind)
     ends-fit b m behind =
         cond_both b.inactive lone_end _ IsItem (λ e. lone-item)
         (λ e. or-item (option_map label_end (tail_of defined bytes b m behind)) lone_end (tailed (tail_of defined bytes b m behind) (tails-fit b m behind)) lone-item)

@@ -3,6 +3,7 @@ pub mod ChildEvents
 pub mod ChildNames
 pub mod DocumentNames
 pub mod DocumentRanks
+pub mod DocumentReferences
 mod Examples
 pub mod FlowHeads
 pub mod FlowNames
@@ -12,9 +13,14 @@ pub mod HtmlStarts
 pub mod Inside
 pub mod ItemNames
 pub mod LineStarts
+pub mod LinkEvents
 pub mod LinkNames
 pub mod Named
 pub mod Ranks
+pub mod ReferenceBytes
+pub mod ReferenceItems
+pub mod ReferenceKinds
+pub mod ReferencesStand
 pub mod RowNames
 pub mod SkeletonNames
 pub mod SpanNames

@@ -3,3 +3,4 @@ pub mod LineStarts
 pub mod Names
 pub mod NamesOff
 pub mod Ranks
+pub mod ReferencePlaces

@@ -4,6 +4,7 @@ ghost use Rattle.mdconstructs_document_laws.specs.BlockPlaces.{BlocksStandInLine
 ghost use Rattle.mdconstructs_document_laws.specs.LineStarts.{BlankStartsNothing, HtmlExcludes, KindsHaveNoOrder, StartsExclude};
 ghost use Rattle.mdconstructs_document_laws.specs.NamesOff.{DocumentsAreNamed, InlinesAreNamed, LeafBlocksAreNamed, OffIsLeftOut, SkeletonsAreNamed, StringsAreNamed};
 ghost use Rattle.mdconstructs_document_laws.specs.Ranks.{EachHeadingTellsItsRank, HeadingsHaveRanks, HeadingsTellTheirRanks};
+ghost use Rattle.mdconstructs_document_laws.specs.ReferencePlaces.{ReferencesAreWritten, ReferencesOfDocumentsStand, ReferencesOfInlinesStand, ReferencesOfStringsStand};
 
 /// A construct that is off leaves no span: each event of leaf blocks, of strings, of inline text, and of containers and definitions has a name
 /// of the constructs that are on. Which names these are is a table of its own.
@@ -28,6 +29,16 @@ pub fn documents_tell_ranks_of_headings()
     ensures ranks { HeadingsTellTheirRanks }
     ensures within { HeadingsHaveRanks }
     ensures each { EachHeadingTellsItsRank }
+{}
+
+/// Each event of a string, and of inline text, that enters a character reference stands where the text goes on with one, whatever links, images and
+/// emphasis are around it. So from each event of a document that enters one, its bytes go on with `&`, `&#` or `&#x`, a name that stands for
+/// characters or digits, and `;`.
+pub fn character_references_are_where_they_are_entered()
+    ensures strings { ReferencesOfStringsStand }
+    ensures inline_text { ReferencesOfInlinesStand }
+    ensures documents { ReferencesOfDocumentsStand }
+    ensures written { ReferencesAreWritten }
 {}
 
 /// A line begins with one thing at most: an ATX heading, a fence, HTML, a thematic break, an underline, a block quote or a list item; but for thematic

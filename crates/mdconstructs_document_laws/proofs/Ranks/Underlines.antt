@@ -126,7 +126,7 @@ module _ (bytes : List ℕ) where
   under s ss [] y ys a z = refl
   under s ss (x ∷ xs) y ys a z = refl
 
-  shown-index : (p : Point) (k : ℕ) → slice_index bytes p.index ≡ k → (k == 10) ≡ false → (shown bytes p).index ≡ p.index
+  pub shown-index : (p : Point) (k : ℕ) → slice_index bytes p.index ≡ k → (k == 10) ≡ false → (shown bytes p).index ≡ p.index
   shown-index p k h other = plain (slice_index bytes p.index == 10) (follows_cr bytes p.index) (record { line = p.line; column = p.column; index = p.index - 1; vs = p.vs }) p (ap (λ b. b == 10) h ∙ other)
 
   -- the mark that an underline has

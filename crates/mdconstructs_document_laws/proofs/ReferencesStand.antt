@@ -1,0 +1,23 @@
+-- Each event of strings and of inline text that enters a character reference stands at one.
+use Rattle.std.proofs.lemmas.List.Elements.{All-from_recursion}
+use Rattle.std.specs.List.{flat_map}
+use Rattle.std.specs.Prelude.{ℕ, Bool, List}
+use Rattle.markdown_tokenizer.specs.Text.{Given, Text}
+use Rattle.mdconstructs_text.specs.TextEvents.{item_events}
+use Rattle.mdconstructs_inlines.specs.InlineEvents.{inline_events, inline_items}
+use Rattle.mdconstructs_inline_constructs.specs.StringItems.{string_seat_events}
+use Rattle.mdconstructs_document_laws.specs.ReferencePlaces.{ReferencesOfInlinesStand, ReferencesOfStringsStand}
+use Rattle.mdconstructs_document_laws.proofs.LinkEvents.{links-are}
+use Rattle.mdconstructs_document_laws.proofs.ReferenceItems.{AreGood, IsGood, other-good, read-good, string-good}
+
+pub references-of-strings : ReferencesOfStringsStand
+references-of-strings on bytes seats = All-from_recursion (IsGood bytes seats) (string_seat_events on bytes seats) (string-good on bytes seats)
+
+pub inline-good : (defined : List ℕ → Bool) (g : Given) (text : Text) → AreGood g.bytes text.seats (inline_events defined g text)
+inline-good defined g text =
+    let on = g.options.constructs in
+    let seats = text.seats in
+    links-are (IsGood g.bytes seats) (other-good g.bytes seats) g.bytes (flat_map (item_events g.bytes) (inline_items on defined g.bytes seats)) (read-good on defined g.bytes seats)
+
+pub references-of-inlines : ReferencesOfInlinesStand
+references-of-inlines defined g text = All-from_recursion (IsGood g.bytes text.seats) (inline_events defined g text) (inline-good defined g text)
