@@ -12,7 +12,7 @@ use Rattle.markdown_children.specs.Children.{with_children}
 use Rattle.mdconstructs_strings.specs.Strings.{in_string_after, is_data, line_as_string, seats_between, with_strings, with_strings_from}
 use Rattle.mdconstructs_document_laws.specs.Names.{may_be_named}
 use Rattle.mdconstructs_document_laws.proofs.ChildEvents.{children-are}
-use Rattle.mdconstructs_document_laws.proofs.Inside.{inside-may}
+use Rattle.mdconstructs_document_laws.proofs.Plain.{plain-may}
 use Rattle.mdconstructs_document_laws.proofs.ItemNames.{strings-named}
 use Rattle.mdconstructs_document_laws.proofs.Named.{Named, and, no-events, weaker}
 
@@ -30,7 +30,7 @@ module _ (on : Constructs) (t : ℕ) (bytes : List ℕ) where
   string-events inside (e ∷ []) h = h
   string-events inside (e ∷ f ∷ es) h =
       cond_both (inside && is_data e f) (line_as_string on t bytes e.point f.point ++ with_strings_from on t bytes inside es) (e ∷ with_strings_from on t bytes (in_string_after inside e) (f ∷ es)) (Named May)
-      (λ x. and (weaker (inside-may on) (line_as_string on t bytes e.point f.point) (strings-named on bytes (seats_between t bytes e.point f.point)).named) (string-events inside es (record { all = h.all.1.1 })))
+      (λ x. and (weaker (plain-may on) (line_as_string on t bytes e.point f.point) (strings-named on bytes (seats_between t bytes e.point f.point)).named) (string-events inside es (record { all = h.all.1.1 })))
       (λ x. record { all = (h.all.0, (string-events (in_string_after inside e) (f ∷ es) (record { all = h.all.1 })).all) })
 
   pub with-strings-named : (es : List Event) → Named May es → Named May (with_strings on t bytes es)

@@ -35,6 +35,7 @@ use Rattle.mdconstructs_document_laws.proofs.ItemNames.{read-outer, strings-name
 use Rattle.mdconstructs_document_laws.proofs.LinkNames.{links-named}
 use Rattle.mdconstructs_document_laws.proofs.Inside.{StandsAround, StandsInside, around-inside, inside-may}
 use Rattle.mdconstructs_document_laws.proofs.Named.{Named, weaker}
+use Rattle.mdconstructs_document_laws.proofs.Plain.{bare-around, plain-inside}
 use Rattle.mdconstructs_document_laws.proofs.RowNames.{InsideIsOn, SectionsAreOn, rows-on, sections-on}
 use Rattle.mdconstructs_document_laws.proofs.SkeletonNames.{skeleton-named}
 
@@ -49,10 +50,10 @@ leaf-blocks-named on bytes seats = all-named on _ (flow-named on bytes seats)
 
 -- strings, containers and definitions, and inline text have none of the names that tell of headings
 pub string-inside : (on : Constructs) (bytes : List ℕ) (seats : List Seat) → Named (StandsInside on) (string_seat_events on bytes seats)
-string-inside on bytes seats = (strings-named on bytes seats).named
+string-inside on bytes seats = weaker (plain-inside on) (string_seat_events on bytes seats) (strings-named on bytes seats).named
 
 pub skeleton-around : (on : Constructs) (bytes : List ℕ) (seats : List Seat) → Named (StandsAround on) (skeleton on bytes seats)
-skeleton-around on bytes seats = skeleton-named on bytes seats
+skeleton-around on bytes seats = weaker (bare-around on) (skeleton on bytes seats) (skeleton-named on bytes seats)
 
 pub skeleton-inside : (on : Constructs) (bytes : List ℕ) (seats : List Seat) → Named (StandsInside on) (skeleton on bytes seats)
 skeleton-inside on bytes seats = weaker (around-inside on) (skeleton on bytes seats) (skeleton-around on bytes seats)

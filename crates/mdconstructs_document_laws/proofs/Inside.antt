@@ -22,7 +22,7 @@ StandsInside on n = stands_inside on n ≡ true
 pub inside-may : (on : Constructs) (n : Name) → stands_inside on n ≡ true → may_be_named on n ≡ true
 inside-may on n h = (and_parts (not (is_of_heading n)) (may_be_named on n) h).1
 
-none : (b : Bool) → not b ≡ true → b ≡ false
+pub none : (b : Bool) → not b ≡ true → b ≡ false
 none true h = absurd (cc)
 none false h = refl
 

@@ -394,8 +394,8 @@ module _ (on : Constructs) where
       events bytes [] = outer-none on
       events bytes (s ∷ ss) =
           let seats = s ∷ ss in
-          outer-span on bytes name.LabelLink s ss (leaf bytes name.LabelMarker seats) (around-whole bytes name.LabelMarker s ss [] none-whole) ((λ e. absurd (cc)), ((λ e. absurd (cc)), tt))
-          (record { named = λ b e. spanned bytes name.LabelLink seats (link e) (leafed bytes name.LabelMarker seats (label e)); either = inl refl }) (λ e. absurd (cc))
+          outer-span on bytes name.LabelLink s ss (leaf bytes name.LabelMarker seats) (around-whole bytes name.LabelMarker s ss [] none-whole) ((λ e. absurd (cc)), ((λ e. absurd (cc)), tt)) (refl, (refl, tt))
+          (record { named = λ b e. spanned bytes name.LabelLink seats (link e) (leafed bytes name.LabelMarker seats (label e)); either = inl refl }) (λ e. absurd (cc)) refl
 
   image-item : on.label_start_image ≡ true → IsOuter image_bracket
   image-item h = record { opens = or_right on.label_start_link on.label_start_image h; outer = events }
@@ -409,17 +409,17 @@ module _ (on : Constructs) where
       events : (bytes : List ℕ) (seats : List Seat) → Outer on (image_bracket.events bytes seats)
       events bytes [] = outer-none on
       events bytes (s ∷ []) =
-          outer-span on bytes name.LabelImage s [] (leaf bytes name.LabelImageMarker (s ∷ [])) (around-whole bytes name.LabelImageMarker s [] [] none-whole) ((λ e. absurd (cc)), ((λ e. absurd (cc)), tt))
-          (record { named = λ b e. spanned bytes name.LabelImage (s ∷ []) (image e) (leafed bytes name.LabelImageMarker (s ∷ []) (image e)); either = inl refl }) (λ e. absurd (cc))
+          outer-span on bytes name.LabelImage s [] (leaf bytes name.LabelImageMarker (s ∷ [])) (around-whole bytes name.LabelImageMarker s [] [] none-whole) ((λ e. absurd (cc)), ((λ e. absurd (cc)), tt)) (refl, (refl, tt))
+          (record { named = λ b e. spanned bytes name.LabelImage (s ∷ []) (image e) (leafed bytes name.LabelImageMarker (s ∷ []) (image e)); either = inl refl }) (λ e. absurd (cc)) refl
       events bytes (s ∷ r ∷ rs) =
           let first = leaf bytes name.LabelImageMarker (s ∷ []) in
           let second = leaf bytes name.LabelMarker (r ∷ rs) in
           outer-span on bytes name.LabelImage s (r ∷ rs) (first ++ second) (both-whole first second (around-whole bytes name.LabelImageMarker s [] [] none-whole) (around-whole bytes name.LabelMarker r rs [] none-whole))
-          ((λ e. absurd (cc)), ((λ e. absurd (cc)), ((λ e. absurd (cc)), ((λ e. absurd (cc)), tt))))
+          ((λ e. absurd (cc)), ((λ e. absurd (cc)), ((λ e. absurd (cc)), ((λ e. absurd (cc)), tt)))) (refl, (refl, (refl, (refl, tt))))
           (record {
             named = λ b e. spanned bytes name.LabelImage (s ∷ r ∷ rs) (image e) (named-and (leafed bytes name.LabelImageMarker (s ∷ []) (image e)) (leafed bytes name.LabelMarker (r ∷ rs) (label e)));
             either = inl refl;
-          }) (λ e. absurd (cc))
+          }) (λ e. absurd (cc)) refl
 
   module _ (defined : List ℕ → Bool) (bytes : List ℕ) (defs : (label : List ℕ) → defined label ≡ true → on.definition ≡ true) where
     end-fits : (bs : List Bracket) (m : Memory) (behind : List ℕ) → MayWait bs → on.label_end ≡ true → IfOuter (end_at defined bytes bs m behind)
@@ -439,7 +439,7 @@ module _ (on : Constructs) where
       where
         sequence : (given : List ℕ) (seats : List Seat) → Outer on (leaf given name.AttentionSequence seats)
         sequence given [] = outer-none on
-        sequence given (s ∷ ss) = outer-span on given name.AttentionSequence s ss [] none-whole tt (record { named = λ b e. absurd (false≢true b); either = inr (inl refl) }) (λ e. h)
+        sequence given (s ∷ ss) = outer-span on given name.AttentionSequence s ss [] none-whole tt tt (record { named = λ b e. absurd (false≢true b); either = inr (inl refl) }) (λ e. h) refl
 
     run-item : (text : List ℕ) → IsOuter (run_or_part on text)
     run-item text =

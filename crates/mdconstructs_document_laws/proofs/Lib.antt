@@ -1,9 +1,11 @@
 pub mod BlockPlaces
 pub mod ChildEvents
 pub mod ChildNames
+pub mod Chosen
 pub mod DocumentNames
 pub mod DocumentRanks
 pub mod DocumentReferences
+pub mod Emphasis
 mod Examples
 pub mod FlowHeads
 pub mod FlowNames
@@ -16,6 +18,7 @@ pub mod LineStarts
 pub mod LinkEvents
 pub mod LinkNames
 pub mod Named
+pub mod Plain
 pub mod Ranks
 pub mod ReferenceBytes
 pub mod ReferenceItems

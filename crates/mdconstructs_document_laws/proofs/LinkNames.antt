@@ -16,7 +16,8 @@ use Rattle.mdconstructs_attention.specs.Runs.{depth_after, index_of_event, is_se
 use Rattle.mdconstructs_links.specs.Linked.{Part, SoFar, Waiting, added, all_parts, around, as_data, emphasised_parts, ended, events, failed, is_bracket, is_named, is_run, is_tail, label_text, last_place, linked_from, made, opened, outermost_spans, part_of, run, runs_of_parts, spanning, spans_in, taken, text_before, text_behind, with_links}
 use Rattle.mdconstructs_document_laws.specs.Names.{has_labels}
 use Rattle.mdconstructs_document_laws.proofs.Inside.{stands_inside}
-use Rattle.mdconstructs_document_laws.proofs.Named.{Named, and, no-events}
+use Rattle.mdconstructs_document_laws.proofs.Plain.{plain-inside}
+use Rattle.mdconstructs_document_laws.proofs.Named.{Named, and, no-events, weaker}
 use Rattle.mdconstructs_document_laws.proofs.WholeSpans.{AreFound, runs_among}
 use Rattle.mdconstructs_document_laws.proofs.SpanNames.{IsFine, MayRun, Outer}
 
@@ -58,11 +59,11 @@ module _ (on : Constructs) where
               | inr i ↦ or_right (same_name x.name LabelLink) (same_name x.name LabelImage) (and_parts (is_enter x.kind) (same_name x.name LabelImage) i).1
             ] in
             absurd (false≢true (sym o ∙ subst (λ m. (same_name m LabelLink || same_name m LabelImage) ≡ true) same both))
-        | inr more ↦ elim more [ inl is ↦ absurd (false≢true (sym q ∙ subst (λ m. same_name m AttentionSequence ≡ true) same (run-name x xs is))) | inr named ↦ named ]
+        | inr more ↦ elim more [ inl is ↦ absurd (false≢true (sym q ∙ subst (λ m. same_name m AttentionSequence ≡ true) same (run-name x xs is))) | inr named ↦ weaker (plain-inside on) (x ∷ xs) named ]
       ]
 
   plain-named : (span : List Event) → is_bracket span ≡ false → is_run span ≡ false → IsFine on span → Are span
-  plain-named span o q h = elim h.either [ inl bracket ↦ absurd (false≢true (sym o ∙ bracket)) | inr more ↦ elim more [ inl is ↦ absurd (false≢true (sym q ∙ is)) | inr named ↦ named ] ]
+  plain-named span o q h = elim h.either [ inl bracket ↦ absurd (false≢true (sym o ∙ bracket)) | inr more ↦ elim more [ inl is ↦ absurd (false≢true (sym q ∙ is)) | inr named ↦ weaker (plain-inside on) span named ] ]
 
   tail-named : (span : List Event) → is_tail span ≡ true → IsFine on span → Are span
   tail-named span e h = elim (or_cases (is_named Resource span) (is_named Reference span) e) [
@@ -238,7 +239,7 @@ module _ (on : Constructs) where
   is-taken span spans z f h =
       let few = h.few in
       cond_both (is_bracket span) (opened span z) (cond (is_named LabelMarker span) (failed span z.waiting z) (added span z)) (IsSoFar spans)
-      (λ e. record { waits = (f.named e, e, h.behind, h.waits); behind = tt; runs = h.runs; few = omega (arith, few) })
+      (λ e. record { waits = ((λ l. weaker (plain-inside on) span (f.named e l)), e, h.behind, h.waits); behind = tt; runs = h.runs; few = omega (arith, few) })
       (λ other. cond_both (is_named LabelMarker span) (failed span z.waiting z) (added span z) (IsSoFar spans) (λ e. is-failed span spans z.waiting z h.waits h) (λ e. is-added span spans z f other h))
 
   -- behind a span no more runs are left

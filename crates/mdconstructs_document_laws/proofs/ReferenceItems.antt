@@ -29,6 +29,7 @@ use Rattle.mdconstructs_document_laws.specs.Ranks.{enters}
 use Rattle.mdconstructs_document_laws.specs.ReferencePlaces.{StandsAtReference}
 use Rattle.mdconstructs_document_laws.proofs.Inside.{inside-may, stands_inside}
 use Rattle.mdconstructs_document_laws.specs.Names.{may_be_named}
+use Rattle.mdconstructs_document_laws.proofs.PlainNames.{plain-inside}
 use Rattle.mdconstructs_document_laws.proofs.ItemNames.{IfItem, IsItem, ends-fit, inlines-fit, strings-fit}
 use Rattle.mdconstructs_document_laws.proofs.Named.{Named, and, leafed, spanned, weaker}
 
@@ -76,7 +77,7 @@ on-fits text false o h = tt
 
 -- other constructs have other names
 item-fits : (on : Constructs) (text : List ℕ) (f : Found) → IsItem (without on) f → Fits text f
-item-fits on text f h = inl (λ bytes seats. weaker (none-named on) (f.events bytes seats) (h.names bytes seats).named)
+item-fits on text f h = inl (λ bytes seats. weaker (λ n p. none-named on n (plain-inside (without on) n p)) (f.events bytes seats) (h.names bytes seats).named)
 
 if-item : (on : Constructs) (text : List ℕ) (o : Option Found) → IfItem (without on) o → IfFits text o
 if-item on text None h = tt

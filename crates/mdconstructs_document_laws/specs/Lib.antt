@@ -1,6 +1,9 @@
 pub mod BlockPlaces
+pub mod EmphasisLaws
+pub mod EmphasisSpans
 pub mod LineStarts
 pub mod Names
 pub mod NamesOff
+pub mod PairedApart
 pub mod Ranks
 pub mod ReferencePlaces

@@ -1,6 +1,7 @@
 //! Laws of whole documents. Each is a function that does nothing; its contract is the law.
 
 ghost use Rattle.mdconstructs_document_laws.specs.BlockPlaces.{BlocksStandInLines, LeafBlocksStandInTexts};
+ghost use Rattle.mdconstructs_document_laws.specs.EmphasisLaws.{DocumentsHaveSpansOfPairs, DocumentsHaveSpansOfTexts, PairsAreOfRuns, RunsHaveMarkers, TextsHaveSpansOfPairs};
 ghost use Rattle.mdconstructs_document_laws.specs.LineStarts.{BlankStartsNothing, HtmlExcludes, KindsHaveNoOrder, StartsExclude};
 ghost use Rattle.mdconstructs_document_laws.specs.NamesOff.{DocumentsAreNamed, InlinesAreNamed, LeafBlocksAreNamed, OffIsLeftOut, SkeletonsAreNamed, StringsAreNamed};
 ghost use Rattle.mdconstructs_document_laws.specs.Ranks.{EachHeadingTellsItsRank, HeadingsHaveRanks, HeadingsTellTheirRanks};
@@ -56,4 +57,15 @@ pub fn line_starts_exclude_one_another()
 pub fn leaf_blocks_stand_in_their_lines()
     ensures blocks { BlocksStandInLines }
     ensures texts { LeafBlocksStandInTexts }
+{}
+
+/// Each span of emphasis and strong emphasis in the events of a document comes from a pair of delimiter runs of the text in which it stands: it begins
+/// with bytes of the one run, and ends with bytes of the other. And each pair of each text makes one such span. The texts have their spans one
+/// behind another. Which runs of a text pair among themselves is by its links and images, and what they pair to is by CommonMark's procedure.
+pub fn emphasis_is_of_pairs()
+    ensures runs { PairsAreOfRuns }
+    ensures markers { RunsHaveMarkers }
+    ensures texts { TextsHaveSpansOfPairs }
+    ensures in_turn { DocumentsHaveSpansOfTexts }
+    ensures documents { DocumentsHaveSpansOfPairs }
 {}
