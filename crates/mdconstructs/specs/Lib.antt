@@ -60,6 +60,7 @@ pub use Rattle.mdconstructs_text.specs.EscapeRows
 pub use Rattle.mdconstructs_text.specs.Items
 pub use Rattle.mdconstructs_text.specs.ParagraphTexts
 pub use Rattle.mdconstructs_text.specs.Parts
+pub use Rattle.mdconstructs_text.specs.ReadChains
 pub use Rattle.mdconstructs_text.specs.TextBytes
 pub use Rattle.mdconstructs_text.specs.TextCosts
 pub use Rattle.mdconstructs_text.specs.TextEvents
@@ -108,6 +109,7 @@ pub use Rattle.mdconstructs_strings.specs.Reached
 pub use Rattle.mdconstructs_strings.specs.Strings
 pub use Rattle.mdconstructs_inlines.specs.BracketRows
 pub use Rattle.mdconstructs_inlines.specs.Brackets
+pub use Rattle.mdconstructs_inlines.specs.InlineChains
 pub use Rattle.mdconstructs_inlines.specs.InlineEvents
 pub use Rattle.mdconstructs_inlines.specs.InlineRules
 pub use Rattle.mdconstructs_inlines.specs.InlineTable
@@ -205,9 +207,14 @@ pub use Rattle.mdconstructs_costs.specs.Chains as ChainCosts
 pub use Rattle.mdconstructs_costs.specs.Documents as DocumentCosts
 pub use Rattle.mdconstructs_costs.specs.Examples as CostExamples
 pub use Rattle.mdconstructs_document_laws.specs.BlockPlaces
+pub use Rattle.mdconstructs_document_laws.specs.EmphasisLaws
+pub use Rattle.mdconstructs_document_laws.specs.EmphasisSpans
 pub use Rattle.mdconstructs_document_laws.specs.LineStarts
 pub use Rattle.mdconstructs_document_laws.specs.Names
 pub use Rattle.mdconstructs_document_laws.specs.NamesOff
+pub use Rattle.mdconstructs_document_laws.specs.PairedApart
+pub use Rattle.mdconstructs_document_laws.specs.Ranks
+pub use Rattle.mdconstructs_document_laws.specs.ReferencePlaces
 pub use Rattle.mdconstructs_rests.specs.Asked
 pub use Rattle.mdconstructs_rests.specs.Moved
 pub use Rattle.mdconstructs_rests.specs.ReadTexts

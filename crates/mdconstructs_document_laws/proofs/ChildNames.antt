@@ -12,7 +12,7 @@ use Rattle.markdown_children.specs.Children.{with_children}
 use Rattle.mdconstructs_strings.specs.Strings.{in_string_after, is_data, line_as_string, seats_between, with_strings, with_strings_from}
 use Rattle.mdconstructs_document_laws.specs.Names.{may_be_named}
 use Rattle.mdconstructs_document_laws.proofs.ChildEvents.{children-are}
-use Rattle.mdconstructs_document_laws.proofs.Plain.{plain-may}
+use Rattle.mdconstructs_document_laws.proofs.PlainNames.{plain-may}
 use Rattle.mdconstructs_document_laws.proofs.ItemNames.{strings-named}
 use Rattle.mdconstructs_document_laws.proofs.Named.{Named, and, no-events, weaker}
 

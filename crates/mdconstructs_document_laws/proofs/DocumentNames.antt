@@ -35,7 +35,7 @@ use Rattle.mdconstructs_document_laws.proofs.ItemNames.{read-outer, strings-name
 use Rattle.mdconstructs_document_laws.proofs.LinkNames.{links-named}
 use Rattle.mdconstructs_document_laws.proofs.Inside.{StandsAround, StandsInside, around-inside, inside-may}
 use Rattle.mdconstructs_document_laws.proofs.Named.{Named, weaker}
-use Rattle.mdconstructs_document_laws.proofs.Plain.{bare-around, plain-inside}
+use Rattle.mdconstructs_document_laws.proofs.PlainNames.{bare-around, plain-inside}
 use Rattle.mdconstructs_document_laws.proofs.RowNames.{InsideIsOn, SectionsAreOn, rows-on, sections-on}
 use Rattle.mdconstructs_document_laws.proofs.SkeletonNames.{skeleton-named}
 

@@ -18,7 +18,7 @@ pub mod LineStarts
 pub mod LinkEvents
 pub mod LinkNames
 pub mod Named
-pub mod Plain
+pub mod PlainNames
 pub mod Ranks
 pub mod ReferenceBytes
 pub mod ReferenceItems

@@ -16,7 +16,7 @@ use Rattle.mdconstructs_attention.specs.Runs.{depth_after, index_of_event, is_se
 use Rattle.mdconstructs_links.specs.Linked.{Part, SoFar, Waiting, added, all_parts, around, as_data, emphasised_parts, ended, events, failed, is_bracket, is_named, is_run, is_tail, label_text, last_place, linked_from, made, opened, outermost_spans, part_of, run, runs_of_parts, spanning, spans_in, taken, text_before, text_behind, with_links}
 use Rattle.mdconstructs_document_laws.specs.Names.{has_labels}
 use Rattle.mdconstructs_document_laws.proofs.Inside.{stands_inside}
-use Rattle.mdconstructs_document_laws.proofs.Plain.{plain-inside}
+use Rattle.mdconstructs_document_laws.proofs.PlainNames.{plain-inside}
 use Rattle.mdconstructs_document_laws.proofs.Named.{Named, and, no-events, weaker}
 use Rattle.mdconstructs_document_laws.proofs.WholeSpans.{AreFound, runs_among}
 use Rattle.mdconstructs_document_laws.proofs.SpanNames.{IsFine, MayRun, Outer}

@@ -18,7 +18,7 @@ use Rattle.mdconstructs_containers.specs.Rows as without
 use Rattle.mdconstructs_containers.specs.Skeleton.{Frame, Part, frames_at, frames_of, further, going_on_at, left_in, list_at, list_begun, list_name, parts, parts_in, standing}
 use Rattle.mdconstructs_definitions.specs.Rows.{Known, known_after, row_of, rows, rows_from}
 use Rattle.mdconstructs_definitions.specs.Sections.{Inside, Section, before_defined, begins_text, cut, defined, defined_in, defining, in_same, lines, lines_defined, paragraph_of, sections, sections_in, sections_of, text_in, undefined}
-use Rattle.mdconstructs_document_laws.proofs.Plain.{stands_bare}
+use Rattle.mdconstructs_document_laws.proofs.PlainNames.{stands_bare}
 
 module _ (on : Constructs) where
   abbrev May : Name → Type 0

@@ -27,7 +27,7 @@ use Rattle.mdconstructs_definitions.specs.Definitions as definitions
 use Rattle.mdconstructs_definitions.specs.Rows.{rows}
 use Rattle.mdconstructs_definitions.specs.Sections.{Inside, Section, defined, lines}
 use Rattle.mdconstructs_definitions.specs.Skeleton.{all_rows, behind_definitions, behind_marks, inside_marks, section_marks, sections_in_seats, sections_marks, skeleton}
-use Rattle.mdconstructs_document_laws.proofs.Plain.{stands_bare}
+use Rattle.mdconstructs_document_laws.proofs.PlainNames.{stands_bare}
 use Rattle.mdconstructs_document_laws.proofs.Named.{Marked, Named, around, both, none, leafs, over, together, whites}
 use Rattle.mdconstructs_document_laws.proofs.RowNames.{FramesAreOn, InsideIsOn, IsOn, PartIsOn, PrefixesAreOn, RowIsOn, RowsAreOn, SectionIsOn, SectionsAreOn, rows-on, sections-on, list-on}
 

@@ -13,7 +13,7 @@ use Rattle.markdown_edits.proofs.Balanced.{same_name-true}
 use Rattle.mdconstructs_links.specs.Linked.{is_bracket, is_run, spans_in}
 use Rattle.mdconstructs_machines.specs.Spans.{leaf, span}
 use Rattle.mdconstructs_document_laws.specs.EmphasisSpans.{is_emphasis}
-use Rattle.mdconstructs_document_laws.proofs.Plain.{plain-other, stands_plain}
+use Rattle.mdconstructs_document_laws.proofs.PlainNames.{plain-other, stands_plain}
 use Rattle.mdconstructs_document_laws.proofs.Named.{Named, and, no-events, spanned}
 use Rattle.mdconstructs_document_laws.proofs.WholeSpans.{AreFound, IsWhole, around-whole, both-whole, first-span, found-more, none-whole}
 

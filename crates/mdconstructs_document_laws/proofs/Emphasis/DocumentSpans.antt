@@ -36,7 +36,7 @@ use Rattle.mdconstructs_document_laws.proofs.Chosen.{AreOther, bare, chosen-behi
 use Rattle.mdconstructs_document_laws.proofs.DocumentNames.{defined-if-on}
 use Rattle.mdconstructs_document_laws.proofs.ItemNames.{read-outer, strings-named}
 use Rattle.mdconstructs_document_laws.proofs.Named.{weaker}
-use Rattle.mdconstructs_document_laws.proofs.Plain.{bare-plain, plain-other}
+use Rattle.mdconstructs_document_laws.proofs.PlainNames.{bare-plain, plain-other}
 use Rattle.mdconstructs_document_laws.proofs.SkeletonNames.{skeleton-named}
 use Rattle.mdconstructs_document_laws.proofs.Emphasis.BlocksPlain.{flow-plain}
 use Rattle.mdconstructs_document_laws.proofs.Emphasis.ChosenSpans.{emphasis-alone, of_emphasis, spans-of-all, void-plain}
