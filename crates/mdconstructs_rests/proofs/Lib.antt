@@ -1,10 +1,20 @@
 pub mod Asked
 pub mod Both
+pub mod BothSections
+pub mod Chained
+pub mod DocumentBytes
+mod DocumentExamples
+pub mod DocumentLabels
+pub mod DocumentRests
 pub mod Events
 mod Examples
 pub mod Fuel
+pub mod LikeRows
+pub mod LineFronts
 pub mod Links
 pub mod Longer
+pub mod MarksApart
+pub mod MarksOfBoth
 pub mod MovedAsked
 pub mod MovedBlocks
 pub mod MovedItems
@@ -12,12 +22,17 @@ pub mod MovedLinks
 pub mod MovedMarks
 pub mod MovedPlaces
 pub mod MovedReads
+pub mod MovedRows
 pub mod MovedRuns
+pub mod MovedSections
 pub mod MovedTexts
+pub mod RowNumbers
 pub mod ReadTexts
 pub mod Rests
 pub mod Seams
+pub mod SectionRows
 pub mod Sections
+pub mod SectionsApart
 pub mod Shown
 pub mod TextLines
 pub mod Virtual

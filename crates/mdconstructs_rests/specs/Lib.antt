@@ -1,5 +1,8 @@
 pub mod Asked
+pub mod DocumentLabels
+pub mod DocumentRests
 pub mod Moved
+pub mod MovedSections
 pub mod ReadTexts
 pub mod Rests
 pub mod Sections

@@ -1,7 +1,10 @@
 //! Laws about leaf blocks. Each is a function that does nothing; its contract is the law.
 
 ghost use Rattle.mdconstructs_rests.specs.Asked.{AskedLabelsMove, LabelsDecide};
+ghost use Rattle.mdconstructs_rests.specs.DocumentLabels.{LabelsOfBoth, LettersOfBoth};
+ghost use Rattle.mdconstructs_rests.specs.DocumentRests.{DocumentFirstLineTells, DocumentRestsForget, DocumentRestsOfBoth, DocumentRowsOfBoth, RowsMove, RowsOfBoth, StretchesGoOnAtTop};
 ghost use Rattle.mdconstructs_rests.specs.Moved.{BlocksMove, BlocksOfBoth, EventsOfBoth, LinesAreCounted, LinesOfBoth, VirtualOfBoth};
+ghost use Rattle.mdconstructs_rests.specs.MovedSections.{MarksOfBoth, SectionsMove, SectionsOfBoth};
 ghost use Rattle.mdconstructs_rests.specs.ReadTexts.{FlowInlinesOfBoth, InlinesMove, ReadEventsOfBoth, StringsMove};
 ghost use Rattle.mdconstructs_rests.specs.Rests.{RestsCutBlocks, RestsForget, WideRestsCutBlocks};
 ghost use Rattle.mdconstructs_rests.specs.Sections.{FirstLineTells, RestsOfBoth, SectionsGiveEvents, SectionsGiveInlines};
@@ -108,4 +111,64 @@ pub fn asked_labels_move()
 pub fn documents_without_containers()
     ensures read { DocumentsWithoutContainers }
     ensures off { NoneBeginsWhereOff }
+{}
+
+/// Moved lines have the same containers, moved.
+pub fn rows_move()
+    ensures { RowsMove }
+{}
+
+/// Lines with containers, and with definitions, are cut apart at a rest of a document.
+pub fn rows_of_both()
+    ensures { RowsOfBoth }
+{}
+
+/// Behind a rest of a document what comes before it is forgotten.
+pub fn document_rests_forget()
+    ensures { DocumentRestsForget }
+{}
+
+/// The lines of a document with their containers are those of its parts, moved, if the second begins at a rest of the document.
+pub fn document_rows_of_both()
+    ensures { DocumentRowsOfBoth }
+{}
+
+/// Whether bytes begin at a rest of a document is told at the end of their first line.
+pub fn document_first_line_tells()
+    ensures { DocumentFirstLineTells }
+{}
+
+/// Behind a rest of a document what comes before it is forgotten, as bytes.
+pub fn document_rests_of_both()
+    ensures { DocumentRestsOfBoth }
+{}
+
+/// The labels that a document defines are those of its parts, if the second begins at a rest of the document.
+pub fn labels_of_both()
+    ensures { LabelsOfBoth }
+{}
+
+/// The bytes of a document of which leaf blocks are read as of letters are those of its parts, moved.
+pub fn letters_of_both()
+    ensures { LettersOfBoth }
+{}
+
+/// Moved lines have the same sections, moved.
+pub fn sections_move()
+    ensures { SectionsMove }
+{}
+
+/// The sections of a document are those of its parts, moved, if the second begins at a rest and goes on with no stretch of lines.
+pub fn sections_of_both()
+    ensures { SectionsOfBoth }
+{}
+
+/// The marks of a document's skeleton are those of its parts, if the second begins at a rest and goes on with no stretch of lines.
+pub fn marks_of_both()
+    ensures { MarksOfBoth }
+{}
+
+/// A line at a rest of a document goes on with a stretch of lines before it only where no container is open.
+pub fn stretches_go_on_at_top()
+    ensures { StretchesGoOnAtTop }
 {}

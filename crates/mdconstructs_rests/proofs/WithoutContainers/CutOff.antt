@@ -1,6 +1,6 @@
 -- The skeleton of lines in which no container begins, and their leaf blocks: blank lines, one chunk at most, and blank lines; and in place of the
 -- chunk the leaf blocks of its text.
-use Rattle.mdconstructs_rests.proofs.Prelude.{◌≡◌, inl, inr, ℕ, zero, suc, ◌+◌, ◌≤◌, ◌&&◌, nat_le, List, [], ◌∷◌, ◌++◌, Bool, true, false, cond, length, take, drop, refl, sym, ap, ◌∙◌, subst, arith, append_assoc, append-nil, None, map, AllByRecursion, flat_map, flat_map-append, Constructs, Line, blank_line, Mark, alone, block_of_kind, body, bytes_of, chunk_span, is_blank_line, last_end, leaf_block_marks, leaf_blocks, leaf_blocks_marks, leaf_marks, line_kind, text_of, all_of, ending_of, joined, line_text, lines_in, Seat, blank, indented}
+use Rattle.mdconstructs_rests.proofs.Prelude.{◌≡◌, inl, inr, ℕ, zero, suc, ◌≤◌, ◌&&◌, nat_le, List, [], ◌∷◌, ◌++◌, Bool, true, false, cond, length, take, drop, refl, sym, ap, ◌∙◌, subst, arith, append_assoc, append-nil, None, map, AllByRecursion, flat_map, flat_map-append, Constructs, Line, blank_line, Mark, alone, block_of_kind, body, bytes_of, chunk_span, is_blank_line, last_end, leaf_block_marks, leaf_blocks, leaf_blocks_marks, leaf_marks, line_kind, text_of, all_of, ending_of, joined, line_text, lines_in, Seat, blank, indented}
 use Rattle.std.proofs.lemmas.List.{take-append-drop}
 use Rattle.markdown_base.proofs.Common.{every-append}
 use Rattle.markdown_base.specs.declared.event.Content.TheVariants as content

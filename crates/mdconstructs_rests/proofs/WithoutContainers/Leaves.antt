@@ -1,6 +1,6 @@
 -- The leaf block that may go on behind lines, where no container begins; and which of the lines are left blank. The lines of a block are not left
 -- blank, but for a blank line alone, and behind them the leaf is open if the block is.
-use Rattle.mdconstructs_rests.proofs.Prelude.{◌≡◌, ℕ, zero, suc, ◌+◌, ◌≤◌, ◌&&◌, ◌||◌, nat_le, List, [], ◌∷◌, ◌++◌, Bool, true, false, cond, not, Option, Some, None, length, take, drop, length-take, refl, sym, ap, ◌∙◌, subst, arith, leb-true, and-false, and-left, and-right, not-false, or_parts, is_some, prefix_len-le-length, Constructs, HtmlKind, ends, waits_for_blank, Line, LeafBlock, break_line, atx_heading, paragraph, setext_heading, fenced_code, html_block, block_of_kind, content_at, ends_text, interrupts, further_code, has_line, is_blank, is_indented, lines_through, lines_until, text_of, underlined, Fence, LineKind, blank, indented, heading, fence, html, thematic_break, text, closes, is_blank_line, line_kind, underline_rank}
+use Rattle.mdconstructs_rests.proofs.Prelude.{◌≡◌, ℕ, zero, suc, ◌+◌, ◌≤◌, ◌&&◌, ◌||◌, nat_le, List, [], ◌∷◌, Bool, true, false, cond, not, Option, Some, None, length, take, drop, length-take, refl, sym, ap, ◌∙◌, subst, arith, leb-true, and-false, and-left, and-right, not-false, or_parts, is_some, prefix_len-le-length, Constructs, HtmlKind, ends, waits_for_blank, Line, LeafBlock, break_line, atx_heading, paragraph, setext_heading, fenced_code, html_block, block_of_kind, content_at, ends_text, interrupts, further_code, has_line, is_blank, is_indented, lines_through, lines_until, text_of, underlined, Fence, LineKind, blank, indented, heading, fence, html, thematic_break, text, closes, is_blank_line, line_kind, underline_rank}
 use Rattle.std.proofs.lemmas.Bool.{le-leb}
 use Rattle.mdconstructs_flow_read.proofs.Lines.LineCounts.{has-one-more, has-there, none-left, some-through, through-one-more, through-there}
 use Rattle.mdconstructs_flow_read.proofs.Lines.TestedKinds.{underline-kind}

@@ -10,7 +10,7 @@ use Rattle.mdconstructs_containers.proofs.JoinLemmas.{join, join_is}
 use Rattle.mdconstructs_lines.specs.Containers.{Container}
 use Rattle.mdconstructs_containers.specs.Prefixes.{columns_of, containers_of}
 use Rattle.mdconstructs_containers.specs.Rows.{Leaf, Row, has_none, holds_ending}
-use Rattle.mdconstructs_containers.specs.Skeleton.{Frame, Part, Piece, begun_all, behind_marks, chunks_of, end_of, ending_marks, exits, frames_at, frames_of, further, going_on_at, inside_of, is_held, joined_pieces, last_line, last_of, left_in, list_at, list_begun, part_marks, parts_in, parts_marks, piece_of, pieces_of, prefixes_marks, shared, standing}
+use Rattle.mdconstructs_containers.specs.Skeleton.{Frame, Part, Piece, begun_all, behind_marks, chunks_of, end_of, ending_marks, exits, frames_at, frames_of, further, going_on_at, inside_of, is_held, joined_pieces, last_of, left_in, list_at, list_begun, part_marks, parts_in, parts_marks, piece_of, pieces_of, prefixes_marks, shared, standing}
 use Rattle.mdconstructs_rests.proofs.WithoutContainers.Leaves.{is_left, kept, leaf_behind, leaf_next}
 use Rattle.mdconstructs_rests.proofs.WithoutContainers.Leaves as leaves
 use Rattle.mdconstructs_rests.proofs.WithoutContainers.PlainRows.{IsBare, drop-plain, further-plain, last-is, last-leaf, number_on, plain-bare, plain_row, plain_rows, take-plain}

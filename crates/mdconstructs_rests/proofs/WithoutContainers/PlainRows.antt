@@ -1,5 +1,5 @@
 -- Rows of lines in which no container begins: none has a prefix, and each goes on with the stretch of lines before it.
-use Rattle.mdconstructs_rests.proofs.Prelude.{◌≡◌, ℕ, zero, suc, nat_le, List, [], ◌∷◌, ◌++◌, Bool, true, false, cond, flat_map, length, take, drop, refl, ap, ◌∙◌, subst, and-left, and-right, AllByRecursion, Constructs, Line, is_blank_line, text_of}
+use Rattle.mdconstructs_rests.proofs.Prelude.{◌≡◌, ℕ, zero, suc, nat_le, List, [], ◌∷◌, Bool, true, false, cond, flat_map, length, take, drop, refl, ap, ◌∙◌, subst, and-left, and-right, AllByRecursion, Constructs, Line, is_blank_line, text_of}
 use Rattle.std.specs.List.{list_all}
 use Rattle.mdconstructs_containers.proofs.FrameFacts.{none_is}
 use Rattle.mdconstructs_containers.specs.Letters.{lazy_underline}

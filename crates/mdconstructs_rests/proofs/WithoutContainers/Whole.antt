@@ -1,5 +1,5 @@
 -- A document in which no container begins is read as its leaf blocks are.
-use Rattle.mdconstructs_rests.proofs.Prelude.{◌≡◌, ℕ, suc, ◌+◌, ◌<◌, List, [], ◌∷◌, ◌++◌, true, false, length, refl, sym, ap, ◌∙◌, subst, arith, append-nil, filter, map, AllByRecursion, flat_map, Option, Some, None, Constructs, Event, Enter, Exit, Line, Mark, alone, chunk_span, event, flow_events, leaf_blocks, leaf_blocks_marks, linked_from, linked-append, linked-length, lines_in, Seat, end_after, virtual, shown}
+use Rattle.mdconstructs_rests.proofs.Prelude.{◌≡◌, ℕ, suc, ◌+◌, ◌<◌, List, [], ◌∷◌, ◌++◌, true, false, length, refl, sym, ap, ◌∙◌, subst, arith, append-nil, filter, map, AllByRecursion, flat_map, Option, Some, None, Constructs, Event, Enter, Exit, Line, Mark, alone, chunk_span, event, flow_events, leaf_blocks, leaf_blocks_marks, linked_from, linked-append, linked-length, lines_in, Seat, end_after, virtual}
 use Rattle.std.specs.List.{list_all}
 use Rattle.std.specs.Prelude.{slice_get}
 use Rattle.std.proofs.lemmas.Option.{none-some, slice_get_within}
