@@ -216,7 +216,10 @@ pub use Rattle.mdconstructs_document_laws.specs.PairedApart
 pub use Rattle.mdconstructs_document_laws.specs.Ranks
 pub use Rattle.mdconstructs_document_laws.specs.ReferencePlaces
 pub use Rattle.mdconstructs_rests.specs.Asked
+pub use Rattle.mdconstructs_rests.specs.DocumentLabels
+pub use Rattle.mdconstructs_rests.specs.DocumentRests
 pub use Rattle.mdconstructs_rests.specs.Moved
+pub use Rattle.mdconstructs_rests.specs.MovedSections
 pub use Rattle.mdconstructs_rests.specs.ReadTexts
 pub use Rattle.mdconstructs_rests.specs.Rests
 pub use Rattle.mdconstructs_rests.specs.Sections
