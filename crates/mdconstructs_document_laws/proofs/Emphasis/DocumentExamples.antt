@@ -1,10 +1,9 @@
 -- Examples of spans of emphasis in documents, among their events and by the pairs of their texts, computed from the definitions.
-use Rattle.std.proofs.Common.{◌≡◌, ◌+◌, ℕ, List, [], ◌∷◌, ◌++◌, Bool, false, refl}
+use Rattle.std.proofs.Common.{◌≡◌, ◌+◌, ℕ, List, [], ◌∷◌, ◌++◌, false, refl}
 use lib.Utf8.{encode}
 use Rattle.std.specs.List.{flat_map}
 use Rattle.std.specs.Prelude.{codes}
 use Rattle.std.specs.Str.{chars, is_utf8}
-use Rattle.markdown_base.specs.declared.event.Point.{Point}
 use Rattle.markdown_base.specs.Presets.{default_constructs, default_parse_options}
 use Rattle.markdown_tokenizer.specs.Text.{Given}
 use Rattle.mdconstructs_attention.specs.Unicode.{punctuation, white_space}
