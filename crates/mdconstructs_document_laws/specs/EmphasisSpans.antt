@@ -1,4 +1,4 @@
--- Emphasis: the spans that a list of events has, and those that pairs of delimiter runs make (CommonMark 0.31, 6.2).
+-- The spans of emphasis that a list of events has, and those that pairs of delimiter runs make (CommonMark 0.31, 6.2).
 use Rattle.std.specs.Prelude.{ℕ, ◌+◌, ◌-◌, ◌==◌, ◌||◌, Bool, cond, List, [], ◌∷◌, ◌++◌, drop, option_map, slice_get, unwrap_or}
 use Rattle.markdown_base.specs.declared.event.Event.{Event}
 use Rattle.markdown_base.specs.declared.event.Name.{Name}
