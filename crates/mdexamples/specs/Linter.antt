@@ -1,11 +1,12 @@
 -- A linter: the headings, fences and links of a document, by its events, and the problems with them. The definitions have no states.
 use Rattle.std.specs.List.{filter}
 use Rattle.std.specs.Option.{is_none, option_map_or, option_to_list}
-use Rattle.std.specs.Prelude.{ℕ, ◌+◌, ◌-◌, ◌==◌, ◌||◌, ◌&&◌, not, nat_lt, Bool, true, cond, List, [], ◌∷◌, ◌++◌, drop, length, map, Option, None, Some, option_and_then, option_map, slice_get}
+use Rattle.std.specs.Prelude.{ℕ, ◌+◌, ◌-◌, ◌==◌, ◌||◌, ◌&&◌, not, nat_lt, Bool, true, cond, List, [], ◌∷◌, ◌++◌, drop, length, map, Option, None, Some, option_and_then, option_map}
 use Rattle.markdown.specs.declared.event.Event.{Event}
 use Rattle.markdown.specs.declared.event.Name.{Name}
 use Rattle.markdown.specs.declared.event.Name.TheVariants as name
 use Rattle.markdown.specs.Events.{is_enter, same_name}
+pub use Rattle.mdconstructs.specs.Ranks.{byte_of_first, enters, from_first, rank_at, size_of_first}
 use Rattle.mdconstructs.specs.declared.targets.Parts.{Parts}
 use Rattle.mdconstructs.specs.declared.targets.Target.{Target}
 use Rattle.mdconstructs.specs.declared.targets.Target.TheVariants as target
@@ -19,10 +20,7 @@ use Rattle.mdexamples.specs.declared.linter.Rule.TheVariants as rule
 
 -- ---- walks over events
 
--- an event enters, and exits, a span of this name
-abbrev pub enters : Name → Event → Bool
-enters n e = is_enter e.kind && same_name e.name n
-
+-- an event exits a span of this name
 abbrev pub exits : Name → Event → Bool
 exits n e = not (is_enter e.kind) && same_name e.name n
 
@@ -31,39 +29,16 @@ abbrev pub at_each : {A : Type 0} → (Event → List Event → Option A) → Li
 at_each found [] = []
 at_each found (e ∷ es) = option_to_list (found e es) ++ at_each found es
 
--- the events from the first on that passes a test
-abbrev pub from_first : (Event → Bool) → List Event → List Event
-from_first test [] = []
-from_first test (e ∷ es) = cond (test e) (e ∷ es) (from_first test es)
-
 -- ---- headings
-
--- how many bytes there are from the first event to the second
-abbrev pub size_of_first : List Event → Option ℕ
-size_of_first [] = None
-size_of_first (e ∷ []) = None
-size_of_first (e ∷ f ∷ es) = Some (f.point.index - e.point.index)
 
 -- an event enters the info of a fence, or exits a fence
 abbrev pub is_info_or_end : Event → Bool
 is_info_or_end e = enters name.CodeFencedFenceInfo e || exits name.CodeFencedFence e
 
 module _ (bytes : List ℕ) where
-  -- the byte at the first event
-  abbrev pub byte_of_first : List Event → Option ℕ
-  byte_of_first [] = None
-  byte_of_first (e ∷ es) = slice_get bytes e.point.index
-
-  -- The rank of the heading that an event enters, by the events behind it. "The heading level is equal to the number of # characters in the opening
-  -- sequence" (CommonMark 0.31, 4.2); "a level 1 heading if = characters are used in the setext heading underline, and a level 2 heading if - characters
-  -- are used" (4.3)
-  abbrev pub rank_at : Event → (behind : List Event) → Option ℕ
-  rank_at e es =
-      cond (enters name.HeadingAtx e) (size_of_first (from_first (enters name.HeadingAtxSequence) es))
-      (cond (enters name.HeadingSetext e) (option_map (λ byte. cond (byte == 61) 1 2) (byte_of_first (from_first (enters name.HeadingSetextUnderlineSequence) es))) None)
-
+  -- the heading that an event enters, by the events behind it
   abbrev pub heading_at : Event → (behind : List Event) → Option Heading
-  heading_at e es = option_map (λ rank. record { line = e.point.line; rank = rank }) (rank_at e es)
+  heading_at e es = option_map (λ rank. record { line = e.point.line; rank = rank }) (rank_at bytes e es)
 
   -- the headings of a document, in their order
   abbrev pub headings : List Event → List Heading
