@@ -1,11 +1,10 @@
--- The events with some names, where chains of chunks are replaced by what they are read as: those of the list stay, if no void span has such a name;
--- and a list without them has those of its children, in order.
-use Rattle.std.proofs.Common.{◌≡◌, ℕ, suc, ◌+◌, ◌-◌, List, [], ◌∷◌, ◌++◌, Bool, true, false, cond, Option, Some, None, drop, length, map, take, refl, sym, ap, ◌∙◌, subst, arith}
+-- The events with some names, where chains of chunks are replaced by what they are read as: those of the list stay, if no chunk has such a name,
+-- as where no void span has; and a list without them has those of its children, in order.
+use Rattle.std.proofs.Common.{◌≡◌, ℕ, suc, ◌+◌, ◌-◌, List, [], ◌∷◌, ◌++◌, Bool, true, false, cond, Option, None, drop, length, map, take, refl, sym, ap, ◌∙◌, subst, arith}
 use Rattle.std.proofs.lemmas.Grind.{flat_map-append}
 use Rattle.std.proofs.lemmas.List.{map-append}
 use Rattle.std.specs.List.{AllByRecursion, between, flat_map}
-use Rattle.std.specs.Prelude.{slice_get}
-use Rattle.markdown_base.proofs.Common.{drop-at, every-drop, every-take}
+use Rattle.markdown_base.proofs.Common.{every-drop, every-take}
 use Rattle.markdown_base.specs.declared.event.Content.{Content}
 use Rattle.markdown_base.specs.declared.event.Event.{Event}
 use Rattle.markdown_base.specs.declared.event.Name.{Name}
@@ -22,6 +21,8 @@ use Rattle.markdown_children.specs.Children.{chain_changes, child_changes, first
 use Rattle.markdown_children.specs.LawStatements.{IsWholeFrom}
 use Rattle.markdown_children.specs.Parts.{divided, divided_over, parts}
 use Rattle.markdown_children.specs.Ready.{IsReady, place_at}
+use Rattle.mdconstructs_document_laws.proofs.ChildEvents.{AreChanges, AreTagged, divided-are, read-are}
+use Rattle.mdconstructs_text.proofs.Paragraphs.ChunksReady.{drop-two}
 
 -- an event without its link
 abbrev pub bare : Event → Event
@@ -34,9 +35,13 @@ module _ (is : Name → Bool) where
   chosen [] = []
   chosen (e ∷ es) = cond (is e.name) (bare e ∷ chosen es) (chosen es)
 
-  -- no event has such a name
+  -- an event has no such name
+  abbrev IsOther : Event → Type 0
+  IsOther e = is e.name ≡ false
+
+  -- no event has
   abbrev pub AreOther : List Event → Type 0
-  AreOther es = AllByRecursion (λ (e : Event). is e.name ≡ false) es
+  AreOther es = AllByRecursion IsOther es
 
   pub chosen-append : (xs ys : List Event) → chosen (xs ++ ys) ≡ chosen xs ++ chosen ys
   chosen-append [] ys = refl
@@ -55,14 +60,19 @@ module _ (is : Name → Bool) where
   pub chosen-behind : (xs ys : List Event) → AreOther xs → chosen (xs ++ ys) ≡ chosen ys
   chosen-behind xs ys h = chosen-append xs ys ∙ ap (λ l. l ++ chosen ys) (chosen-none xs h)
 
+  pub chosen-flat : {A : Type 0} (f : A → List Event) (xs : List A) → chosen (flat_map f xs) ≡ flat_map (λ x. chosen (f x)) xs
+  chosen-flat f [] = refl
+  chosen-flat f (x ∷ xs) = chosen-append (f x) (flat_map f xs) ∙ ap (λ l. chosen (f x) ++ l) (chosen-flat f xs)
+
   -- link ends do not matter
   chosen-placed : (ts us : List Tagged) → chosen (placed_in ts us) ≡ chosen (untagged us)
   chosen-placed ts [] = refl
   chosen-placed ts (u ∷ us) = ap (λ l. cond (is u.event.name) (bare u.event ∷ l) l) (chosen-placed ts us)
 
   -- ---- changes
-  abbrev AreOtherChanges : List Change → Type 0
-  AreOtherChanges ws = AllByRecursion (λ (w : Change). AreOther (untagged w.events)) ws
+  other-tagged : (ts : List Tagged) → AreTagged IsOther ts → AreOther (untagged ts)
+  other-tagged [] h = tt
+  other-tagged (t ∷ ts) h = (h.0, other-tagged ts h.1)
 
   -- in a list without them
   chosen-pass : (ws : List Change) (i : ℕ) (xs : List Event) → AreOther xs → chosen (untagged (pass ws i xs)) ≡ flat_map (λ (w : Change). chosen (untagged w.events)) ws
@@ -71,8 +81,8 @@ module _ (is : Name → Bool) where
       let front = take (w.index - i) xs in
       let behind = drop (w.index + w.remove - i) xs in
       let rest = pass ws (w.index + w.remove) behind in
-      let none : AreOther (untagged (olds i front)) = subst AreOther (sym (untagged-olds i front)) (every-take (λ (e : Event). is e.name ≡ false) (w.index - i) xs h) in
-      let more = chosen-pass ws (w.index + w.remove) behind (every-drop (λ (e : Event). is e.name ≡ false) (w.index + w.remove - i) xs h) in
+      let none : AreOther (untagged (olds i front)) = subst AreOther (sym (untagged-olds i front)) (every-take IsOther (w.index - i) xs h) in
+      let more = chosen-pass ws (w.index + w.remove) behind (every-drop IsOther (w.index + w.remove - i) xs h) in
       ap chosen (map-append (λ (t : Tagged). t.event) (olds i front) (w.events ++ rest) ∙ ap (λ l. untagged (olds i front) ++ l) (map-append (λ (t : Tagged). t.event) w.events rest))
       ∙ chosen-behind (untagged (olds i front)) (untagged w.events ++ untagged rest) none
       ∙ chosen-append (untagged w.events) (untagged rest)
@@ -104,23 +114,6 @@ module _ (is : Name → Bool) where
         let rest : List Change = flat_map chain_changes (divided_over events cs (map of_chain cs)) in
         flat_map-append (λ (w : Change). chosen (untagged w.events)) (chain_changes d) rest ∙ (λ i. chain-chosen c h.0 i ++ chains-chosen cs h.1 i)
 
-  parts-other : (c j : ℕ) (ks : List ℕ) (ps : List (List Event)) → length ks ≡ length ps → AreOther (joined ps) → AreOtherChanges (part_changes c j ks ps)
-  parts-other c j [] ps e h = tt
-  parts-other c j (k ∷ ks) [] e h = tt
-  parts-other c j (k ∷ ks) (p ∷ ps) e h = (subst AreOther (sym (untagged-child c j p)) (front p (joined ps) h), parts-other c (j + length p) ks ps (omega (arith, e)) (behind p (joined ps) h))
-    where
-      front : (xs ys : List Event) → AreOther (xs ++ ys) → AreOther xs
-      front [] ys k = tt
-      front (x ∷ xs) ys k = (k.0, front xs ys k.1)
-
-      behind : (xs ys : List Event) → AreOther (xs ++ ys) → AreOther ys
-      behind [] ys k = k
-      behind (x ∷ xs) ys k = behind xs ys k.1
-
-  both-other : (vs ws : List Change) → AreOtherChanges vs → AreOtherChanges ws → AreOtherChanges (vs ++ ws)
-  both-other [] ws h k = k
-  both-other (v ∷ vs) ws h k = (h.0, both-other vs ws h.1 k)
-
   module _ (tab : ℕ) (bytes : List ℕ) (wanted : Option Content) (events : List Event) (ready : IsReady tab bytes wanted events) (of_chain : ℕ → List Event) where
     abbrev starts : List ℕ
     starts = fitting_starts wanted events
@@ -143,22 +136,14 @@ module _ (is : Name → Bool) where
     pub chosen-of-children : AreOther events → chosen (with_children wanted events children) ≡ flat_map (λ c. chosen (of_chain c)) starts
     chosen-of-children h = whole-list ∙ chosen-pass ws 0 events h ∙ chains-chosen events of_chain starts (follow_one_another tab bytes wanted events ready).whole
 
-    -- ---- no void span has such a name
-    module _ (no_void : (n : Name) → is_void n ≡ true → is n ≡ false) where
-      two-left : (es : List Event) (k : ℕ) (e f : Event) → slice_get es k ≡ Some e → slice_get es (k + 1) ≡ Some f → is e.name ≡ false → is f.name ≡ false → chosen (drop k es) ≡ chosen (drop (k + 2) es)
-      two-left es k e f at then a b =
-          let one : suc k ≡ k + 1 = omega arith in
-          let two : suc (k + 1) ≡ k + 2 = omega arith in
-          let rest = drop (k + 2) es in
-          ap chosen (drop-at es k e at ∙ ap (λ n. e ∷ drop n es) one ∙ ap (λ l. e ∷ l) (drop-at es (k + 1) f then ∙ ap (λ n. f ∷ drop n es) two)) ∙ chosen-behind (e ∷ f ∷ []) rest (a, (b, tt))
+    -- a chunk with another name
+    chunk-chosen : (k : ℕ) (fit : Fits wanted events k) → IsOther (chunk tab bytes wanted events ready k fit).enter → chosen (drop k events) ≡ chosen (drop (k + 2) events)
+    chunk-chosen k fit enter =
+        let c = chunk tab bytes wanted events ready k fit in
+        ap chosen (drop-two events k c.enter c.exit c.enter_at c.exit_at) ∙ chosen-behind (c.enter ∷ c.exit ∷ []) (drop (k + 2) events) (enter, (ap is c.ended.same ∙ enter, tt))
 
-      chunk-chosen : (k : ℕ) → Fits wanted events k → chosen (drop k events) ≡ chosen (drop (k + 2) events)
-      chunk-chosen k fit =
-          let c = chunk tab bytes wanted events ready k fit in
-          let enter : is c.enter.name ≡ false = no_void c.enter.name c.linked.void in
-          two-left events k c.enter c.exit c.enter_at c.exit_at enter (ap is c.ended.same ∙ enter)
-
-      kept : (vs : List Change) (i : ℕ) → AllByRecursion (AtChunk tab bytes wanted events ready children) vs → AreOtherChanges vs → AreApart i vs (length events) → chosen (after_changes events vs i) ≡ chosen (drop i events)
+    module _ (others : (k : ℕ) (fit : Fits wanted events k) → IsOther (chunk tab bytes wanted events ready k fit).enter) where
+      kept : (vs : List Change) (i : ℕ) → AllByRecursion (AtChunk tab bytes wanted events ready children) vs → AreChanges IsOther vs → AreApart i vs (length events) → chosen (after_changes events vs i) ≡ chosen (drop i events)
       kept [] i at other is_apart = ap chosen (untagged-olds i (drop i events))
       kept (v ∷ vs) i at other is_apart =
           let front = between i v.index events in
@@ -167,23 +152,15 @@ module _ (is : Name → Bool) where
           let two : v.index + 2 ≡ there = ap (λ n. v.index + n) (sym at.0.1) in
           ap chosen (after-step events v vs i is_apart.0) ∙ chosen-append front (untagged v.events ++ rest)
           ∙ ap (λ l. chosen front ++ l)
-          (chosen-behind (untagged v.events) rest other.0 ∙ kept vs there at.1 other.1 is_apart.1 ∙ ap (λ n. chosen (drop n events)) (sym two) ∙ sym (chunk-chosen v.index at.0.0))
+          (chosen-behind (untagged v.events) rest (other-tagged v.events other.0) ∙ kept vs there at.1 other.1 is_apart.1 ∙ ap (λ n. chosen (drop n events)) (sym two)
+          ∙ sym (chunk-chosen v.index at.0.0 (others v.index at.0.0)))
           ∙ sym (chosen-append front (drop v.index events)) ∙ sym (ap chosen (split-at events i v.index is_apart.0))
 
-      chain-other : (c : ℕ) → IsWholeFrom events c → AreOther (of_chain c) → AreOtherChanges (chain_changes (divided events c (of_chain c)))
-      chain-other c whole h =
-          let ks = whole.0 in
-          let child = of_chain c in
-          let end : ℕ → Point = λ k. place_at events (k + 1) in
-          let ps = parts (end c ∷ map end ks) child in
-          let many : length (c ∷ ks) ≡ length ps = sym (length-parts (end c ∷ map end ks) child ∙ ap suc (length-map_ends events ks)) in
-          let Q : List ℕ → Type 0 = λ (ys : List ℕ). AreOtherChanges (part_changes (first_chunk ys) 0 ys (parts (map end ys) child)) in
-          subst Q (sym whole.1) (parts-other c 0 (c ∷ ks) ps many (subst AreOther (sym (joined-parts (end c) (map end ks) child)) h))
+      -- A list whose chunks have other names keeps them, if its chains are read as other events
+      pub chosen-stay : ((c : ℕ) → AreOther (of_chain c)) → chosen (with_children wanted events children) ≡ chosen events
+      chosen-stay other =
+          whole-list ∙ kept ws 0 (all-at tab bytes wanted events ready children) (divided-are IsOther events starts children (read-are IsOther of_chain starts other)) apart
 
-      all-other : (cs : List ℕ) → AllByRecursion (IsWholeFrom events) cs → ((c : ℕ) → AreOther (of_chain c)) → AreOtherChanges (flat_map chain_changes (divided_over events cs (map of_chain cs)))
-      all-other [] h other = tt
-      all-other (c ∷ cs) h other = both-other (chain_changes (divided events c (of_chain c))) (flat_map chain_changes (divided_over events cs (map of_chain cs))) (chain-other c h.0 (other c)) (all-other cs h.1 other)
-
-      -- A list keeps them, if its chains are read as other events
-      pub chosen-kept : ((c : ℕ) → AreOther (of_chain c)) → chosen (with_children wanted events children) ≡ chosen events
-      chosen-kept other = whole-list ∙ kept ws 0 (all-at tab bytes wanted events ready children) (all-other starts (follow_one_another tab bytes wanted events ready).whole other) apart
+    -- chunks have other names, if no void span has such a name
+    pub chosen-kept : ((n : Name) → is_void n ≡ true → is n ≡ false) → ((c : ℕ) → AreOther (of_chain c)) → chosen (with_children wanted events children) ≡ chosen events
+    chosen-kept no_void other = chosen-stay (λ k fit. let c = chunk tab bytes wanted events ready k fit in no_void c.enter.name c.linked.void) other

@@ -39,10 +39,11 @@ use Rattle.mdconstructs_documents.proofs.InContainers.Tight.{events-tight}
 use Rattle.mdconstructs_documents.specs.DocumentEvents.{document_events, document_texts, is_defined_in}
 use Rattle.mdconstructs_document_laws.specs.Ranks.{EachHeadingTellsItsRank, HasRank, HeadingsHaveRanks, HeadingsTellTheirRanks, enters_heading, leaf_blocks_of, rank_at, rank_of, ranks_in}
 use Rattle.mdconstructs_document_laws.proofs.ChildEvents.{children-are}
+use Rattle.mdconstructs_document_laws.proofs.Chosen.{bare, chosen-behind, chosen-flat, chosen-of-children}
 use Rattle.mdconstructs_document_laws.proofs.DocumentNames.{defined-if-on, inline-inside, skeleton-inside, string-inside}
 use Rattle.mdconstructs_document_laws.proofs.FlowHeads.{flow-plain, flow-ranks}
-use Rattle.mdconstructs_document_laws.proofs.HeadChildren.{IsOtherIfLinked, heads-kept, heads-of-children, other-linked, other-moved}
-use Rattle.mdconstructs_document_laws.proofs.Heads.{AreOther, bare, heads, heads-behind, heads-flat, ranks-heads}
+use Rattle.mdconstructs_document_laws.proofs.HeadChildren.{IsOtherIfLinked, heads-kept, other-linked, other-moved}
+use Rattle.mdconstructs_document_laws.proofs.Heads.{AreOther, heads, ranks-heads}
 use Rattle.mdconstructs_document_laws.proofs.Inside.{StandsInside, inside-other, is_of_heading}
 use Rattle.mdconstructs_document_laws.proofs.Named.{Named}
 use Rattle.mdconstructs_document_laws.proofs.Ranks.Blocks.{IsRanked}
@@ -73,8 +74,8 @@ module _ (on : Constructs) (t : ℕ) (bytes : List ℕ) where
       by : (b : Bool) → (inside && is_data e f) ≡ b → heads (with_strings_from on t bytes inside es) ≡ heads es → heads (with_strings_from on t bytes (in_string_after inside e) (f ∷ es)) ≡ heads (f ∷ es)
           → heads (cond b (line ++ with_strings_from on t bytes inside es) (e ∷ with_strings_from on t bytes (in_string_after inside e) (f ∷ es))) ≡ heads (e ∷ f ∷ es)
       by true h more other =
-          heads-behind line (with_strings_from on t bytes inside es) (other-names on line (string-inside on bytes (seats_between t bytes e.point f.point))) ∙ more
-          ∙ sym (heads-behind (e ∷ f ∷ []) es (data-other e f (and_parts inside (is_data e f) h).1))
+          chosen-behind is_of_heading line (with_strings_from on t bytes inside es) (other-names on line (string-inside on bytes (seats_between t bytes e.point f.point))) ∙ more
+          ∙ sym (chosen-behind is_of_heading (e ∷ f ∷ []) es (data-other e f (and_parts inside (is_data e f) h).1))
       by false h more other = ap (λ l. cond (is_of_heading e.name) (bare e ∷ l) l) other
 
 -- ---- documents
@@ -123,7 +124,7 @@ module _ (g : Given) (is : IsDocument g) where
   inlines-plain = children-are IsOtherIfLinked other-moved (Some content.Text) blocks (λ c. inline_events (is_defined_in g) g (chain_text g blocks c)) blocks-plain (λ c. all-linked _ (inline-other c))
 
   blocks-heads : heads blocks ≡ flat_map (λ c. heads (flow c)) starts
-  blocks-heads = heads-of-children g.tab s.bytes (Some content.Content) sk (content-ready skeleton-laws g is) flow sk-other
+  blocks-heads = chosen-of-children is_of_heading g.tab s.bytes (Some content.Content) sk (content-ready skeleton-laws g is) flow sk-other
 
   inlines-heads : heads inlines ≡ heads blocks
   inlines-heads = heads-kept g.tab g.bytes (Some content.Text) blocks (text-ready skeleton-laws g is content.Text) (λ c. inline_events (is_defined_in g) g (chain_text g blocks c)) blocks-plain inline-other
@@ -133,7 +134,7 @@ module _ (g : Given) (is : IsDocument g) where
 
   -- the events of headings are those of the leaf blocks of each text, in order
   events-heads : heads (document_events g) ≡ heads (flat_map flow starts)
-  events-heads = strings-heads on g.tab g.bytes false (document_texts g) ∙ texts-heads ∙ inlines-heads ∙ blocks-heads ∙ sym (heads-flat flow starts)
+  events-heads = strings-heads on g.tab g.bytes false (document_texts g) ∙ texts-heads ∙ inlines-heads ∙ blocks-heads ∙ sym (chosen-flat is_of_heading flow starts)
 
   -- ---- their ranks
   same : (i mark : ℕ) → (mark ≡ 61) ⊎ (mark ≡ 45) → slice_get s.bytes i ≡ Some mark → slice_get g.bytes i ≡ Some mark

@@ -15,20 +15,21 @@ use Rattle.markdown_base.specs.declared.event.Name.TheVariants as name
 use Rattle.markdown_base.specs.Events.{is_enter, same_name}
 use Rattle.markdown_base.specs.Virtual.{Seat, end_after}
 use Rattle.markdown_edits.proofs.Balanced.{same_name-true}
-use Rattle.mdconstructs_machines.specs.LineEvents.{ending_of, line_text, lines_in}
+use Rattle.mdconstructs_machines.specs.LineEvents.{line_text, lines_in}
 use Rattle.mdconstructs_machines.specs.Spans.{event}
 use Rattle.mdconstructs_flow_read.proofs.Marks.LeafSpans.{leaf-blocks-keep}
 use Rattle.mdconstructs_flow_read.proofs.Marks.MarkSpans.{IsKeptBySpans}
 use Rattle.mdconstructs_flow_read.specs.LeafBlocks.{Line, LeafBlock, atx_heading, blank_line, break_line, bytes_of, fenced_code, html_block, indented_code, leaf_blocks, paragraph, setext_heading, text_of}
-use Rattle.mdconstructs_flow_read.specs.LeafEvents.{Chunk, Mark, body, chunk_span, flow_events, heading_around, last_end, leaf_block_marks, leaf_blocks_marks, linked_from, sequence_marks, span_marks, text_chunk, text_marks, underline_marks}
+use Rattle.mdconstructs_flow_read.specs.LeafEvents.{Chunk, Mark, body, chunk_span, flow_events, heading_around, last_end, leaf_block_marks, leaf_blocks_marks, linked_from, span_marks, text_chunk, text_marks, underline_marks}
 use Rattle.mdconstructs_flow_read.specs.LineKinds.{heading_text, indent, run, unindented}
 use Rattle.mdconstructs_document_laws.specs.Names.{may_be_named}
 use Rattle.mdconstructs_document_laws.specs.Ranks.{byte_of_first, enters, enters_heading, from_first, rank_at, rank_of, ranks_in, size_of_first}
+use Rattle.mdconstructs_document_laws.proofs.Chosen.{bare}
 use Rattle.mdconstructs_document_laws.proofs.FlowNames.{IsOn, block-names}
 use Rattle.mdconstructs_document_laws.proofs.HeadChildren.{IsOtherBy, IsOtherIfLinked}
-use Rattle.mdconstructs_document_laws.proofs.Heads.{bare, ranks-alike, ranks-behind}
+use Rattle.mdconstructs_document_laws.proofs.Heads.{ranks-alike, ranks-behind}
 use Rattle.mdconstructs_document_laws.proofs.Inside.{is_of_heading}
-use Rattle.mdconstructs_document_laws.proofs.Named.{Marked, alone, around, both, marked-weaker, none}
+use Rattle.mdconstructs_document_laws.proofs.Named.{Marked, around, both, last-ends, marked-weaker, none, sequences, texts}
 use Rattle.mdconstructs_document_laws.proofs.Ranks.Told.{TellsItsRank, events_of, rank_of_first}
 
 -- ---- links
@@ -110,12 +111,6 @@ module _ (bytes : List ℕ) where
   abbrev Are : List Mark → Type 0
   Are marks = Marked NotHeading marks
 
-  sequences : (n : Name) (size : ℕ) (seats : List Seat) → NotHeading n → Are (sequence_marks bytes n size seats)
-  sequences n size seats p = both (alone bytes name.SpaceOrTab _ refl) (both (alone bytes n _ p) (alone bytes name.SpaceOrTab _ refl))
-
-  chunks : (seats : List Seat) → Are (text_chunk bytes seats)
-  chunks seats = around bytes _ name.Data seats refl none
-
   in-atx : (seats : List Seat) → Are (heading_around bytes (text_chunk bytes) seats)
   in-atx seats =
       let t = bytes_of seats in
@@ -123,23 +118,14 @@ module _ (bytes : List ℕ) where
       let start = signs + indent (drop signs t) in
       let end = start + length (heading_text (drop start t)) in
       let inside = take (end - start) (drop start seats) in
-      both (sequences name.HeadingAtxSequence (run 35 (unindented t)) (take start seats) refl)
-      (both (around bytes None name.HeadingAtxText inside refl (chunks inside)) (sequences name.HeadingAtxSequence (run 35 (unindented (drop end t))) (drop end seats) refl))
-
-  texts : (has_previous : Bool) (lines : List Line) → Are (text_marks bytes has_previous lines)
-  texts has_previous [] = none
-  texts has_previous (line ∷ []) = around bytes _ name.Data (line_text line) refl none
-  texts has_previous (line ∷ next ∷ lines) = both (around bytes _ name.Data line refl none) (texts true (next ∷ lines))
-
-  last-ends : (lines : List Line) → Are (last_end bytes lines)
-  last-ends [] = none
-  last-ends (line ∷ []) = alone bytes name.LineEnding (ending_of line) refl
-  last-ends (line ∷ next ∷ lines) = last-ends (next ∷ lines)
+      let chunk : Are (text_chunk bytes inside) = around bytes _ name.Data inside refl none in
+      both (sequences NotHeading refl bytes name.HeadingAtxSequence (run 35 (unindented t)) (take start seats) refl)
+      (both (around bytes None name.HeadingAtxText inside refl chunk) (sequences NotHeading refl bytes name.HeadingAtxSequence (run 35 (unindented (drop end t))) (drop end seats) refl))
 
   in-setext : (lines : List Line) (underline : Line) → Are (span_marks bytes name.HeadingSetextText (body lines) (text_marks bytes false lines) ++ (last_end bytes lines ++ underline_marks bytes (line_text underline)))
   in-setext lines underline =
-      both (around bytes None name.HeadingSetextText (body lines) refl (texts false lines))
-      (both (last-ends lines) (around bytes None name.HeadingSetextUnderline (line_text underline) refl (sequences name.HeadingSetextUnderlineSequence _ (line_text underline) refl)))
+      both (around bytes None name.HeadingSetextText (body lines) refl (texts bytes false lines refl))
+      (both (last-ends bytes lines refl) (around bytes None name.HeadingSetextUnderline (line_text underline) refl (sequences NotHeading refl bytes name.HeadingSetextUnderlineSequence _ (line_text underline) refl)))
 
   no-underline : (has_previous : Bool) (lines : List Line) → list_any (enters name.HeadingSetextUnderlineSequence) (events_of (text_marks bytes has_previous lines)) ≡ false
   no-underline has_previous [] = refl
@@ -189,11 +175,11 @@ module _ (bytes : List ℕ) where
     block-ranks on (blank_line line) h rest = quiet-block on (blank_line line) tt rest
     block-ranks on (break_line line) h rest = quiet-block on (break_line line) refl rest
     block-ranks on (atx_heading line) h rest =
-        heading-ranks name.HeadingAtx refl (run 35 (unindented (text_of line))) (line_text line) (heading_around bytes (text_chunk bytes) (line_text line)) (last_end bytes (line ∷ [])) (in-atx (line_text line)) (last-ends (line ∷ []))
+        heading-ranks name.HeadingAtx refl (run 35 (unindented (text_of line))) (line_text line) (heading_around bytes (text_chunk bytes) (line_text line)) (last_end bytes (line ∷ [])) (in-atx (line_text line)) (last-ends bytes (line ∷ []) refl)
         (λ more. h (text_chunk bytes) (text_marks bytes false) more) rest
     block-ranks on (paragraph lines) h rest = quiet-block on (paragraph lines) tt rest
     block-ranks on (setext_heading rank lines underline) h rest =
-        heading-ranks name.HeadingSetext refl rank (body (lines ++ underline ∷ [])) _ (last_end bytes (lines ++ underline ∷ [])) (in-setext lines underline) (last-ends (lines ++ underline ∷ []))
+        heading-ranks name.HeadingSetext refl rank (body (lines ++ underline ∷ [])) _ (last_end bytes (lines ++ underline ∷ [])) (in-setext lines underline) (last-ends bytes (lines ++ underline ∷ []) refl)
         (λ more. h (text_chunk bytes) (text_marks bytes false) more (no-underline false)) rest
     block-ranks on (indented_code lines) h rest = quiet-block on (indented_code lines) refl rest
     block-ranks on (fenced_code f is_closed lines) h rest = quiet-block on (fenced_code f is_closed lines) refl rest

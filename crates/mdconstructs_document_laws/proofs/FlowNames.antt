@@ -11,10 +11,10 @@ use Rattle.markdown_base.specs.Virtual.{Seat}
 use Rattle.mdconstructs_machines.specs.LineEvents.{ending_of, line_text, lines_in}
 use Rattle.mdconstructs_flow_read.specs.HtmlLines.{HtmlKind, html_kind}
 use Rattle.mdconstructs_flow_read.specs.LeafBlocks.{Line, LeafBlock, atx_heading, blank_line, block_of_kind, blocks_in, break_line, bytes_of, content_at, fenced_code, html_block, indented_code, leaf_blocks, paragraph, setext_heading, text_of, underlined}
-use Rattle.mdconstructs_flow_read.specs.LeafEvents.{Mark, block_span, body, break_marks, code_fenced_around, code_marks, fence_around, fenced_marks, flow_events, heading_around, html_marks, last_end, leaf_block_marks, leaf_marks, line_end, lines_marks, sequence_marks, span_marks, string_chunk, text_chunk, text_marks, underline_marks}
+use Rattle.mdconstructs_flow_read.specs.LeafEvents.{Mark, block_span, body, break_marks, code_fenced_around, code_marks, fence_around, fenced_marks, flow_events, heading_around, html_marks, leaf_block_marks, leaf_marks, line_end, lines_marks, sequence_marks, span_marks, string_chunk, text_chunk, underline_marks}
 use Rattle.mdconstructs_flow_read.specs.LineKinds.{Fence, LineKind, blank, fence, heading, html, indent, indented, is_atx_heading, is_blank_line, is_far, is_fence_of, is_thematic_break, is_underline_of_marks, kind_of_rest, line_kind, run, text, thematic_break, underline_rank, unindented}
 use Rattle.mdconstructs_document_laws.specs.Names.{may_be_named}
-use Rattle.mdconstructs_document_laws.proofs.Named.{Marked, Named, alone, around, both, linked-named, marked-flat-by, none, over, together, whites}
+use Rattle.mdconstructs_document_laws.proofs.Named.{Marked, Named, alone, around, both, last-ends, linked-named, marked-flat-by, none, over, sequences, texts, together, whites}
 
 -- ---- a block's construct is on
 module _ (on : Constructs) where
@@ -100,9 +100,6 @@ module _ (on : Constructs) (bytes : List ℕ) where
   endings : (line : Line) → Are (line_end bytes line)
   endings line = alone bytes name.LineEnding (ending_of line) refl
 
-  sequences : (n : Name) (size : ℕ) (seats : List Seat) → May n → Are (sequence_marks bytes n size seats)
-  sequences n size seats p = both (whites May refl bytes _) (both (alone bytes n _ p) (whites May refl bytes _))
-
   breaks : (bound : ℕ) (seats : List Seat) → on.thematic_break ≡ true → Are (break_marks bytes bound seats)
   breaks zero seats h = none
   breaks (suc bound) seats h = both (whites May refl bytes _) (both (alone bytes name.ThematicBreakSequence _ h) (breaks bound _ h))
@@ -114,18 +111,13 @@ module _ (on : Constructs) (bytes : List ℕ) where
   strings seats = around bytes _ name.Data seats refl none
 
   headings : (seats : List Seat) → on.heading_atx ≡ true → Are (heading_around bytes (text_chunk bytes) seats)
-  headings seats h = search (together May refl bytes, sequences, over May refl bytes, chunks, h)
+  headings seats h = search (together May refl bytes, sequences May refl bytes, over May refl bytes, chunks, h)
 
   fences : (size : ℕ) (seats : List Seat) → on.code_fenced ≡ true → Are (fence_around bytes (string_chunk bytes) size seats)
-  fences size seats h = search (together May refl bytes, sequences, over May refl bytes, strings, whites May refl bytes, h) depth 9
+  fences size seats h = search (together May refl bytes, sequences May refl bytes, over May refl bytes, strings, whites May refl bytes, h) depth 9
 
   codes : (most : ℕ) (seats : List Seat) → May name.CodeFlowChunk → Are (code_marks bytes most seats)
   codes most seats h = both (whites May refl bytes _) (alone bytes name.CodeFlowChunk _ h)
-
-  texts : (has_previous : Bool) (lines : List Line) → Are (text_marks bytes has_previous lines)
-  texts has_previous [] = none
-  texts has_previous (line ∷ []) = around bytes _ name.Data (line_text line) refl none
-  texts has_previous (line ∷ next ∷ lines) = both (around bytes _ name.Data line refl none) (texts true (next ∷ lines))
 
   open-end : (is_open : Bool) (line : Line) → Are (cond is_open (line_end bytes line) [])
   open-end true line = endings line
@@ -136,18 +128,13 @@ module _ (on : Constructs) (bytes : List ℕ) where
   in-lines marks h is_open (line ∷ []) = both (h (line_text line)) (open-end is_open line)
   in-lines marks h is_open (line ∷ next ∷ lines) = both (h (line_text line)) (both (endings line) (in-lines marks h is_open (next ∷ lines)))
 
-  last-ends : (lines : List Line) → Are (last_end bytes lines)
-  last-ends [] = none
-  last-ends (line ∷ []) = endings line
-  last-ends (line ∷ next ∷ lines) = last-ends (next ∷ lines)
-
   over-block : (n : Name) (is_open : Bool) (lines : List Line) {inside : List Mark} → May n → Are inside → Are (block_span bytes n is_open lines inside)
-  over-block n false lines p h = both (around bytes None n (body lines) p h) (last-ends lines)
+  over-block n false lines p h = both (around bytes None n (body lines) p h) (last-ends bytes lines refl)
   over-block n true lines p h = around bytes None n _ p h
 
   closings : (f : Fence) (is_closed : Bool) (line : Line) → on.code_fenced ≡ true → May name.CodeFlowChunk
       → Are (cond is_closed (span_marks bytes name.CodeFencedFence (line_text line) (sequence_marks bytes name.CodeFencedFenceSequence (run f.byte (unindented (bytes_of (line_text line)))) (line_text line))) (code_marks bytes f.indent (line_text line) ++ line_end bytes line))
-  closings f true line h c = search (over May refl bytes, sequences, h)
+  closings f true line h c = search (over May refl bytes, sequences May refl bytes, h)
   closings f false line h c = search (together May refl bytes, codes, endings, c)
 
   in-fences : (f : Fence) (is_closed : Bool) (lines : List Line) → on.code_fenced ≡ true → May name.CodeFlowChunk → Are (fenced_marks bytes f is_closed lines)
@@ -168,15 +155,15 @@ module _ (on : Constructs) (bytes : List ℕ) where
       both (alone bytes name.HtmlFlowData (take columns line) h) (in-lines (leaf_marks bytes name.HtmlFlowData) (λ seats. alone bytes name.HtmlFlowData seats h) is_open (drop columns line ∷ lines))
 
   underlines : (seats : List Seat) → on.heading_setext ≡ true → Are (underline_marks bytes seats)
-  underlines seats h = around bytes None name.HeadingSetextUnderline seats h (sequences name.HeadingSetextUnderlineSequence _ seats h)
+  underlines seats h = around bytes None name.HeadingSetextUnderline seats h (sequences May refl bytes name.HeadingSetextUnderlineSequence _ seats h)
 
   pub block-names : (block : LeafBlock) → IsOn on block → Are (leaf_block_marks bytes block)
   block-names (blank_line line) h = both (whites May refl bytes (line_text line)) (alone bytes name.BlankLineEnding (ending_of line) refl)
   block-names (break_line line) h = over-block name.ThematicBreak false (line ∷ []) h (breaks (length line) (line_text line) h)
   block-names (atx_heading line) h = over-block name.HeadingAtx false (line ∷ []) h (headings (line_text line) h)
-  block-names (paragraph lines) h = over-block name.Paragraph false lines refl (texts false lines)
+  block-names (paragraph lines) h = over-block name.Paragraph false lines refl (texts bytes false lines refl)
   block-names (setext_heading rank lines underline) h =
-      over-block name.HeadingSetext false (lines ++ underline ∷ []) h (both (around bytes None name.HeadingSetextText (body lines) h (texts false lines)) (both (last-ends lines) (underlines (line_text underline) h)))
+      over-block name.HeadingSetext false (lines ++ underline ∷ []) h (both (around bytes None name.HeadingSetextText (body lines) h (texts bytes false lines refl)) (both (last-ends bytes lines refl) (underlines (line_text underline) h)))
   block-names (indented_code lines) h = over-block name.CodeIndented false lines h (in-lines (code_marks bytes 4) (λ seats. codes 4 seats (or_left on.code_indented on.code_fenced h)) false lines)
   block-names (fenced_code f is_closed lines) h = over-block name.CodeFenced (not is_closed) lines h (fenced f is_closed lines h)
   block-names (html_block kind is_closed lines) h = over-block name.HtmlFlow (not is_closed) lines h (htmls (not is_closed) lines h)

@@ -1,70 +1,33 @@
 -- The events of headings that tell ranks, among others: where other events come and go, the ranks stay.
-use Rattle.std.proofs.Common.{◌≡◌, ℕ, suc, ◌+◌, List, [], ◌∷◌, ◌++◌, Bool, true, false, cond, None, map, refl, sym, ap, ◌∙◌, subst, arith}
+use Rattle.std.proofs.Common.{◌≡◌, ℕ, List, [], ◌∷◌, ◌++◌, Bool, true, false, cond, None, map, refl, sym, ap, ◌∙◌, subst}
 use Rattle.std.proofs.lemmas.Bool.{and_parts}
 use Rattle.std.proofs.lemmas.Option.{same_Some}
-use Rattle.std.specs.List.{AllByRecursion, flat_map}
-use Rattle.std.specs.Prelude.{◌==◌, ◌&&◌, ◌||◌, option_map, slice_get}
+use Rattle.std.specs.List.{AllByRecursion}
+use Rattle.std.specs.Prelude.{◌==◌, ◌&&◌, ◌||◌, option_map}
 use Rattle.markdown_base.proofs.Facts.Kinds.{enter-is}
 use Rattle.markdown_base.specs.declared.event.Event.{Event}
 use Rattle.markdown_base.specs.declared.event.Name.{Name}
 use Rattle.markdown_base.specs.declared.event.Name.TheVariants as name
 use Rattle.markdown_base.specs.Events.{IsVoidTight, is_enter, is_void, same_name}
 use Rattle.markdown_edits.proofs.Balanced.{same_name-true}
-use Rattle.markdown_edits.specs.Woven.{Tagged, placed_in}
+use Rattle.markdown_tokenizer.proofs.Readings.Formed.{tight-behind}
+use Rattle.mdconstructs_document_laws.proofs.Chosen.{bare, chosen}
 use Rattle.mdconstructs_document_laws.proofs.Inside.{is_of_heading}
 use Rattle.mdconstructs_document_laws.specs.Ranks.{byte_of_first, enters, enters_heading, from_first, rank_at, ranks_in, size_of_first}
 
--- an event without its link
-abbrev pub bare : Event → Event
-bare e = record e { link = None }
-
 -- the events with these names, without their links
 abbrev pub heads : List Event → List Event
-heads [] = []
-heads (e ∷ es) = cond (is_of_heading e.name) (bare e ∷ heads es) (heads es)
+heads es = chosen is_of_heading es
 
 -- no event has such a name
 abbrev pub AreOther : List Event → Type 0
 AreOther es = AllByRecursion (λ (e : Event). is_of_heading e.name ≡ false) es
-
--- ---- lists
-
-pub heads-append : (xs ys : List Event) → heads (xs ++ ys) ≡ heads xs ++ heads ys
-heads-append [] ys = refl
-heads-append (x ∷ xs) ys = by (is_of_heading x.name) (heads-append xs ys)
-  where
-    by : (b : Bool) → heads (xs ++ ys) ≡ heads xs ++ heads ys → cond b (bare x ∷ heads (xs ++ ys)) (heads (xs ++ ys)) ≡ cond b (bare x ∷ heads xs) (heads xs) ++ heads ys
-    by true h = ap (λ l. bare x ∷ l) h
-    by false h = h
-
-pub heads-none : (es : List Event) → AreOther es → heads es ≡ []
-heads-none [] h = refl
-heads-none (e ∷ es) h = ap (λ b. cond b (bare e ∷ heads es) (heads es)) h.0 ∙ heads-none es h.1
-
--- other events in front
-pub heads-behind : (xs ys : List Event) → AreOther xs → heads (xs ++ ys) ≡ heads ys
-heads-behind xs ys h = heads-append xs ys ∙ ap (λ l. l ++ heads ys) (heads-none xs h)
-
-pub heads-flat : {A : Type 0} (f : A → List Event) (xs : List A) → heads (flat_map f xs) ≡ flat_map (λ x. heads (f x)) xs
-heads-flat f [] = refl
-heads-flat f (x ∷ xs) = heads-append (f x) (flat_map f xs) ∙ ap (λ l. heads (f x) ++ l) (heads-flat f xs)
-
--- link ends do not matter
-pub heads-placed : (ts us : List Tagged) → heads (placed_in ts us) ≡ heads (map (λ (t : Tagged). t.event) us)
-heads-placed ts [] = refl
-heads-placed ts (u ∷ us) = ap (λ l. cond (is_of_heading u.event.name) (bare u.event ∷ l) l) (heads-placed ts us)
 
 -- ---- ranks
 
 -- what enters a span of such a name has it
 has-name : (n : Name) → is_of_heading n ≡ true → (e : Event) → enters n e ≡ true → is_of_heading e.name ≡ true
 has-name n is e h = subst (λ m. is_of_heading m ≡ true) (sym (same_name-true e.name n (and_parts (is_enter e.kind) (same_name e.name n) h).1)) is
-
-tight-behind : (e : Event) (es : List Event) → IsVoidTight (e ∷ es) → IsVoidTight es
-tight-behind e es h = λ k f at enter void.
-    let r = h (suc k) f at enter void in
-    let z : suc k + 1 ≡ suc (k + 1) = omega arith in
-    (r.0, sym (ap (slice_get (e ∷ es)) z) ∙ r.1, r.2, r.3)
 
 module _ (bytes : List ℕ) (n : Name) (is : is_of_heading n ≡ true) where
   -- an event that enters no span of the name

@@ -1,6 +1,6 @@
 -- The names that stand around leaf blocks and in their texts: those that a document may have, but for those that tell of headings.
-use Rattle.std.proofs.Common.{◌≡◌, Bool, true, false, not, refl}
-use Rattle.std.proofs.lemmas.Bool.{and_parts}
+use Rattle.std.proofs.Common.{◌≡◌, Bool, true, false, not}
+use Rattle.std.proofs.lemmas.Bool.{and_parts, not-true}
 use Rattle.std.specs.Prelude.{◌&&◌, ◌||◌}
 use Rattle.markdown_base.specs.declared.configuration.Constructs.{Constructs}
 use Rattle.markdown_base.specs.declared.event.Name.{Name}
@@ -22,12 +22,8 @@ StandsInside on n = stands_inside on n ≡ true
 pub inside-may : (on : Constructs) (n : Name) → stands_inside on n ≡ true → may_be_named on n ≡ true
 inside-may on n h = (and_parts (not (is_of_heading n)) (may_be_named on n) h).1
 
-pub none : (b : Bool) → not b ≡ true → b ≡ false
-none true h = absurd (cc)
-none false h = refl
-
 pub inside-other : (on : Constructs) (n : Name) → stands_inside on n ≡ true → is_of_heading n ≡ false
-inside-other on n h = none (is_of_heading n) (and_parts (not (is_of_heading n)) (may_be_named on n) h).0
+inside-other on n h = not-true (is_of_heading n) (and_parts (not (is_of_heading n)) (may_be_named on n) h).0
 
 -- around leaf blocks stands no character reference either
 abbrev pub stands_around : Constructs → Name → Bool
@@ -40,4 +36,4 @@ pub around-inside : (on : Constructs) (n : Name) → stands_around on n ≡ true
 around-inside on n h = (and_parts (not (same_name n name.CharacterReference)) (stands_inside on n) h).1
 
 pub around-other : (on : Constructs) (n : Name) → stands_around on n ≡ true → same_name n name.CharacterReference ≡ false
-around-other on n h = none (same_name n name.CharacterReference) (and_parts (not (same_name n name.CharacterReference)) (stands_inside on n) h).0
+around-other on n h = not-true (same_name n name.CharacterReference) (and_parts (not (same_name n name.CharacterReference)) (stands_inside on n) h).0

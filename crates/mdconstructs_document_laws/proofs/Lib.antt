@@ -6,6 +6,7 @@ pub mod DocumentNames
 pub mod DocumentRanks
 pub mod DocumentReferences
 pub mod Emphasis
+pub mod EmphasisEvents
 mod Examples
 pub mod FlowHeads
 pub mod FlowNames

@@ -1,5 +1,5 @@
 -- Links, images and emphasis have names of the constructs that are on: a link is made of a bracket and the end of a label, and emphasis of runs.
-use Rattle.std.proofs.Common.{◌≡◌, ℕ, zero, suc, ◌+◌, ◌==◌, ◌∙◌, List, [], ◌∷◌, ◌++◌, Bool, true, false, cond, inl, inr, Some, None, Option, append-nil, refl, sym, subst, length, ◌≤◌, arith, ap}
+use Rattle.std.proofs.Common.{◌≡◌, ℕ, zero, suc, ◌+◌, ◌==◌, ◌∙◌, List, [], ◌∷◌, ◌++◌, true, false, cond, inl, inr, Some, None, Option, append-nil, refl, sym, subst, length, ◌≤◌, arith, ap}
 use Rattle.std.proofs.lemmas.Bool.{and_parts, cond_both, false≢true, or_cases, or_left, or_right, cases_Bool}
 use Rattle.std.specs.List.{AllByRecursion}
 use Rattle.std.specs.Prelude.{◌&&◌, ◌||◌, slice_get}
@@ -11,10 +11,11 @@ use Rattle.markdown_base.specs.declared.event.Name.TheVariants.{AttentionSequenc
 use Rattle.markdown_base.specs.declared.event.Point.{Point}
 use Rattle.markdown_base.specs.Events.{is_enter, same_name}
 use Rattle.markdown_edits.proofs.Balanced.{same_name-true}
-use Rattle.mdconstructs_attention.specs.Emphasis.{Pair, Run, all_in_pairs, closings, data_of, emphasised, events_of_runs, later, markers_of, markers_of_all, openings, paired, pairs}
+use Rattle.mdconstructs_attention.specs.Emphasis.{Run}
 use Rattle.mdconstructs_attention.specs.Runs.{depth_after, index_of_event, is_sequence, run_at, runs_from, runs_in}
 use Rattle.mdconstructs_links.specs.Linked.{Part, SoFar, Waiting, added, all_parts, around, as_data, emphasised_parts, ended, events, failed, is_bracket, is_named, is_run, is_tail, label_text, last_place, linked_from, made, opened, outermost_spans, part_of, run, runs_of_parts, spanning, spans_in, taken, text_before, text_behind, with_links}
 use Rattle.mdconstructs_document_laws.specs.Names.{has_labels}
+use Rattle.mdconstructs_document_laws.proofs.EmphasisEvents.{AreOfEmphasis, as-data-are, emphasis-are, spanning-are}
 use Rattle.mdconstructs_document_laws.proofs.Inside.{stands_inside}
 use Rattle.mdconstructs_document_laws.proofs.PlainNames.{plain-inside}
 use Rattle.mdconstructs_document_laws.proofs.Named.{Named, and, no-events, weaker}
@@ -87,33 +88,12 @@ module _ (on : Constructs) where
       (λ is. (sequence-on e f (and_parts (depth == 0) (is_sequence e f) is).1 h.0, runs-on bytes (i + 2) depth (Some f.point.index) es h.1.1))
       (λ other. runs-on bytes (i + 1) (depth_after e.kind depth) (Some e.point.index) (f ∷ es) h.1)
 
-  closings-named : (p : Point) (ss : List Bool) → on.attention ≡ true → Are (closings p ss)
-  closings-named p [] h = no-events
-  closings-named p (true ∷ ss) h = record { all = (h, (h, (h, (h, (closings-named (later (markers_of true) p) ss h).all)))) }
-  closings-named p (false ∷ ss) h = record { all = (h, (h, (h, (h, (closings-named (later (markers_of false) p) ss h).all)))) }
+  -- an event has such a name
+  abbrev IsNamed : Event → Type 0
+  IsNamed e = May e.name
 
-  openings-named : (p : Point) (ss : List Bool) → on.attention ≡ true → Are (openings p ss)
-  openings-named p [] h = no-events
-  openings-named p (true ∷ ss) h = record { all = (h, (h, (h, (h, (openings-named (later (markers_of true) p) ss h).all)))) }
-  openings-named p (false ∷ ss) h = record { all = (h, (h, (h, (h, (openings-named (later (markers_of false) p) ss h).all)))) }
-
-  data-named : (p : Point) (n : ℕ) → Are (data_of p n)
-  data-named p zero = no-events
-  data-named p (suc n) = record { all = (refl, (refl, tt)) }
-
-  module _ (texts : ℕ → List Event) (named : (k : ℕ) → Are (texts k)) where
-    runs-named : (rs : List Run) → AllByRecursion IsRunOn rs → Are (events_of_runs texts rs)
-    runs-named [] h = no-events
-    runs-named (r ∷ rs) h =
-        let p = later (markers_of_all r.closed) r.start in
-        and (and (and (named r.index) (closings-named r.start r.closed h.0)) (and (data-named p r.left) (openings-named (later r.left p) r.opened h.0))) (runs-named rs h.1)
-
-  paired-on : (ps : List Pair) (n : ℕ) (rs : List Run) → AllByRecursion IsRunOn rs → AllByRecursion IsRunOn (all_in_pairs ps n rs)
-  paired-on ps n [] h = tt
-  paired-on ps n (r ∷ rs) h = (h.0, paired-on ps (n + 1) rs h.1)
-
-  emphasis-named : (texts : ℕ → List Event) (rs : List Run) (behind : List Event) → ((k : ℕ) → Are (texts k)) → AllByRecursion IsRunOn rs → Are behind → Are (emphasised texts rs behind)
-  emphasis-named texts rs behind t h b = and (runs-named texts t (paired rs) (paired-on (pairs rs) 0 rs h)) b
+  of-emphasis : on.attention ≡ true → AreOfEmphasis May
+  of-emphasis h = record { emphasis = h; emphasis_sequence = h; emphasis_text = h; strong = h; strong_sequence = h; strong_text = h }
 
   -- ---- parts
   abbrev IsPart : Part → Type 0
@@ -139,19 +119,20 @@ module _ (on : Constructs) where
   behind-named since (events es ∷ ps) b h = behind-named (since ++ es) ps (and b h.0) h.1
 
   parts-named : (ps : List Part) → AreParts ps → Are (emphasised_parts ps)
-  parts-named ps h = emphasis-named (text_before [] ps) (runs_of_parts ps) (text_behind [] ps) (λ k. before-named [] ps k no-events h) (runs-of ps h) (behind-named [] ps no-events h)
+  parts-named ps h = record {
+    all = emphasis-are IsNamed May (λ e p. p) refl (on.attention ≡ true) of-emphasis (text_before [] ps) (runs_of_parts ps) (text_behind [] ps) (λ k. (before-named [] ps k no-events h).all) (runs-of ps h) (behind-named [] ps no-events h).all;
+  }
 
   -- ---- links and images
   spanning-named : (n : Name) (start end : Point) (es : List Event) → May n → Are es → Are (spanning n start end es)
-  spanning-named n start end es p h = record { all = (p, every-append (λ e. May e.name) es _ h.all (p, tt)) }
+  spanning-named n start end es p h = record { all = spanning-are IsNamed May (λ e q. q) refl (on.attention ≡ true) of-emphasis n start end es p h.all }
 
   around-named : (n : Name) (es : List Event) → May n → Are es → Are (around n es)
   around-named n [] p h = no-events
   around-named n (e ∷ es) p h = spanning-named n e.point (last_place e.point es) (e ∷ es) p h
 
-  data-of-it : (es : List Event) → Are (as_data es)
-  data-of-it [] = no-events
-  data-of-it (e ∷ es) = record { all = (refl, (refl, tt)) }
+  data-of-it : (es : List Event) → Named May (as_data es)
+  data-of-it es = record { all = as-data-are IsNamed May (λ e q. q) refl (on.attention ≡ true) of-emphasis es }
 
   label-text-named : (opener close : List Event) (ps : List Part) → has_labels on ≡ true → AreParts ps → Are (label_text opener close ps)
   label-text-named [] close ps l h = no-events
@@ -175,20 +156,21 @@ module _ (on : Constructs) where
       (and (around-named Label (opener ++ (label_text opener close ps ++ close)) labels inside) l)
 
   -- ---- the fold over spans
-  abbrev AreWaiting : List Waiting → Type 0
-  AreWaiting [] = Unit {0}
-  AreWaiting (w ∷ ws) = (on.label_end ≡ true → Are w.opener) × (is_bracket w.opener ≡ true) × AreParts w.before × AreWaiting ws
+  record IsWaiting (w : Waiting) : Type 0 where
+    opener : on.label_end ≡ true → Are w.opener
+    bracket : is_bracket w.opener ≡ true
+    before : AreParts w.before
 
   -- what a fold over spans has so far, before these spans: a run is left for each of them that is one
   record IsSoFar (spans : List (List Event)) (z : SoFar) : Type 0 where
-    waits : AreWaiting z.waiting
+    waits : AllByRecursion IsWaiting z.waiting
     behind : AreParts z.behind
     runs : AllByRecursion IsRunOn z.runs
     few : runs_among spans ≤ length z.runs
 
-  all-parts : (ws : List Waiting) (behind : List Part) → AreWaiting ws → AreParts behind → AreParts (all_parts ws behind)
+  all-parts : (ws : List Waiting) (behind : List Part) → AllByRecursion IsWaiting ws → AreParts behind → AreParts (all_parts ws behind)
   all-parts [] behind h k = k
-  all-parts (w ∷ ws) behind h k = all-parts ws (w.before ++ events (as_data w.opener) ∷ behind) h.3 (every-append IsPart w.before (events (as_data w.opener) ∷ behind) h.2 (data-of-it w.opener, k))
+  all-parts (w ∷ ws) behind h k = all-parts ws (w.before ++ events (as_data w.opener) ∷ behind) h.1 (every-append IsPart w.before (events (as_data w.opener) ∷ behind) h.0.before (data-of-it w.opener, k))
 
   abbrev Left : List (List Event) → Part × List Run → Type 0
   Left spans p = IsPart p.0 × AllByRecursion IsRunOn p.1 × (runs_among spans ≤ length p.1)
@@ -210,7 +192,7 @@ module _ (on : Constructs) where
       let p = is-part span spans z.runs f o h.runs h.few in
       record { waits = h.waits; behind = every-append IsPart z.behind ((part_of span z.runs).0 ∷ []) h.behind (p.0, tt); runs = p.1; few = p.2 }
 
-  is-failed : (span : List Event) (spans : List (List Event)) (ws : List Waiting) (z : SoFar) → AreWaiting ws → IsSoFar (span ∷ spans) z → IsSoFar spans (failed span ws z)
+  is-failed : (span : List Event) (spans : List (List Event)) (ws : List Waiting) (z : SoFar) → AllByRecursion IsWaiting ws → IsSoFar (span ∷ spans) z → IsSoFar spans (failed span ws z)
   is-failed span spans [] z w h = record {
     waits = h.waits;
     behind = every-append IsPart z.behind (events (as_data span) ∷ []) h.behind (data-of-it span, tt);
@@ -218,19 +200,19 @@ module _ (on : Constructs) where
     few = (let few = h.few in omega (arith, few));
   }
   is-failed span spans (w ∷ ws) z a h = record {
-    waits = a.3;
+    waits = a.1;
     behind =
-        every-append IsPart w.before (events (as_data w.opener) ∷ (z.behind ++ events (as_data span) ∷ [])) a.2
+        every-append IsPart w.before (events (as_data w.opener) ∷ (z.behind ++ events (as_data span) ∷ [])) a.0.before
         (data-of-it w.opener, every-append IsPart z.behind (events (as_data span) ∷ []) h.behind (data-of-it span, tt));
     runs = h.runs;
     few = (let few = h.few in omega (arith, few));
   }
 
-  is-ended : (span tail : List Event) (spans : List (List Event)) (ws : List Waiting) (z : SoFar) → Are span → is_named LabelEnd span ≡ true → Are tail → AreWaiting ws → IsSoFar spans z → IsSoFar spans (ended span tail ws z)
+  is-ended : (span tail : List Event) (spans : List (List Event)) (ws : List Waiting) (z : SoFar) → Are span → is_named LabelEnd span ≡ true → Are tail → AllByRecursion IsWaiting ws → IsSoFar spans z → IsSoFar spans (ended span tail ws z)
   is-ended span tail spans [] z b e l w h = record { waits = h.waits; behind = every-append IsPart z.behind (events (span ++ tail) ∷ []) h.behind (and b l, tt); runs = h.runs; few = h.few }
   is-ended span tail spans (w ∷ ws) z b e l a h = record {
-    waits = a.3;
-    behind = every-append IsPart w.before (events (made w.opener z.behind span tail) ∷ []) a.2 (is-made w.opener z.behind span tail a.0 a.1 h.behind b e l, tt);
+    waits = a.1;
+    behind = every-append IsPart w.before (events (made w.opener z.behind span tail) ∷ []) a.0.before (is-made w.opener z.behind span tail a.0.opener a.0.bracket h.behind b e l, tt);
     runs = h.runs;
     few = h.few;
   }
@@ -239,7 +221,7 @@ module _ (on : Constructs) where
   is-taken span spans z f h =
       let few = h.few in
       cond_both (is_bracket span) (opened span z) (cond (is_named LabelMarker span) (failed span z.waiting z) (added span z)) (IsSoFar spans)
-      (λ e. record { waits = ((λ l. weaker (plain-inside on) span (f.named e l)), e, h.behind, h.waits); behind = tt; runs = h.runs; few = omega (arith, few) })
+      (λ e. record { waits = (record { opener = λ l. weaker (plain-inside on) span (f.named e l); bracket = e; before = h.behind }, h.waits); behind = tt; runs = h.runs; few = omega (arith, few) })
       (λ other. cond_both (is_named LabelMarker span) (failed span z.waiting z) (added span z) (IsSoFar spans) (λ e. is-failed span spans z.waiting z h.waits h) (λ e. is-added span spans z f other h))
 
   -- behind a span no more runs are left

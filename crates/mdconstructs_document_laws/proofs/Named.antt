@@ -1,13 +1,15 @@
 -- What names lists of events and of marks have, by what they are made of.
-use Rattle.std.proofs.Common.{ℕ, ◌+◌, List, [], ◌∷◌, ◌++◌, Some, None, Option}
+use Rattle.std.proofs.Common.{ℕ, ◌+◌, Bool, true, List, [], ◌∷◌, ◌++◌, Some, None, Option}
 use Rattle.std.specs.List.{AllByRecursion, flat_map}
 use Rattle.markdown_base.proofs.Common.{every-append, every-map}
 use Rattle.markdown_base.specs.declared.event.Event.{Event}
 use Rattle.markdown_base.specs.declared.event.Name.{Name}
 use Rattle.markdown_base.specs.declared.event.Name.TheVariants as name
 use Rattle.markdown_base.specs.Virtual.{Seat}
+use Rattle.mdconstructs_machines.specs.LineEvents.{ending_of, line_text}
 use Rattle.mdconstructs_machines.specs.Spans.{leaf, span}
-use Rattle.mdconstructs_flow_read.specs.LeafEvents.{Chunk, Mark, chunk_span, leaf_marks, linked_from, span_marks, white}
+use Rattle.mdconstructs_flow_read.specs.LeafBlocks.{Line}
+use Rattle.mdconstructs_flow_read.specs.LeafEvents.{Chunk, Mark, chunk_span, last_end, leaf_marks, linked_from, sequence_marks, span_marks, text_marks, white}
 
 module _ (P : Name → Type 0) where
   -- each event has a name of P
@@ -47,6 +49,16 @@ module _ {P : Name → Type 0} where
 
     pub alone : (n : Name) (seats : List Seat) → P n → Marked P (leaf_marks bytes n seats)
     alone n seats p = around None n seats p none
+
+    pub texts : (has_previous : Bool) (lines : List Line) → P name.Data → Marked P (text_marks bytes has_previous lines)
+    texts has_previous [] p = none
+    texts has_previous (line ∷ []) p = around _ name.Data (line_text line) p none
+    texts has_previous (line ∷ next ∷ lines) p = both (around _ name.Data line p none) (texts true (next ∷ lines) p)
+
+    pub last-ends : (lines : List Line) → P name.LineEnding → Marked P (last_end bytes lines)
+    last-ends [] p = none
+    last-ends (line ∷ []) p = alone name.LineEnding (ending_of line) p
+    last-ends (line ∷ next ∷ lines) p = last-ends (next ∷ lines) p
 
   -- the events of marks
   pub linked-named : (i : ℕ) (marks : List Mark) → Marked P marks → Named P (linked_from i marks)
@@ -88,3 +100,6 @@ module _ (P : Name → Type 0) (space : P name.SpaceOrTab) (bytes : List ℕ) wh
 
   pub whites : (seats : List Seat) → Marked P (white bytes seats)
   whites seats = alone bytes name.SpaceOrTab seats space
+
+  pub sequences : (n : Name) (size : ℕ) (seats : List Seat) → P n → Marked P (sequence_marks bytes n size seats)
+  sequences n size seats p = both (whites _) (both (alone bytes n _ p) (whites _))

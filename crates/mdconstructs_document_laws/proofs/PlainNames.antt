@@ -1,6 +1,6 @@
 -- The names that stand around leaf blocks, and in their texts before emphasis is made: there is no emphasis yet.
 use Rattle.std.proofs.Common.{◌≡◌, Bool, true, false, not}
-use Rattle.std.proofs.lemmas.Bool.{and_parts}
+use Rattle.std.proofs.lemmas.Bool.{and_parts, not-true}
 use Rattle.std.specs.Prelude.{◌&&◌}
 use Rattle.markdown_base.specs.declared.configuration.Constructs.{Constructs}
 use Rattle.markdown_base.specs.declared.event.Name.{Name}
@@ -8,7 +8,7 @@ use Rattle.markdown_base.specs.declared.event.Name.TheVariants as name
 use Rattle.markdown_base.specs.Events.{same_name}
 use Rattle.mdconstructs_document_laws.specs.EmphasisSpans.{is_emphasis}
 use Rattle.mdconstructs_document_laws.specs.Names.{may_be_named}
-use Rattle.mdconstructs_document_laws.proofs.Inside.{inside-may, none, stands_around, stands_inside}
+use Rattle.mdconstructs_document_laws.proofs.Inside.{inside-may, stands_around, stands_inside}
 
 abbrev pub stands_plain : Constructs → Name → Bool
 stands_plain on n = not (is_emphasis n) && stands_inside on n
@@ -20,7 +20,7 @@ pub plain-may : (on : Constructs) (n : Name) → stands_plain on n ≡ true → 
 plain-may on n h = inside-may on n (plain-inside on n h)
 
 pub plain-other : (on : Constructs) (n : Name) → stands_plain on n ≡ true → is_emphasis n ≡ false
-plain-other on n h = none (is_emphasis n) (and_parts (not (is_emphasis n)) (stands_inside on n) h).0
+plain-other on n h = not-true (is_emphasis n) (and_parts (not (is_emphasis n)) (stands_inside on n) h).0
 
 -- around leaf blocks stands no character reference either
 abbrev pub stands_bare : Constructs → Name → Bool

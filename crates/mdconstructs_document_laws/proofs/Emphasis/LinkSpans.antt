@@ -1,24 +1,26 @@
 -- Links, images and emphasis in place of brackets and delimiter runs have a span of emphasis for each pair of runs, and no other.
-use Rattle.std.proofs.Common.{◌≡◌, ℕ, zero, suc, ◌+◌, ◌<◌, ◌∙◌, ◌==◌, Bool, true, false, cond, List, [], ◌∷◌, ◌++◌, Some, None, Option, inl, inr, refl, sym, ap, subst, append_assoc, append-nil, length}
+use Rattle.std.proofs.Common.{◌≡◌, ℕ, ◌<◌, ◌∙◌, Bool, true, false, cond, List, [], ◌∷◌, ◌++◌, None, inl, inr, refl, sym, ap, subst, append_assoc, append-nil, length}
 use Rattle.std.proofs.lemmas.Bool.{cases_Bool, cond_both, false≢true}
 use Rattle.std.proofs.lemmas.List.Sorted.{IsPermutation-append_left, IsPermutation-append_right, IsPermutation-refl, IsPermutation-trans}
 use Rattle.std.specs.List.{AllByRecursion, flat_map}
 use Rattle.std.specs.List.Sorted.{IsPermutation}
-use Rattle.std.specs.Prelude.{◌&&◌, slice_get}
 use Rattle.markdown_base.proofs.Common.{every-append}
 use Rattle.markdown_base.specs.declared.event.Event.{Event}
 use Rattle.markdown_base.specs.declared.event.Name.{Name}
 use Rattle.markdown_base.specs.declared.event.Name.TheVariants.{Image, Label, LabelEnd, LabelImage, LabelMarker, LabelText, Link}
 use Rattle.markdown_base.specs.declared.event.Point.{Point}
+use Rattle.markdown_tokenizer.proofs.Positions.Order.{every-back, every-front}
 use Rattle.mdconstructs_attention.specs.Emphasis.{Run}
-use Rattle.mdconstructs_attention.specs.Runs.{depth_after, index_of_event, is_sequence, run_at, runs_from, runs_in}
+use Rattle.mdconstructs_attention.specs.Runs.{runs_in}
+use Rattle.mdconstructs_links.proofs.Leaves.{runs-fresh}
 use Rattle.mdconstructs_links.proofs.Reached.{runs-ascend}
+use Rattle.mdconstructs_links.proofs.Spans.{spans-have}
+use Rattle.mdconstructs_links.proofs.Steps.{ascending-front}
 use Rattle.mdconstructs_links.specs.Kept.{IsFresh}
 use Rattle.mdconstructs_links.specs.Laid.{AreAscending}
-use Rattle.mdconstructs_links.specs.Linked.{Part, SoFar, Waiting, added, all_parts, around, as_data, emphasised_parts, ended, events, failed, is_bracket, is_named, is_run, is_tail, label_text, last_place, linked_from, made, opened, outermost_spans, part_of, run, runs_of_parts, span_at, spanning, spans_in, taken, with_links}
+use Rattle.mdconstructs_links.specs.Linked.{Part, SoFar, Waiting, added, all_parts, around, as_data, emphasised_parts, ended, events, failed, is_bracket, is_named, is_run, is_tail, label_text, last_place, linked_from, made, opened, outermost_spans, part_of, run, runs_of_parts, spanning, taken, with_links}
 use Rattle.mdconstructs_document_laws.specs.EmphasisSpans.{EmphasisSpan, emphasis_spans, is_emphasis, spans_of_runs}
 use Rattle.mdconstructs_document_laws.specs.PairedApart.{runs_apart_from, runs_inside, runs_outside, spans_of_text}
-use Rattle.mdconstructs_document_laws.proofs.Emphasis.PairOrder.{every-behind}
 use Rattle.mdconstructs_document_laws.proofs.Emphasis.PartSpans.{AreGood, HaveSpans, IsGood, parts-spans, spans_between}
 use Rattle.mdconstructs_document_laws.proofs.Emphasis.RunSpans.{IsPlain, closed-both, plain-closed, plain-none}
 
@@ -56,34 +58,27 @@ data-plain [] = tt
 data-plain (e ∷ es) = (refl, (refl, tt))
 
 -- ---- runs that ascend
-every-front : {A : Type 0} (P : A → Type 0) (xs ys : List A) → AllByRecursion P (xs ++ ys) → AllByRecursion P xs
-every-front P [] ys h = tt
-every-front P (x ∷ xs) ys h = (h.0, every-front P xs ys h.1)
-
-ascend-front : (xs ys : List Run) → AreAscending (xs ++ ys) → AreAscending xs
-ascend-front [] ys h = tt
-ascend-front (x ∷ xs) ys h = (every-front (λ (s : Run). x.index < s.index) xs ys h.0, ascend-front xs ys h.1)
-
-ascend-behind : (xs ys : List Run) → AreAscending (xs ++ ys) → AreAscending ys
-ascend-behind [] ys h = h
-ascend-behind (x ∷ xs) ys h = ascend-behind xs ys h.1
-
-ascend-without : (xs ys zs : List Run) → AreAscending ((xs ++ ys) ++ zs) → AreAscending (xs ++ zs)
-ascend-without [] ys zs h = ascend-behind ys zs h
-ascend-without (x ∷ xs) ys zs h =
+-- some in the middle, and the others around them
+ascend-around : (xs ys zs : List Run) → AreAscending ((xs ++ ys) ++ zs) → AreAscending ys × AreAscending (xs ++ zs)
+ascend-around [] [] zs h = (tt, h)
+ascend-around [] (y ∷ ys) zs h = (ascending-front (y ∷ ys) zs h, (ascend-around [] ys zs h.1).1)
+ascend-around (x ∷ xs) ys zs h =
     let Above = λ (s : Run). x.index < s.index in
-    (every-append Above xs zs (every-front Above xs ys (every-front Above (xs ++ ys) zs h.0)) (every-behind Above (xs ++ ys) zs h.0), ascend-without xs ys zs h.1)
+    let more = ascend-around xs ys zs h.1 in
+    (more.0, (every-append Above xs zs (every-front Above xs ys (every-front Above (xs ++ ys) zs h.0)) (every-back Above (xs ++ ys) zs h.0), more.1))
 
 -- ---- parts
-runs-both : (ps qs : List Part) → runs_of_parts (ps ++ qs) ≡ runs_of_parts ps ++ runs_of_parts qs
-runs-both [] qs = refl
-runs-both (run r ∷ ps) qs = ap (λ l. r ∷ l) (runs-both ps qs)
-runs-both (events es ∷ ps) qs = runs-both ps qs
+-- the runs of parts and others behind them, and the spans between
+record AreOfBoth (ps qs : List Part) : Type 0 where
+  pub runs : runs_of_parts (ps ++ qs) ≡ runs_of_parts ps ++ runs_of_parts qs
+  pub spans : spans_between (ps ++ qs) ≡ spans_between ps ++ spans_between qs
 
-between-both : (ps qs : List Part) → spans_between (ps ++ qs) ≡ spans_between ps ++ spans_between qs
-between-both [] qs = refl
-between-both (run r ∷ ps) qs = between-both ps qs
-between-both (events es ∷ ps) qs = ap (λ l. emphasis_spans es ++ l) (between-both ps qs) ∙ sym (append_assoc (emphasis_spans es) (spans_between ps) (spans_between qs))
+of-both : (ps qs : List Part) → AreOfBoth ps qs
+of-both [] qs = record { runs = refl; spans = refl }
+of-both (run r ∷ ps) qs = let more = of-both ps qs in record { runs = ap (λ l. r ∷ l) more.runs; spans = more.spans }
+of-both (events es ∷ ps) qs =
+    let more = of-both ps qs in
+    record { runs = more.runs; spans = ap (λ l. emphasis_spans es ++ l) more.spans ∙ sym (append_assoc (emphasis_spans es) (spans_between ps) (spans_between qs)) }
 
 plain-between : (es : List Event) (ps : List Part) → ArePlain es → spans_between (events es ∷ ps) ≡ spans_between ps
 plain-between es ps h = ap (λ l. l ++ spans_between ps) (plain-none es h)
@@ -126,14 +121,14 @@ all-good (w ∷ ws) ps h g =
 all-runs : (ws : List Waiting) (ps : List Part) → runs_of_parts (all_parts ws ps) ≡ runs_waiting ws ++ runs_of_parts ps
 all-runs [] ps = refl
 all-runs (w ∷ ws) ps =
-    all-runs ws (w.before ++ events (as_data w.opener) ∷ ps) ∙ ap (λ l. runs_waiting ws ++ l) (runs-both w.before (events (as_data w.opener) ∷ ps))
+    all-runs ws (w.before ++ events (as_data w.opener) ∷ ps) ∙ ap (λ l. runs_waiting ws ++ l) ((of-both w.before (events (as_data w.opener) ∷ ps)).runs)
     ∙ sym (append_assoc (runs_waiting ws) (runs_of_parts w.before) (runs_of_parts ps))
 
 all-between : (ws : List Waiting) (ps : List Part) → spans_between (all_parts ws ps) ≡ spans_waiting ws ++ spans_between ps
 all-between [] ps = refl
 all-between (w ∷ ws) ps =
     all-between ws (w.before ++ events (as_data w.opener) ∷ ps)
-    ∙ ap (λ l. spans_waiting ws ++ l) (between-both w.before (events (as_data w.opener) ∷ ps) ∙ ap (λ l. spans_between w.before ++ l) (plain-between (as_data w.opener) ps (data-plain w.opener)))
+    ∙ ap (λ l. spans_waiting ws ++ l) ((of-both w.before (events (as_data w.opener) ∷ ps)).spans ∙ ap (λ l. spans_between w.before ++ l) (plain-between (as_data w.opener) ps (data-plain w.opener)))
     ∙ sym (append_assoc (spans_waiting ws) (spans_between w.before) (spans_between ps))
 
 -- ---- a link or an image
@@ -175,9 +170,9 @@ is-opened span z b p h = record {
 
 is-failed : (span : List Event) (ws : List Waiting) (z : SoFar) → ws ≡ z.waiting → IsFine z → Goes z (failed span ws z)
 is-failed span [] z e h =
-    let runs : runs_of_parts (z.behind ++ events (as_data span) ∷ []) ≡ runs_of_parts z.behind = runs-both z.behind (events (as_data span) ∷ []) ∙ append-nil (runs_of_parts z.behind) in
+    let runs : runs_of_parts (z.behind ++ events (as_data span) ∷ []) ≡ runs_of_parts z.behind = (of-both z.behind (events (as_data span) ∷ [])).runs ∙ append-nil (runs_of_parts z.behind) in
     let spans : spans_between (z.behind ++ events (as_data span) ∷ []) ≡ spans_between z.behind =
-    between-both z.behind (events (as_data span) ∷ []) ∙ ap (λ l. spans_between z.behind ++ l) (plain-between (as_data span) [] (data-plain span)) ∙ append-nil (spans_between z.behind) in
+    (of-both z.behind (events (as_data span) ∷ [])).spans ∙ ap (λ l. spans_between z.behind ++ l) (plain-between (as_data span) [] (data-plain span)) ∙ append-nil (spans_between z.behind) in
     record {
       fine = record {
         waits = h.waits;
@@ -192,10 +187,10 @@ is-failed span (w ∷ ws) z e h =
     let new = w.before ++ events (as_data w.opener) ∷ (z.behind ++ own) in
     let waits = subst (AllByRecursion IsOpener) (sym e) h.waits in
     let runs : runs_waiting ws ++ runs_of_parts new ≡ runs_so_far z =
-    ap (λ l. runs_waiting ws ++ l) (runs-both w.before (events (as_data w.opener) ∷ (z.behind ++ own)) ∙ ap (λ l. runs_of_parts w.before ++ l) (runs-both z.behind own ∙ append-nil (runs_of_parts z.behind)))
+    ap (λ l. runs_waiting ws ++ l) ((of-both w.before (events (as_data w.opener) ∷ (z.behind ++ own))).runs ∙ ap (λ l. runs_of_parts w.before ++ l) ((of-both z.behind own).runs ∙ append-nil (runs_of_parts z.behind)))
     ∙ sym (append_assoc (runs_waiting ws) (runs_of_parts w.before) (runs_of_parts z.behind)) ∙ ap (λ l. runs_waiting l ++ runs_of_parts z.behind) e in
     let last : spans_between (z.behind ++ own) ≡ spans_between z.behind =
-    between-both z.behind own ∙ ap (λ l. spans_between z.behind ++ l) (plain-between (as_data span) [] (data-plain span)) ∙ append-nil (spans_between z.behind) in
+    (of-both z.behind own).spans ∙ ap (λ l. spans_between z.behind ++ l) (plain-between (as_data span) [] (data-plain span)) ∙ append-nil (spans_between z.behind) in
     record {
       fine = record {
         waits = waits.1;
@@ -207,7 +202,7 @@ is-failed span (w ∷ ws) z e h =
       };
       same =
           ap (λ l. spans_waiting ws ++ l)
-          (between-both w.before (events (as_data w.opener) ∷ (z.behind ++ own)) ∙ ap (λ l. spans_between w.before ++ l) (plain-between (as_data w.opener) (z.behind ++ own) (data-plain w.opener) ∙ last))
+          ((of-both w.before (events (as_data w.opener) ∷ (z.behind ++ own))).spans ∙ ap (λ l. spans_between w.before ++ l) (plain-between (as_data w.opener) (z.behind ++ own) (data-plain w.opener) ∙ last))
           ∙ sym (append_assoc (spans_waiting ws) (spans_between w.before) (spans_between z.behind)) ∙ ap (λ l. spans_waiting l ++ spans_between z.behind) e;
     }
 
@@ -215,9 +210,9 @@ module _ (span : List Event) (plain : ArePlain span) (z : SoFar) (h : IsFine z) 
   -- events behind the parts that there are
   plain-part : Goes z (record z { behind = z.behind ++ events span ∷ [] })
   plain-part =
-      let runs : runs_of_parts (z.behind ++ events span ∷ []) ≡ runs_of_parts z.behind = runs-both z.behind (events span ∷ []) ∙ append-nil (runs_of_parts z.behind) in
+      let runs : runs_of_parts (z.behind ++ events span ∷ []) ≡ runs_of_parts z.behind = (of-both z.behind (events span ∷ [])).runs ∙ append-nil (runs_of_parts z.behind) in
       let spans : spans_between (z.behind ++ events span ∷ []) ≡ spans_between z.behind =
-      between-both z.behind (events span ∷ []) ∙ ap (λ l. spans_between z.behind ++ l) (plain-between span [] plain) ∙ append-nil (spans_between z.behind) in
+      (of-both z.behind (events span ∷ [])).spans ∙ ap (λ l. spans_between z.behind ++ l) (plain-between span [] plain) ∙ append-nil (spans_between z.behind) in
       record {
         fine = record {
           waits = h.waits;
@@ -234,7 +229,7 @@ module _ (span : List Event) (plain : ArePlain span) (z : SoFar) (h : IsFine z) 
       let a = runs_waiting z.waiting in
       let b = runs_of_parts z.behind in
       let runs : (a ++ runs_of_parts (z.behind ++ run r ∷ [])) ++ rs ≡ (a ++ b) ++ z.runs =
-      ap (λ l. (a ++ l) ++ rs) (runs-both z.behind (run r ∷ [])) ∙ ap (λ l. l ++ rs) (sym (append_assoc a b (r ∷ []))) ∙ append_assoc (a ++ b) (r ∷ []) rs ∙ ap (λ l. (a ++ b) ++ l) (sym e) in
+      ap (λ l. (a ++ l) ++ rs) (of-both z.behind (run r ∷ [])).runs ∙ ap (λ l. l ++ rs) (sym (append_assoc a b (r ∷ []))) ∙ append_assoc (a ++ b) (r ∷ []) rs ∙ ap (λ l. (a ++ b) ++ l) (sym e) in
       record {
         fine = record {
           waits = h.waits;
@@ -242,7 +237,7 @@ module _ (span : List Event) (plain : ArePlain span) (z : SoFar) (h : IsFine z) 
           fresh = fresh.1;
           up = subst AreAscending (sym runs) h.up;
         };
-        same = ap (λ l. spans_waiting z.waiting ++ l) (between-both z.behind (run r ∷ []) ∙ append-nil (spans_between z.behind));
+        same = ap (λ l. spans_waiting z.waiting ++ l) ((of-both z.behind (run r ∷ [])).spans ∙ append-nil (spans_between z.behind));
       }
 
   is-added : Goes z (added span z)
@@ -277,15 +272,16 @@ is-ended span tail (w ∷ ws) z e n p t h =
     let a = runs_waiting ws ++ runs_of_parts w.before in
     let b = runs_of_parts z.behind in
     let up : AreAscending ((a ++ b) ++ z.runs) = subst (λ l. AreAscending ((runs_waiting l ++ b) ++ z.runs)) (sym e) h.up in
+    let apart = ascend-around a b z.runs up in
     let inside = made w.opener z.behind span tail in
     let one = events inside ∷ [] in
-    let has = made-spans w.opener z.behind span tail waits.0.bracket n waits.0.plain p t h.behind (ascend-behind a b (ascend-front (a ++ b) z.runs up)) in
-    let runs : runs_waiting ws ++ runs_of_parts (w.before ++ one) ≡ a = ap (λ l. runs_waiting ws ++ l) (runs-both w.before one ∙ append-nil (runs_of_parts w.before)) in
+    let has = made-spans w.opener z.behind span tail waits.0.bracket n waits.0.plain p t h.behind apart.0 in
+    let runs : runs_waiting ws ++ runs_of_parts (w.before ++ one) ≡ a = ap (λ l. runs_waiting ws ++ l) ((of-both w.before one).runs ∙ append-nil (runs_of_parts w.before)) in
     let x = spans_waiting ws ++ spans_between w.before in
     let s = spans_between z.behind in
     let q = spans_of_runs b in
     let new : spans_waiting ws ++ spans_between (w.before ++ one) ≡ x ++ emphasis_spans inside =
-    ap (λ l. spans_waiting ws ++ l) (between-both w.before one ∙ ap (λ l. spans_between w.before ++ l) (append-nil (emphasis_spans inside))) ∙ sym (append_assoc (spans_waiting ws) (spans_between w.before) (emphasis_spans inside)) in
+    ap (λ l. spans_waiting ws ++ l) ((of-both w.before one).spans ∙ ap (λ l. spans_between w.before ++ l) (append-nil (emphasis_spans inside))) ∙ sym (append_assoc (spans_waiting ws) (spans_between w.before) (emphasis_spans inside)) in
     let old : x ++ (s ++ q) ≡ spans_so_far z ++ spans_of_all (b ∷ []) =
     sym (append_assoc x s q) ∙ ap (λ l. (spans_waiting l ++ s) ++ q) e ∙ ap (λ l. spans_so_far z ++ l) (sym (append-nil q)) in
     record {
@@ -293,7 +289,7 @@ is-ended span tail (w ∷ ws) z e n p t h =
         waits = waits.1;
         behind = every-append IsGood w.before one waits.0.before (has.closed, tt);
         fresh = h.fresh;
-        up = subst (λ l. AreAscending (l ++ z.runs)) (sym runs) (ascend-without a b z.runs up);
+        up = subst (λ l. AreAscending (l ++ z.runs)) (sym runs) apart.1;
       };
       all = subst (λ l. IsPermutation l (spans_so_far z ++ spans_of_all (b ∷ []))) (sym new) (subst (IsPermutation (x ++ emphasis_spans inside)) old (IsPermutation-append_right x (emphasis_spans inside) (s ++ q) has.all));
     }
@@ -309,7 +305,7 @@ Makes z last apart = HaveSpans (final last) (spans_so_far z ++ spans_of_all apar
 at-end : (z : SoFar) → IsFine z → Makes z z (runs_outside z)
 at-end z h =
     let parts = all_parts z.waiting z.behind in
-    let up = subst AreAscending (sym (all-runs z.waiting z.behind)) (ascend-front (runs_so_far z) z.runs h.up) in
+    let up = subst AreAscending (sym (all-runs z.waiting z.behind)) (ascending-front (runs_so_far z) z.runs h.up) in
     let q = spans_of_runs (runs_of_parts parts) in
     let same : spans_between parts ++ q ≡ spans_so_far z ++ spans_of_all (runs_outside z) = ap (λ l. l ++ q) (all-between z.waiting z.behind) ∙ ap (λ l. spans_so_far z ++ l) (sym (append-nil q)) in
     subst (HaveSpans (final z)) same (parts-spans parts (all-good z.waiting z.behind h.waits h.behind) up)
@@ -370,28 +366,8 @@ along (span ∷ next ∷ spans) z p h =
     ]
 
 -- ---- from the front
-runs-fresh : (bytes : List ℕ) (i depth : ℕ) (before : Option ℕ) (es : List Event) → AllByRecursion IsFresh (runs_from bytes i depth before es)
-runs-fresh bytes i depth before [] = tt
-runs-fresh bytes i depth before (e ∷ []) = tt
-runs-fresh bytes i depth before (e ∷ f ∷ es) =
-    cond_both (depth == 0 && is_sequence e f) (run_at bytes i e f before (index_of_event (slice_get es 0)) ∷ runs_from bytes (i + 2) depth (Some f.point.index) es)
-    (runs_from bytes (i + 1) (depth_after e.kind depth) (Some e.point.index) (f ∷ es)) (AllByRecursion IsFresh)
-    (λ is. ((refl, refl), runs-fresh bytes (i + 2) depth (Some f.point.index) es)) (λ other. runs-fresh bytes (i + 1) (depth_after e.kind depth) (Some e.point.index) (f ∷ es))
-
-first-plain : (depth : ℕ) (es : List Event) → ArePlain es → ArePlain (span_at depth es).0 × ArePlain (span_at depth es).1
-first-plain depth [] h = (tt, tt)
-first-plain depth (e ∷ es) h =
-    let more = first-plain (depth_after e.kind depth) es h.1 in
-    cond_both (depth_after e.kind depth == 0) (e ∷ [], es) (e ∷ (span_at (depth_after e.kind depth) es).0, (span_at (depth_after e.kind depth) es).1) (λ (q : List Event × List Event). ArePlain q.0 × ArePlain q.1)
-    (λ a. ((h.0, tt), h.1)) (λ a. ((h.0, more.0), more.1))
-
-spans-plain : (bound : ℕ) (es : List Event) → ArePlain es → AllByRecursion ArePlain (spans_in bound es)
-spans-plain zero es h = tt
-spans-plain (suc bound) [] h = tt
-spans-plain (suc bound) (e ∷ es) h = let cut = first-plain 0 (e ∷ es) h in (cut.0, spans-plain bound (span_at 0 (e ∷ es)).1 cut.1)
-
 -- Links, images and emphasis of a list without emphasis end each span that they begin, and their spans are those of its pairs
 pub text-spans : (bytes : List ℕ) (es : List Event) → ArePlain es → HaveSpans (with_links bytes es) (spans_of_text bytes es)
 text-spans bytes es h =
-    along (outermost_spans es) (record { waiting = []; behind = []; runs = runs_in bytes es }) (spans-plain (length es) es h)
+    along (outermost_spans es) (record { waiting = []; behind = []; runs = runs_in bytes es }) (spans-have ArePlain (λ xs ys k. (every-front IsPlain xs ys k, every-back IsPlain xs ys k)) (length es) es h)
     (record { waits = tt; behind = tt; fresh = runs-fresh bytes 0 0 None es; up = runs-ascend bytes es })

@@ -1,10 +1,11 @@
 -- Pairs of delimiter runs: which runs open and close them, in which order, and how many markers they take.
 use Rattle.std.proofs.Common.{◌≡◌, ℕ, zero, suc, ◌+◌, ◌-◌, ◌<◌, ◌≤◌, ◌==◌, Bool, true, false, cond, List, [], ◌∷◌, ◌++◌, inl, inr, refl, sym, ap, subst, arith}
-use Rattle.std.proofs.lemmas.Bool.{cases_Bool, cond_both, and_parts}
+use Rattle.std.proofs.lemmas.Bool.{cases_Bool, cond_both, and_parts, leb-true}
 use Rattle.std.proofs.lemmas.Bool.Decides.{nat_tests}
 use Rattle.std.specs.List.{AllByRecursion, filter}
 use Rattle.std.specs.Prelude.{nat_le, nat_lt, map}
 use Rattle.markdown_base.proofs.Common.{every-append}
+use Rattle.markdown_tokenizer.proofs.Positions.Order.{every-back}
 use Rattle.mdconstructs_attention.proofs.PairsKeep.{some-left}
 use Rattle.mdconstructs_attention.specs.Emphasis.{Delimiter, Pair, Run, close_pairs, closes_yet, gave, is_strong, look_back, markers_of, markers_of_all, may_pair, on_stack, opens_yet, pairs_from}
 use Rattle.mdconstructs_document_laws.specs.EmphasisSpans.{markers_given}
@@ -61,10 +62,6 @@ AreBelow n stack = AllByRecursion (λ (d : Delimiter). d.number < n) stack
 abbrev pub CloseAt : ℕ → List Pair → Type 0
 CloseAt n ps = AllByRecursion (λ (p : Pair). (p.opener < n) × (p.closer ≡ n)) ps
 
-pub every-behind : {A : Type 0} (Q : A → Type 0) (xs ys : List A) → AllByRecursion Q (xs ++ ys) → AllByRecursion Q ys
-every-behind Q [] ys h = h
-every-behind Q (x ∷ xs) ys h = every-behind Q xs ys h.1
-
 every-on : (Q : Delimiter → Type 0) (d : Delimiter) (stack : List Delimiter) → Q d → AllByRecursion Q stack → AllByRecursion Q (on_stack d stack)
 every-on Q d stack q h = cond_both (opens_yet d.run) (d ∷ stack) stack (AllByRecursion Q) (λ e. (q, h)) (λ e. h)
 
@@ -78,7 +75,7 @@ closes-at k d stack = by-pairs
     (λ d stack r. AreBelow d.number stack → CloseAt d.number r.1 × AreBelow (d.number + 1) r.0)
     (λ d stack h. (tt, every-on (λ e. e.number < d.number + 1) d stack (omega arith) (below-more d.number stack h)))
     (λ d o front below rest some ih h.
-    let behind = every-behind (λ (e : Delimiter). e.number < d.number) front (o ∷ below) h in
+    let behind = every-back (λ (e : Delimiter). e.number < d.number) front (o ∷ below) h in
     let s = is_strong o.run d.run in
     let next = ih (every-on (λ e. e.number < d.number) (gave s o) below behind.0 behind.1) in
     (((behind.0, refl), next.0), next.1))
@@ -152,13 +149,13 @@ nests n k d stack = by-pairs
     })
     (λ d o front below rest some ih less under falling.
     let s = is_strong o.run d.run in
-    let behind = every-behind (λ (e : Delimiter). e.number < d.number) front (o ∷ below) under in
+    let behind = every-back (λ (e : Delimiter). e.number < d.number) front (o ∷ below) under in
     let falls = falling-behind front (o ∷ below) falling in
     let next = ih less (every-on (λ e. e.number < d.number) (gave s o) below behind.0 behind.1) (falling-on (gave s o) below falls.0 falls.1) in
     record {
       falls = next.falls;
       free = λ h.
-          let not = every-behind (λ (e : Delimiter). (e.number == n) ≡ false) front (o ∷ below) h in
+          let not = every-back (λ (e : Delimiter). (e.number == n) ≡ false) front (o ∷ below) h in
           let later = next.free (every-on (λ (e : Delimiter). (e.number == n) ≡ false) (gave s o) below not.0 not.1) in
           ((not.0, later.0), later.1);
       nested = λ more h k. (
@@ -195,7 +192,7 @@ falling-still k d stack = by-pairs
     (λ d stack below falling. falling-on d stack (below-upto d.number stack below) falling)
     (λ d o front below rest some ih under falling.
     let s = is_strong o.run d.run in
-    let behind = every-behind (λ (e : Delimiter). e.number < d.number) front (o ∷ below) under in
+    let behind = every-back (λ (e : Delimiter). e.number < d.number) front (o ∷ below) under in
     let falls = falling-behind front (o ∷ below) falling in
     ih (every-on (λ e. e.number < d.number) (gave s o) below behind.0 behind.1) (falling-on (gave s o) below falls.0 falls.1))
     k d stack
@@ -225,9 +222,6 @@ left-on k d stack = cond_both (opens_yet d.run) (d ∷ stack) stack (λ l. left_
 markers-on : (d : Delimiter) (stack : List Delimiter) → HaveMarkers stack → HaveMarkers (on_stack d stack)
 markers-on d stack h = cond_both (opens_yet d.run) (d ∷ stack) stack HaveMarkers (λ e. (some-left d.run.left (and_parts d.run.opens (nat_lt 0 d.run.left) e).1, h)) (λ e. h)
 
-two-left : (n : ℕ) → nat_le 2 n ≡ true → 2 ≤ n
-two-left n h = grind (arith, h)
-
 -- a pair takes markers that its runs have
 strong-has : (o r : Run) (n : ℕ) → 0 < n → (nat_le 2 o.left ≡ true → nat_le 2 r.left ≡ true → 2 ≤ n) → markers_of (is_strong o r) ≤ n
 strong-has o r n some two = elim (cases_Bool (is_strong o r)) [
@@ -254,9 +248,9 @@ takes k d stack = by-pairs
     })
     (λ d o front below rest some ih h.
     let s = is_strong o.run d.run in
-    let behind = every-behind (λ (e : Delimiter). 0 < e.run.left) front (o ∷ below) h in
-    let first = strong-has o.run d.run o.run.left behind.0 (λ a b. two-left o.run.left a) in
-    let second = strong-has o.run d.run d.run.left some (λ a b. two-left d.run.left b) in
+    let behind = every-back (λ (e : Delimiter). 0 < e.run.left) front (o ∷ below) h in
+    let first = strong-has o.run d.run o.run.left behind.0 (λ a b. leb-true 2 o.run.left a) in
+    let second = strong-has o.run d.run d.run.left some (λ a b. leb-true 2 d.run.left b) in
     let next = ih (markers-on (gave s o) below behind.1) in
     let within = next.within in
     record {

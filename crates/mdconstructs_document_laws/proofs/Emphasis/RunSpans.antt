@@ -4,7 +4,9 @@ use Rattle.std.proofs.lemmas.Bool.{cases_Bool}
 use Rattle.std.proofs.lemmas.Bool.Decides.{nat_tests}
 use Rattle.std.proofs.lemmas.List.{map-append, reverse-append}
 use Rattle.std.proofs.lemmas.List.Elements.{filter-append}
-use Rattle.std.specs.List.{AllByRecursion, filter}
+use Rattle.std.proofs.lemmas.List.Sorted.{IsPermutation-reverse, sum_by-IsPermutation}
+use Rattle.std.proofs.lemmas.List.Sums.{sum_by-cons}
+use Rattle.std.specs.List.{AllByRecursion, filter, sum_by}
 use Rattle.std.specs.Prelude.{nat_lt, option_map, slice_get, unwrap_or}
 use Rattle.markdown_base.specs.declared.event.Event.{Event}
 use Rattle.markdown_base.specs.declared.event.Point.{Point}
@@ -96,23 +98,16 @@ places-last q [] s = ap (λ p. p ∷ []) (sym (later-none q))
 places-last q (t ∷ ss) s =
     ap (λ l. q ∷ l) (places-last (later (markers_of t) q) ss s ∙ ap (λ p. places_on (later (markers_of t) q) ss ++ p ∷ []) (later-later (markers_of_all ss) (markers_of t) q))
 
-markers-both : (xs ys : List Bool) → markers_of_all (xs ++ ys) ≡ markers_of_all xs + markers_of_all ys
-markers-both [] ys = omega arith
-markers-both (x ∷ xs) ys = let more = markers-both xs ys in omega (arith, more)
-
-markers-reverse : (ss : List Bool) → markers_of_all (reverse ss) ≡ markers_of_all ss
-markers-reverse [] = refl
-markers-reverse (s ∷ ss) =
-    let turned = ap markers_of_all (reverse-append (s ∷ []) ss) in
-    let both = markers-both (reverse ss) (s ∷ []) in
-    let more = markers-reverse ss in
-    omega (arith, turned, both, more)
+markers-sum : (ss : List Bool) → markers_of_all ss ≡ sum_by markers_of ss
+markers-sum [] = refl
+markers-sum (s ∷ ss) = ap (λ n. markers_of s + n) (markers-sum ss) ∙ sym (sum_by-cons markers_of s ss)
 
 outer-first : (q : Point) (n : ℕ) (ss : List Bool) → reverse (places_on (later n q) (reverse ss)) ≡ places_upto q (n + markers_of_all ss) ss
 outer-first q n [] = refl
 outer-first q n (s ∷ ss) =
     let at = later n q in
-    let place : later (markers_of_all (reverse ss)) at ≡ later (n + markers_of_all ss) q = ap (λ k. later k at) (markers-reverse ss) ∙ later-later (markers_of_all ss) n q in
+    let turned = markers-sum (reverse ss) ∙ sum_by-IsPermutation markers_of ss (reverse ss) (IsPermutation-reverse ss) ∙ sym (markers-sum ss) in
+    let place : later (markers_of_all (reverse ss)) at ≡ later (n + markers_of_all ss) q = ap (λ k. later k at) turned ∙ later-later (markers_of_all ss) n q in
     let same : n + (markers_of s + markers_of_all ss) - markers_of s ≡ n + markers_of_all ss = omega arith in
     ap (λ l. reverse (places_on at l)) (reverse-append (s ∷ []) ss) ∙ ap reverse (places-last at (reverse ss) s) ∙ reverse-append (places_on at (reverse ss)) (later (markers_of_all (reverse ss)) at ∷ [])
     ∙ ap (λ p. p ∷ reverse (places_on at (reverse ss))) place ∙ ap (λ l. later (n + markers_of_all ss) q ∷ l) (outer-first q n ss)
