@@ -10,6 +10,7 @@ use Rattle.markdown_base.specs.Virtual.{virtual}
 use Rattle.mdconstructs_machines.specs.LineEvents.{lines_in}
 use Rattle.mdconstructs_flow_read.specs.LeafBlocks.{Line}
 use Rattle.mdconstructs_flow_read.specs.LineKinds.{is_blank_line}
+use Rattle.mdconstructs_containers.proofs.FrameFacts.{none_is}
 use Rattle.mdconstructs_containers.specs.Prefixes.{containers_of}
 use Rattle.mdconstructs_containers.specs.Rows.{Before, Row, closed, has_none, holds_ending, is_paragraph, rest_of}
 use Rattle.mdconstructs_containers.specs.Skeleton.{Part, further}
@@ -20,7 +21,7 @@ use Rattle.mdconstructs_definitions.specs.Skeleton.{all_rows}
 use Rattle.mdconstructs_rests.specs.DocumentRests.{begins_anew, begins_at_document_rest, first_at_document_rest, first_stays, goes_on_behind, is_at_document_rest, is_closed, known_at_start, known_behind, moved_row}
 use Rattle.mdconstructs_rests.specs.Moved.{begins_line, line_endings, moved_line}
 use Rattle.mdconstructs_rests.proofs.DocumentBytes.{counted, document-rows-of-both}
-use Rattle.mdconstructs_rests.proofs.DocumentRests.{anew-same, begins-anew, closed-is, first-row, is-not-blank, none-is, not-left, row_new}
+use Rattle.mdconstructs_rests.proofs.DocumentRests.{anew-same, begins-anew, closed-is, first-row, is-not-blank, not-left, row_new}
 use Rattle.mdconstructs_rests.proofs.LikeRows.{AreLike, IsLike, StayAlike, like-first, said-of-sections}
 use Rattle.mdconstructs_rests.proofs.MovedBlocks.{text-moved}
 use Rattle.mdconstructs_rests.proofs.MovedRows.{rest-moved}
@@ -75,7 +76,7 @@ module _ (on : Constructs) (not-blank : (k : Known) (n : ℕ) (line : Line) → 
       record {
         left = ap (λ (r : Row). r.is_left_blank) is ∙ not-left on n line row.begun row.stays full;
         full = λ stays.
-            let none : row.begun ≡ [] = none-is row.begun (and-left (has_none row.begun) _ stays) in
+            let none : row.begun ≡ [] = none_is row.begun (and-left (has_none row.begun) _ stays) in
             ap (λ (r : Row). r.is_blank) is ∙ ap (λ ps. (row_new on n line ps row.stays).is_blank) none ∙ full;
       }
 

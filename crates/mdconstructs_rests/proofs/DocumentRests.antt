@@ -1,15 +1,16 @@
 -- At a rest the rows of lines are those of the lines before it, and those of the lines from it on.
 use Rattle.std.proofs.Common.{Bool, List, [], ap, arith, cond, drop, false, length, length-append, refl, sym, take, true, ℕ, suc, ◌+◌, ◌++◌, ◌==◌, ◌&&◌, ◌||◌, not, ◌∙◌, ◌∷◌, ◌≡◌}
 use Rattle.std.proofs.Math.Bool.{and-false}
-use Rattle.std.proofs.lemmas.Bool.{eqb-true}
+use Rattle.std.proofs.lemmas.Bool.{eqb-true, not-true}
 use Rattle.std.proofs.lemmas.List.{length-map}
 use Rattle.std.specs.Prelude.{is_some, map}
 use Rattle.markdown_base.proofs.Common.{and-right}
-use Rattle.markdown_base.proofs.Facts.Bools.{and-left}
+use Rattle.markdown_base.proofs.Facts.Bools.{and-left, cond-same}
 use Rattle.markdown_base.specs.declared.configuration.Constructs.{Constructs}
 use Rattle.mdconstructs_flow_read.specs.LeafBlocks.{Line, interrupts, text_of}
 use Rattle.mdconstructs_flow_read.specs.LineKinds.{blank, indented, is_blank_line, is_far, kind_of_rest, indent, line_kind, underline_rank, unindented}
 use Rattle.mdconstructs_lines.specs.Containers.{Container, Prefix, item, quote}
+use Rattle.mdconstructs_containers.proofs.FrameFacts.{none_is}
 use Rattle.mdconstructs_containers.specs.Prefixes.{beginning, columns_of, containers_of, going_on, in_place_of, with_list}
 use Rattle.mdconstructs_containers.specs.Rows.{Before, Leaf, Row, closed, has_none, holds_ending, is_lazily, is_paragraph, is_raw, leaf_after, nothing_known, open_fence, open_html, open_paragraph, rest_of, row_with}
 use Rattle.mdconstructs_containers.specs.Rows as without
@@ -18,7 +19,7 @@ use Rattle.mdconstructs_rests.specs.DocumentRests.{DocumentRestsForget, RowsOfBo
 use Rattle.mdconstructs_rests.specs.Moved.{moved_line, moved_lines}
 use Rattle.mdconstructs_rests.specs.Rests.{begins_near, kind_of_line}
 use Rattle.mdconstructs_rests.proofs.MovedBlocks.{text-moved}
-use Rattle.mdconstructs_rests.proofs.MovedRows.{begun_by, behind-moved, known-moved, mapped-none, row-moved, row_by, rows-moved}
+use Rattle.mdconstructs_rests.proofs.MovedRows.{begun_by, behind-moved, known-moved, none-alike, row-moved, row_by, rows-moved}
 
 -- ---- what a test says
 pub closed-is : (leaf : Leaf) → is_closed leaf ≡ true → leaf ≡ closed
@@ -26,14 +27,6 @@ closed-is closed h = refl
 closed-is open_paragraph h = absurd (cc)
 closed-is (open_fence f) h = absurd (cc)
 closed-is (open_html kind) h = absurd (cc)
-
-pub none-is : {A : Type 0} (xs : List A) → has_none xs ≡ true → xs ≡ []
-none-is [] h = refl
-none-is (x ∷ xs) h = absurd (cc)
-
-not-is : (b : Bool) → not b ≡ true → b ≡ false
-not-is true h = absurd (cc)
-not-is false h = refl
 
 near-not-blank : (on : Constructs) (t : List ℕ) → begins_near (line_kind on t) ≡ true → is_blank_line t ≡ false
 near-not-blank on t h = by (is_blank_line t) refl h
@@ -94,7 +87,7 @@ module _ (on : Constructs) (number : ℕ) (line : Line) where
       let lazy : is_lazily on b all_go_on (has_none ps) rest ≡ false = (λ i. not all_go_on && (has_none ps && (is_paragraph (e i) && not (interrupts (line_kind on rest))))) ∙ by (not all_go_on) (has_none ps) in
       let stays = (row_with on b number line [] ps).stays in
       let holds : (stays && holds_ending b.leaf) ≡ false = ap (λ leaf. stays && holds_ending leaf) e ∙ and-false stays in
-      let before : cond stays b.leaf closed ≡ closed = ap (λ leaf. cond stays leaf closed) e ∙ either stays in
+      let before : cond stays b.leaf closed ≡ closed = ap (λ leaf. cond stays leaf closed) e ∙ cond-same stays closed in
       let left : (is_blank_line rest && (has_none ps && not (stays && holds_ending b.leaf))) ≡ (is_blank_line rest && (has_none ps && true)) = ap (λ h. is_blank_line rest && (has_none ps && not h)) holds in
       (λ i. record {
         number = number;
@@ -113,10 +106,6 @@ module _ (on : Constructs) (number : ℕ) (line : Line) where
       by true true = refl
       by true false = refl
       by false y = refl
-
-      either : (c : Bool) → cond c closed closed ≡ closed
-      either true = refl
-      either false = refl
 
   -- the row of a line with which no container goes on, and which goes on with no list
   plain-new : (b : Before) → b.leaf ≡ closed → (without.row_of on b number line).went_on ≡ [] → joins_list b.stack (without.row_of on b number line).begun ≡ false
@@ -197,8 +186,8 @@ module _ (on : Constructs) (number : ℕ) (line : Line) where
       let more = and-right is (near && (none && not (joins_list k.before.stack row.begun))) h in
       let last = and-right near (none && not (joins_list k.before.stack row.begun)) more in
       let full = near-not-blank on t (and-left near (none && not (joins_list k.before.stack row.begun)) more) in
-      let went = none-is row.went_on (and-left none (not (joins_list k.before.stack row.begun)) last) in
-      let other = not-is (joins_list k.before.stack row.begun) (and-right none (not (joins_list k.before.stack row.begun)) last) in
+      let went = none_is row.went_on (and-left none (not (joins_list k.before.stack row.begun)) last) in
+      let other = not-true (joins_list k.before.stack row.begun) (and-right none (not (joins_list k.before.stack row.begun)) last) in
       begins-so k e full (plain-new k.before e went other)
 
   pub begins-start : is_blank_line t ≡ false → Begins (known_at_start on)
@@ -288,7 +277,7 @@ module _ (on : Constructs) where
       let moved = row-moved l on n k number n2 line e in
       let text = text-moved l n line in
       (λ i. is && (begins_near (line_kind on (text i)) && (has_none (moved i).went_on && not (joins_list (map (moved_container l) k.before.stack) (moved i).begun))))
-      ∙ (λ i. is && (begins_near (kind_of_line on line) && (mapped-none (moved_prefix l) row.went_on i && not (joins-moved l k.before.stack row.begun i))))
+      ∙ (λ i. is && (begins_near (kind_of_line on line) && (none-alike (map (moved_prefix l) row.went_on) row.went_on (length-map row.went_on (moved_prefix l)) i && not (joins-moved l k.before.stack row.begun i))))
 
 pub rows-of-both : RowsOfBoth
 rows-of-both on bytes before line behind h =
@@ -349,5 +338,5 @@ stretches-go-on-at-top on before line h stays =
     let same : has_none row.begun ≡ has_none (row_of on start 1 line).begun =
     ap has_none (ap (λ (r : Row). r.begun) begins.row ∙ sym (ap (λ (r : Row). r.begun) plain.row))
     ∙ ap has_none (ap (λ t. (row_text on start n [] t).begun) (sym (text-moved (length before) 0 line)) ∙ ap (λ (r : Row). r.begun) (row-moved (length before) on 0 start 1 n line (omega arith)))
-    ∙ mapped-none (moved_prefix (length before)) (row_of on start 1 line).begun in
+    ∙ none-alike (map (moved_prefix (length before)) (row_of on start 1 line).begun) (row_of on start 1 line).begun (length-map (row_of on start 1 line).begun (moved_prefix (length before))) in
     (no-stack k.before.stack (omega (arith, one, two, zero-long)), sym same ∙ none)

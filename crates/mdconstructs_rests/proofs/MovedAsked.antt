@@ -27,10 +27,10 @@ module _ (m : Moving) where
 
   ahead-same : (ahead : List Seat) → AreKnownSeats m ahead → (label : List ℕ) → label_ahead m.new (all_moved m ahead) label ≡ label_ahead m.old ahead label
   ahead-same ahead h label =
-      let text = back m _ _ 2 2 refl (whole m ahead h) in
-      let rest = back m _ _ (length label) (length label) refl text in
-      let inner = lines-move m _ _ (front m _ _ (length label) (length label) refl text) in
-      (λ i. spanned_bytes (bytes_before m.new (rest.is i)) (inner.is i)) ∙ label-same m (drop (length label) (drop 2 ahead)) rest.known _ inner.known
+      let text = back _ _ 2 2 refl (whole m ahead h) in
+      let rest = back _ _ (length label) (length label) refl text in
+      let inner = lines-move m _ _ (front _ _ (length label) (length label) refl text) in
+      (λ i. spanned_bytes (bytes_before m.new (rest.is i)) (inner.is i)) ∙ label-same m (drop (length label) (drop 2 ahead)) rest.ok _ inner.known
 
   labels-same : (bs : List Bracket) (q : Memory) (behind : List ℕ) → IsKnownMemory m q → labels_at m.new bs (moved_memory m q) behind ≡ labels_at m.old bs q behind
   labels-same [] q behind h = refl
@@ -50,32 +50,32 @@ module _ (m : Moving) where
     from-same (suc n) q (s ∷ ss) h k =
         let p = whole m (s ∷ ss) k in
         let text = bytes_of (s ∷ ss) in
-        let bytes = same-bytes m _ _ p in
+        let bytes = same-bytes _ _ p in
         let item = inline_item_at on defined m.old q text in
         let moves = item-moves m on defined q text in
         let same : inline_item_at on defined m.new (moved_memory m q) (bytes_of (all_moved m (s ∷ ss))) ≡ item = ap (inline_item_at on defined m.new (moved_memory m q)) bytes ∙ item-same m on defined q text h in
         let here = ap (looked_up m.new on (moved_memory m q)) bytes ∙ looked-same q text h in
-        let rest = back m _ _ item.size item.size refl p in
+        let rest = back _ _ item.size item.size refl p in
         let after = after-moved m on defined q item h moves in
         (λ i. here i ++ asked_from m.new on defined n (after_item m.new (moved_memory m q) (same i)) (drop (same i).size (all_moved m (s ∷ ss))))
         ∙ (λ i. looked_up m.old on q text ++ asked_from m.new on defined n (after i) (rest.is i))
-        ∙ ap (λ labels. looked_up m.old on q text ++ labels) (from-same n (after_item m.old q item) (drop item.size (s ∷ ss)) (after-known m on defined q item h moves) rest.known)
+        ∙ ap (λ labels. looked_up m.old on q text ++ labels) (from-same n (after_item m.old q item) (drop item.size (s ∷ ss)) (after-known m on defined q item h moves) rest.ok)
 
     asked-same : (s r : List Seat) → Part m s r → asked_labels m.new on defined s ≡ asked_labels m.old on defined r
     asked-same s r p =
-        let q = whole m r p.known in
+        let q = whole m r p.ok in
         let n = prefix_len is_white (bytes_of r) in
-        let white = ap (prefix_len is_white) (same-bytes m _ _ q) in
-        let count = same-length m _ _ q in
+        let white = ap (prefix_len is_white) (same-bytes _ _ q) in
+        let count = same-length _ _ q in
         let start = nothing_read r in
-        let known : IsKnownMemory m start = record { events = tt; ahead = p.known } in
+        let known : IsKnownMemory m start = record { events = tt; ahead = p.ok } in
         let moves : MovesAs m (white_space n) = alone m SpaceOrTab in
-        let rest = back m _ _ n n refl q in
+        let rest = back _ _ n n refl q in
         let after = after-moved m on defined start (white_space n) known moves in
         ap (asked_labels m.new on defined) p.is
         ∙ (λ i. asked_from m.new on defined (count i) (after_item m.new (nothing_read (all_moved m r)) (white_space (white i))) (drop (white i) (all_moved m r)))
         ∙ (λ i. asked_from m.new on defined (length r) (after i) (rest.is i))
-        ∙ from-same (length r) (after_item m.old start (white_space n)) (drop n r) (after-known m on defined start (white_space n) known moves) rest.known
+        ∙ from-same (length r) (after_item m.old start (white_space n)) (drop n r) (after-known m on defined start (white_space n) known moves) rest.ok
 
 pub asked-move : AskedLabelsMove
 asked-move defined on a b h = (

@@ -53,7 +53,7 @@ module _ (m : Moving) where
   mapped f h (Some a) = h a
 
   middle : (i j i2 j2 : ℕ) (s r : List Seat) → i ≡ i2 → j ≡ j2 → Part m s r → Part m (between i j s) (between i2 j2 r)
-  middle i j i2 j2 s r e f p = front m _ _ (j - i) (j2 - i2) (λ d. f d - e d) (back m s r i i2 e p)
+  middle i j i2 j2 s r e f p = front _ _ (j - i) (j2 - i2) (λ d. f d - e d) (back s r i i2 e p)
 
   -- ---- what has one part, or three
   one : (n : Name) (s r : List Seat) → Part m s r → Moves m (leaf m.new n s) (leaf m.old n r)
@@ -74,9 +74,9 @@ module _ (m : Moving) where
   code-moves k n s r p =
       let inside = middle k (k + n) k (k + n) s r refl refl p in
       around m name.CodeText s r _ _ p
-      (three name.CodeTextSequence name.CodeTextSequence _ _ _ _ _ _ (front m s r k k refl p)
-      (cuts m (part_at is_backtick_or_line_feed) part_length (λ bytes. part_events bytes name.CodeTextData) (λ t s r p. part-moves name.CodeTextData _ s r p) _ _ _ _ (same-length m _ _ inside) inside)
-      (back m s r (k + n) (k + n) refl p))
+      (three name.CodeTextSequence name.CodeTextSequence _ _ _ _ _ _ (front s r k k refl p)
+      (cuts m (part_at is_backtick_or_line_feed) part_length (λ bytes. part_events bytes name.CodeTextData) (λ t s r p. part-moves name.CodeTextData _ s r p) _ _ _ _ (same-length _ _ inside) inside)
+      (back s r (k + n) (k + n) refl p))
 
   code : (text : List ℕ) → MovesIf (code_span_at text)
   code text = let k = backticks text in when-there MovesAs _ (option_map (code_span k) (before_backtick_string k (drop k text))) (mapped (code_span k) (code-moves k) (before_backtick_string k (drop k text)))
@@ -86,7 +86,7 @@ module _ (m : Moving) where
       (span m.old outer r (leaf m.old marker (take 1 r) ++ (leaf m.old inner (between 1 (1 + n) r) ++ leaf m.old marker (drop (1 + n) r))))
   link-moves outer marker inner n s r p =
       around m outer s r _ _ p
-      (three marker marker _ _ _ _ _ _ (front m s r 1 1 refl p) (one inner _ _ (middle 1 (1 + n) 1 (1 + n) s r refl refl p)) (back m s r (1 + n) (1 + n) refl p))
+      (three marker marker _ _ _ _ _ _ (front s r 1 1 refl p) (one inner _ _ (middle 1 (1 + n) 1 (1 + n) s r refl refl p)) (back s r (1 + n) (1 + n) refl p))
 
   to : (text : List ℕ) (o : Option ℕ) → MovesIf (autolink_to text o)
   to text None = tt
@@ -102,34 +102,34 @@ module _ (m : Moving) where
       when-there MovesAs _ (email_with text n) (when-there MovesAs _ (Some (email inside)) (link-moves name.Autolink name.AutolinkMarker name.AutolinkEmail inside))
 
   piece-moves : (a : Piece) (s r : List Seat) → Part m s r → Moves m (piece_events m.new (a, s)) (piece_events m.old (a, r))
-  piece-moves (html_break n) s r p = two name.LineEnding name.SpaceOrTab _ _ _ _ (front m s r 1 1 refl p) (back m s r 1 1 refl p)
+  piece-moves (html_break n) s r p = two name.LineEnding name.SpaceOrTab _ _ _ _ (front s r 1 1 refl p) (back s r 1 1 refl p)
   piece-moves (html_data n) s r p = one name.HtmlTextData s r p
 
   html-moves : (n : ℕ) → MovesAs (html n)
-  html-moves n s r p = around m name.HtmlText s r _ _ p (cuts m piece_at piece_length piece_events (λ t s r p. piece-moves _ s r p) _ _ s r (same-length m s r p) p)
+  html-moves n s r p = around m name.HtmlText s r _ _ p (cuts m piece_at piece_length piece_events (λ t s r p. piece-moves _ s r p) _ _ s r (same-length s r p) p)
 
   htmls : (text : List ℕ) (o : Option ℕ) → MovesIf (html_of text o)
   htmls text o = html-there MovesAs text o html-moves
 
   escapes : (text : List ℕ) → MovesIf (escape_at text)
   escapes text =
-      when-there MovesAs _ (Some escape) (λ s r p. around m name.CharacterEscape s r _ _ p (two name.CharacterEscapeMarker name.CharacterEscapeValue _ _ _ _ (front m s r 1 1 refl p) (back m s r 1 1 refl p)))
+      when-there MovesAs _ (Some escape) (λ s r p. around m name.CharacterEscape s r _ _ p (two name.CharacterEscapeMarker name.CharacterEscapeValue _ _ _ _ (front s r 1 1 refl p) (back s r 1 1 refl p)))
 
   breaks : (text : List ℕ) → MovesIf (break_escape_at text)
   breaks text = when-there MovesAs _ (Some hard_break_escape) (one name.HardBreakEscape)
 
   marks-move : (kind : Kind) (s r : List Seat) → Part m s r → Moves m (mark_events m.new kind s) (mark_events m.old kind r)
-  marks-move named s r p = one name.CharacterReferenceMarker _ _ (front m s r 1 1 refl p)
-  marks-move decimal s r p = two name.CharacterReferenceMarker name.CharacterReferenceMarkerNumeric _ _ _ _ (front m s r 1 1 refl p) (middle 1 2 1 2 s r refl refl p)
+  marks-move named s r p = one name.CharacterReferenceMarker _ _ (front s r 1 1 refl p)
+  marks-move decimal s r p = two name.CharacterReferenceMarker name.CharacterReferenceMarkerNumeric _ _ _ _ (front s r 1 1 refl p) (middle 1 2 1 2 s r refl refl p)
   marks-move hexadecimal s r p =
-      both m _ _ _ _ (one name.CharacterReferenceMarker _ _ (front m s r 1 1 refl p))
+      both m _ _ _ _ (one name.CharacterReferenceMarker _ _ (front s r 1 1 refl p))
       (two name.CharacterReferenceMarkerNumeric name.CharacterReferenceMarkerHexadecimal _ _ _ _ (middle 1 2 1 2 s r refl refl p) (middle 2 3 2 3 s r refl refl p))
 
   reference-moves : (kind : Kind) (n : ℕ) → MovesAs (reference kind n)
   reference-moves kind n s r p =
       around m name.CharacterReference s r _ _ p
       (both m _ _ _ _ (marks-move kind s r p)
-      (two name.CharacterReferenceValue name.CharacterReferenceMarkerSemi _ _ _ _ (middle (marks kind) (marks kind + n) (marks kind) (marks kind + n) s r refl refl p) (back m s r (marks kind + n) (marks kind + n) refl p)))
+      (two name.CharacterReferenceValue name.CharacterReferenceMarkerSemi _ _ _ _ (middle (marks kind) (marks kind + n) (marks kind) (marks kind + n) s r refl refl p) (back s r (marks kind + n) (marks kind + n) refl p)))
 
   references : (text : List ℕ) → MovesIf (reference_at text)
   references = reference-holds MovesAs reference-moves
@@ -149,24 +149,24 @@ module _ (m : Moving) where
     where
       by : (c d : Bool) → MovesAs (cond c (delimiter_run (run_length text)) (cond d (line_break (prefix_len is_white (drop 1 text))) (data_run (data_length on text))))
       by true d = one name.AttentionSequence
-      by false true = λ s r p. two name.LineEnding name.SpaceOrTab _ _ _ _ (front m s r 1 1 refl p) (back m s r 1 1 refl p)
+      by false true = λ s r p. two name.LineEnding name.SpaceOrTab _ _ _ _ (front s r 1 1 refl p) (back s r 1 1 refl p)
       by false false = one name.Data
 
   -- ---- resources and references
   marked-moves : (outer mark : Name) (x y : List Event) (s r : List Seat) → Moves m x y → Part m s r → Moves m (in_marks m.new outer mark x s) (in_marks m.old outer mark y r)
-  marked-moves outer mark x y s r h p = around m outer s r _ _ p (three mark mark x y _ _ _ _ (front m s r 1 1 refl p) h (back m s r _ _ (ap (λ n. n - 1) (same-length m s r p)) p))
+  marked-moves outer mark x y s r h p = around m outer s r _ _ p (three mark mark x y _ _ _ _ (front s r 1 1 refl p) h (back s r _ _ (ap (λ n. n - 1) (same-length s r p)) p))
 
   inside : (s r : List Seat) → Part m s r → Part m (unmarked m.new s) (unmarked m.old r)
-  inside s r p = middle 1 _ 1 _ s r refl (ap (λ n. n - 1) (same-length m s r p)) p
+  inside s r p = middle 1 _ 1 _ s r refl (ap (λ n. n - 1) (same-length s r p)) p
 
   pub lines-move : (s r : List Seat) → Part m s r → Moves m (string_events m.new s) (string_events m.old r)
-  lines-move s r p = cuts m line_part part_length (λ bytes. part_events bytes name.Data) (λ t s r p. part-moves name.Data _ s r p) _ _ s r (same-length m s r p) p
+  lines-move s r p = cuts m line_part part_length (λ bytes. part_events bytes name.Data) (λ t s r p. part-moves name.Data _ s r p) _ _ s r (same-length s r p) p
 
   gap-moves : (s r : List Seat) → Part m s r → Moves m (gap_events m.new s) (gap_events m.old r)
   gap-moves s r p =
-      let n = ap (prefix_len is_space_or_tab) (same-bytes m s r p) in
-      let rest = back m s r _ _ n p in
-      both m _ _ _ _ (one name.SpaceOrTab _ _ (front m s r _ _ n p)) (two name.LineEnding name.SpaceOrTab _ _ _ _ (front m _ _ 1 1 refl rest) (back m _ _ 1 1 refl rest))
+      let n = ap (prefix_len is_space_or_tab) (same-bytes s r p) in
+      let rest = back s r _ _ n p in
+      both m _ _ _ _ (one name.SpaceOrTab _ _ (front s r _ _ n p)) (two name.LineEnding name.SpaceOrTab _ _ _ _ (front _ _ 1 1 refl rest) (back _ _ 1 1 refl rest))
 
   string-moves : (s r : List Seat) → Part m s r → Moves m (destination_string m.new s) (destination_string m.old r)
   string-moves s r p = around m name.ResourceDestinationString s r _ _ p (one name.Data s r p)
@@ -178,7 +178,7 @@ module _ (m : Moving) where
   destination-moves s r p =
       let enclosed = marked-moves name.ResourceDestinationLiteral name.ResourceDestinationLiteralMarker _ _ s r (string-moves _ _ (inside s r p)) p in
       let raw = around m name.ResourceDestinationRaw s r _ _ p (string-moves s r p) in
-      around m name.ResourceDestination s r _ _ p (by _ _ (ap (begins_with 60) (same-bytes m s r p)) _ _ _ _ enclosed raw)
+      around m name.ResourceDestination s r _ _ p (by _ _ (ap (begins_with 60) (same-bytes s r p)) _ _ _ _ enclosed raw)
     where
       by : (c d : Bool) → c ≡ d → (x y x2 y2 : List Event) → Moves m x y → Moves m x2 y2 → Moves m (cond c x x2) (cond d y y2)
       by true true e x y x2 y2 h k = h
@@ -231,15 +231,15 @@ module _ (m : Moving) where
   link-bracket-moves s r p = around m name.LabelLink s r _ _ p (one name.LabelMarker s r p)
 
   pub image-bracket-moves : MovesAs image_bracket
-  image-bracket-moves s r p = around m name.LabelImage s r _ _ p (two name.LabelImageMarker name.LabelMarker _ _ _ _ (front m s r 1 1 refl p) (back m s r 1 1 refl p))
+  image-bracket-moves s r p = around m name.LabelImage s r _ _ p (two name.LabelImageMarker name.LabelMarker _ _ _ _ (front s r 1 1 refl p) (back s r 1 1 refl p))
 
   pub lone-moves : MovesAs lone_end
   lone-moves s r p = one name.LabelMarker s r p
 
   pub end-moves : (tail : Found) → MovesAs tail → MovesAs (label_end tail)
   end-moves tail h s r p =
-      let first = front m s r 1 1 refl p in
-      both m _ _ _ _ (around m name.LabelEnd _ _ _ _ first (one name.LabelMarker _ _ first)) (h _ _ (back m s r 1 1 refl p))
+      let first = front s r 1 1 refl p in
+      both m _ _ _ _ (around m name.LabelEnd _ _ _ _ first (one name.LabelMarker _ _ first)) (h _ _ (back s r 1 1 refl p))
 
   -- ---- strings
   part-found : (a : TextPart) → MovesAs (part a)
@@ -257,4 +257,4 @@ module _ (m : Moving) where
 
   -- what virtual bytes are read as, as a string
   pub strings-move : (on : Constructs) (s r : List Seat) → Part m s r → Moves m (string_seat_events on m.new s) (string_seat_events on m.old r)
-  strings-move on s r p = cuts m (string_item_at on) item_length item_events (λ t. string-item on t) _ _ s r (same-length m s r p) p
+  strings-move on s r p = cuts m (string_item_at on) item_length item_events (λ t. string-item on t) _ _ s r (same-length s r p) p

@@ -1,6 +1,6 @@
 -- The marks of leaf blocks depend on the places of their virtual bytes alone, and on how these are shown: where places move, marks move.
 use Rattle.mdconstructs_rests.proofs.Prelude.{◌≡◌, ℕ, zero, suc, ◌+◌, ◌-◌, List, [], ◌∷◌, ◌++◌, Bool, true, false, cond, not, length, min, take, drop, refl, sym, ap, ◌∙◌, Option, None, map, AllByRecursion, flat_map, prefix_len, drop-map, length-map, map-append, take-map, Event, Kind, Enter, Exit, Link, Name, Point, Line, LeafBlock, blank_line, break_line, atx_heading, paragraph, setext_heading, indented_code, fenced_code, html_block, bytes_of, Chunk, Mark, block_around, block_span, body, break_marks, chunk_span, code_fenced_around, code_marks, fence_around, fenced_marks, heading_around, html_marks, last_end, leaf_blocks_marks, leaf_marks, line_end, lines_marks, sequence_marks, span_marks, string_chunk, text_chunk, text_marks, underline_marks, white, all_of, ending_of, is_line_ending, line_text, Fence, heading_text, indent, run, unindented, shown, block_lines, event, Seat, end_after, is_white}
-use Rattle.markdown_base.proofs.Common.{every-drop, every-take}
+use Rattle.markdown_base.proofs.Common.{every-append, every-drop, every-take}
 use Rattle.markdown_base.specs.declared.event.Name.TheVariants as name
 use Rattle.mdconstructs_rests.proofs.TextLines.{AnySeat, AreInner, AreTextLines, any-blocks, inner-body, inner-text, texts-front}
 
@@ -45,18 +45,13 @@ module _ (B C : List ℕ) (f : Point → Point) (g : Option Link → Option Link
   AreLinesOk lines = AllByRecursion AreOk lines
 
   ok-take : (n : ℕ) (s : List Seat) → AreOk s → AreOk (take n s)
-  ok-take zero s h = tt
-  ok-take (suc n) [] h = tt
-  ok-take (suc n) (x ∷ s) h = (h.0, ok-take n s h.1)
+  ok-take n s h = every-take IsSeatOk n s h
 
   ok-drop : (n : ℕ) (s : List Seat) → AreOk s → AreOk (drop n s)
-  ok-drop zero s h = h
-  ok-drop (suc n) [] h = tt
-  ok-drop (suc n) (x ∷ s) h = ok-drop n s h.1
+  ok-drop n s h = every-drop IsSeatOk n s h
 
   ok-append : (s r : List Seat) → AreOk s → AreOk r → AreOk (s ++ r)
-  ok-append [] r h k = k
-  ok-append (x ∷ s) r h k = (h.0, ok-append s r h.1 k)
+  ok-append s r h k = every-append IsSeatOk s r h k
 
   ok-text : (s : List Seat) → AreOk s → AreOk (line_text s)
   ok-text [] h = tt
@@ -102,13 +97,13 @@ module _ (B C : List ℕ) (f : Point → Point) (g : Option Link → Option Link
   whole : (r : List Seat) → AreOk r → Part (ms r) r
   whole r h = record { is = refl; ok = h }
 
-  bs : (s r : List Seat) → Part s r → bytes_of s ≡ bytes_of r
+  pub bs : (s r : List Seat) → Part s r → bytes_of s ≡ bytes_of r
   bs s r p = ap bytes_of p.is ∙ bytes-moved r
 
-  tk : (s r : List Seat) (n m : ℕ) → n ≡ m → Part s r → Part (take n s) (take m r)
+  pub tk : (s r : List Seat) (n m : ℕ) → n ≡ m → Part s r → Part (take n s) (take m r)
   tk s r n m e p = record { is = (λ i. take (e i) (p.is i)) ∙ take-map fs m r; ok = ok-take m r p.ok }
 
-  dr : (s r : List Seat) (n m : ℕ) → n ≡ m → Part s r → Part (drop n s) (drop m r)
+  pub dr : (s r : List Seat) (n m : ℕ) → n ≡ m → Part s r → Part (drop n s) (drop m r)
   dr s r n m e p = record { is = (λ i. drop (e i) (p.is i)) ∙ drop-map fs m r; ok = ok-drop m r p.ok }
 
   txt : (s r : List Seat) → Part s r → Part (line_text s) (line_text r)
@@ -126,14 +121,14 @@ module _ (B C : List ℕ) (f : Point → Point) (g : Option Link → Option Link
     pub inner : AreInner Inner r
 
   -- ---- marks that are others, moved
-  event-moved : (kind : Kind) (n : Name) (p : Point) → Ok p → event C kind n (f p) ≡ fe (event B kind n p)
+  pub event-moved : (kind : Kind) (n : Name) (p : Point) → Ok p → event C kind n (f p) ≡ fe (event B kind n p)
   event-moved kind n p h = let e = sh p h in let l = sym none in (λ i. let v : Event = record { kind = kind; name = n; point = e i; link = l i } in v)
 
-  end-moved : (p : Point) (ss : List Seat) → end_after (f p) (ms ss) ≡ f (end_after p ss)
+  pub end-moved : (p : Point) (ss : List Seat) → end_after (f p) (ms ss) ≡ f (end_after p ss)
   end-moved p [] = refl
   end-moved p (s ∷ ss) = end-moved s.end ss
 
-  end-ok : (p : Point) (ss : List Seat) → Ok p → AreOk ss → Ok (end_after p ss)
+  pub end-ok : (p : Point) (ss : List Seat) → Ok p → AreOk ss → Ok (end_after p ss)
   end-ok p [] h k = h
   end-ok p (s ∷ ss) h k = end-ok s.end ss k.0.1 k.1
 

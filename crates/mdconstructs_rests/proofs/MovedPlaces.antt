@@ -1,11 +1,10 @@
 -- Virtual bytes and events of one document, and of another in which they are moved.
 use Rattle.std.proofs.Common.{◌≡◌, ℕ, zero, suc, ◌+◌, Bool, true, List, [], ◌∷◌, ◌++◌, length, take, drop, refl, sym, ap, ◌∙◌, subst, Option, None}
-use Rattle.std.proofs.lemmas.List.{drop-map, length-map, map-append, take-map}
+use Rattle.std.proofs.lemmas.List.{length-map, map-append}
 use Rattle.std.specs.List.{AllByRecursion, between, flat_map}
 use Rattle.std.specs.Prelude.{map, slice_get}
-use Rattle.markdown_base.proofs.Common.{every-append, every-drop, every-take}
+use Rattle.markdown_base.proofs.Common.{every-append}
 use Rattle.markdown_base.specs.declared.event.Event.{Event}
-use Rattle.markdown_base.specs.declared.event.Kind.{Kind}
 use Rattle.markdown_base.specs.declared.event.Kind.TheVariants.{Enter, Exit}
 use Rattle.markdown_base.specs.declared.event.Link.{Link}
 use Rattle.markdown_base.specs.declared.event.Name.{Name}
@@ -16,6 +15,7 @@ use Rattle.mdconstructs_attention.specs.Classes.{class_after, class_before}
 use Rattle.mdconstructs_attention.specs.Emphasis.{later}
 use Rattle.mdconstructs_machines.specs.Spans.{event, leaf, span}
 use Rattle.mdconstructs_text.specs.Parts.{bytes_of, cut}
+use Rattle.mdconstructs_rests.proofs.MovedMarks as marks
 
 -- Two documents; where a place of the first is in the second, and what a link comes to be; and which places are known. A known place is shown, and has the
 -- same bytes beside it, and between it and another one, in both
@@ -36,6 +36,20 @@ pub record Moving : Type 0 where
   pub after : (p : Point) → known p ≡ true → class_after new (to p).index ≡ class_after old p.index
   pub range : (p q : Point) → known p ≡ true → known q ≡ true → between (to p).index (to q).index new ≡ between p.index q.index old
   pub range_before : (r p q : Point) → known r ≡ true → known p ≡ true → known q ≡ true → between (to p).index (to q).index (take (to r).index new) ≡ between p.index q.index (take r.index old)
+
+-- the same virtual bytes, so many at their front, and those behind
+module _ {B C : List ℕ} {f : Point → Point} {g : Option Link → Option Link} {none : g None ≡ None} {Ok : Point → Type 0} {sh : (p : Point) → Ok p → shown C (f p) ≡ f (shown B p)} where
+  pub same-bytes : (s r : List Seat) → marks.Part B C f g none Ok sh s r → bytes_of s ≡ bytes_of r
+  same-bytes = marks.bs B C f g none Ok sh
+
+  pub same-length : (s r : List Seat) → marks.Part B C f g none Ok sh s r → length s ≡ length r
+  same-length s r p = ap length p.is ∙ length-map r (marks.fs B C f g none Ok sh)
+
+  pub front : (s r : List Seat) (n k : ℕ) → n ≡ k → marks.Part B C f g none Ok sh s r → marks.Part B C f g none Ok sh (take n s) (take k r)
+  front = marks.tk B C f g none Ok sh
+
+  pub back : (s r : List Seat) (n k : ℕ) → n ≡ k → marks.Part B C f g none Ok sh s r → marks.Part B C f g none Ok sh (drop n s) (drop k r)
+  back = marks.dr B C f g none Ok sh
 
 module _ (m : Moving) where
   abbrev pub moved : Seat → Seat
@@ -62,34 +76,20 @@ module _ (m : Moving) where
   abbrev pub AreKnown : List Event → Type 0
   AreKnown es = AllByRecursion IsKnown es
 
+  abbrev IsOk : Point → Type 0
+  IsOk p = m.known p ≡ true
+
   -- ---- virtual bytes that are others, moved
-  pub record Part (s r : List Seat) : Type 0 where
-    pub is : s ≡ all_moved r
-    pub known : AreKnownSeats r
+  abbrev pub Part : (s r : List Seat) → Type 0
+  Part s r = marks.Part m.old m.new m.to m.link m.unlinked IsOk m.shows s r
 
   -- ---- events that are others, moved
   pub record Moves (x y : List Event) : Type 0 where
     pub is : x ≡ moved_events y
     pub known : AreKnown y
 
-  bytes-moved : (r : List Seat) → bytes_of (all_moved r) ≡ bytes_of r
-  bytes-moved [] = refl
-  bytes-moved (x ∷ r) = ap (λ t. x.byte ∷ t) (bytes-moved r)
-
   pub whole : (r : List Seat) → AreKnownSeats r → Part (all_moved r) r
-  whole r h = record { is = refl; known = h }
-
-  pub same-bytes : (s r : List Seat) → Part s r → bytes_of s ≡ bytes_of r
-  same-bytes s r p = ap bytes_of p.is ∙ bytes-moved r
-
-  pub same-length : (s r : List Seat) → Part s r → length s ≡ length r
-  same-length s r p = ap length p.is ∙ length-map r moved
-
-  pub front : (s r : List Seat) (n k : ℕ) → n ≡ k → Part s r → Part (take n s) (take k r)
-  front s r n k e p = record { is = (λ i. take (e i) (p.is i)) ∙ take-map moved k r; known = every-take IsKnownSeat k r p.known }
-
-  pub back : (s r : List Seat) (n k : ℕ) → n ≡ k → Part s r → Part (drop n s) (drop k r)
-  back s r n k e p = record { is = (λ i. drop (e i) (p.is i)) ∙ drop-map moved k r; known = every-drop IsKnownSeat k r p.known }
+  whole r h = record { is = refl; ok = h }
 
   -- ---- lists of events
   pub nothing : Moves [] []
@@ -98,30 +98,21 @@ module _ (m : Moving) where
   pub both : (x y x2 y2 : List Event) → Moves x y → Moves x2 y2 → Moves (x ++ x2) (y ++ y2)
   both x y x2 y2 h k = record { is = (λ i. h.is i ++ k.is i) ∙ sym (map-append moved_event y y2); known = every-append IsKnown y y2 h.known k.known }
 
-  event-moved : (kind : Kind) (name : Name) (p : Point) → m.known p ≡ true → event m.new kind name (m.to p) ≡ moved_event (event m.old kind name p)
-  event-moved kind name p h = let e = m.shows p h in let l = sym m.unlinked in (λ i. let v : Event = record { kind = kind; name = name; point = e i; link = l i } in v)
-
-  end-moved : (p : Point) (ss : List Seat) → end_after (m.to p) (all_moved ss) ≡ m.to (end_after p ss)
-  end-moved p [] = refl
-  end-moved p (s ∷ ss) = end-moved s.end ss
-
-  end-known : (p : Point) (ss : List Seat) → m.known p ≡ true → AreKnownSeats ss → m.known (end_after p ss) ≡ true
-  end-known p [] h k = h
-  end-known p (s ∷ ss) h k = end-known s.end ss k.0.1 k.1
-
   span-whole : (name : Name) (r : List Seat) (x y : List Event) → AreKnownSeats r → Moves x y → Moves (span m.new name (all_moved r) x) (span m.old name r y)
   span-whole name [] x y h e = e
   span-whole name (s ∷ ss) x y h e =
-      let enter = event-moved Enter name s.point h.0.0 in
-      let last = end-known s.end ss h.0.1 h.1 in
-      let exit : event m.new Exit name (end_after (m.to s.end) (all_moved ss)) ≡ moved_event (event m.old Exit name (end_after s.end ss)) = ap (event m.new Exit name) (end-moved s.end ss) ∙ event-moved Exit name (end_after s.end ss) last in
+      let at = marks.event-moved m.old m.new m.to m.link m.unlinked IsOk m.shows in
+      let enter = at Enter name s.point h.0.0 in
+      let last = marks.end-ok m.old m.new m.to m.link m.unlinked IsOk m.shows s.end ss h.0.1 h.1 in
+      let exit : event m.new Exit name (end_after (m.to s.end) (all_moved ss)) ≡ moved_event (event m.old Exit name (end_after s.end ss)) =
+      ap (event m.new Exit name) (marks.end-moved m.old m.new m.to m.link m.unlinked IsOk m.shows s.end ss) ∙ at Exit name (end_after s.end ss) last in
       record {
         is = (λ i. enter i ∷ (e.is i ++ exit i ∷ [])) ∙ ap (λ l. moved_event (event m.old Enter name s.point) ∷ l) (sym (map-append moved_event y (event m.old Exit name (end_after s.end ss) ∷ [])));
         known = (m.stays s.point h.0.0, every-append IsKnown y (event m.old Exit name (end_after s.end ss) ∷ []) e.known (m.stays (end_after s.end ss) last, tt));
       }
 
   pub around : (name : Name) (s r : List Seat) (x y : List Event) → Part s r → Moves x y → Moves (span m.new name s x) (span m.old name r y)
-  around name s r x y p e = subst (λ s. Moves (span m.new name s x) (span m.old name r y)) (sym p.is) (span-whole name r x y p.known e)
+  around name s r x y p e = subst (λ s. Moves (span m.new name s x) (span m.old name r y)) (sym p.is) (span-whole name r x y p.ok e)
 
   pub alone : (name : Name) (s r : List Seat) → Part s r → Moves (leaf m.new name s) (leaf m.old name r)
   alone name s r p = around name s r [] [] p nothing
@@ -140,7 +131,7 @@ module _ (m : Moving) where
         let rest = back _ _ k k refl p in
         subst (λ b. Moves (events m.new (b, take (size b) (all_moved (s ∷ ss))) ++ flat_map (events m.new) (cut first size bound (drop (size b) (all_moved (s ∷ ss))))) (flat_map (events m.old) (cut first size (suc bound) (s ∷ ss)))) (sym same)
         (both _ _ _ _ (each (bytes_of (s ∷ ss)) _ _ (front _ _ k k refl p))
-        (subst (λ t. Moves (flat_map (events m.new) (cut first size bound t)) (flat_map (events m.old) (cut first size bound (drop k (s ∷ ss))))) (sym rest.is) (cuts-whole bound (drop k (s ∷ ss)) rest.known)))
+        (subst (λ t. Moves (flat_map (events m.new) (cut first size bound t)) (flat_map (events m.old) (cut first size bound (drop k (s ∷ ss))))) (sym rest.is) (cuts-whole bound (drop k (s ∷ ss)) rest.ok)))
 
     pub cuts : (n k : ℕ) (s r : List Seat) → n ≡ k → Part s r → Moves (flat_map (events m.new) (cut first size n s)) (flat_map (events m.old) (cut first size k r))
-    cuts n k s r e p = subst (λ n. Moves (flat_map (events m.new) (cut first size n s)) (flat_map (events m.old) (cut first size k r))) (sym e) (subst (λ s. Moves (flat_map (events m.new) (cut first size k s)) (flat_map (events m.old) (cut first size k r))) (sym p.is) (cuts-whole k r p.known))
+    cuts n k s r e p = subst (λ n. Moves (flat_map (events m.new) (cut first size n s)) (flat_map (events m.old) (cut first size k r))) (sym e) (subst (λ s. Moves (flat_map (events m.new) (cut first size k s)) (flat_map (events m.old) (cut first size k r))) (sym p.is) (cuts-whole k r p.ok))

@@ -109,14 +109,14 @@ module _ (a b : List ℕ) (h : begins_line b a ≡ true) where
   known-front (s ∷ ss) h = ((lt-ltb s.point.index (length a) h.0.0, lt-ltb s.end.index (length a) h.0.1), known-front ss h.1)
 
   pub front-part : (seats : List Seat) → AllByRecursion (StandsBefore (length a)) seats → Part staying seats seats
-  front-part seats k = record { is = sym (same-seats seats); known = known-front seats k }
+  front-part seats k = record { is = sym (same-seats seats); ok = known-front seats k }
 
   all-known : (lines events : ℕ) (seats : List Seat) → AreKnownSeats (going lines events) seats
   all-known lines events [] = tt
   all-known lines events (s ∷ ss) = ((refl, refl), all-known lines events ss)
 
   pub behind-part : (lines events : ℕ) (seats : List Seat) → Part (going lines events) (map (moved_seat lines (length a)) seats) seats
-  behind-part lines events seats = record { is = refl; known = all-known lines events seats }
+  behind-part lines events seats = record { is = refl; ok = all-known lines events seats }
 
 pub inlines-move : InlinesMove
 inlines-move defined on a b h = (

@@ -10,17 +10,19 @@ use Rattle.mdconstructs_flow_read.specs.LeafBlocks.{Line, text_of}
 use Rattle.mdconstructs_flow_read.specs.LineKinds.{begins_with, indent, is_blank_line, is_thematic_break, underline_rank, unindented}
 use Rattle.mdconstructs_lines.specs.Containers.{Container, Item, Prefix, begins, goes_on, item, item_at, may_begin_item, quote, quote_size}
 use Rattle.mdconstructs_containers.specs.Prefixes.{beginning, columns_of, containers_of, going_on, in_place_of, with_list}
-use Rattle.mdconstructs_containers.specs.Rows.{Before, Leaf, Row, closed, has_none, holds_ending, is_lazily, is_paragraph, is_raw, leaf_after, open_paragraph, rest_of, row_with}
+use Rattle.mdconstructs_containers.specs.Rows.{Before, Row, closed, has_none, holds_ending, is_lazily, is_paragraph, is_raw, leaf_after, open_paragraph, rest_of, row_with}
 use Rattle.mdconstructs_containers.specs.Rows as without
 use Rattle.mdconstructs_definitions.specs.Rows.{Known, is_behind_text, is_used_up, known_after, row_of, rows_from, text_after}
 use Rattle.mdconstructs_rests.specs.DocumentRests.{RowsMove, known_behind, moved_before, moved_container, moved_known, moved_prefix, moved_row}
 use Rattle.mdconstructs_rests.specs.Moved.{moved_line, moved_lines}
 use Rattle.mdconstructs_rests.proofs.MovedBlocks.{text-moved}
 
--- ---- lists that are mapped
-pub mapped-none : {A B : Type 0} (f : A → B) (xs : List A) → has_none (map f xs) ≡ has_none xs
-mapped-none f [] = refl
-mapped-none f (x ∷ xs) = refl
+-- ---- lists of one length
+pub none-alike : {A B : Type 0} (xs : List A) (ys : List B) → length xs ≡ length ys → has_none xs ≡ has_none ys
+none-alike [] [] e = refl
+none-alike [] (y ∷ ys) e = absurd (omega (arith, e))
+none-alike (x ∷ xs) [] e = absurd (omega (arith, e))
+none-alike (x ∷ xs) (y ∷ ys) e = refl
 
 module _ (l : ℕ) where
   abbrev mc : Container → Container
@@ -143,7 +145,7 @@ module _ (l : ℕ) where
           let many = length-map went_on mp in
           let columns : columns_of (map mp went_on) + columns_of (map mp begun) ≡ columns_of went_on + columns_of begun = (λ i. columns-moved went_on i + columns-moved begun i) in
           let text = text-moved l n line in
-          let none = mapped-none mp begun in
+          let none = none-alike (map mp begun) begun (length-map begun mp) in
           let opened = length-map b.stack mc in
           (λ i. row_by (moved_before l b) (e i) (ml line) (map mp went_on) (map mp begun) (many i) (columns i) (text i) (none i) (opened i))
 

@@ -14,7 +14,7 @@ use Rattle.mdconstructs_labels.specs.Definitions.{definitions}
 use Rattle.mdconstructs_definitions.specs.Sections.{Section, before_defined, begins_text, cut, defined_in, defining, in_same, lines, lines_defined, paragraph_of, sections_in, sections_of, text_in, undefined}
 use Rattle.mdconstructs_rests.specs.DocumentRests.{moved_container, moved_prefix, moved_row}
 use Rattle.mdconstructs_rests.specs.MovedSections.{SectionsMove, moved_frame, moved_part, moved_section}
-use Rattle.mdconstructs_rests.proofs.MovedRows.{containers-moved, mapped-none, rest-moved}
+use Rattle.mdconstructs_rests.proofs.MovedRows.{containers-moved, none-alike, rest-moved}
 
 reverse-mapped : {A B : Type 0} (f : A → B) (xs : List A) → reverse (map f xs) ≡ map f (reverse xs)
 reverse-mapped f [] = refl
@@ -132,7 +132,7 @@ module _ (l n : ℕ) where
   module _ (on : Constructs) where
     text-in-moved : (rows : List Row) → text_in (mrs rows) ≡ text_in rows
     text-in-moved [] = refl
-    text-in-moved (row ∷ rows) = (λ i. rest-moved l on n row i ++ cond (mapped-none (moved_row l n) rows i) [] (10 ∷ text-in-moved rows i))
+    text-in-moved (row ∷ rows) = (λ i. rest-moved l on n row i ++ cond (none-alike (map (moved_row l n) rows) rows (length-map rows (moved_row l n)) i) [] (10 ∷ text-in-moved rows i))
 
     paragraph-moved : (rows : List Row) → text_in (paragraph_of (mrs rows)) ≡ text_in (paragraph_of rows)
     paragraph-moved rows =

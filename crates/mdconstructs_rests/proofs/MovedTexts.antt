@@ -88,11 +88,11 @@ module _ (m : Moving) where
   module _ (on : Constructs) (defined : List ℕ → Bool) where
     wanted-same : (ahead : List Seat) → AreKnownSeats m ahead → (label : List ℕ) → is_wanted_at defined m.new (all_moved m ahead) label ≡ is_wanted_at defined m.old ahead label
     wanted-same ahead h label =
-        let text = back m _ _ 2 2 refl (whole m ahead h) in
-        let rest = back m _ _ (length label) (length label) refl text in
-        let inner = lines-move m _ _ (front m _ _ (length label) (length label) refl text) in
+        let text = back _ _ 2 2 refl (whole m ahead h) in
+        let rest = back _ _ (length label) (length label) refl text in
+        let inner = lines-move m _ _ (front _ _ (length label) (length label) refl text) in
         (λ i. is_defined_label defined (bytes_before m.new (rest.is i)) (inner.is i))
-        ∙ ap (λ bytes. is_label bytes && defined bytes) (label-same (drop (length label) (drop 2 ahead)) rest.known _ inner.known)
+        ∙ ap (λ bytes. is_label bytes && defined bytes) (label-same (drop (length label) (drop 2 ahead)) rest.ok _ inner.known)
 
     own-same : (b : Bracket) (q : Memory) → IsKnownMemory q → own_is_defined defined m.new b (moved_memory q) ≡ own_is_defined defined m.old b q
     own-same b q h =
@@ -133,7 +133,7 @@ module _ (m : Moving) where
     -- what is remembered behind an item that moves
     pub after-moved : (q : Memory) (item : Found) → IsKnownMemory q → MovesAs m item → after_item m.new (moved_memory q) item ≡ moved_memory (after_item m.old q item)
     after-moved q item h moves =
-        let inner = moves _ _ (front m _ _ item.size item.size refl (whole m q.ahead h.ahead)) in
+        let inner = moves _ _ (front _ _ item.size item.size refl (whole m q.ahead h.ahead)) in
         let ahead = drop-map (moved m) item.size q.ahead in
         let new_events = item.events m.old (take item.size q.ahead) in
         let all = (λ i. moved_events m q.events ++ inner.is i) ∙ sym (map-append (moved_event m) q.events new_events) in
@@ -144,9 +144,9 @@ module _ (m : Moving) where
     pub after-known : (q : Memory) (item : Found) → IsKnownMemory q → MovesAs m item → IsKnownMemory (after_item m.old q item)
     after-known q item h moves =
         let p = whole m q.ahead h.ahead in
-        let inner = moves _ _ (front m _ _ item.size item.size refl p) in
-        let rest = back m _ _ item.size item.size refl p in
-        record { events = every-append (IsKnown m) q.events _ h.events inner.known; ahead = rest.known }
+        let inner = moves _ _ (front _ _ item.size item.size refl p) in
+        let rest = back _ _ item.size item.size refl p in
+        record { events = every-append (IsKnown m) q.events _ h.events inner.known; ahead = rest.ok }
 
     abbrev read_from : (doc : List ℕ) → ℕ → Memory → List Seat → List Event
     read_from doc n q seats = flat_map (item_events doc) (cut_remembering (after_item doc) (inline_item_at on defined doc) item_length n q seats)
@@ -160,14 +160,14 @@ module _ (m : Moving) where
         let item = inline_item_at on defined m.old q text in
         let moves = item-moves q text in
         let size = item_length item in
-        let same : inline_item_at on defined m.new (moved_memory q) (bytes_of (all_moved m (s ∷ ss))) ≡ item = ap (inline_item_at on defined m.new (moved_memory q)) (same-bytes m _ _ p) ∙ item-same q text h in
-        let rest = back m _ _ size size refl p in
+        let same : inline_item_at on defined m.new (moved_memory q) (bytes_of (all_moved m (s ∷ ss))) ≡ item = ap (inline_item_at on defined m.new (moved_memory q)) (same-bytes _ _ p) ∙ item-same q text h in
+        let rest = back _ _ size size refl p in
         let after = after-moved q item h moves in
         subst (λ i. Moves m (item_events m.new (i, take (item_length i) (all_moved m (s ∷ ss))) ++ read_from m.new n (after_item m.new (moved_memory q) i) (drop (item_length i) (all_moved m (s ∷ ss)))) (read_from m.old (suc n) q (s ∷ ss))) (sym same)
-        (both m _ _ _ _ (moves _ _ (front m _ _ size size refl p))
+        (both m _ _ _ _ (moves _ _ (front _ _ size size refl p))
         (subst (λ q2. Moves m (read_from m.new n q2 (drop size (all_moved m (s ∷ ss)))) (read_from m.old n (after_item m.old q item) (drop size (s ∷ ss)))) (sym after)
         (subst (λ t. Moves m (read_from m.new n (moved_memory (after_item m.old q item)) t) (read_from m.old n (after_item m.old q item) (drop size (s ∷ ss)))) (sym rest.is)
-        (items-move n (after_item m.old q item) (drop size (s ∷ ss)) (after-known q item h moves) rest.known))))
+        (items-move n (after_item m.old q item) (drop size (s ∷ ss)) (after-known q item h moves) rest.ok))))
 
     abbrev read_after : (doc : List ℕ) → (white count : ℕ) → List Seat → List Event
     read_after doc n count seats = item_events doc (white_space n, take n seats) ++ read_from doc count (after_item doc (nothing_read seats) (white_space n)) (drop n seats)
@@ -176,23 +176,23 @@ module _ (m : Moving) where
     all-move seats h =
         let p = whole m seats h in
         let n = prefix_len is_white (bytes_of seats) in
-        let white = ap (prefix_len is_white) (same-bytes m _ _ p) in
-        let count = same-length m _ _ p in
+        let white = ap (prefix_len is_white) (same-bytes _ _ p) in
+        let count = same-length _ _ p in
         let start = nothing_read seats in
         let known : IsKnownMemory start = record { events = tt; ahead = h } in
         let moves : MovesAs m (white_space n) = alone m SpaceOrTab in
-        let rest = back m _ _ n n refl p in
+        let rest = back _ _ n n refl p in
         let after = after-moved start (white_space n) known moves in
         let behind = after_item m.old start (white_space n) in
         subst (λ es. Moves m es (read_after m.old n (length seats) seats)) (sym (λ i. read_after m.new (white i) (count i) (all_moved m seats)))
-        (both m _ _ _ _ (moves _ _ (front m _ _ n n refl p))
+        (both m _ _ _ _ (moves _ _ (front _ _ n n refl p))
         (subst (λ q. Moves m (read_from m.new (length seats) q (drop n (all_moved m seats))) (read_from m.old (length seats) behind (drop n seats))) (sym after)
         (subst (λ t. Moves m (read_from m.new (length seats) (moved_memory behind) t) (read_from m.old (length seats) behind (drop n seats))) (sym rest.is)
-        (items-move (length seats) behind (drop n seats) (after-known start (white_space n) known moves) rest.known))))
+        (items-move (length seats) behind (drop n seats) (after-known start (white_space n) known moves) rest.ok))))
 
     -- what virtual bytes are read as, as inline text
     pub inlines-moved : (s r : List Seat) → Part m s r
         → with_links m.new (flat_map (item_events m.new) (inline_items on defined m.new s)) ≡ moved_events m (with_links m.old (flat_map (item_events m.old) (inline_items on defined m.old r)))
     inlines-moved s r p =
-        let all = all-move r p.known in
+        let all = all-move r p.ok in
         ap (λ s. with_links m.new (flat_map (item_events m.new) (inline_items on defined m.new s))) p.is ∙ ap (with_links m.new) all.is ∙ links-moved m _ all.known

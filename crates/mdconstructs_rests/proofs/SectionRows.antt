@@ -6,7 +6,9 @@ use Rattle.std.proofs.lemmas.Grind.{flat_map-append}
 use Rattle.std.proofs.lemmas.List.{append-nil, drop-append-le, take-append-drop, take-append-le}
 use Rattle.std.proofs.lemmas.List.Sums.{prefix_len-le-length}
 use Rattle.std.specs.List.{AllByRecursion, flat_map, prefix_len}
+use Rattle.markdown_base.proofs.Facts.Bools.{cond-same}
 use Rattle.markdown_base.specs.declared.configuration.Constructs.{Constructs}
+pub use Rattle.mdconstructs_containers.proofs.RestLemmas.{further_few as further-within}
 use Rattle.mdconstructs_containers.specs.Rows.{Row, is_paragraph}
 use Rattle.mdconstructs_containers.specs.Skeleton.{further}
 use Rattle.mdconstructs_labels.specs.declared.definitions.Definition.{Definition}
@@ -85,13 +87,9 @@ module _ (on : Constructs) where
   before-any false y h = refl
   before-any true [] h = refl
   before-any true (r ∷ y) h =
-      let none : defined_in on (r ∷ y) ≡ 0 = ap (λ b. cond on.definition (lines_defined (text_in (take (cond b (1 + prefix_len is_text_row y) 0) (r ∷ y)))) 0) h ∙ either on.definition in
+      let none : defined_in on (r ∷ y) ≡ 0 = ap (λ b. cond on.definition (lines_defined (text_in (take (cond b (1 + prefix_len is_text_row y) 0) (r ∷ y)))) 0) h ∙ cond-same on.definition 0 in
       let later = before_defined on (is_paragraph r.leaf) y in
       sym (ap (λ n. cond (nat_le 1 n) 0 (suc later)) none)
-    where
-      either : (b : Bool) → cond b (lines_defined []) 0 ≡ 0
-      either true = refl
-      either false = refl
 
   -- where definitions begin in the first rows, or in the second
   abbrev Apart : (p : Bool) → (x y : List Row) → Type 0
@@ -346,19 +344,6 @@ LeftIsBlank row = row.is_left_blank ≡ true → (row.is_blank ≡ true) × (is_
 abbrev FurtherApart : List Row → List Row → Type 0
 FurtherApart x y = ((further (x ++ y) ≡ further x) × (further x ≤ length x)) ⊎ ((further (x ++ y) ≡ length x + further y) × (AllStay x × (1 ≤ further y)))
 
-pub further-within : (x : List Row) → further x ≤ length x
-further-within [] = omega arith
-further-within (r ∷ x) = by r.is_left_blank r.stays (nat_le 1 (further x)) (further-within x)
-  where
-    by : (left stays some : Bool) → further x ≤ length x → cond left (cond some (suc (further x)) 0) (cond stays (suc (further x)) 0) ≤ suc (length x)
-    by true stays true h = omega (arith, h)
-    by true stays false h = omega arith
-    by false true some h = omega (arith, h)
-    by false false some h = omega arith
-
-some-true : (n : ℕ) → 1 ≤ n → nat_le 1 n ≡ true
-some-true n h = le-leb 1 n h
-
 abbrev further-step : (left stays : Bool) → (n : ℕ) → ℕ
 further-step left stays n = cond left (cond (nat_le 1 n) (suc n) 0) (cond stays (suc n) 0)
 
@@ -374,7 +359,7 @@ further-apart (r ∷ x) y h = by (further-apart x y h) r.is_left_blank refl r.st
         let sum : suc (length x + further y) ≡ suc (length x) + further y = omega arith in
         inr (
           ap (λ b. cond b (cond (nat_le 1 (further (x ++ y))) (suc (further (x ++ y))) 0) (cond r.stays (suc (further (x ++ y))) 0)) e
-              ∙ ap (λ b. cond b (suc (further (x ++ y))) 0) (some-true (further (x ++ y)) some) ∙ ap suc more ∙ sum,
+              ∙ ap (λ b. cond b (suc (further (x ++ y))) 0) (le-leb 1 (further (x ++ y)) some) ∙ ap suc more ∙ sum,
           ((ap (λ b. b || r.stays) e, k.1.0), h),
         )
     by (inr k) false e true f =
@@ -397,7 +382,7 @@ left-behind (r ∷ x) h = by r.is_left_blank refl r.stays refl (further x) (nat_
     by : (left : Bool) → r.is_left_blank ≡ left → (stays : Bool) → r.stays ≡ stays → (n : ℕ) → (some : Bool) → nat_le 1 n ≡ some → AllLeft (drop n x) → AllLeft (drop (further-step left stays n) (r ∷ x))
     by true e stays f n true s k = subst (λ (b : Bool). AllLeft (drop (cond b (suc n) 0) (r ∷ x))) (sym s) k
     by true e stays f zero false s k = (e, k)
-    by true e stays f (suc n) false s k = let both : true ≡ false = sym (some-true (suc n) (omega arith)) ∙ s in absurd (cc)
+    by true e stays f (suc n) false s k = let both : true ≡ false = sym (le-leb 1 (suc n) (omega arith)) ∙ s in absurd (cc)
     by false e true f n some s k = k
     by false e false f n some s k = let both : true ≡ false = sym h.0 ∙ (λ i. e i || f i) in absurd (cc)
 
@@ -426,15 +411,11 @@ module _ {A : Type 0} (on : Constructs) (h : Bool → Row → List A) (d : List 
   left-lines b [] m l k = lines-none on h d b false
   left-lines zero (r ∷ y) m l k = absurd (omega (arith, m))
   left-lines (suc b) (r ∷ y) m l k =
-      let none : defined_in on (r ∷ []) ≡ 0 = ap (λ b. cond on.definition (lines_defined (text_in (take (cond b (1 + 0) 0) (r ∷ [])))) 0) (k.0 l.0).1 ∙ either on.definition in
+      let none : defined_in on (r ∷ []) ≡ 0 = ap (λ b. cond on.definition (lines_defined (text_in (take (cond b (1 + 0) 0) (r ∷ [])))) 0) (k.0 l.0).1 ∙ cond-same on.definition 0 in
       let whole : before_defined on false (r ∷ []) ≡ length (r ∷ []) = ap (λ n. cond (nat_le 1 n) 0 1) none in
       lines-append on h d (suc b) 1 b false (r ∷ []) y m (omega arith) (omega (arith, m)) (joined-none (is_paragraph r.leaf) [] y (left-no-text y l.1 k.1))
       ∙ (λ i. lines-plain on h d 0 false r [] whole i ++ left-lines b y (omega (arith, m)) l.1 k.1 i)
       ∙ ap (λ a. a ++ flat_map (h false) y) (append-nil (h false r))
-    where
-      either : (b : Bool) → cond b (lines_defined []) 0 ≡ 0
-      either true = refl
-      either false = refl
 
   left-parts : (b : ℕ) (y : List Row) → length y ≤ b → AllLeft y → AllByRecursion LeftIsBlank y → of_parts on h d b y ≡ flat_map (h false) y
   left-parts zero [] m l k = refl

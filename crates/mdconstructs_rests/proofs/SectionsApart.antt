@@ -1,6 +1,6 @@
 -- Sections of rows behind others, where the second go on with no stretch of lines before them: those of both.
 use Rattle.std.proofs.Common.{Bool, List, [], ap, arith, cond, drop, false, length, length-append, length-drop, refl, subst, sym, take, true, zero, ℕ, suc, ◌+◌, ◌++◌, ◌==◌, ◌≤◌, nat_le, nat_lt, ◌&&◌, ◌||◌, ◌∙◌, ◌∷◌, ◌≡◌}
-use Rattle.std.proofs.lemmas.Bool.{ltb-true}
+use Rattle.std.proofs.lemmas.Bool.{le-ltb}
 use Rattle.std.proofs.lemmas.Grind.{flat_map-append}
 use Rattle.std.proofs.lemmas.List.{append-nil, drop-append-le, take-append-le}
 use Rattle.std.specs.List.{flat_map}
@@ -13,6 +13,8 @@ use Rattle.mdconstructs_machines.specs.LineEvents.{lines_in}
 use Rattle.mdconstructs_flow_read.specs.LeafBlocks.{Line, text_of}
 use Rattle.mdconstructs_flow_read.specs.LineKinds.{begins_with, indent, is_blank_line, is_thematic_break, unindented}
 use Rattle.mdconstructs_lines.specs.Containers.{Item, Prefix, digits, first_byte, item_at, may_begin_item, padding, quote, quote_size}
+use Rattle.mdconstructs_containers.proofs.OpenFrames.{none_in}
+use Rattle.mdconstructs_containers.proofs.RestLemmas.{further_few, parts_bound}
 use Rattle.mdconstructs_containers.specs.Prefixes.{beginning, containers_of}
 use Rattle.mdconstructs_containers.specs.Rows.{Row}
 use Rattle.mdconstructs_containers.specs.Skeleton.{Frame, Part, frames_at, frames_of, further, going_on_at, left_in, list_at, list_begun, list_name, parts, parts_in, standing}
@@ -25,21 +27,7 @@ use Rattle.mdconstructs_rests.proofs.DocumentBytes.{counted, document-rows-of-bo
 use Rattle.mdconstructs_rests.proofs.DocumentRests.{anew-same, begins-anew, first-row, is-not-blank, new, not-left}
 use Rattle.mdconstructs_rests.proofs.MovedBlocks.{text-moved}
 use Rattle.mdconstructs_rests.proofs.MovedSections.{sections-move}
-use Rattle.mdconstructs_rests.proofs.SectionRows.{further-cut, further-within}
-
--- more bound changes nothing
-parts-fuel : (b c : ℕ) (rows : List Row) → length rows ≤ b → length rows ≤ c → parts_in b rows ≡ parts_in c rows
-parts-fuel zero zero rows l m = refl
-parts-fuel zero (suc c) [] l m = refl
-parts-fuel zero (suc c) (r ∷ rs) l m = absurd (omega (arith, l))
-parts-fuel (suc b) zero [] l m = refl
-parts-fuel (suc b) zero (r ∷ rs) l m = absurd (omega (arith, m))
-parts-fuel (suc b) (suc c) [] l m = refl
-parts-fuel (suc b) (suc c) (r ∷ rs) l m =
-    let n = cond r.is_blank 0 (further rs) in
-    let few = length-drop n rs in
-    let p : Part = record { first = r; more = take n rs; frames = frames_at r rs; stands = standing r rs } in
-    ap (λ ps. p ∷ ps) (parts-fuel b c (drop n rs) (omega (arith, l, few)) (omega (arith, m, few)))
+use Rattle.mdconstructs_rests.proofs.SectionRows.{further-cut}
 
 -- a row with which nothing before it goes on
 pub record Begins (r : Row) : Type 0 where
@@ -70,11 +58,7 @@ module _ (r : Row) (rs : List Row) (h : Begins r) where
   stretch-apart x = further-cut x y (λ i. cond (h.left i) (cond (nat_le 1 (further rs)) (suc (further rs)) 0) (cond (h.cut_off i) (suc (further rs)) 0))
 
   parts-apart : (c b b2 : ℕ) (x : List Row) → length (x ++ y) ≤ c → length x ≤ b → length y ≤ b2 → parts_in c (x ++ y) ≡ parts_in b x ++ parts_in b2 y
-  parts-apart c b b2 [] l m m2 = parts-fuel c b2 y l m2 ∙ ap (λ ps. ps ++ parts_in b2 y) (sym (none b))
-    where
-      none : (b : ℕ) → parts_in b [] ≡ []
-      none zero = refl
-      none (suc b) = refl
+  parts-apart c b b2 [] l m m2 = parts_bound c b2 y l m2 ∙ ap (λ ps. ps ++ parts_in b2 y) (sym (none_in b))
   parts-apart zero b b2 (q ∷ x) l m m2 = absurd (omega (arith, l))
   parts-apart (suc c) zero b2 (q ∷ x) l m m2 = absurd (omega (arith, m))
   parts-apart (suc c) (suc b) b2 (q ∷ x) l m m2 =
@@ -90,22 +74,15 @@ module _ (r : Row) (rs : List Row) (h : Begins r) where
     where
       fewer : (b : Bool) → cond b 0 (further x) ≤ length x
       fewer true = omega arith
-      fewer false = further-within x
+      fewer false = further_few x
 
   sections-apart : (on : Constructs) (x : List Row) → sections on (x ++ y) ≡ sections on x ++ sections on y
   sections-apart on x = ap (flat_map (cut on)) (parts-apart (length (x ++ y)) (length x) (length y) x (omega arith) (omega arith) (omega arith)) ∙ flat_map-append (cut on) (parts x) (parts y)
 
 -- ---- containers that begin are in no list that was open
-not-less : (n : ℕ) → nat_lt n n ≡ false
-not-less n = by (nat_lt n n) refl
-  where
-    by : (b : Bool) → nat_lt n n ≡ b → b ≡ false
-    by true e = let less = ltb-true n n e in absurd (omega (arith, less))
-    by false e = refl
-
 -- an item that begins a list goes on with none
 own-list : (i : Item) → i.list ≡ i.line → cond (nat_lt i.list i.line) ((let f : Frame = record { name = list_name i; line = i.list } in f) ∷ []) [] ≡ []
-own-list i e = ap (λ b. cond b ((let f : Frame = record { name = list_name i; line = i.list } in f) ∷ []) []) (ap (λ k. nat_lt k i.line) e ∙ not-less i.line)
+own-list i e = ap (λ b. cond b ((let f : Frame = record { name = list_name i; line = i.list } in f) ∷ []) []) (ap (λ k. nat_lt k i.line) e ∙ le-ltb i.line i.line (omega arith))
 
 new-lists : (on : Constructs) (bound number : ℕ) (in_paragraph : Bool) (t : List ℕ) → list_begun (beginning on bound number in_paragraph t) ≡ []
 new-lists on zero number in_paragraph t = refl
