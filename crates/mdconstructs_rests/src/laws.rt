@@ -1,4 +1,4 @@
-//! Laws about leaf blocks. Each is a function that does nothing; its contract is the law.
+//! Laws about leaf blocks and documents at rests. Each is a function that does nothing; its contract is the law.
 
 ghost use Rattle.mdconstructs_rests.specs.Asked.{AskedLabelsMove, LabelsDecide};
 ghost use Rattle.mdconstructs_rests.specs.DocumentLabels.{LabelsOfBoth, LettersOfBoth};
