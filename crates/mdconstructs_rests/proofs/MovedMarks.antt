@@ -94,7 +94,7 @@ module _ (B C : List ℕ) (f : Point → Point) (g : Option Link → Option Link
       by true e = ap (λ r. fs s ∷ r) e
       by false e = e
 
-  whole : (r : List Seat) → AreOk r → Part (ms r) r
+  pub whole : (r : List Seat) → AreOk r → Part (ms r) r
   whole r h = record { is = refl; ok = h }
 
   pub bs : (s r : List Seat) → Part s r → bytes_of s ≡ bytes_of r
@@ -106,13 +106,13 @@ module _ (B C : List ℕ) (f : Point → Point) (g : Option Link → Option Link
   pub dr : (s r : List Seat) (n m : ℕ) → n ≡ m → Part s r → Part (drop n s) (drop m r)
   dr s r n m e p = record { is = (λ i. drop (e i) (p.is i)) ∙ drop-map fs m r; ok = ok-drop m r p.ok }
 
-  txt : (s r : List Seat) → Part s r → Part (line_text s) (line_text r)
+  pub txt : (s r : List Seat) → Part s r → Part (line_text s) (line_text r)
   txt s r p = record { is = ap line_text p.is ∙ text-moved r; ok = ok-text r p.ok }
 
-  ending : (s r : List Seat) → Part s r → Part (ending_of s) (ending_of r)
+  pub ending : (s r : List Seat) → Part s r → Part (ending_of s) (ending_of r)
   ending s r p = record { is = ap ending_of p.is ∙ ending-moved r; ok = ok-ending r p.ok }
 
-  joined-parts : (s r s2 r2 : List Seat) → Part s r → Part s2 r2 → Part (s ++ s2) (r ++ r2)
+  pub joined-parts : (s r s2 r2 : List Seat) → Part s r → Part s2 r2 → Part (s ++ s2) (r ++ r2)
   joined-parts s r s2 r2 p q = record { is = (λ i. p.is i ++ q.is i) ∙ sym (map-append fs r r2); ok = ok-append r r2 p.ok q.ok }
 
   -- virtual bytes that are others, moved, and are of a text
@@ -132,7 +132,7 @@ module _ (B C : List ℕ) (f : Point → Point) (g : Option Link → Option Link
   end-ok p [] h k = h
   end-ok p (s ∷ ss) h k = end-ok s.end ss k.0.1 k.1
 
-  two : (x y x2 y2 : List Mark) → x ≡ mk y → x2 ≡ mk y2 → x ++ x2 ≡ mk (y ++ y2)
+  pub two : (x y x2 y2 : List Mark) → x ≡ mk y → x2 ≡ mk y2 → x ++ x2 ≡ mk (y ++ y2)
   two x y x2 y2 e e2 = (λ i. e i ++ e2 i) ∙ sym (map-append fm y y2)
 
   span-whole : (chunk : Option Chunk) (n : Name) (r : List Seat) (x y : List Mark) → AreOk r → x ≡ mk y → chunk_span C chunk n (ms r) x ≡ mk (chunk_span B chunk n r y)
@@ -143,13 +143,13 @@ module _ (B C : List ℕ) (f : Point → Point) (g : Option Link → Option Link
       (λ i. (enter i, chunk) ∷ (e i ++ (exit i, None) ∷ []))
       ∙ ap (λ l. (fe (event B Enter n s.point), chunk) ∷ l) (sym (map-append fm y ((event B Exit n (end_after s.end ss), None) ∷ [])))
 
-  span : (chunk : Option Chunk) (n : Name) (s r : List Seat) (x y : List Mark) → Part s r → x ≡ mk y → chunk_span C chunk n s x ≡ mk (chunk_span B chunk n r y)
+  pub span : (chunk : Option Chunk) (n : Name) (s r : List Seat) (x y : List Mark) → Part s r → x ≡ mk y → chunk_span C chunk n s x ≡ mk (chunk_span B chunk n r y)
   span chunk n s r x y p e = ap (λ s. chunk_span C chunk n s x) p.is ∙ span-whole chunk n r x y p.ok e
 
-  leaf : (n : Name) (s r : List Seat) → Part s r → leaf_marks C n s ≡ mk (leaf_marks B n r)
+  pub leaf : (n : Name) (s r : List Seat) → Part s r → leaf_marks C n s ≡ mk (leaf_marks B n r)
   leaf n s r p = span None n s r [] [] p refl
 
-  whites : (s r : List Seat) → Part s r → white C s ≡ mk (white B r)
+  pub whites : (s r : List Seat) → Part s r → white C s ≡ mk (white B r)
   whites s r p = leaf name.SpaceOrTab s r p
 
   line-end : (s r : Line) → Part s r → line_end C s ≡ mk (line_end B r)

@@ -6,9 +6,9 @@ use Rattle.mdconstructs_machines.specs.LineEvents.{lines_in}
 use Rattle.mdconstructs_containers.specs.Rows.{Row}
 use Rattle.mdconstructs_containers.specs.Skeleton.{Frame, Part}
 use Rattle.mdconstructs_definitions.specs.Sections.{Section, sections}
-use Rattle.mdconstructs_definitions.specs.Skeleton.{sections_marks}
+use Rattle.mdconstructs_definitions.specs.Skeleton.{sections_marks, skeleton}
 use Rattle.mdconstructs_rests.specs.DocumentRests.{begins_at_document_rest, document_rows, first_stays, goes_on_behind, moved_container, moved_row}
-use Rattle.mdconstructs_rests.specs.Moved.{line_endings}
+use Rattle.mdconstructs_rests.specs.Moved.{line_endings, moved_event}
 
 abbrev pub moved_frame : (lines : ℕ) → Frame → Frame
 moved_frame lines f = record f { line = f.line + lines }
@@ -41,3 +41,9 @@ abbrev pub MarksOfBoth : Type 0
 MarksOfBoth = (on : Constructs) (t : ℕ) (a b : List ℕ) → begins_at_document_rest on t a b ≡ true → goes_on_behind on (lines_in (virtual t a)) (lines_in (virtual t b)) ≡ false
     → sections_marks (a ++ b) (sections on (document_rows on t (a ++ b)))
     ≡ sections_marks (a ++ b) (sections on (document_rows on t a)) ++ sections_marks (a ++ b) (map (moved_section (line_endings a) (length a)) (sections on (first_stays false (document_rows on t b))))
+
+-- Then the skeleton of a document is that of its parts: that of the second moved by the lines, bytes and events of the first
+abbrev pub SkeletonOfBoth : Type 0
+SkeletonOfBoth = (on : Constructs) (t : ℕ) (a b : List ℕ) → begins_at_document_rest on t a b ≡ true → goes_on_behind on (lines_in (virtual t a)) (lines_in (virtual t b)) ≡ false
+    → let first = skeleton on a (virtual t a) in
+    skeleton on (a ++ b) (virtual t (a ++ b)) ≡ first ++ map (moved_event (line_endings a) (length a) (length first)) (skeleton on b (virtual t b))

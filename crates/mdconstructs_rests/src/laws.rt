@@ -4,7 +4,7 @@ ghost use Rattle.mdconstructs_rests.specs.Asked.{AskedLabelsMove, LabelsDecide};
 ghost use Rattle.mdconstructs_rests.specs.DocumentLabels.{LabelsOfBoth, LettersOfBoth};
 ghost use Rattle.mdconstructs_rests.specs.DocumentRests.{DocumentFirstLineTells, DocumentRestsForget, DocumentRestsOfBoth, DocumentRowsOfBoth, RowsMove, RowsOfBoth, StretchesGoOnAtTop};
 ghost use Rattle.mdconstructs_rests.specs.Moved.{BlocksMove, BlocksOfBoth, EventsOfBoth, LinesAreCounted, LinesOfBoth, VirtualOfBoth};
-ghost use Rattle.mdconstructs_rests.specs.MovedSections.{MarksOfBoth, SectionsMove, SectionsOfBoth};
+ghost use Rattle.mdconstructs_rests.specs.MovedSections.{MarksOfBoth, SectionsMove, SectionsOfBoth, SkeletonOfBoth};
 ghost use Rattle.mdconstructs_rests.specs.ReadTexts.{FlowInlinesOfBoth, InlinesMove, ReadEventsOfBoth, StringsMove};
 ghost use Rattle.mdconstructs_rests.specs.Rests.{RestsCutBlocks, RestsForget, WideRestsCutBlocks};
 ghost use Rattle.mdconstructs_rests.specs.Sections.{FirstLineTells, RestsOfBoth, SectionsGiveEvents, SectionsGiveInlines};
@@ -166,6 +166,11 @@ pub fn sections_of_both()
 /// The marks of a document's skeleton are those of its parts, if the second begins at a rest and goes on with no stretch of lines.
 pub fn marks_of_both()
     ensures { MarksOfBoth }
+{}
+
+/// The skeleton of a document is that of its parts, if the second begins at a rest and goes on with no stretch of lines.
+pub fn skeleton_of_both()
+    ensures { SkeletonOfBoth }
 {}
 
 /// A line at a rest of a document goes on with a stretch of lines before it only where no container is open.
