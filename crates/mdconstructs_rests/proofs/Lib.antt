@@ -7,6 +7,7 @@ mod DocumentExamples
 pub mod DocumentLabels
 pub mod DocumentRests
 pub mod Events
+pub mod EventsLeft
 mod Examples
 pub mod FirstRows
 pub mod Fuel
@@ -31,6 +32,7 @@ pub mod MovedRuns
 pub mod MovedSections
 pub mod MovedSkeleton
 pub mod MovedTexts
+pub mod NoLinksLeft
 pub mod RowNumbers
 pub mod ReadTexts
 pub mod Rests
