@@ -2,14 +2,17 @@ pub mod Asked
 pub mod Both
 pub mod BothSections
 pub mod Chained
+pub mod DataBeforeEnd
 pub mod DocumentBytes
 mod DocumentExamples
 pub mod DocumentLabels
 pub mod DocumentRests
+pub mod EndsBefore
 pub mod Events
 pub mod EventsLeft
 mod Examples
 pub mod FirstRows
+pub mod FlowStands
 pub mod Fuel
 pub mod LikeRows
 pub mod LineFronts
@@ -33,9 +36,10 @@ pub mod MovedSections
 pub mod MovedSkeleton
 pub mod MovedTexts
 pub mod NoLinksLeft
-pub mod RowNumbers
+mod Prelude
 pub mod ReadTexts
 pub mod Rests
+pub mod RowNumbers
 pub mod RowPlaces
 pub mod Seams
 pub mod SectionRows
@@ -44,7 +48,7 @@ pub mod SectionsApart
 pub mod Shown
 pub mod SkeletonLinks
 pub mod SkeletonOfBoth
+pub mod SkeletonStands
 pub mod TextLines
 pub mod Virtual
 pub mod WithoutContainers
-mod Prelude
