@@ -2,6 +2,8 @@ pub mod Asked
 pub mod Both
 pub mod BothSections
 pub mod Chained
+pub mod ChildrenOfBoth
+pub mod ChunkAlone
 pub mod DataBeforeEnd
 pub mod DocumentBytes
 mod DocumentExamples
@@ -52,3 +54,4 @@ pub mod SkeletonStands
 pub mod TextLines
 pub mod Virtual
 pub mod WithoutContainers
+pub mod WovenBoth
