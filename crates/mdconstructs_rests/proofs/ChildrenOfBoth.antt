@@ -43,7 +43,7 @@ ready-forward tab bytes wanted events ready = record { chunks = forward-chain ta
 -- ---- cases
 
 -- a chain that begins does so inside the list
-starts-inside : (wanted : Option Content) (events : List Event) (c : ℕ) → begins wanted events c ≡ true → c < length events
+pub starts-inside : (wanted : Option Content) (events : List Event) (c : ℕ) → begins wanted events c ≡ true → c < length events
 starts-inside wanted events c h =
     let fit : fits wanted events c ≡ true = (and_parts (fits wanted events c) (is_none (previous_of events c)) h).0 in
     by_option (slice_get events c) (λ e. absurd (let no : false ≡ true = ap (λ o. some_fits wanted (option_and_then content_of o)) (sym e) ∙ fit in cc)) (λ a e. slice_get_within events c a e)
@@ -81,7 +81,7 @@ module _ (lines bytes : ℕ) where
   abbrev child_moved : List Event → List Event
   child_moved child = map (moved_event lines bytes 0) child
 
-  before-moved : (p q : Point) → stands_before (moved_point lines bytes p) (moved_point lines bytes q) ≡ stands_before p q
+  pub before-moved : (p q : Point) → stands_before (moved_point lines bytes p) (moved_point lines bytes q) ≡ stands_before p q
   before-moved p q = before p.index p.vs q.index q.vs
     where
       before : (i j m n : ℕ) → (nat_lt (i + bytes) (m + bytes) || ((i + bytes == m + bytes) && nat_lt j n)) ≡ (nat_lt i m || ((i == m) && nat_lt j n))
@@ -165,10 +165,10 @@ module _ (x y : List Event) (lines bytes : ℕ) where
       of_event None = refl
       of_event (Some e) = of_link e.link
 
-  first-place : (i : ℕ) → i < length x → place_at both i ≡ place_at x i
+  pub first-place : (i : ℕ) → i < length x → place_at both i ≡ place_at x i
   first-place i l = ap (λ o. unwrap_or (option_map (λ (e : Event). e.point) o) (point 1 1 0 0)) (first-at i l)
 
-  second-place : (i : ℕ) → i < length y → place_at both (length x + i) ≡ moved_point lines bytes (place_at y i)
+  pub second-place : (i : ℕ) → i < length y → place_at both (length x + i) ≡ moved_point lines bytes (place_at y i)
   second-place i l =
       let e = some-get y i l in
       ap (λ o. unwrap_or (option_map (λ (e : Event). e.point) o) (point 1 1 0 0)) (second-at i ∙ ap (option_map (moved_event lines bytes (length x))) e.1)
@@ -302,7 +302,7 @@ all-changes-of wanted events k (c ∷ cs) (child ∷ children) h =
     every-append (IsOfList (length events)) (chain_changes (divided events c child)) (flat_map chain_changes (divided_over events cs children))
     (chain-changes-of events (chain_of events c) (divided events c child).parts (k.chunks c h.0)) (all-changes-of wanted events k cs children h.1)
 
-all-begin : (wanted : Option Content) (events : List Event) → AllByRecursion (λ c. begins wanted events c ≡ true) (fitting_starts wanted events)
+pub all-begin : (wanted : Option Content) (events : List Event) → AllByRecursion (λ c. begins wanted events c ≡ true) (fitting_starts wanted events)
 all-begin wanted events = recursion_from_All (λ c. begins wanted events c ≡ true) (fitting_starts wanted events) (filter_passes (begins wanted events) (range_with_len 0 (length events)))
 
 -- With children in place of the chains of both that fit, the list is the first with its children, and behind it the second with its own, moved

@@ -40,6 +40,7 @@ pub mod MovedTexts
 pub mod NoLinksLeft
 mod Prelude
 pub mod ReadTexts
+pub mod ReadsOfBoth
 pub mod Rests
 pub mod RowNumbers
 pub mod RowPlaces
@@ -52,6 +53,7 @@ pub mod SkeletonLinks
 pub mod SkeletonOfBoth
 pub mod SkeletonStands
 pub mod TextLines
+pub mod TextsOfBoth
 pub mod Virtual
 pub mod WithoutContainers
 pub mod WovenBoth

@@ -1,5 +1,6 @@
 -- Changes of two lists, one behind the other: if no change and no link of the first leads into the second, the list after all changes is the two changed lists, the second moved.
 use Rattle.std.proofs.Common.{Bool, List, None, Option, Some, [], ap, arith, cond, eqb, false, leb, length, ltb, map, refl, suc, sym, true, ℕ, ◌++◌, ◌+◌, ◌<◌, ◌∙◌, ◌∷◌, ◌≡◌, ◌≤◌}
+use Rattle.std.proofs.Math.Bool.{or-false}
 use Rattle.std.proofs.lemmas.Bool.{ne_eqb}
 use Rattle.std.proofs.lemmas.Bool.Decides.{nat_tests}
 use Rattle.std.proofs.lemmas.Grind.{flat_map-append}
@@ -59,10 +60,6 @@ none-come i (w ∷ ws) h = rw h.0.0 (none-come i ws h.1)
 none-go : (i : ℕ) (ws : List Change) → AllByRecursion (IsElsewhere i) ws → is_removed ws i ≡ false
 none-go i [] h = refl
 none-go i (w ∷ ws) h = rw h.0.1 (none-go i ws h.1)
-
-or-false : (a : Bool) → (a || false) ≡ a
-or-false true = refl
-or-false false = refl
 
 -- behind changes that end before it, the others are left
 woven-past : (ws vs : List Change) (i : ℕ) (ys : List Event) → ((j : ℕ) → i ≤ j → AllByRecursion (IsElsewhere j) ws) → woven (ws ++ vs) i ys ≡ woven vs i ys
