@@ -56,19 +56,33 @@ next-moved k i j [] e = refl
 next-moved k i j ((v, None) ∷ ms) e = next-moved k (suc i) (suc j) ms (omega (arith, e))
 next-moved k i j ((v, Some chunk) ∷ ms) e = ap (λ n. Some n) e
 
-pub chained-moved : (k i j : ℕ) (p q : Option ℕ) (ms : List Mark) → j ≡ i + k → q ≡ moved_index k p → AllByRecursion HasNoLink ms → chained_from j q ms ≡ map (further_on k) (chained_from i p ms)
-chained-moved k i j p q [] e f h = refl
-chained-moved k i j p q ((v, None) ∷ ms) e f h =
+-- marks that begin no chunk have none; the link of a chunk is made when it is chained
+abbrev pub AreBare : List Mark → Type 0
+AreBare [] = Unit {0}
+AreBare ((e, None) ∷ ms) = (e.link ≡ None) × AreBare ms
+AreBare ((e, Some chunk) ∷ ms) = AreBare ms
+
+pub chained-bare : (k i j : ℕ) (p q : Option ℕ) (ms : List Mark) → j ≡ i + k → q ≡ moved_index k p → AreBare ms → chained_from j q ms ≡ map (further_on k) (chained_from i p ms)
+chained-bare k i j p q [] e f h = refl
+chained-bare k i j p q ((v, None) ∷ ms) e f h =
     let here : v ≡ further_on k v = (λ d. record v { link = (h.0 ∙ ap (moved_link k) (sym h.0)) d }) in
-    let rest = chained-moved k (suc i) (suc j) p q ms (omega (arith, e)) f h.1 in
+    let rest = chained-bare k (suc i) (suc j) p q ms (omega (arith, e)) f h.1 in
     (λ d. here d ∷ rest d)
-chained-moved k i j p q ((v, Some chunk) ∷ ms) e f h =
+chained-bare k i j p q ((v, Some chunk) ∷ ms) e f h =
     let next = next-moved k (suc i) (suc j) ms (omega (arith, e)) in
     let before = ap (λ o. cond chunk.has_previous o None) f ∙ by chunk.has_previous p in
     let behind = ap (λ o. cond chunk.has_next o None) next ∙ by chunk.has_next (next_chunk (suc i) ms) in
-    let rest = chained-moved k (suc i) (suc j) (Some i) (Some j) ms (omega (arith, e)) (ap (λ n. Some n) e) h.1 in
+    let rest = chained-bare k (suc i) (suc j) (Some i) (Some j) ms (omega (arith, e)) (ap (λ n. Some n) e) h in
     (λ d. (let w : Event = record v { link = Some (record { previous = before d; next = behind d; content = chunk.content }) } in w) ∷ rest d)
   where
     by : (b : Bool) (o : Option ℕ) → cond b (moved_index k o) None ≡ moved_index k (cond b o None)
     by true o = refl
     by false o = refl
+
+no-link-bare : (ms : List Mark) → AllByRecursion HasNoLink ms → AreBare ms
+no-link-bare [] h = tt
+no-link-bare ((e, None) ∷ ms) h = (h.0, no-link-bare ms h.1)
+no-link-bare ((e, Some chunk) ∷ ms) h = no-link-bare ms h.1
+
+pub chained-moved : (k i j : ℕ) (p q : Option ℕ) (ms : List Mark) → j ≡ i + k → q ≡ moved_index k p → AllByRecursion HasNoLink ms → chained_from j q ms ≡ map (further_on k) (chained_from i p ms)
+chained-moved k i j p q ms e f h = chained-bare k i j p q ms e f (no-link-bare ms h)

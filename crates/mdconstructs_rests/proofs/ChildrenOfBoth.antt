@@ -336,7 +336,7 @@ moved-further n e =
     let index : e.point.index + 0 ≡ e.point.index = omega arith in
     (λ d. (let p : Point = record { line = line d; column = e.point.column; index = index d; vs = e.point.vs } in record (further_on n e) { point = p }))
 
-further-all : (n : ℕ) (es : List Event) → map (moved_event 0 0 n) es ≡ map (further_on n) es
+pub further-all : (n : ℕ) (es : List Event) → map (moved_event 0 0 n) es ≡ map (further_on n) es
 further-all n [] = refl
 further-all n (e ∷ es) = let a = moved-further n e in let r = further-all n es in (λ d. a d ∷ r d)
 

@@ -1,11 +1,13 @@
 -- The events of leaf blocks of a document are those of its parts.
-use Rattle.mdconstructs_rests.proofs.Prelude.{◌≡◌, ℕ, ◌+◌, ◌≤◌, List, [], ◌∷◌, ◌++◌, Bool, true, false, cond, length, refl, sym, ap, ◌∙◌, subst, arith, map, AllByRecursion, flat_map, flat_map-append, and-left, Constructs, linked-append, linked-length, Line, LeafBlock, blank_line, break_line, atx_heading, paragraph, setext_heading, indented_code, fenced_code, html_block, leaf_blocks, leaf_block_marks, leaf_blocks_marks, linked_from, is_line_ending, joined, lines_in, EventsOfBoth, begins_line, first_at_rest, line_endings, moved_block, moved_event, moved_link, moved_point, block_lines, Seat, virtual, leaf-blocks-lines}
+use Rattle.mdconstructs_rests.proofs.Prelude.{◌≡◌, ℕ, ◌+◌, ◌≤◌, List, [], ◌∷◌, ◌++◌, Bool, true, false, cond, length, refl, sym, ap, ◌∙◌, subst, arith, map, AllByRecursion, flat_map, flat_map-append, and-left, Constructs, Event, linked-append, linked-length, Line, LeafBlock, blank_line, break_line, atx_heading, paragraph, setext_heading, indented_code, fenced_code, html_block, leaf_blocks, leaf_block_marks, leaf_blocks_marks, flow_events, linked_from, is_line_ending, joined, lines_in, EventsOfBoth, begins_line, first_at_rest, line_endings, moved_block, moved_event, moved_link, moved_point, moved_seat, block_lines, Seat, virtual, leaf-blocks-lines}
 use Rattle.markdown_tokenizer.proofs.Positions.Order.{every-back, every-front}
 use Rattle.mdconstructs_documents.proofs.FlowTexts.Segments.{HasByte}
 use Rattle.mdconstructs_rests.proofs.Both.{blocks-of-both}
 use Rattle.mdconstructs_rests.proofs.Links.{blocks-link-back, linked-moved}
+use Rattle.mdconstructs_rests.proofs.MovedBlocks.{blocks-move}
 use Rattle.mdconstructs_rests.proofs.MovedMarks.{blocks-marks-moved, mb}
 use Rattle.mdconstructs_rests.proofs.Shown.{shown-behind, shown-front, within}
+use Rattle.mdconstructs_rests.proofs.Virtual.{lines-moved}
 
 pub map-same : {X : Type 0} (f : X → X) → ((x : X) → f x ≡ x) → (xs : List X) → map f xs ≡ xs
 map-same f h [] = refl
@@ -96,22 +98,38 @@ module _ (a b : List ℕ) (h : begins_line b a ≡ true) where
     block-goes (fenced_code f is_closed lines) = refl
     block-goes (html_block kind is_closed lines) = refl
 
-  module _ (on : Constructs) (t : ℕ) where
-    front-marks : leaf_blocks_marks (a ++ b) (leaf_blocks on (lines_in (virtual t a))) ≡ leaf_blocks_marks a (leaf_blocks on (lines_in (virtual t a)))
-    front-marks =
-        let blocks = leaf_blocks on (lines_in (virtual t a)) in
-        let known = in-blocks _ on (lines_in (virtual t a)) (in-lines _ (virtual t a) (within t (length a) a 1 1 0 (omega arith))) in
+  module _ (on : Constructs) where
+    -- virtual bytes inside the first bytes
+    front-marks : (seats : List Seat) → AllByRecursion (λ s. (s.point.index ≤ length a) × (s.end.index ≤ length a)) seats → leaf_blocks_marks (a ++ b) (leaf_blocks on (lines_in seats)) ≡ leaf_blocks_marks a (leaf_blocks on (lines_in seats))
+    front-marks seats inside =
+        let blocks = leaf_blocks on (lines_in seats) in
+        let known = in-blocks _ on (lines_in seats) (in-lines _ seats inside) in
         sym (ap (leaf_blocks_marks (a ++ b)) (map-same stays block-stays blocks))
         ∙ blocks-marks-moved a (a ++ b) (λ p. p) (λ l. l) refl (λ p. p.index ≤ length a) (λ p l. shown-front a b h p l) blocks known
         ∙ map-same (λ m. m) (λ m. refl) (leaf_blocks_marks a blocks)
 
-    behind-marks : (k : ℕ) → leaf_blocks_marks (a ++ b) (map (moved_block (line_endings a) (length a)) (leaf_blocks on (lines_in (virtual t b))))
-        ≡ map (λ m. (moved_event (line_endings a) (length a) k m.0, m.1)) (leaf_blocks_marks b (leaf_blocks on (lines_in (virtual t b))))
-    behind-marks k =
-        let blocks = leaf_blocks on (lines_in (virtual t b)) in
-        let known = in-blocks _ on (lines_in (virtual t b)) (in-lines _ (virtual t b) (all-known (virtual t b))) in
+    -- virtual bytes of the second, moved
+    behind-marks : (k : ℕ) (seats : List Seat) → leaf_blocks_marks (a ++ b) (map (moved_block (line_endings a) (length a)) (leaf_blocks on (lines_in seats)))
+        ≡ map (λ m. (moved_event (line_endings a) (length a) k m.0, m.1)) (leaf_blocks_marks b (leaf_blocks on (lines_in seats)))
+    behind-marks k seats =
+        let blocks = leaf_blocks on (lines_in seats) in
+        let known = in-blocks _ on (lines_in seats) (in-lines _ seats (all-known seats)) in
         ap (leaf_blocks_marks (a ++ b)) (map-ext (moved_block (line_endings a) (length a)) (goes k) (block-goes k) blocks)
         ∙ blocks-marks-moved b (a ++ b) (moved_point (line_endings a) (length a)) (moved_link k) refl (λ p. Unit {0}) (λ p l. shown-behind a b h (line_endings a) p) blocks known
+
+    -- the events of leaf blocks of such virtual bytes
+    pub flow-front : (seats : List Seat) → AllByRecursion (λ s. (s.point.index ≤ length a) × (s.end.index ≤ length a)) seats → flow_events on (a ++ b) seats ≡ flow_events on a seats
+    flow-front seats inside = ap (linked_from 0) (front-marks seats inside)
+
+    pub flow-behind : (seats : List Seat) → flow_events on (a ++ b) (map (moved_seat (line_endings a) (length a)) seats) ≡ map (moved_event (line_endings a) (length a) 0) (flow_events on b seats)
+    flow-behind seats =
+        let l = line_endings a in
+        let n = length a in
+        let marks = leaf_blocks_marks b (leaf_blocks on (lines_in seats)) in
+        let back = (blocks-link-back b (leaf_blocks on (lines_in seats)) (in-blocks HasByte on (lines_in seats) (full-lines seats))).links in
+        ap (λ ls. linked_from 0 (leaf_blocks_marks (a ++ b) (leaf_blocks on ls))) (lines-moved l n seats)
+        ∙ ap (λ blocks. linked_from 0 (leaf_blocks_marks (a ++ b) blocks)) (blocks-move on l n (lines_in seats))
+        ∙ ap (linked_from 0) (behind-marks 0 seats) ∙ linked-moved l n 0 marks 0 0 (omega arith) back
 
 pub events-of-both : EventsOfBoth
 events-of-both on t a b h =
@@ -127,6 +145,6 @@ events-of-both on t a b h =
     let back = (blocks-link-back b blocks (in-blocks HasByte on (lines_in (virtual t b)) (full-lines (virtual t b)))).links in
     ap (λ bs. linked_from 0 (leaf_blocks_marks (a ++ b) bs)) (blocks-of-both on t a b h)
     ∙ ap (linked_from 0) (flat_map-append (leaf_block_marks (a ++ b)) first_blocks (map (moved_block l n) blocks))
-    ∙ (let f = front-marks a b torn on t in let g = behind-marks a b torn on t k in (λ i. linked_from 0 (f i ++ g i)))
+    ∙ (let f = front-marks a b torn on (virtual t a) (within t (length a) a 1 1 0 (omega arith)) in let g = behind-marks a b torn on k (virtual t b) in (λ i. linked_from 0 (f i ++ g i)))
     ∙ linked-append 0 first (map (λ m. (moved_event l n k m.0, m.1)) marks)
     ∙ ap (λ r. linked_from 0 first ++ r) (linked-moved l n k marks 0 (0 + length first) same back)

@@ -1,4 +1,6 @@
 pub mod Asked
+pub mod BlocksAtRest
+pub mod BlocksJoin
 pub mod Both
 pub mod BothSections
 pub mod Chained
@@ -8,6 +10,7 @@ pub mod DataBeforeEnd
 pub mod DocumentBytes
 mod DocumentExamples
 pub mod DocumentLabels
+pub mod DocumentParts
 pub mod DocumentRests
 pub mod EndsBefore
 pub mod Events
@@ -16,11 +19,16 @@ mod Examples
 pub mod FirstRows
 pub mod FlowStands
 pub mod Fuel
+pub mod JoinedBlocks
+pub mod LeavesBehind
+pub mod LetteredBoth
 pub mod LikeRows
 pub mod LineFronts
 pub mod Links
+pub mod LoneChunk
 pub mod Longer
 pub mod MarksApart
+pub mod MarksForward
 pub mod MarksOfBoth
 pub mod MovedAsked
 pub mod MovedBlocks
@@ -52,6 +60,7 @@ pub mod Shown
 pub mod SkeletonLinks
 pub mod SkeletonOfBoth
 pub mod SkeletonStands
+pub mod StringsJoin
 pub mod TextLines
 pub mod TextsOfBoth
 pub mod Virtual

@@ -24,7 +24,7 @@ pub use Rattle.mdconstructs_machines.specs.Spans.{event}
 pub use Rattle.mdconstructs_rests.specs.Moved.{BlocksMove, BlocksOfBoth, EventsOfBoth, LinesAreCounted, LinesOfBoth, VirtualOfBoth, begins_at_rest, begins_line, first_at_rest, line_endings, moved_block, moved_event, moved_index, moved_line, moved_lines, moved_link, moved_point, moved_seat}
 pub use Rattle.mdconstructs_rests.specs.ReadTexts.{ReadEventsOfBoth, ReadsMove}
 pub use Rattle.mdconstructs_rests.specs.Rests.{RestsCutBlocks, RestsForget, WideRestsCutBlocks, begins_near, goes_on, is_at_rest, is_open, is_open_behind, kind_of_line, last_passes}
-pub use Rattle.mdconstructs_rests.specs.Sections.{FirstLineTells, RestsOfBoth, SectionsGiveEvents, are_sections, document_of, events_of_sections}
+pub use Rattle.mdconstructs_rests.specs.Sections.{FirstLineTells, RestsOfBoth, SectionsGiveEvents, are_sections, are_sections_by, document_of, events_of_sections}
 pub use Rattle.std.proofs.Common.{Bool, List, None, Option, Some, [], ap, append_assoc, arith, cond, drop, false, inl, inr, leb-true, length, length-append, length-drop, length-take, lt-ltb, ltb-false, ltb-true, min, nat_le, nat_lt, not, refl, subst, suc, sym, take, true, zero, ℕ, ◌&&◌, ◌++◌, ◌+◌, ◌-◌, ◌<◌, ◌==◌, ◌||◌, ◌∙◌, ◌∷◌, ◌≡◌, ◌≤◌, ◌⊎◌}
 pub use Rattle.std.proofs.Math.Bool.{and-false, or-true}
 pub use Rattle.std.proofs.lemmas.Bool.{eqb-true, not-false, not-true, or_parts}

@@ -116,7 +116,7 @@ place-inside t some a p h = ⊎_elim
     (λ (r : IsReturnPlace a p). (let w = r.1 in omega arith, λ l. absurd (let z : p.vs ≡ 0 = r.0 in omega arith)))
     (place-of t some a p h)
 
-place-upto : (t : ℕ) → 0 < t → (a : List ℕ) (p : Point) → IsPointOf t a p → IsUpTo (length a) p
+pub place-upto : (t : ℕ) → 0 < t → (a : List ℕ) (p : Point) → IsPointOf t a p → IsUpTo (length a) p
 place-upto t some a p h = let w = place-inside t some a p h in upto-number (length a) p.index p.vs w.0 (λ l. (w.1 l).0)
 
 module _ (t : ℕ) (a : List ℕ) (wanted : Option Content) (events : List Event) (ready : IsReady t a wanted events) where

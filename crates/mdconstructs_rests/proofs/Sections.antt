@@ -1,5 +1,5 @@
 -- A document as sections, each of which is read by itself.
-use Rattle.mdconstructs_rests.proofs.Prelude.{◌≡◌, ℕ, ◌≤◌, ◌&&◌, List, [], ◌∷◌, ◌++◌, true, not, length, refl, sym, ap, ◌∙◌, arith, leb-true, nat_le, map, append-nil, and-right, and-left, Constructs, Event, Line, LeafBlock, blank_line, break_line, atx_heading, paragraph, setext_heading, indented_code, fenced_code, html_block, leaf_blocks, flow_events, lines_in, begins_at_rest, begins_line, first_at_rest, line_endings, moved_block, moved_event, moved_lines, begins_near, is_open, is_open_behind, kind_of_line, last_passes, FirstLineTells, RestsOfBoth, SectionsGiveEvents, are_sections, document_of, events_of_sections, virtual}
+use Rattle.mdconstructs_rests.proofs.Prelude.{◌≡◌, ℕ, ◌≤◌, ◌&&◌, Bool, List, [], ◌∷◌, ◌++◌, true, not, length, refl, sym, ap, ◌∙◌, arith, leb-true, nat_le, map, append-nil, and-right, and-left, Constructs, Event, Line, LeafBlock, blank_line, break_line, atx_heading, paragraph, setext_heading, indented_code, fenced_code, html_block, leaf_blocks, flow_events, lines_in, begins_at_rest, begins_line, first_at_rest, line_endings, moved_block, moved_event, moved_lines, begins_near, is_open, is_open_behind, kind_of_line, last_passes, FirstLineTells, RestsOfBoth, SectionsGiveEvents, are_sections, are_sections_by, document_of, events_of_sections, virtual}
 use Rattle.mdconstructs_rests.proofs.Both.{blocks-of-both}
 use Rattle.mdconstructs_rests.proofs.Events.{events-of-both}
 use Rattle.mdconstructs_documents.specs.FlowTexts.{flow_inlines}
@@ -59,36 +59,48 @@ rests-of-both on t a b c rest some ends =
 
 -- ---- sections
 
-module _ (on : Constructs) (t : ℕ) where
-  some-document : (s : List ℕ) (more : List (List ℕ)) → are_sections on t (s ∷ more) ≡ true → 1 ≤ length s
+-- where a rest is: it begins a line, and what comes behind its first line does not matter
+module _ (rest : (a b : List ℕ) → Bool) (begins : (a b : List ℕ) → rest a b ≡ true → begins_line b a ≡ true)
+    (tells : (a b c : List ℕ) → 1 ≤ length b → begins_line c b ≡ true → begins_line b a ≡ true → rest a (b ++ c) ≡ rest a b) where
+  some-document : (s : List ℕ) (more : List (List ℕ)) → are_sections_by rest (s ∷ more) ≡ true → 1 ≤ length s
   some-document s [] h = leb-true 1 (length s) h
-  some-document s (next ∷ more) h = leb-true 1 (length s) (and-left (nat_le 1 (length s)) (begins_at_rest on t s next && are_sections on t (next ∷ more)) h)
+  some-document s (next ∷ more) h = leb-true 1 (length s) (and-left (nat_le 1 (length s)) (rest s next && are_sections_by rest (next ∷ more)) h)
 
   -- a section begins at a rest, whatever sections come behind it
-  rest-ahead : (s next : List ℕ) (more : List (List ℕ)) → begins_at_rest on t s next ≡ true → are_sections on t (next ∷ more) ≡ true → begins_at_rest on t s (next ++ document_of more) ≡ true
-  rest-ahead s next [] h sections = ap (begins_at_rest on t s) (append-nil next) ∙ h
+  rest-ahead : (s next : List ℕ) (more : List (List ℕ)) → rest s next ≡ true → are_sections_by rest (next ∷ more) ≡ true → rest s (next ++ document_of more) ≡ true
+  rest-ahead s next [] h sections = ap (rest s) (append-nil next) ∙ h
   rest-ahead s next (third ∷ more) h sections =
-      let behind = and-right (nat_le 1 (length next)) (begins_at_rest on t next third && are_sections on t (third ∷ more)) sections in
-      let rest = and-left (begins_at_rest on t next third) (are_sections on t (third ∷ more)) behind in
-      let some = some-document third more (and-right (begins_at_rest on t next third) (are_sections on t (third ∷ more)) behind) in
-      let ends = line-ahead next third (document_of more) some ∙ and-left (begins_line third next) _ rest in
-      first-line-tells on t s next (third ++ document_of more) (some-document next (third ∷ more) sections) ends (and-left (begins_line next s) _ h) ∙ h
+      let behind = and-right (nat_le 1 (length next)) (rest next third && are_sections_by rest (third ∷ more)) sections in
+      let one = and-left (rest next third) (are_sections_by rest (third ∷ more)) behind in
+      let some = some-document third more (and-right (rest next third) (are_sections_by rest (third ∷ more)) behind) in
+      let ends = line-ahead next third (document_of more) some ∙ begins next third one in
+      tells s next (third ++ document_of more) (some-document next (third ∷ more) sections) ends (begins s next h) ∙ h
 
-  -- the events of sections are those of the document, if those of two parts are
-  module _ (read : List ℕ → List Event) (none : read [] ≡ [])
-      (both : (a b : List ℕ) → begins_at_rest on t a b ≡ true → read (a ++ b) ≡ read a ++ map (moved_event (line_endings a) (length a) (length (read a))) (read b)) where
-    give : (sections : List (List ℕ)) → are_sections on t sections ≡ true → read (document_of sections) ≡ events_of_sections read sections
-    give [] h = none
-    give (s ∷ []) h = ap read (append-nil s) ∙ sym (append-nil (read s))
-    give (s ∷ next ∷ more) h =
-        let behind = and-right (nat_le 1 (length s)) (begins_at_rest on t s next && are_sections on t (next ∷ more)) h in
-        let rest = and-left (begins_at_rest on t s next) (are_sections on t (next ∷ more)) behind in
-        let sections = and-right (begins_at_rest on t s next) (are_sections on t (next ∷ more)) behind in
+  -- the events of sections are those of the document, if those of two parts are, of such bytes
+  module _ (Ok : List ℕ → Type 0) (parts : (a b : List ℕ) → Ok (a ++ b) → Ok b) (read : List ℕ → List Event) (none : read [] ≡ [])
+      (both : (a b : List ℕ) → Ok (a ++ b) → rest a b ≡ true → read (a ++ b) ≡ read a ++ map (moved_event (line_endings a) (length a) (length (read a))) (read b)) where
+    pub give : (sections : List (List ℕ)) → Ok (document_of sections) → are_sections_by rest sections ≡ true → read (document_of sections) ≡ events_of_sections read sections
+    give [] ok h = none
+    give (s ∷ []) ok h = ap read (append-nil s) ∙ sym (append-nil (read s))
+    give (s ∷ next ∷ more) ok h =
+        let behind = and-right (nat_le 1 (length s)) (rest s next && are_sections_by rest (next ∷ more)) h in
+        let one = and-left (rest s next) (are_sections_by rest (next ∷ more)) behind in
+        let sections = and-right (rest s next) (are_sections_by rest (next ∷ more)) behind in
         let first = read s in
-        both s (next ++ document_of more) (rest-ahead s next more rest sections) ∙ ap (λ es. first ++ map (moved_event (line_endings s) (length s) (length first)) es) (give (next ∷ more) sections)
+        both s (next ++ document_of more) ok (rest-ahead s next more one sections)
+        ∙ ap (λ es. first ++ map (moved_event (line_endings s) (length s) (length first)) es) (give (next ∷ more) (parts s (next ++ document_of more) ok) sections)
+
+-- rests of leaf blocks
+module _ (on : Constructs) (t : ℕ) where
+  begins-there : (a b : List ℕ) → begins_at_rest on t a b ≡ true → begins_line b a ≡ true
+  begins-there a b h = and-left (begins_line b a) (first_at_rest on (lines_in (virtual t a)) (lines_in (virtual t b))) h
+
+  pub sections-give : (read : List ℕ → List Event) → read [] ≡ [] → ((a b : List ℕ) → begins_at_rest on t a b ≡ true → read (a ++ b) ≡ read a ++ map (moved_event (line_endings a) (length a) (length (read a))) (read b))
+      → (sections : List (List ℕ)) → are_sections on t sections ≡ true → read (document_of sections) ≡ events_of_sections read sections
+  sections-give read none both sections h = give (begins_at_rest on t) begins-there (first-line-tells on t) (λ bytes. Unit {0}) (λ a b ok. tt) read none (λ a b ok r. both a b r) sections tt h
 
 pub sections-give-events : SectionsGiveEvents
-sections-give-events on t = give on t (λ bytes. flow_events on bytes (virtual t bytes)) refl (events-of-both on t)
+sections-give-events on t = sections-give on t (λ bytes. flow_events on bytes (virtual t bytes)) refl (events-of-both on t)
 
 pub sections-give-inlines : SectionsGiveInlines
-sections-give-inlines on t = give on t (λ bytes. flow_inlines on bytes (virtual t bytes)) refl (flow-inlines-of-both on t)
+sections-give-inlines on t = sections-give on t (λ bytes. flow_inlines on bytes (virtual t bytes)) refl (flow-inlines-of-both on t)

@@ -31,7 +31,7 @@ pub record IsDocumentOfBoth (lines bytes : ℕ) (all one two : Given) : Type 0 w
   pub is : virtual all.tab all.bytes ≡ virtual one.tab one.bytes ++ map (moved_seat lines bytes) (virtual two.tab two.bytes)
   pub before : AllByRecursion (λ (s : Seat). s.point.index < bytes) (virtual one.tab one.bytes)
 
-filter-mapped : {A B : Type 0} (f : B → Bool) (g : A → Bool) (h : A → B) → ((x : A) → f (h x) ≡ g x) → (xs : List A) → filter f (map h xs) ≡ map h (filter g xs)
+pub filter-mapped : {A B : Type 0} (f : B → Bool) (g : A → Bool) (h : A → B) → ((x : A) → f (h x) ≡ g x) → (xs : List A) → filter f (map h xs) ≡ map h (filter g xs)
 filter-mapped f g h e [] = refl
 filter-mapped {A} {B} f g h e (x ∷ xs) = let b = e x in let r = filter-mapped f g h e xs in (λ d. cond (b d) (h x ∷ r d) (r d)) ∙ by (g x)
   where
@@ -51,7 +51,7 @@ seats-of g events [] = refl
 seats-of g events (k ∷ ks) = chain-seats g events k ks
 
 module _ (lines bytes : ℕ) (all one two : Given) (h : IsDocumentOfBoth lines bytes all one two) where
-  range-first : (from to : Point) → IsUpTo bytes to → filter (in_range from to) (virtual all.tab all.bytes) ≡ filter (in_range from to) (virtual one.tab one.bytes)
+  pub range-first : (from to : Point) → IsUpTo bytes to → filter (in_range from to) (virtual all.tab all.bytes) ≡ filter (in_range from to) (virtual one.tab one.bytes)
   range-first from to l =
       ap (filter (in_range from to)) h.is
       ∙ filter-append (in_range from to) (virtual one.tab one.bytes) (map (moved_seat lines bytes) (virtual two.tab two.bytes))
@@ -65,7 +65,7 @@ module _ (lines bytes : ℕ) (all one two : Given) (h : IsDocumentOfBoth lines b
         none ss,
       )
 
-  range-second : (from to : Point) → filter (in_range (moved_point lines bytes from) (moved_point lines bytes to)) (virtual all.tab all.bytes) ≡ map (moved_seat lines bytes) (filter (in_range from to) (virtual two.tab two.bytes))
+  pub range-second : (from to : Point) → filter (in_range (moved_point lines bytes from) (moved_point lines bytes to)) (virtual all.tab all.bytes) ≡ map (moved_seat lines bytes) (filter (in_range from to) (virtual two.tab two.bytes))
   range-second from to =
       let test : Seat → Bool = in_range (moved_point lines bytes from) (moved_point lines bytes to) in
       ap (filter test) h.is

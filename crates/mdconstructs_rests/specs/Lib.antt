@@ -1,4 +1,5 @@
 pub mod Asked
+pub mod BothDocuments
 pub mod DocumentLabels
 pub mod DocumentRests
 pub mod Moved

@@ -16,11 +16,15 @@ FirstLineTells = (on : Constructs) (t : ℕ) (a b c : List ℕ) → 1 ≤ length
 abbrev pub RestsOfBoth : Type 0
 RestsOfBoth = (on : Constructs) (t : ℕ) (a b c : List ℕ) → begins_at_rest on t a b ≡ true → 1 ≤ length b → begins_line c b ≡ true → begins_at_rest on t (a ++ b) c ≡ begins_at_rest on t b c
 
--- Sections: none is empty, and each begins at a rest behind the one before it, which is looked at alone
+-- Sections, by where a rest is: none is empty, and each begins at a rest behind the one before it, which is looked at alone
+abbrev pub are_sections_by : (rest : (a b : List ℕ) → Bool) → List (List ℕ) → Bool
+are_sections_by rest [] = true
+are_sections_by rest (s ∷ []) = nat_le 1 (length s)
+are_sections_by rest (s ∷ next ∷ more) = nat_le 1 (length s) && (rest s next && are_sections_by rest (next ∷ more))
+
+-- by rests of leaf blocks
 abbrev pub are_sections : Constructs → (t : ℕ) → List (List ℕ) → Bool
-are_sections on t [] = true
-are_sections on t (s ∷ []) = nat_le 1 (length s)
-are_sections on t (s ∷ next ∷ more) = nat_le 1 (length s) && (begins_at_rest on t s next && are_sections on t (next ∷ more))
+are_sections on t = are_sections_by (begins_at_rest on t)
 
 abbrev pub document_of : List (List ℕ) → List ℕ
 document_of sections = flat_map (λ s. s) sections
