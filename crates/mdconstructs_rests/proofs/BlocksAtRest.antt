@@ -64,7 +64,7 @@ module _ (options : ParseOptions) (a b : List ℕ) (is : IsDocument (document op
   abbrev shown_second : List ℕ
   shown_second = with_letters (letters on (virtual t b)) b
 
-  abbrev whole : Given
+  abbrev pub whole : Given
   whole = shown_as_text (document options (a ++ b))
 
   abbrev first : Given

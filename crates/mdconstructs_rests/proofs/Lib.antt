@@ -2,7 +2,9 @@ pub mod Asked
 pub mod BlocksAtRest
 pub mod BlocksJoin
 pub mod Both
+pub mod BothDocuments
 pub mod BothSections
+pub mod BothTexts
 pub mod Chained
 pub mod ChildrenOfBoth
 pub mod ChunkAlone
