@@ -39,7 +39,7 @@ module _ (on : Constructs) (not-blank : (k : Known) (n : ℕ) (line : Line) → 
       by true e blank = let both : true ≡ false = sym blank ∙ not-blank k n line e in absurd (cc)
       by false e blank = refl
 
-  rows-left : (k : Known) (n : ℕ) (ls : List Line) → AllByRecursion LeftIsBlank (rows_from on k n ls)
+  pub rows-left : (k : Known) (n : ℕ) (ls : List Line) → AllByRecursion LeftIsBlank (rows_from on k n ls)
   rows-left k n [] = tt
   rows-left k n (line ∷ ls) = (left-is-blank k n line, rows-left (known_after on k (row_of on k n line)) (suc n) ls)
 
@@ -57,7 +57,7 @@ module _ (on : Constructs) (not-blank : (k : Known) (n : ℕ) (line : Line) → 
       by false e true = refl
       by false e false = refl
 
-  joined-known : (k : Known) (n : ℕ) (ls : List Line) (y : List Row) (p : Bool) → p ≡ is_paragraph k.before.leaf → joined p (rows_from on k n ls) y ≡ (is_paragraph (known_behind on k n ls).before.leaf && begins_text y)
+  pub joined-known : (k : Known) (n : ℕ) (ls : List Line) (y : List Row) (p : Bool) → p ≡ is_paragraph k.before.leaf → joined p (rows_from on k n ls) y ≡ (is_paragraph (known_behind on k n ls).before.leaf && begins_text y)
   joined-known k n [] y p e = ap (λ b. b && begins_text y) e
   joined-known k n (line ∷ ls) y p e = joined-known (known_after on k (row_of on k n line)) (suc n) ls y (is_paragraph (row_of on k n line).leaf) (sym (leaf-behind k n line))
 
@@ -66,7 +66,7 @@ module _ (on : Constructs) (not-blank : (k : Known) (n : ℕ) (line : Line) → 
     pub left : row.is_left_blank ≡ false
     pub full : row.stays ≡ true → row.is_blank ≡ false
 
-  starts : (k : Known) (n : ℕ) (line : Line) → begins_anew on k n line ≡ true → Starts (row_of on k n line)
+  pub starts : (k : Known) (n : ℕ) (line : Line) → begins_anew on k n line ≡ true → Starts (row_of on k n line)
   starts k n line h =
       let row = row_of on k n line in
       let begins = begins-anew on n line k h in

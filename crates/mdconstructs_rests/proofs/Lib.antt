@@ -22,6 +22,13 @@ pub mod FirstRows
 pub mod FlowStands
 pub mod Fuel
 pub mod JoinedBlocks
+pub mod JoinedChunks
+pub mod JoinedDocument
+pub mod JoinedKnown
+pub mod JoinedMarks
+pub mod JoinedParts
+pub mod JoinedSections
+pub mod JoinedWhole
 pub mod LeavesBehind
 pub mod LetteredBoth
 pub mod LikeRows

@@ -35,7 +35,7 @@ none-shared : (n bytes : ℕ) (ss : List Section) (t : Section) → AllByRecursi
 none-shared n bytes [] t h k = tt
 none-shared n bytes (s ∷ ss) t h k = shares-none (suc n) (last_part s.part ss).frames (map (moved_frame n) t.part.frames) (last-is (λ m. m < suc n) s.part ss h.0 h.1) (moved-on n t.part.frames k)
 
-apart : (all : List ℕ) (n bytes : ℕ) (ss ts : List Section) → AllByRecursion (SectionIs (λ m. m < suc n)) ss → AllByRecursion (SectionIs (λ m. 1 ≤ m)) ts
+pub apart : (all : List ℕ) (n bytes : ℕ) (ss ts : List Section) → AllByRecursion (SectionIs (λ m. m < suc n)) ss → AllByRecursion (SectionIs (λ m. 1 ≤ m)) ts
     → sections_marks all (ss ++ map (moved_section n bytes) ts) ≡ sections_marks all ss ++ sections_marks all (map (moved_section n bytes) ts)
 apart all n bytes ss [] h k = ap (sections_marks all) (append-nil ss) ∙ sym (append-nil (sections_marks all ss))
 apart all n bytes ss (t ∷ ts) h k = marks-apart all ss (moved_section n bytes t) (map (moved_section n bytes) ts) (none-shared n bytes ss t h k.0)

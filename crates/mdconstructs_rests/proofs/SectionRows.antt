@@ -16,6 +16,7 @@ use Rattle.mdconstructs_labels.specs.Definitions.{definitions}
 use Rattle.mdconstructs_definitions.specs.Sections.{before_defined, begins_text, defined_in, lines_defined, paragraph_of, text_in}
 use Rattle.mdconstructs_definitions.proofs.Covered.{fewer-left}
 use Rattle.mdconstructs_definitions.proofs.SectionLemmas.{few-lines}
+use Rattle.mdconstructs_rests.specs.JoinedStretches.{AllStay}
 
 -- ---- a paragraph that goes on from rows to others
 
@@ -28,7 +29,7 @@ joined-some : (p q : Bool) (x y : List Row) → 1 ≤ length x → joined p x y 
 joined-some p q [] y h = absurd (omega (arith, h))
 joined-some p q (r ∷ x) y h = refl
 
-joined-drop : (p q : Bool) (n : ℕ) (x y : List Row) → n < length x → joined p x y ≡ joined q (drop n x) y
+pub joined-drop : (p q : Bool) (n : ℕ) (x y : List Row) → n < length x → joined p x y ≡ joined q (drop n x) y
 joined-drop p q zero x y h = joined-some p q x y (omega (arith, h))
 joined-drop p q (suc n) [] y h = absurd (omega (arith, h))
 joined-drop p q (suc n) (r ∷ x) y h = joined-drop (is_paragraph r.leaf) q n x y (omega (arith, h))
@@ -37,7 +38,7 @@ abbrev is_text_row : Row → Bool
 is_text_row row = is_paragraph row.leaf
 
 -- behind rows of a paragraph it is open
-joined-behind : (d : ℕ) (x y : List Row) → d ≤ prefix_len is_text_row x → joined true x y ≡ joined true (drop d x) y
+pub joined-behind : (d : ℕ) (x y : List Row) → d ≤ prefix_len is_text_row x → joined true x y ≡ joined true (drop d x) y
 joined-behind zero x y h = refl
 joined-behind (suc d) [] y h = refl
 joined-behind (suc d) (r ∷ x) y h = by (is_paragraph r.leaf) refl h (joined-behind d x y)
@@ -49,7 +50,7 @@ joined-behind (suc d) (r ∷ x) y h = by (is_paragraph r.leaf) refl h (joined-be
 one-more : {A : Type 0} (n : ℕ) (x : A) (xs : List A) → take (1 + n) (x ∷ xs) ≡ x ∷ take n xs
 one-more n x xs = let same : 1 + n ≡ suc n = omega arith in ap (λ m. take m (x ∷ xs)) same
 
-paragraph-apart : (x y : List Row) → joined true x y ≡ false → paragraph_of (x ++ y) ≡ paragraph_of x
+pub paragraph-apart : (x y : List Row) → joined true x y ≡ false → paragraph_of (x ++ y) ≡ paragraph_of x
 paragraph-apart [] [] h = refl
 paragraph-apart [] (r ∷ y) h = ap (λ b. take (cond b (1 + prefix_len is_text_row y) 0) (r ∷ y)) h
 paragraph-apart (r ∷ x) y h = by (is_paragraph r.leaf) refl (paragraph-apart x y)
@@ -61,10 +62,10 @@ paragraph-apart (r ∷ x) y h = by (is_paragraph r.leaf) refl (paragraph-apart x
     by false e more = refl
 
 module _ (on : Constructs) where
-  defined-apart : (x y : List Row) → joined true x y ≡ false → defined_in on (x ++ y) ≡ defined_in on x
+  pub defined-apart : (x y : List Row) → joined true x y ≡ false → defined_in on (x ++ y) ≡ defined_in on x
   defined-apart x y h = ap (λ ps. cond on.definition (lines_defined (text_in ps)) 0) (paragraph-apart x y h)
 
-  defined-within : (rs : List Row) → defined_in on rs ≤ prefix_len is_text_row rs
+  pub defined-within : (rs : List Row) → defined_in on rs ≤ prefix_len is_text_row rs
   defined-within rs = by on.definition
     where
       few : lines_defined (text_in (paragraph_of rs)) ≤ prefix_len is_text_row rs
@@ -92,11 +93,11 @@ module _ (on : Constructs) where
       sym (ap (λ n. cond (nat_le 1 n) 0 (suc later)) none)
 
   -- where definitions begin in the first rows, or in the second
-  abbrev Apart : (p : Bool) → (x y : List Row) → Type 0
+  abbrev pub Apart : (p : Bool) → (x y : List Row) → Type 0
   Apart p x y = ((before_defined on p x < length x) × (before_defined on p (x ++ y) ≡ before_defined on p x))
       ⊎ ((before_defined on p x ≡ length x) × (before_defined on p (x ++ y) ≡ length x + before_defined on false y))
 
-  before-apart : (p : Bool) (x y : List Row) → joined p x y ≡ false → Apart p x y
+  pub before-apart : (p : Bool) (x y : List Row) → joined p x y ≡ false → Apart p x y
   before-apart p [] y h = let sum : before_defined on false y ≡ 0 + before_defined on false y = omega arith in inr (refl, before-any p y h ∙ sum)
   before-apart p (r ∷ x) y h =
       let same = defined-apart (r ∷ x) y h in
@@ -322,32 +323,25 @@ module _ {A : Type 0} (on : Constructs) (h : Bool → Row → List A) (d : List 
 
 -- ---- how far a stretch goes on over rows behind others
 
-every-drop : (P : Row → Type 0) (n : ℕ) (rs : List Row) → AllByRecursion P rs → AllByRecursion P (drop n rs)
+pub every-drop : (P : Row → Type 0) (n : ℕ) (rs : List Row) → AllByRecursion P rs → AllByRecursion P (drop n rs)
 every-drop P zero rs h = h
 every-drop P (suc n) [] h = tt
 every-drop P (suc n) (r ∷ rs) h = every-drop P n rs h.1
 
--- a row goes on with a stretch, or may
-abbrev may_stay : Row → Bool
-may_stay row = row.is_left_blank || row.stays
-
-abbrev AllStay : List Row → Type 0
-AllStay rs = AllByRecursion (λ (row : Row). may_stay row ≡ true) rs
-
-abbrev AllLeft : List Row → Type 0
+abbrev pub AllLeft : List Row → Type 0
 AllLeft rs = AllByRecursion (λ (row : Row). row.is_left_blank ≡ true) rs
 
 -- a row that is left blank is blank, and no paragraph goes on behind it
 abbrev pub LeftIsBlank : Row → Type 0
 LeftIsBlank row = row.is_left_blank ≡ true → (row.is_blank ≡ true) × (is_paragraph row.leaf ≡ false)
 
-abbrev FurtherApart : List Row → List Row → Type 0
+abbrev pub FurtherApart : List Row → List Row → Type 0
 FurtherApart x y = ((further (x ++ y) ≡ further x) × (further x ≤ length x)) ⊎ ((further (x ++ y) ≡ length x + further y) × (AllStay x × (1 ≤ further y)))
 
 abbrev further-step : (left stays : Bool) → (n : ℕ) → ℕ
 further-step left stays n = cond left (cond (nat_le 1 n) (suc n) 0) (cond stays (suc n) 0)
 
-further-apart : (x y : List Row) → 1 ≤ further y → FurtherApart x y
+pub further-apart : (x y : List Row) → 1 ≤ further y → FurtherApart x y
 further-apart [] y h = let same : further y ≡ 0 + further y = omega arith in inr (same, (tt, h))
 further-apart (r ∷ x) y h = by (further-apart x y h) r.is_left_blank refl r.stays refl
   where
@@ -375,7 +369,7 @@ further-cut [] y h = h
 further-cut (r ∷ x) y h = ap (further-step r.is_left_blank r.stays) (further-cut x y h)
 
 -- of rows that stay those behind a stretch are left blank
-left-behind : (x : List Row) → AllStay x → AllLeft (drop (further x) x)
+pub left-behind : (x : List Row) → AllStay x → AllLeft (drop (further x) x)
 left-behind [] h = tt
 left-behind (r ∷ x) h = by r.is_left_blank refl r.stays refl (further x) (nat_le 1 (further x)) refl (left-behind x h.1)
   where
@@ -394,15 +388,15 @@ pub data Follows (r : Row) (rs : List Row) : Type 0 where
   going : r.is_blank ≡ false → further (r ∷ rs) ≡ suc (further rs) → Follows r rs
 
 module _ {A : Type 0} (on : Constructs) (h : Bool → Row → List A) (d : List Definition → List Row → List A) where
-  joined-first : (p : Bool) (x : List Row) (r : Row) (a b : List Row) → joined p x (r ∷ a) ≡ joined p x (r ∷ b)
+  pub joined-first : (p : Bool) (x : List Row) (r : Row) (a b : List Row) → joined p x (r ∷ a) ≡ joined p x (r ∷ b)
   joined-first p [] r a b = refl
   joined-first p (q ∷ x) r a b = joined-first (is_paragraph q.leaf) x r a b
 
-  joined-none : (p : Bool) (x y : List Row) → begins_text y ≡ false → joined p x y ≡ false
+  pub joined-none : (p : Bool) (x y : List Row) → begins_text y ≡ false → joined p x y ≡ false
   joined-none p [] y e = ap (λ b. p && b) e ∙ and-false p
   joined-none p (q ∷ x) y e = joined-none (is_paragraph q.leaf) x y e
 
-  left-no-text : (y : List Row) → AllLeft y → AllByRecursion LeftIsBlank y → begins_text y ≡ false
+  pub left-no-text : (y : List Row) → AllLeft y → AllByRecursion LeftIsBlank y → begins_text y ≡ false
   left-no-text [] l k = refl
   left-no-text (r ∷ y) l k = (k.0 l.0).1
 

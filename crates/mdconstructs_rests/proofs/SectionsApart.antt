@@ -48,10 +48,10 @@ module _ (r : Row) (rs : List Row) (h : Begins r) where
   list-apart [] = (λ i. cond (h.left i) (list_at rs) (h.no_list i))
   list-apart (q ∷ x) = ap (λ fs. cond q.is_left_blank fs (list_begun q.begun)) (list-apart x)
 
-  standing-apart : (row : Row) (x : List Row) → standing row (x ++ y) ≡ standing row x
+  pub standing-apart : (row : Row) (x : List Row) → standing row (x ++ y) ≡ standing row x
   standing-apart row x = let all = containers_of row.went_on ++ containers_of row.begun in ap (λ m. cond row.is_blank (reverse (left_in m row.number (reverse all))) all) (going-apart x)
 
-  frames-apart : (row : Row) (x : List Row) → frames_at row (x ++ y) ≡ frames_at row x
+  pub frames-apart : (row : Row) (x : List Row) → frames_at row (x ++ y) ≡ frames_at row x
   frames-apart row x = (λ i. let stands = standing-apart row x i in flat_map frames_of stands ++ cond (row.is_left_blank && (length stands == going-apart x i)) (list-apart x i) [])
 
   stretch-apart : (x : List Row) → further (x ++ y) ≡ further x

@@ -2,6 +2,7 @@ pub mod Asked
 pub mod BothDocuments
 pub mod DocumentLabels
 pub mod DocumentRests
+pub mod JoinedStretches
 pub mod Moved
 pub mod MovedSections
 pub mod ReadTexts
