@@ -66,9 +66,11 @@ pub mod SectionRows
 pub mod Sections
 pub mod SectionsApart
 pub mod Shown
+pub mod ShutLeaves
 pub mod SkeletonLinks
 pub mod SkeletonOfBoth
 pub mod SkeletonStands
+pub mod SplitBlocks
 pub mod StringsJoin
 pub mod TextLines
 pub mod TextsOfBoth

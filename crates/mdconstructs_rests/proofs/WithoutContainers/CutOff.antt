@@ -49,11 +49,11 @@ lines-body [] is ends text = refl
 lines-body (line ∷ []) is ends text = alone-line (line_text line) (whole-text line) (some-text (line_text line) (text (omega arith)))
 lines-body (line ∷ next ∷ lines) is ends text = one-line line (body (next ∷ lines)) is.0.whole ends.0 ∙ ap (λ r. line ∷ r) (lines-body (next ∷ lines) is.1 ends.1 (λ _. text (omega arith)))
 
-lines-held : (held : Bool) (lines : List Line) → AllByRecursion LineIs lines → LinesEnd lines → (held ≡ false → 1 ≤ length lines → HasText (last_line lines)) → lines_in (block_seats held lines) ≡ held_lines held lines
+pub lines-held : (held : Bool) (lines : List Line) → AllByRecursion LineIs lines → LinesEnd lines → (held ≡ false → 1 ≤ length lines → HasText (last_line lines)) → lines_in (block_seats held lines) ≡ held_lines held lines
 lines-held true lines is ends text = lines-all lines is ends
 lines-held false lines is ends text = lines-body lines is ends (text refl)
 
-ends-front : (n : ℕ) (lines : List Line) → LinesEnd lines → LinesEnd (take n lines)
+pub ends-front : (n : ℕ) (lines : List Line) → LinesEnd lines → LinesEnd (take n lines)
 ends-front zero lines h = tt
 ends-front (suc n) [] h = tt
 ends-front (suc zero) (line ∷ lines) h = tt
@@ -64,12 +64,12 @@ ends-more : (line : Line) (lines : List Line) → LinesEnd (line ∷ lines) → 
 ends-more line [] h = tt
 ends-more line (next ∷ lines) h = h.1
 
-lines-front : (n : ℕ) (lines : List Line) → AllByRecursion LineIs lines → AllByRecursion LineIs (take n lines)
+pub lines-front : (n : ℕ) (lines : List Line) → AllByRecursion LineIs lines → AllByRecursion LineIs (take n lines)
 lines-front zero lines h = tt
 lines-front (suc n) [] h = tt
 lines-front (suc n) (line ∷ lines) h = (h.0, lines-front n lines h.1)
 
-lines-whole : (lines : List Line) → AllByRecursion LineIs lines → AllByRecursion IsWhole lines
+pub lines-whole : (lines : List Line) → AllByRecursion LineIs lines → AllByRecursion IsWhole lines
 lines-whole [] h = tt
 lines-whole (line ∷ lines) h = (h.0.whole, lines-whole lines h.1)
 

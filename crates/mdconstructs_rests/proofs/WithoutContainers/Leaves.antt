@@ -90,7 +90,7 @@ module _ (on : Constructs) where
   next-kept leaf line h = ap (λ b. cond b closed (leaf_after on leaf (text_of line))) h
 
   -- what a line that is not blank opens
-  opens : (kind : LineKind) (line : Line) → is_blank_line (text_of line) ≡ false → line_kind on (text_of line) ≡ kind → leaf_next closed line ≡ opened_by on kind (text_of line)
+  pub opens : (kind : LineKind) (line : Line) → is_blank_line (text_of line) ≡ false → line_kind on (text_of line) ≡ kind → leaf_next closed line ≡ opened_by on kind (text_of line)
   opens kind line h e = next-kept closed line (not-left closed line h) ∙ ap (λ k. opened_by on k (text_of line)) e
 
   -- ---- lines up to one that ends a leaf that holds line endings
@@ -153,7 +153,7 @@ module _ (on : Constructs) where
     until-now : (line : Line) (lines : List Line) → test line ≡ true → lines_until test (line ∷ lines) ≡ 0
     until-now line lines e = ap (λ b. cond (not b) (1 + lines_until test lines) 0) e
 
-    until-more : (line : Line) (lines : List Line) → test line ≡ false → lines_until test (line ∷ lines) ≡ suc (lines_until test lines)
+    pub until-more : (line : Line) (lines : List Line) → test line ≡ false → lines_until test (line ∷ lines) ≡ suc (lines_until test lines)
     until-more line lines e = ap (λ b. cond (not b) (1 + lines_until test lines) 0) e ∙ omega arith
 
     pub record Until (lines : List Line) : Type 0 where
@@ -438,7 +438,7 @@ module _ (on : Constructs) where
       Of n has = Front (html_block kind (false || has) (take n (line ∷ lines)), n) (line ∷ lines)
 
   -- HTML that waits for a blank line
-  ends-by-none : (kind : HtmlKind) (t : List ℕ) → waits_for_blank kind ≡ true → ends kind t ≡ false
+  pub ends-by-none : (kind : HtmlKind) (t : List ℕ) → waits_for_blank kind ≡ true → ends kind t ≡ false
   ends-by-none block_tag t h = refl
   ends-by-none any_tag t h = refl
   ends-by-none kind t h = absurd (cc)
@@ -475,7 +475,7 @@ module _ (on : Constructs) where
   ranked-full : (t : List ℕ) (rank : ℕ) → underline_rank on t ≡ Some rank → is_blank_line t ≡ false
   ranked-full t rank is = not-blank on t (subst IsOfText (sym (underline-kind on t rank is)) (elim (on.thematic_break && is_thematic_break (unindented t)) as (λ b. IsOfText (cond b thematic_break text)) [ true ↦ tt | false ↦ tt ]))
 
-  text-goes : (line : Line) → ends_text on line ≡ false → (is_blank_line (text_of line) ≡ false) × (leaf_after on open_paragraph (text_of line) ≡ open_paragraph)
+  pub text-goes : (line : Line) → ends_text on line ≡ false → (is_blank_line (text_of line) ≡ false) × (leaf_after on open_paragraph (text_of line) ≡ open_paragraph)
   text-goes line e =
       let both = or_parts (is_some (underline_rank on (text_of line))) (interrupts (line_kind on (text_of line))) e in
       (not-blank on (text_of line) (goes (line_kind on (text_of line)) both.1), (λ i. cond (both.0 i) closed (cond (both.1 i) (opened_by on (line_kind on (text_of line)) (text_of line)) open_paragraph)))

@@ -34,17 +34,17 @@ cut-both (x ∷ []) [] some = absurd (omega (arith, some))
 cut-both (x ∷ []) (y ∷ ys) some = refl
 cut-both (x ∷ next ∷ xs) ys some = ap (λ l. x ∷ l) (cut-both (next ∷ xs) ys some)
 
-held-both : (held : Bool) (xs ys : List Line) → 1 ≤ length ys → held_lines held (xs ++ ys) ≡ xs ++ held_lines held ys
+pub held-both : (held : Bool) (xs ys : List Line) → 1 ≤ length ys → held_lines held (xs ++ ys) ≡ xs ++ held_lines held ys
 held-both true xs ys some = refl
 held-both false xs ys some = cut-both xs ys some
 
-end-both : (bytes : List ℕ) (xs ys : List Line) → 1 ≤ length ys → last_end bytes (xs ++ ys) ≡ last_end bytes ys
+pub end-both : (bytes : List ℕ) (xs ys : List Line) → 1 ≤ length ys → last_end bytes (xs ++ ys) ≡ last_end bytes ys
 end-both bytes [] ys some = refl
 end-both bytes (x ∷ []) [] some = absurd (omega (arith, some))
 end-both bytes (x ∷ []) (y ∷ ys) some = refl
 end-both bytes (x ∷ next ∷ xs) ys some = end-both bytes (next ∷ xs) ys some
 
-last-both : (xs ys : List Line) → 1 ≤ length ys → last_line (xs ++ ys) ≡ last_line ys
+pub last-both : (xs ys : List Line) → 1 ≤ length ys → last_line (xs ++ ys) ≡ last_line ys
 last-both [] ys some = refl
 last-both (x ∷ []) [] some = absurd (omega (arith, some))
 last-both (x ∷ []) (y ∷ ys) some = refl
