@@ -194,8 +194,13 @@ pub use Rattle.mdconstructs_document_laws.proofs.Named
 pub use Rattle.mdconstructs_document_laws.proofs.PlainNames
 pub use Rattle.mdconstructs_document_laws.proofs.Ranks
 pub use Rattle.mdconstructs_document_laws.proofs.ReferenceBytes
+pub use Rattle.mdconstructs_document_laws.proofs.ReferenceChildren
 pub use Rattle.mdconstructs_document_laws.proofs.ReferenceItems
 pub use Rattle.mdconstructs_document_laws.proofs.ReferenceKinds
+pub use Rattle.mdconstructs_document_laws.proofs.ReferenceLinks
+pub use Rattle.mdconstructs_document_laws.proofs.ReferenceSeats
+pub use Rattle.mdconstructs_document_laws.proofs.ReferenceSpans
+pub use Rattle.mdconstructs_document_laws.proofs.ReferenceSpelling
 pub use Rattle.mdconstructs_document_laws.proofs.ReferencesStand
 pub use Rattle.mdconstructs_document_laws.proofs.RowNames
 pub use Rattle.mdconstructs_document_laws.proofs.SkeletonNames

@@ -1,11 +1,9 @@
--- Each event of a document that enters a character reference stands at one.
-use Rattle.std.proofs.Common.{◌≡◌, ℕ, suc, ◌+◌, List, [], ◌∷◌, ◌++◌, Bool, true, false, drop, Some, refl, sym, ap, ◌∙◌, subst, arith}
-use Rattle.std.proofs.lemmas.Bool.{and_parts, cond_both, false_from_ne_true, false≢true}
+-- Each character reference of a document has its events side by side, from its enter to its exit directly behind `;`, and the document's bytes there.
+use Rattle.std.proofs.Common.{◌≡◌, ℕ, suc, ◌+◌, List, [], ◌∷◌, ◌++◌, Bool, true, false, drop, Some, refl, sym, ap, ◌∙◌, subst, arith, cond, inl, inr, map, take}
+use Rattle.std.proofs.lemmas.Bool.{and_parts, false_from_ne_true, false≢true}
 use Rattle.std.proofs.lemmas.List.Elements.{All-from_recursion, recursion_from_All}
-use Rattle.std.specs.List.{AllByRecursion}
-use Rattle.std.specs.Option.{is_some}
-use Rattle.std.specs.Prelude.{◌&&◌, AllPairs, slice_index}
-use Rattle.markdown_base.proofs.Common.{every-append, every-map}
+use Rattle.std.specs.List.{AllByRecursion, flat_map}
+use Rattle.std.specs.Prelude.{◌&&◌, AllPairs, slice_index, not}
 use Rattle.markdown_base.specs.declared.configuration.Constructs.{Constructs}
 use Rattle.markdown_base.specs.declared.event.Content.TheVariants as content
 use Rattle.markdown_base.specs.declared.event.Event.{Event}
@@ -30,26 +28,33 @@ use Rattle.mdconstructs_flow_read.specs.ChunksJoin.{AcrossGap}
 use Rattle.mdconstructs_flow_read.specs.LeafBlocks.{LeafBlock, atx_heading, blank_line, break_line, fenced_code, html_block, indented_code, leaf_blocks, paragraph, setext_heading}
 use Rattle.mdconstructs_flow_read.specs.LeafEvents.{flow_events, leaf_block_marks, leaf_blocks_marks}
 use Rattle.mdconstructs_definitions.specs.Blocks.{document_blocks, document_skeleton, shown_as_text}
-use Rattle.mdconstructs_inline_constructs.specs.Reference.{reference_at}
 use Rattle.mdconstructs_inlines.specs.InlineChains.{with_inlines}
-use Rattle.mdconstructs_inlines.specs.InlineEvents.{inline_events}
+use Rattle.mdconstructs_inlines.specs.InlineEvents.{inline_events, inline_items}
 use Rattle.mdconstructs_inlines.specs.StringEvents.{string_events}
-use Rattle.mdconstructs_strings.specs.Strings.{in_string_after, is_data, line_as_string, seats_between, with_strings_from}
+use Rattle.mdconstructs_strings.specs.Strings.{in_string_after, is_data, line_as_string, with_strings_from}
 use Rattle.mdconstructs_documents.proofs.InContainers.Skeletons.{skeleton-laws}
 use Rattle.mdconstructs_documents.proofs.InContainers.TextsFormed.{content-ready as text-ready, strings-ready, texts-orderly}
 use Rattle.mdconstructs_documents.specs.DocumentEvents.{document_events, document_texts, is_defined_in}
 use Rattle.mdconstructs_document_laws.specs.Names.{may_be_named}
 use Rattle.mdconstructs_document_laws.specs.Ranks.{enters}
-use Rattle.mdconstructs_document_laws.specs.ReferencePlaces.{BeginsWithReference, ReferencesOfDocumentsStand, StandsAtReference}
-use Rattle.mdconstructs_document_laws.proofs.ChildEvents.{children-are, children-are-at}
+use Rattle.mdconstructs_document_laws.specs.ReferencePlaces.{BeginsWithReference, ReferencesOfDocumentsStand, IsWholeReference, ReferencesOfDocumentsEnd}
+use Rattle.mdconstructs_document_laws.proofs.ChildEvents.{children-are}
 use Rattle.mdconstructs_document_laws.proofs.DocumentNames.{skeleton-around}
 use Rattle.mdconstructs_document_laws.proofs.FlowNames.{IsOn, block-names}
 use Rattle.mdconstructs_document_laws.proofs.Inside.{around-other}
 use Rattle.mdconstructs_document_laws.proofs.Named.{Named, linked-named, marked-flat, marked-weaker, weaker}
-use Rattle.mdconstructs_document_laws.proofs.ReferenceBytes.{IsWritten, dark-shown, reference-dark, reference-there, text-agrees, written-virtual}
-use Rattle.mdconstructs_document_laws.proofs.ReferenceItems.{AreGood, IsGood, NoReference, string-good}
-use Rattle.mdconstructs_document_laws.proofs.ReferenceKinds.{references-are-written}
-use Rattle.mdconstructs_document_laws.proofs.ReferencesStand.{inline-good}
+use Rattle.mdconstructs_document_laws.proofs.ReferenceBytes.{IsWritten, written-virtual}
+use Rattle.mdconstructs_document_laws.proofs.ReferenceItems.{NoReference, Fits, read-has, string-has}
+use Rattle.markdown_children.proofs.Parts.TextGaps.{lone-untorn}
+use Rattle.mdconstructs_inline_constructs.specs.StringItems.{string_seat_events}
+use Rattle.mdconstructs_text.specs.Construct.{Found}
+use Rattle.mdconstructs_text.specs.TextEvents.{item_events}
+use Rattle.mdconstructs_documents.proofs.InContainers.InlineHolds.{inlines-hold-text}
+use Rattle.mdconstructs_documents.proofs.InContainers.Tight.{all-texts, inlines-lone, texts-torn}
+use Rattle.mdconstructs_document_laws.proofs.ReferenceChildren.{children-whole}
+use Rattle.mdconstructs_document_laws.proofs.ReferenceLinks.{links-whole}
+use Rattle.mdconstructs_document_laws.proofs.ReferenceSeats.{IsSpanOf, reference-whole}
+use Rattle.mdconstructs_document_laws.proofs.ReferenceSpans.{AreWhole, Goes, State, Step, behind, inside, others-whole, outside, whole-both}
 
 -- ---- leaf blocks have none
 
@@ -86,13 +91,6 @@ flow-other on bytes seats =
 
 -- ---- texts
 
--- an event that enters a reference stands at one of the document
-abbrev IsThere : (bytes : List ℕ) → Event → Type 0
-IsThere bytes e = enters name.CharacterReference e ≡ true → is_some (reference_at (drop e.point.index bytes)) ≡ true
-
-other-there : (bytes : List ℕ) (e : Event) → NoReference e.name → IsThere bytes e
-other-there bytes e o h = absurd (false≢true (sym o ∙ (and_parts (is_enter e.kind) (same_name e.name name.CharacterReference) h).1))
-
 module _ (g : Given) (text : Text) (is : IsText g text) where
   abbrev start : Point
   start = shown g.bytes text.start
@@ -105,19 +103,34 @@ module _ (g : Given) (text : Text) (is : IsText g text) where
       let from : (k : ℕ) → slice_index g.bytes (0 + k) ≡ slice_index g.bytes k = λ k. let z : 0 + k ≡ k = omega arith in ap (slice_index g.bytes) z in
       course-every AcrossGap g.tab g.bytes (IsWritten g.bytes) (written-virtual g.bytes g.tab 1 1 0 g.bytes from) start text.seats course
 
-  stands-there : (e : Event) → StandsAtReference g.bytes text.seats e → is_some (reference_at (drop e.point.index g.bytes)) ≡ true
-  stands-there e r =
-      let all = r.first ∷ r.behind in
-      let q = end_after start r.before in
-      let c : Course AcrossGap g.tab g.bytes q all = course-on AcrossGap g.tab g.bytes start r.before all (subst (Course AcrossGap g.tab g.bytes start) r.are course) in
-      let w : AllByRecursion (IsWritten g.bytes) all = every-back (IsWritten g.bytes) r.before all (subst (AllByRecursion (IsWritten g.bytes)) r.are written) in
-      let at : e.point.index ≡ r.first.point.index = ap (λ (p : Point). p.index) r.stands ∙ dark-shown g.bytes r.first w.0 (reference-dark r.first r.behind r.there) in
-      subst (λ i. is_some (reference_at (drop i g.bytes)) ≡ true) (sym at) (reference-there (bytes_of all) (drop r.first.point.index g.bytes) (text-agrees g.bytes g.tab q r.first r.behind c w) r.there)
+module _ (g : Given) where
+  abbrev Are : List Event → Type 0
+  Are es = AreWhole (IsSpanOf g.bytes) es
 
-  text-there : (es : List Event) → AreGood g.bytes text.seats es → AllByRecursion (IsThere g.bytes) es
-  text-there es h = every-map (IsGood g.bytes text.seats) (IsThere g.bytes) (λ e good enter. stands-there e (good enter)) es h
+  named-whole : (es : List Event) → Named NoReference es → Are es
+  named-whole es h = others-whole (IsSpanOf g.bytes) es h.all
 
--- ---- documents
+  and-whole : (xs ys : List Event) → Are xs → Are ys → Are (xs ++ ys)
+  and-whole xs ys h k = whole-both (IsSpanOf g.bytes) xs ys h k
+
+  module _ (text : Text) (is : IsText g text) where
+    item-whole : (before : List Seat) (s : Seat) (ss : List Seat) → text.seats ≡ before ++ s ∷ ss → (f : Found) → Fits (bytes_of (s ∷ ss)) f → Are (f.events g.bytes (take f.size (s ∷ ss)))
+    item-whole before s ss all f (inl h) = named-whole (f.events g.bytes (take f.size (s ∷ ss))) (h g.bytes (take f.size (s ∷ ss)))
+    item-whole before s ss all f (inr r) =
+        let q = end_after (start g text is) before in
+        let c : Course AcrossGap g.tab g.bytes q (s ∷ ss) = course-on AcrossGap g.tab g.bytes (start g text is) before (s ∷ ss) (subst (Course AcrossGap g.tab g.bytes (start g text is)) all (course g text is)) in
+        let w : AllByRecursion (IsWritten g.bytes) (s ∷ ss) = every-back (IsWritten g.bytes) before (s ∷ ss) (subst (AllByRecursion (IsWritten g.bytes)) all (written g text is)) in
+        subst (λ (x : Found). Are (x.events g.bytes (take x.size (s ∷ ss)))) (sym r.2) (reference-whole g.bytes g.tab q s ss c w r.0 r.1 (r.3 ∙ ap Some r.2))
+
+    string-whole : (on : Constructs) → Are (string_seat_events on g.bytes text.seats)
+    string-whole on = string-has g.bytes text.seats Are refl and-whole named-whole item-whole on
+
+    inline-whole : (defined : List ℕ → Bool) → Are (inline_events defined g text)
+    inline-whole defined =
+        let on = g.options.constructs in
+        links-whole (IsSpanOf g.bytes) g.bytes (flat_map (item_events g.bytes) (inline_items on defined g.bytes text.seats)) (read-has g.bytes text.seats Are refl and-whole named-whole item-whole on defined)
+
+-- ---- strings in place of data
 
 -- places that never decrease
 abbrev Rising : List Event → Type 0
@@ -138,75 +151,135 @@ module _ (g : Given) (is : IsDocument g) where
   abbrev on : Constructs
   on = g.options.constructs
 
-  abbrev sk : List Event
-  sk = document_skeleton g
+  abbrev Is : Event → List Event → Type 0
+  Is = IsSpanOf g.bytes
 
+  -- what is between two places is a text
+  line-whole : (from to : Point) → IsPointOf g.tab g.bytes from → IsPointOf g.tab g.bytes to → stands_before to from ≡ false → AreWhole Is (line_as_string on g.tab g.bytes from to)
+  line-whole from to a b order =
+      let text = followed_by g (empty_text from) (pushed from to) in
+      let one : IsText g text = record { document = is; starts = a; pieces = pushed from to ∷ []; follow = ((a, b, same-self g.tab g.bytes from, upto-order g.tab g.bytes from to order), tt); is = refl } in
+      string-whole g text one on
+
+  -- data is in no reference
+  data-out : (s : State) (e : Event) (t : State) → same_name e.name name.Data ≡ true → Step Is s e t → (s ≡ outside) × (t ≡ outside)
+  data-out outside e t d (inl h) = (refl, h.1)
+  data-out outside e t d (inr h) = absurd (false≢true (sym h.1.own.no_data ∙ d))
+  data-out (inside last []) e t d h = absurd h
+  data-out (inside last (y ∷ ys)) e t d h = absurd (false≢true (sym h.1.own.no_data ∙ d))
+
+  data-names : (e f : Event) → is_data e f ≡ true → (same_name e.name name.Data ≡ true) × (same_name f.name name.Data ≡ true)
+  data-names e f h =
+      let both = and_parts (is_enter e.kind && same_name e.name name.Data) (not (is_enter f.kind) && same_name f.name name.Data) h in
+      ((and_parts (is_enter e.kind) (same_name e.name name.Data) both.0).1, (and_parts (not (is_enter f.kind)) (same_name f.name name.Data) both.1).1)
+
+  record IsDataOut (s : State) (es : List Event) : Type 0 where
+    here : s ≡ outside
+    more : AreWhole Is es
+
+  both-out : (s : State) (e f : Event) (es : List Event) → is_data e f ≡ true → Goes Is s (e ∷ f ∷ es) outside → IsDataOut s es
+  both-out s e f es d h =
+      let names = data-names e f d in
+      let one = data-out s e h.0 names.0 h.1 in
+      let two = data-out h.0 f h.2.0 names.1 h.2.1 in
+      record { here = one.0; more = subst (λ r. Goes Is r es outside) two.1 h.2.2 }
+
+  abbrev read : Bool → List Event → List Event
+  read within es = with_strings_from on g.tab g.bytes within es
+
+  strings-whole : (within : Bool) (es : List Event) (s : State) → Goes Is s es outside → AllByRecursion (λ (e : Event). IsPointOf g.tab g.bytes e.point) es → Rising es → Goes Is s (read within es) outside
+  strings-whole within [] s h at order = h
+  strings-whole within (e ∷ []) s h at order = h
+  strings-whole within (e ∷ f ∷ es) s h at order =
+      by (within && is_data e f) refl (λ one. strings-whole within es outside one at.1.1 (rising-behind f es order.1)) (strings-whole (in_string_after within e) (f ∷ es) h.0 h.2 at.1 order.1)
+    where
+      by : (b : Bool) → (within && is_data e f) ≡ b → (AreWhole Is es → AreWhole Is (read within es)) → Goes Is h.0 (read (in_string_after within e) (f ∷ es)) outside
+          → Goes Is s (cond b (line_as_string on g.tab g.bytes e.point f.point ++ read within es) (e ∷ read (in_string_after within e) (f ∷ es))) outside
+      by true d more other =
+          let out = both-out s e f es (and_parts within (is_data e f) d).1 h in
+          let line = line_as_string on g.tab g.bytes e.point f.point in
+          subst (λ r. Goes Is r (line ++ read within es) outside) (sym out.here)
+          (whole-both Is line (read within es) (line-whole e.point f.point at.0 at.1.0 order.0) (more out.more))
+      by false d more other = (h.0, h.1, other)
+
+  -- ---- documents
   abbrev blocks : List Event
   blocks = document_blocks g
 
+  abbrev sk : List Event
+  sk = document_skeleton g
+
+  abbrev AreOther : List Event → Type 0
+  AreOther es = AllByRecursion (λ (e : Event). NoReference e.name) es
+
+  sk-other : AreOther sk
+  sk-other = (weaker (around-other on) sk (skeleton-around on g.bytes (virtual g.tab g.bytes))).all
+
+  -- blocks have no references
+  blocks-other : AreOther blocks
+  blocks-other =
+      children-are (λ (e : Event). NoReference e.name) (λ f e p. p) (Some content.Content) sk (λ c. flow_events on (shown_as_text g).bytes (text_from (shown_as_text g) sk c).seats) sk-other
+      (λ c. (flow-other on (shown_as_text g).bytes (text_from (shown_as_text g) sk c).seats).all)
+
+  abbrev defined : List ℕ → Bool
+  defined = is_defined_in g
+
   abbrev inlines : List Event
-  inlines = with_inlines (is_defined_in g) g blocks
+  inlines = with_inlines defined g blocks
 
-  abbrev Are : List Event → Type 0
-  Are es = AllByRecursion (IsThere g.bytes) es
+  inlines-whole : AreWhole Is inlines
+  inlines-whole =
+      children-whole Is g.tab g.bytes (Some content.Text) blocks (text-ready skeleton-laws g is content.Text) (others-whole Is blocks blocks-other)
+      (map (λ c. inline_events defined g (chain_text g blocks c)) (fitting_starts (Some content.Text) blocks)) (all-texts skeleton-laws g is defined (AreWhole Is) (λ text one. inline-whole g text one defined))
+      (texts-torn skeleton-laws g is defined inlines-hold-text)
 
-  named-there : (es : List Event) → Named NoReference es → Are es
-  named-there es h = every-map (λ (e : Event). NoReference e.name) (IsThere g.bytes) (other-there g.bytes) es h.all
-
-  sk-there : Are sk
-  sk-there = named-there sk (weaker (around-other on) sk (skeleton-around on g.bytes (virtual g.tab g.bytes)))
-
-  blocks-there : Are blocks
-  blocks-there =
-      children-are (IsThere g.bytes) (λ f e p. p) (Some content.Content) sk (λ c. flow_events on (shown_as_text g).bytes (text_from (shown_as_text g) sk c).seats) sk-there
-      (λ c. named-there _ (flow-other on (shown_as_text g).bytes (text_from (shown_as_text g) sk c).seats))
-
-  each-inline : (cs : List ℕ) → AllByRecursion (λ c. begins (Some content.Text) blocks c ≡ true) cs → AllByRecursion (λ c. Are (inline_events (is_defined_in g) g (chain_text g blocks c))) cs
-  each-inline [] b = tt
-  each-inline (c ∷ cs) b =
-      let text = chain_text g blocks c in
-      (text-there g text (is-text g blocks is content.Text (text-ready skeleton-laws g is content.Text) c b.0) (inline_events (is_defined_in g) g text) (inline-good (is_defined_in g) g text), each-inline cs b.1)
-
-  inlines-there : Are inlines
-  inlines-there =
-      children-are-at (IsThere g.bytes) (λ f e p. p) (Some content.Text) blocks (λ c. inline_events (is_defined_in g) g (chain_text g blocks c)) blocks-there
-      (each-inline (fitting_starts (Some content.Text) blocks) (all-begin g blocks is content.Text (text-ready skeleton-laws g is content.Text)))
-
-  each-string : (cs : List ℕ) → AllByRecursion (λ c. begins (Some content.String) inlines c ≡ true) cs → AllByRecursion (λ c. Are (string_events g (chain_text g inlines c))) cs
+  each-string : (cs : List ℕ) → AllByRecursion (λ c. begins (Some content.String) inlines c ≡ true) cs → AllByRecursion (AreWhole Is) (map (λ c. string_events g (chain_text g inlines c)) cs)
   each-string [] b = tt
-  each-string (c ∷ cs) b =
-      let text = chain_text g inlines c in
-      (text-there g text (is-text g inlines is content.String (strings-ready skeleton-laws g is (is_defined_in g)) c b.0) (string_events g text) (string-good on g.bytes text.seats), each-string cs b.1)
+  each-string (c ∷ cs) b = let text = chain_text g inlines c in (string-whole g text (is-text g inlines is content.String (strings-ready skeleton-laws g is defined) c b.0) on, each-string cs b.1)
 
-  texts-there : Are (document_texts g)
-  texts-there =
-      children-are-at (IsThere g.bytes) (λ f e p. p) (Some content.String) inlines (λ c. string_events g (chain_text g inlines c)) inlines-there
-      (each-string (fitting_starts (Some content.String) inlines) (all-begin g inlines is content.String (strings-ready skeleton-laws g is (is_defined_in g))))
+  texts-whole : AreWhole Is (document_texts g)
+  texts-whole =
+      let ready = strings-ready skeleton-laws g is defined in
+      let starts = fitting_starts (Some content.String) inlines in
+      let strings = map (λ c. string_events g (chain_text g inlines c)) starts in
+      children-whole Is g.tab g.bytes (Some content.String) inlines ready inlines-whole strings (each-string starts (all-begin g inlines is content.String ready))
+      (lone-untorn g.tab g.bytes (Some content.String) inlines ready (inlines-lone skeleton-laws g is defined inlines-hold-text) strings)
 
-  -- what is between two places is a text
-  line-there : (from to : Point) → IsPointOf g.tab g.bytes from → IsPointOf g.tab g.bytes to → stands_before to from ≡ false → Are (line_as_string on g.tab g.bytes from to)
-  line-there from to a b order =
-      let text = followed_by g (empty_text from) (pushed from to) in
-      let one : IsText g text = record { document = is; starts = a; pieces = pushed from to ∷ []; follow = ((a, b, same-self g.tab g.bytes from, upto-order g.tab g.bytes from to order), tt); is = refl } in
-      text-there g text one (line_as_string on g.tab g.bytes from to) (string-good on g.bytes (seats_between g.tab g.bytes from to))
-
-  strings-there : (inside : Bool) (es : List Event) → Are es → AllByRecursion (λ (e : Event). IsPointOf g.tab g.bytes e.point) es → Rising es → Are (with_strings_from on g.tab g.bytes inside es)
-  strings-there inside [] h at order = tt
-  strings-there inside (e ∷ []) h at order = h
-  strings-there inside (e ∷ f ∷ es) h at order =
-      let line = line_as_string on g.tab g.bytes e.point f.point in
-      let behind = with_strings_from on g.tab g.bytes inside es in
-      cond_both (inside && is_data e f) (line ++ behind) (e ∷ with_strings_from on g.tab g.bytes (in_string_after inside e) (f ∷ es)) Are
-      (λ x. every-append (IsThere g.bytes) line behind (line-there e.point f.point at.0 at.1.0 order.0) (strings-there inside es h.1.1 at.1.1 (rising-behind f es order.1)))
-      (λ x. (h.0, strings-there (in_string_after inside e) (f ∷ es) h.1 at.1 order.1))
-
-  document-there : Are (document_events g)
-  document-there =
+  document-whole : AreWhole Is (document_events g)
+  document-whole =
       let texts = document_texts g in
-      let orderly = texts-orderly skeleton-laws g is (is_defined_in g) in
-      strings-there false texts texts-there (recursion_from_All (λ (e : Event). IsPointOf g.tab g.bytes e.point) texts orderly.at_places) (rising texts orderly.in_order.0)
+      let orderly = texts-orderly skeleton-laws g is defined in
+      strings-whole false texts outside texts-whole (recursion_from_All (λ (e : Event). IsPointOf g.tab g.bytes e.point) texts orderly.at_places) (rising texts orderly.in_order.0)
+
+  -- ---- where one is entered
+  record GoesOnWith (ys es : List Event) : Type 0 where
+    others : List Event
+    are : es ≡ ys ++ others
+
+  comes : (e : Event) (ys es : List Event) → Goes Is (behind e ys) es outside → GoesOnWith ys es
+  comes e [] es h = record { others = es; are = refl }
+  comes e (y ∷ ys) [] h = absurd (cc)
+  comes e (y ∷ ys) (z ∷ es) h =
+      let more = comes z ys es (subst (λ r. Goes Is r es outside) h.1.2 h.2) in
+      record { others = more.others; are = ap (λ x. x ∷ es) h.1.0 ∙ ap (λ l. y ∷ l) more.are }
+
+  at-enter : (s : State) (before behind_it : List Event) (e : Event) → enters name.CharacterReference e ≡ true → Goes Is s (before ++ e ∷ behind_it) outside → IsWholeReference g.bytes e behind_it
+  at-enter outside [] es e enter (t, inl h, more) = absurd (false≢true (sym h.0 ∙ (and_parts (is_enter e.kind) (same_name e.name name.CharacterReference) enter).1))
+  at-enter outside [] es e enter (t, inr h, more) =
+      let span = h.1.is in
+      let rest = comes e h.0 es (subst (λ r. Goes Is r es outside) h.2 more) in
+      record { begins = span.begins; others = rest.others; are = ap (λ l. e ∷ l) rest.are ∙ ap (λ l. l ++ rest.others) span.are }
+  at-enter (inside last []) [] es e enter h = absurd h.1
+  at-enter (inside last (y ∷ ys)) [] es e enter h = absurd (false≢true (sym h.1.1.no_enter ∙ enter))
+  at-enter s (x ∷ before) es e enter h = at-enter h.0 before es e enter h.2
+
+  each-enter : (s : State) (es : List Event) → Goes Is s es outside → AllByRecursion (λ (e : Event). enters name.CharacterReference e ≡ true → BeginsWithReference (drop e.point.index g.bytes)) es
+  each-enter s [] h = tt
+  each-enter s (e ∷ es) h = ((λ enter. (at-enter s [] es e enter h).begins), each-enter h.0 es h.2)
 
 pub references-of-documents : ReferencesOfDocumentsStand
 references-of-documents g is =
-    let P : Event → Type 0 = λ e. enters name.CharacterReference e ≡ true → BeginsWithReference (drop e.point.index g.bytes) in
-    All-from_recursion P (document_events g) (every-map (IsThere g.bytes) P (λ e there enter. references-are-written (drop e.point.index g.bytes) (there enter)) (document_events g) (document-there g is))
+    All-from_recursion (λ (e : Event). enters name.CharacterReference e ≡ true → BeginsWithReference (drop e.point.index g.bytes)) (document_events g) (each-enter g is outside (document_events g) (document-whole g is))
+
+pub references-of-documents-end : ReferencesOfDocumentsEnd
+references-of-documents-end g is before behind_it e all enter = at-enter g is outside before behind_it e enter (subst (λ l. Goes (IsSpanOf g.bytes) outside l outside) all (document-whole g is))

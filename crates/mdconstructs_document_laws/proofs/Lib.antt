@@ -22,8 +22,14 @@ pub mod Named
 pub mod PlainNames
 pub mod Ranks
 pub mod ReferenceBytes
+pub mod ReferenceChildren
+mod ReferenceExamples
 pub mod ReferenceItems
 pub mod ReferenceKinds
+pub mod ReferenceLinks
+pub mod ReferenceSeats
+pub mod ReferenceSpans
+pub mod ReferenceSpelling
 pub mod ReferencesStand
 pub mod RowNames
 pub mod SkeletonNames

@@ -1,6 +1,6 @@
 -- Character references of a text are those of the document: their bytes stand side by side in it, as a gap is only where a line begins.
-use Rattle.std.proofs.Common.{◌≡◌, ℕ, zero, suc, ◌+◌, ◌<◌, List, [], ◌∷◌, ◌++◌, Bool, true, false, cond, drop, inl, inr, Some, None, refl, sym, ap, ◌∙◌, subst, arith}
-use Rattle.std.proofs.lemmas.Bool.{and_parts, eqb-true, false≢true, or_cases}
+use Rattle.std.proofs.Common.{◌≡◌, ℕ, zero, suc, ◌+◌, ◌<◌, List, [], ◌∷◌, ◌++◌, Bool, true, false, cond, drop, inl, inr, Option, Some, None, refl, sym, ap, ◌∙◌, subst, arith}
+use Rattle.std.proofs.lemmas.Bool.{and_parts, eq-eqb, eqb-true, false≢true, or_cases}
 use Rattle.std.proofs.lemmas.Bool.Decides.{nat_tests}
 use Rattle.std.specs.List.{AllByRecursion, prefix_len}
 use Rattle.std.specs.Option.{is_some}
@@ -8,14 +8,16 @@ use Rattle.std.specs.Prelude.{◌==◌, ◌&&◌, ◌||◌, nat_lt, slice_get, s
 use Rattle.markdown_base.proofs.Common.{drop-at}
 use Rattle.markdown_base.specs.declared.event.Point.{Point}
 use Rattle.markdown_base.specs.Places.{shown}
-use Rattle.markdown_base.specs.Virtual.{Seat, begins_with_lf, in_tab, line_feed, other_byte, tab_width, virtual_from}
+use Rattle.markdown_base.specs.Virtual.{Seat, begins_with_lf, in_tab, line_feed, other_byte, point, tab_width, virtual_from}
+use Rattle.markdown_tokenizer.proofs.Positions.Chains.{shown-other}
+use Rattle.mdconstructs_attention.specs.Emphasis.{later}
 use Rattle.mdconstructs_machines.specs.LineEvents.{is_line_ending}
 use Rattle.mdconstructs_flow_read.proofs.Marks.Courses.{Course}
 use Rattle.mdconstructs_flow_read.specs.ChunksJoin.{AcrossGap}
 use Rattle.mdconstructs_text.specs.Bytes.{has_byte_at, is_ampersand}
+use Rattle.mdconstructs_text.specs.Construct.{Found}
 use Rattle.mdconstructs_text.specs.Parts.{bytes_of}
 use Rattle.mdconstructs_inline_constructs.specs.Reference.{Kind, body_at, decimal, hexadecimal, is_number_sign, is_semicolon, is_value, is_value_byte, is_x, named, number_at, reference, reference_at, value_at}
-use Rattle.mdconstructs_document_laws.proofs.Ranks.Underlines.{shown-index}
 
 -- ---- a text and bytes that are the same, up to white space
 
@@ -105,15 +107,17 @@ pub some-cond : {A : Type 0} (b : Bool) (x : A) → is_some (cond b (Some x) Non
 some-cond true x h = refl
 some-cond false x h = absurd (false≢true h)
 
--- a value of a text, and of the other bytes
-value-there : (kind : Kind) (text raw : List ℕ) → Agrees text raw → is_some (value_at kind text) ≡ true → IsFirst text raw × (is_some (value_at kind raw) ≡ true)
+-- a value of a text is one of the other bytes
+value-there : (kind : Kind) (text raw : List ℕ) → Agrees text raw → is_some (value_at kind text) ≡ true → IsFirst text raw × (value_at kind raw ≡ value_at kind text)
 value-there kind text raw a h =
     let n = prefix_len (is_value_byte kind) text in
-    let both = and_parts (is_value kind (take n text)) (has_byte_at text n is_semicolon) (some-cond _ (reference kind n) h) in
+    let there : (is_value kind (take n text) && has_byte_at text n is_semicolon) ≡ true = some-cond _ (reference kind n) h in
+    let both = and_parts (is_value kind (take n text)) (has_byte_at text n is_semicolon) there in
     let s = value-same kind text raw a both.1 in
     let value : is_value kind (take (prefix_len (is_value_byte kind) raw) raw) ≡ true = ap (λ k. is_value kind (take k raw)) s.size ∙ ap (is_value kind) s.taken ∙ both.0 in
     let ends : has_byte_at raw (prefix_len (is_value_byte kind) raw) is_semicolon ≡ true = ap (λ k. has_byte_at raw k is_semicolon) s.size ∙ s.ends in
-    (s.first, (λ i. is_some (cond (value i && ends i) (Some (reference kind (prefix_len (is_value_byte kind) raw))) None)))
+    let found : value_at kind raw ≡ Some (reference kind n) = λ i. cond (value i && ends i) (Some (reference kind (s.size i))) None in
+    (s.first, found ∙ sym (ap (λ b. cond b (Some (reference kind n)) None) there))
 
 -- the first bytes are the same, so a test says the same
 same-test : (test : ℕ → Bool) (text raw : List ℕ) → IsFirst text raw → has_byte_at raw 0 test ≡ has_byte_at text 0 test
@@ -134,40 +138,46 @@ sign-dark b h = ap is_dark (eqb-true b 35 h)
 ampersand-dark : (b : ℕ) → is_ampersand b ≡ true → is_dark b ≡ true
 ampersand-dark b h = ap is_dark (eqb-true b 38 h)
 
+-- what is found by one test of two lists, by which one the test takes
+same-found : (b c : Bool) (x y z w : Option Found) → c ≡ b → (b ≡ true → z ≡ x) → (b ≡ false → w ≡ y) → cond c z w ≡ cond b x y
+same-found true c x y z w same one other = ap (λ t. cond t z w) same ∙ one refl
+same-found false c x y z w same one other = ap (λ t. cond t z w) same ∙ other refl
+
 module _ (text raw : List ℕ) (a : Agrees text raw) where
-  number-there : is_some (number_at text) ≡ true → IsFirst text raw × (is_some (number_at raw) ≡ true)
+  number-there : is_some (number_at text) ≡ true → IsFirst text raw × (number_at raw ≡ number_at text)
   number-there h = by (has_byte_at text 0 is_x) refl h
     where
-      by : (x : Bool) → has_byte_at text 0 is_x ≡ x → is_some (cond x (value_at hexadecimal (drop 1 text)) (value_at decimal text)) ≡ true → IsFirst text raw × (is_some (number_at raw) ≡ true)
+      by : (x : Bool) → has_byte_at text 0 is_x ≡ x → is_some (cond x (value_at hexadecimal (drop 1 text)) (value_at decimal text)) ≡ true → IsFirst text raw × (number_at raw ≡ number_at text)
       by true e k =
           let f = first-passes is_x x-dark text raw a e in
           let more = value-there hexadecimal (drop 1 text) (drop 1 raw) (behind-first text raw f) k in
-          (f, ap (λ c. is_some (cond c (value_at hexadecimal (drop 1 raw)) (value_at decimal raw))) (same-test is_x text raw f ∙ e) ∙ more.1)
+          (f, same-found _ _ _ _ _ _ (same-test is_x text raw f) (λ t. more.1) (λ t. absurd (false≢true (sym t ∙ e))))
       by false e k =
           let more = value-there decimal text raw a k in
-          (more.0, ap (λ c. is_some (cond c (value_at hexadecimal (drop 1 raw)) (value_at decimal raw))) (same-test is_x text raw more.0 ∙ e) ∙ more.1)
+          (more.0, same-found _ _ _ _ _ _ (same-test is_x text raw more.0) (λ t. absurd (false≢true (sym e ∙ t))) (λ t. more.1))
 
 module _ (text raw : List ℕ) (a : Agrees text raw) where
-  body-there : is_some (body_at text) ≡ true → is_some (body_at raw) ≡ true
+  body-there : is_some (body_at text) ≡ true → body_at raw ≡ body_at text
   body-there h = by (has_byte_at text 0 is_number_sign) refl h
     where
-      by : (x : Bool) → has_byte_at text 0 is_number_sign ≡ x → is_some (cond x (number_at (drop 1 text)) (value_at named text)) ≡ true → is_some (body_at raw) ≡ true
+      by : (x : Bool) → has_byte_at text 0 is_number_sign ≡ x → is_some (cond x (number_at (drop 1 text)) (value_at named text)) ≡ true → body_at raw ≡ body_at text
       by true e k =
           let f = first-passes is_number_sign sign-dark text raw a e in
           let more = number-there (drop 1 text) (drop 1 raw) (behind-first text raw f) k in
-          ap (λ c. is_some (cond c (number_at (drop 1 raw)) (value_at named raw))) (same-test is_number_sign text raw f ∙ e) ∙ more.1
+          same-found _ _ _ _ _ _ (same-test is_number_sign text raw f) (λ t. more.1) (λ t. absurd (false≢true (sym t ∙ e)))
       by false e k =
           let more = value-there named text raw a k in
-          ap (λ c. is_some (cond c (number_at (drop 1 raw)) (value_at named raw))) (same-test is_number_sign text raw more.0 ∙ e) ∙ more.1
+          same-found _ _ _ _ _ _ (same-test is_number_sign text raw more.0) (λ t. absurd (false≢true (sym e ∙ t))) (λ t. more.1)
 
 -- A reference of a text is one of the bytes that are the same
-pub reference-there : (text raw : List ℕ) → Agrees text raw → is_some (reference_at text) ≡ true → is_some (reference_at raw) ≡ true
+pub reference-there : (text raw : List ℕ) → Agrees text raw → is_some (reference_at text) ≡ true → reference_at raw ≡ reference_at text
 reference-there text raw a h = by (has_byte_at text 0 is_ampersand) refl h
   where
-    by : (x : Bool) → has_byte_at text 0 is_ampersand ≡ x → is_some (cond x (body_at (drop 1 text)) None) ≡ true → is_some (reference_at raw) ≡ true
+    by : (x : Bool) → has_byte_at text 0 is_ampersand ≡ x → is_some (cond x (body_at (drop 1 text)) None) ≡ true → reference_at raw ≡ reference_at text
     by true e k =
         let f = first-passes is_ampersand ampersand-dark text raw a e in
-        ap (λ c. is_some (cond c (body_at (drop 1 raw)) None)) (same-test is_ampersand text raw f ∙ e) ∙ body-there (drop 1 text) (drop 1 raw) (behind-first text raw f) k
+        let more = body-there (drop 1 text) (drop 1 raw) (behind-first text raw f) k in
+        same-found _ _ _ _ _ _ (same-test is_ampersand text raw f) (λ t. more) (λ t. absurd (false≢true (sym t ∙ e)))
     by false e k = absurd (false≢true k)
 
 -- and its first byte is dark
@@ -178,6 +188,19 @@ reference-dark s ss h = by (is_ampersand s.byte) refl h
     by true e k = ampersand-dark s.byte e
     by false e k = absurd (false≢true k)
 
+-- bytes up to the first that is not dark are the same
+front-agrees : (bs : List ℕ) → Agrees bs (take (prefix_len is_dark bs) bs)
+front-agrees [] = tt
+front-agrees (b ∷ bs) = by (front-agrees bs) (is_dark b) refl
+  where
+    by : Agrees bs (take (prefix_len is_dark bs) bs) → (x : Bool) → is_dark b ≡ x → Agrees (b ∷ bs) (take (cond x (1 + prefix_len is_dark bs) 0) (b ∷ bs))
+    by more true e = let z : 1 + prefix_len is_dark bs ≡ suc (prefix_len is_dark bs) = omega arith in subst (λ n. Agrees (b ∷ bs) (take n (b ∷ bs))) (sym z) (λ d. (refl, more))
+    by more false e = e
+
+-- so all bytes of a reference are dark
+pub front-reference : (text : List ℕ) → is_some (reference_at text) ≡ true → reference_at (take (prefix_len is_dark text) text) ≡ reference_at text
+front-reference text h = reference-there text (take (prefix_len is_dark text) text) (front-agrees text) h
+
 -- ---- virtual bytes
 
 get-of : (bs : List ℕ) (i b : ℕ) → slice_index bs i ≡ b → 0 < b → slice_get bs i ≡ Some b
@@ -186,13 +209,19 @@ get-of (x ∷ bs) zero b h some = ap Some h
 get-of (x ∷ bs) (suc i) b h some = get-of bs i b h some
 
 module _ (bytes : List ℕ) where
-  -- a dark byte is one of the document, and ends behind itself
+  -- a dark byte is one of the document, and ends one column and one byte behind itself
   abbrev pub IsWritten : Seat → Type 0
-  IsWritten s = is_dark s.byte ≡ true → (slice_index bytes s.point.index ≡ s.byte) × (s.end.index ≡ suc s.point.index)
+  IsWritten s = is_dark s.byte ≡ true → (slice_index bytes s.point.index ≡ s.byte) × (s.end ≡ later 1 s.point)
 
   written-tab : (byte n line column index vs : ℕ) (rest : List Seat) → is_dark byte ≡ false → AllByRecursion IsWritten rest → AllByRecursion IsWritten (in_tab byte n line column index vs ++ rest)
   written-tab byte zero line column index vs rest other h = h
   written-tab byte (suc n) line column index vs rest other h = ((λ e. absurd (false≢true (sym other ∙ e))), written-tab 32 n line (suc column) index (suc vs) rest refl h)
+
+  next-place : (line column index : ℕ) → point line (suc column) (suc index) 0 ≡ later 1 (point line column index 0)
+  next-place line column index =
+      let further : suc column ≡ column + 1 = omega arith in
+      let more : suc index ≡ index + 1 = omega arith in
+      λ i. point line (further i) (more i) 0
 
   pub written-virtual : (t line column index : ℕ) (bs : List ℕ) → ((k : ℕ) → slice_index bytes (index + k) ≡ slice_index bs k) → AllByRecursion IsWritten (virtual_from t line column index bs)
   written-virtual t line column index [] at = tt
@@ -211,14 +240,14 @@ module _ (bytes : List ℕ) where
       by here rest false true true w = rest line column
       by here rest false true false w = ((λ e. absurd (false≢true e)), rest (suc line) 1)
       by here rest false false r true = written-tab 9 (tab_width t column) line column index 0 (virtual_from t line (column + tab_width t column) (suc index) bs) refl (rest line (column + tab_width t column))
-      by here rest false false r false = ((λ e. (here, refl)), rest line (suc column))
+      by here rest false false r false = ((λ e. (here, next-place line column index)), rest line (suc column))
 
   dark-some : (b : ℕ) → is_dark b ≡ true → (0 < b) × ((b == 10) ≡ false)
   dark-some b h = (grind (arith, nat_tests), grind (arith, nat_tests))
 
-  -- where it is shown
-  pub dark-shown : (s : Seat) → IsWritten s → is_dark s.byte ≡ true → (shown bytes s.point).index ≡ s.point.index
-  dark-shown s w h = shown-index bytes s.point s.byte (w h).0 (dark-some s.byte h).1
+  -- it is shown where it is
+  pub dark-shown : (s : Seat) → IsWritten s → is_dark s.byte ≡ true → shown bytes s.point ≡ s.point
+  dark-shown s w h = shown-other bytes s.point (λ feed. false≢true (sym (dark-some s.byte h).1 ∙ eq-eqb s.byte 10 (sym (w h).0 ∙ feed)))
 
   not-dark : (b : ℕ) (bs raw : List ℕ) → is_dark b ≡ false → Agrees (b ∷ bs) raw
   not-dark b bs [] h = h
@@ -226,12 +255,12 @@ module _ (bytes : List ℕ) where
 
   module _ (t : ℕ) where
     -- the next dark byte stands where one ends
-    next-dark : (p : Point) (s r : Seat) (rs : List Seat) → Course AcrossGap t bytes p (s ∷ r ∷ rs) → IsWritten r → is_dark s.byte ≡ true → is_dark r.byte ≡ true → r.point.index ≡ s.end.index
+    pub next-dark : (p : Point) (s r : Seat) (rs : List Seat) → Course AcrossGap t bytes p (s ∷ r ∷ rs) → IsWritten r → is_dark s.byte ≡ true → is_dark r.byte ≡ true → r.point ≡ s.end
     next-dark p s r rs c w e k =
         let plain : is_line_ending s ≡ false = (dark-some s.byte e).1 in
         let column = c.1.seat.in_line plain in
         elim c.2.1.meets.in_line [
-          | inl same ↦ sym (dark-shown r w k) ∙ sym (ap (λ (q : Point). q.index) same)
+          | inl same ↦ sym (dark-shown r w k) ∙ sym same
           | inr gap ↦ absurd (let first = gap.0 in omega (arith, column, first))
         ]
 
@@ -249,7 +278,9 @@ module _ (bytes : List ℕ) where
     next-agrees p s r rs c v w e a = by (is_dark r.byte) refl
       where
         by : (x : Bool) → is_dark r.byte ≡ x → Agrees (bytes_of (r ∷ rs)) (drop (suc s.point.index) bytes)
-        by true k = subst (λ i. Agrees (bytes_of (r ∷ rs)) (drop i bytes)) (next-dark p s r rs c w e k ∙ (v e).1) a
+        by true k =
+            let next : s.point.index + 1 ≡ suc s.point.index = omega arith in
+            subst (λ i. Agrees (bytes_of (r ∷ rs)) (drop i bytes)) (ap (λ (q : Point). q.index) (next-dark p s r rs c w e k ∙ (v e).1) ∙ next) a
         by false k = not-dark r.byte (bytes_of rs) (drop (suc s.point.index) bytes) k
 
     -- the bytes of a text from a virtual byte on are those of the document, up to white space

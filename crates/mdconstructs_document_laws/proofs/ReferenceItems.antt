@@ -60,8 +60,8 @@ none-named on n h = false_from_ne_true (same_name n name.CharacterReference) (λ
 -- ---- items
 
 -- what is found at the front of a text enters no reference, or it is one
-abbrev Fits : List ℕ → Found → Type 0
-Fits text f = ((bytes : List ℕ) (seats : List Seat) → Named NoReference (f.events bytes seats)) ⊎ ((kind : Kind) × (n : ℕ) × (f ≡ reference kind n) × (is_some (reference_at text) ≡ true))
+abbrev pub Fits : List ℕ → Found → Type 0
+Fits text f = ((bytes : List ℕ) (seats : List Seat) → Named NoReference (f.events bytes seats)) ⊎ ((kind : Kind) × (n : ℕ) × (f ≡ reference kind n) × (reference_at text ≡ Some f))
 
 abbrev IfFits : List ℕ → Option Found → Type 0
 IfFits text None = Unit {0}
@@ -106,7 +106,7 @@ reference-fits text = by (reference_at text) refl (references-are text)
   where
     by : (o : Option Found) → reference_at text ≡ o → IfReference o → IfFits text o
     by None e h = tt
-    by (Some f) e h = inr (h.0, h.1, h.2, ap is_some e)
+    by (Some f) e h = inr (h.0, h.1, h.2, e)
 
 -- ---- strings
 
@@ -202,38 +202,54 @@ module _ (bytes : List ℕ) (whole : List Seat) where
   item-good : (before : List Seat) (s : Seat) (ss : List Seat) → whole ≡ before ++ s ∷ ss → (f : Found) → Fits (bytes_of (s ∷ ss)) f → AreGood (f.events bytes (take f.size (s ∷ ss)))
   item-good before s ss is f (inl h) = named-good (f.events bytes (take f.size (s ∷ ss))) (h bytes (take f.size (s ∷ ss)))
   item-good before s ss is f (inr r) =
-      subst (λ (x : Found). AreGood (x.events bytes (take x.size (s ∷ ss)))) (sym r.2) (span-good before s ss is r.3 (inside_of r.0 r.1) (in-reference r.0 r.1) (marks r.0 + r.1 + 1))
+      subst (λ (x : Found). AreGood (x.events bytes (take x.size (s ∷ ss)))) (sym r.2) (span-good before s ss is (ap is_some r.3) (inside_of r.0 r.1) (in-reference r.0 r.1) (marks r.0 + r.1 + 1))
 
+-- ---- whole texts
+
+-- what holds of each item that comes, and of what is read together, holds of texts
+module _ (bytes : List ℕ) (whole : List Seat) (Q : List Event → Type 0) (none : Q []) (both : (xs ys : List Event) → Q xs → Q ys → Q (xs ++ ys)) (named : (es : List Event) → Named NoReference es → Q es)
+    (item : (before : List Seat) (s : Seat) (ss : List Seat) → whole ≡ before ++ s ∷ ss → (f : Found) → Fits (bytes_of (s ∷ ss)) f → Q (f.events bytes (take f.size (s ∷ ss)))) where
   -- the rest of the text
   left : (before : List Seat) (seats : List Seat) (n : ℕ) → whole ≡ before ++ seats → whole ≡ (before ++ take n seats) ++ drop n seats
   left before seats n is = is ∙ ap (λ l. before ++ l) (sym (take-append-drop n seats)) ∙ sym (append_assoc before (take n seats) (drop n seats))
 
-  cut-strings : (on : Constructs) (bound : ℕ) (before seats : List Seat) → whole ≡ before ++ seats → AreGood (flat_map (item_events bytes) (cut (string_item_at on) item_length bound seats))
-  cut-strings on zero before seats is = tt
-  cut-strings on (suc bound) before [] is = tt
+  cut-strings : (on : Constructs) (bound : ℕ) (before seats : List Seat) → whole ≡ before ++ seats → Q (flat_map (item_events bytes) (cut (string_item_at on) item_length bound seats))
+  cut-strings on zero before seats is = none
+  cut-strings on (suc bound) before [] is = none
   cut-strings on (suc bound) before (s ∷ ss) is =
       let f = string_item_at on (bytes_of (s ∷ ss)) in
-      every-append IsGood (f.events bytes (take f.size (s ∷ ss))) (flat_map (item_events bytes) (cut (string_item_at on) item_length bound (drop f.size (s ∷ ss)))) (item-good before s ss is f (string-fits on (bytes_of (s ∷ ss))))
+      both (f.events bytes (take f.size (s ∷ ss))) (flat_map (item_events bytes) (cut (string_item_at on) item_length bound (drop f.size (s ∷ ss)))) (item before s ss is f (string-fits on (bytes_of (s ∷ ss))))
       (cut-strings on bound (before ++ take f.size (s ∷ ss)) (drop f.size (s ∷ ss)) (left before (s ∷ ss) f.size is))
 
   cut-inlines : (on : Constructs) (defined : List ℕ → Bool) (bound : ℕ) (m : Memory) (before seats : List Seat) → whole ≡ before ++ seats
-      → AreGood (flat_map (item_events bytes) (cut_remembering (after_item bytes) (inline_item_at on defined bytes) item_length bound m seats))
-  cut-inlines on defined zero m before seats is = tt
-  cut-inlines on defined (suc bound) m before [] is = tt
+      → Q (flat_map (item_events bytes) (cut_remembering (after_item bytes) (inline_item_at on defined bytes) item_length bound m seats))
+  cut-inlines on defined zero m before seats is = none
+  cut-inlines on defined (suc bound) m before [] is = none
   cut-inlines on defined (suc bound) m before (s ∷ ss) is =
       let f = inline_item_at on defined bytes m (bytes_of (s ∷ ss)) in
-      every-append IsGood (f.events bytes (take f.size (s ∷ ss))) (flat_map (item_events bytes) (cut_remembering (after_item bytes) (inline_item_at on defined bytes) item_length bound (after_item bytes m f) (drop f.size (s ∷ ss))))
-      (item-good before s ss is f (inline-fits on defined bytes m (bytes_of (s ∷ ss)))) (cut-inlines on defined bound (after_item bytes m f) (before ++ take f.size (s ∷ ss)) (drop f.size (s ∷ ss)) (left before (s ∷ ss) f.size is))
+      both (f.events bytes (take f.size (s ∷ ss))) (flat_map (item_events bytes) (cut_remembering (after_item bytes) (inline_item_at on defined bytes) item_length bound (after_item bytes m f) (drop f.size (s ∷ ss))))
+      (item before s ss is f (inline-fits on defined bytes m (bytes_of (s ∷ ss)))) (cut-inlines on defined bound (after_item bytes m f) (before ++ take f.size (s ∷ ss)) (drop f.size (s ∷ ss)) (left before (s ∷ ss) f.size is))
 
--- The events of a string
-pub string-good : (on : Constructs) (bytes : List ℕ) (seats : List Seat) → AreGood bytes seats (string_seat_events on bytes seats)
-string-good on bytes seats = cut-strings bytes seats on (length seats) [] seats refl
+  -- The events of a string
+  pub string-has : (on : Constructs) → Q (string_seat_events on bytes whole)
+  string-has on = cut-strings on (length whole) [] whole refl
 
--- and those that are read of inline text
-pub read-good : (on : Constructs) (defined : List ℕ → Bool) (bytes : List ℕ) (seats : List Seat) → AreGood bytes seats (flat_map (item_events bytes) (inline_items on defined bytes seats))
-read-good on defined bytes seats =
-    let n = prefix_len is_white (bytes_of seats) in
-    let m = after_item bytes (nothing_read seats) (white_space n) in
-    every-append (IsGood bytes seats) (leaf bytes name.SpaceOrTab (take n seats)) (flat_map (item_events bytes) (cut_remembering (after_item bytes) (inline_item_at on defined bytes) item_length (length seats) m (drop n seats)))
-    (named-good bytes seats (leaf bytes name.SpaceOrTab (take n seats)) (leafed bytes name.SpaceOrTab (take n seats) refl))
-    (cut-inlines bytes seats on defined (length seats) m (take n seats) (drop n seats) (sym (take-append-drop n seats)))
+  -- and those that are read of inline text
+  pub read-has : (on : Constructs) (defined : List ℕ → Bool) → Q (flat_map (item_events bytes) (inline_items on defined bytes whole))
+  read-has on defined =
+      let n = prefix_len is_white (bytes_of whole) in
+      let m = after_item bytes (nothing_read whole) (white_space n) in
+      both (leaf bytes name.SpaceOrTab (take n whole)) (flat_map (item_events bytes) (cut_remembering (after_item bytes) (inline_item_at on defined bytes) item_length (length whole) m (drop n whole)))
+      (named (leaf bytes name.SpaceOrTab (take n whole)) (leafed bytes name.SpaceOrTab (take n whole) refl))
+      (cut-inlines on defined (length whole) m (take n whole) (drop n whole) (sym (take-append-drop n whole)))
+
+-- So each event that enters a reference stands at one
+module _ (bytes : List ℕ) (seats : List Seat) where
+  and-good : (xs ys : List Event) → AreGood bytes seats xs → AreGood bytes seats ys → AreGood bytes seats (xs ++ ys)
+  and-good xs ys h k = every-append (IsGood bytes seats) xs ys h k
+
+  pub string-good : (on : Constructs) → AreGood bytes seats (string_seat_events on bytes seats)
+  string-good = string-has bytes seats (AreGood bytes seats) tt and-good (named-good bytes seats) (item-good bytes seats)
+
+  pub read-good : (on : Constructs) (defined : List ℕ → Bool) → AreGood bytes seats (flat_map (item_events bytes) (inline_items on defined bytes seats))
+  read-good = read-has bytes seats (AreGood bytes seats) tt and-good (named-good bytes seats) (item-good bytes seats)

@@ -5,7 +5,7 @@ ghost use Rattle.mdconstructs_document_laws.specs.EmphasisLaws.{DocumentsHaveSpa
 ghost use Rattle.mdconstructs_document_laws.specs.LineStarts.{BlankStartsNothing, HtmlExcludes, KindsHaveNoOrder, StartsExclude};
 ghost use Rattle.mdconstructs_document_laws.specs.NamesOff.{DocumentsAreNamed, InlinesAreNamed, LeafBlocksAreNamed, OffIsLeftOut, SkeletonsAreNamed, StringsAreNamed};
 ghost use Rattle.mdconstructs_document_laws.specs.Ranks.{EachHeadingTellsItsRank, HeadingsHaveRanks, HeadingsTellTheirRanks};
-ghost use Rattle.mdconstructs_document_laws.specs.ReferencePlaces.{ReferencesAreWritten, ReferencesOfDocumentsStand, ReferencesOfInlinesStand, ReferencesOfStringsStand};
+ghost use Rattle.mdconstructs_document_laws.specs.ReferencePlaces.{ReferencesAreSpelled, ReferencesAreWritten, ReferencesOfDocumentsEnd, ReferencesOfDocumentsStand, ReferencesOfInlinesStand, ReferencesOfStringsStand};
 
 /// A construct that is off leaves no span: each event of leaf blocks, of strings, of inline text, and of containers and definitions has a name
 /// of the constructs that are on. Which names these are is a table of its own.
@@ -40,6 +40,14 @@ pub fn character_references_are_where_they_are_entered()
     ensures inline_text { ReferencesOfInlinesStand }
     ensures documents { ReferencesOfDocumentsStand }
     ensures written { ReferencesAreWritten }
+{}
+
+/// From each event of a document that enters a character reference, the events go on with all those of that reference, side by side: its markers, its
+/// value and `;`, each where its bytes stand in the line; and its exit, directly behind `;`. So the document's bytes from the place of the enter to
+/// that of the exit are the reference, `&`, `&#` or `&#x`, a value and `;`; and those of the span of the value tell which characters it stands for.
+pub fn character_references_end_behind_their_semicolon()
+    ensures documents { ReferencesOfDocumentsEnd }
+    ensures spelled { ReferencesAreSpelled }
 {}
 
 /// A line begins with one thing at most: an ATX heading, a fence, HTML, a thematic break, an underline, a block quote or a list item; but for thematic
