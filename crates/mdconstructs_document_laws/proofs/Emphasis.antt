@@ -1,4 +1,5 @@
 -- Emphasis: each span comes from a pair of delimiter runs, and each pair makes one.
+mod ApartExamples
 pub mod BlocksPlain
 pub mod ChosenSpans
 mod DocumentExamples
@@ -9,3 +10,4 @@ pub mod Markers
 pub mod PairOrder
 pub mod PartSpans
 pub mod RunSpans
+pub mod RunsApart

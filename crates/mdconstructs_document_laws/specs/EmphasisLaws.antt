@@ -6,13 +6,15 @@ use Rattle.markdown_base.specs.declared.event.Event.{Event}
 use Rattle.markdown_tokenizer.specs.Text.{Given, IsDocument}
 use Rattle.markdown_children.specs.Chains.{fitting_starts}
 use Rattle.mdconstructs_attention.specs.Emphasis.{Run, pairs}
+use Rattle.mdconstructs_attention.specs.Runs.{runs_in}
 use Rattle.mdconstructs_definitions.specs.Blocks.{document_blocks}
 use Rattle.mdconstructs_inlines.specs.InlineEvents.{inline_events, read_events}
+use Rattle.mdconstructs_links.specs.Laid.{AreAscending}
 use Rattle.mdconstructs_links.specs.Linked.{with_links}
 use Rattle.mdconstructs_text.specs.ChainTexts.{chain_text}
 use Rattle.mdconstructs_documents.specs.DocumentEvents.{document_events, is_defined_in}
 use Rattle.mdconstructs_document_laws.specs.EmphasisSpans.{emphasis_spans, is_emphasis, markers_given}
-use Rattle.mdconstructs_document_laws.specs.PairedApart.{spans_of_text}
+use Rattle.mdconstructs_document_laws.specs.PairedApart.{runs_apart, spans_of_text}
 
 -- Pairs are of two runs each, and the opener comes first
 abbrev pub PairsAreOfRuns : Type 0
@@ -21,6 +23,17 @@ PairsAreOfRuns = (rs : List Run) → All (λ p. (p.opener < p.closer) × (p.clos
 -- A run has the markers that its pairs take: so the sequences of a pair are bytes of its two runs, and no byte is in two of them
 abbrev pub RunsHaveMarkers : Type 0
 RunsHaveMarkers = (rs : List Run) (n : ℕ) (r : Run) → slice_get rs n ≡ Some r → markers_given (λ p. p.closer == n) (pairs rs) + markers_given (λ p. p.opener == n) (pairs rs) ≤ r.left
+
+-- Parts of the runs of a text hold each run, and each once: the runs are all different, and together the parts are the runs, up to order. In each part
+-- they stand in their order
+pub record AreTakenApart (runs : List Run) (parts : List (List Run)) : Type 0 where
+  pub different : AreAscending runs
+  pub all : IsPermutation (flat_map (λ rs. rs) parts) runs
+  pub in_order : All AreAscending parts
+
+-- so links and images take the runs of any text apart
+abbrev pub RunsAreApart : Type 0
+RunsAreApart = (bytes : List ℕ) (es : List Event) → AreTakenApart (runs_in bytes es) (runs_apart bytes es)
 
 -- Links, images and emphasis have a span of emphasis for each pair of the runs of a text, and no other, if the text had none before
 abbrev pub TextsHaveSpansOfPairs : Type 0

@@ -1,7 +1,7 @@
 //! Laws of whole documents. Each is a function that does nothing; its contract is the law.
 
 ghost use Rattle.mdconstructs_document_laws.specs.BlockPlaces.{BlocksStandInLines, LeafBlocksStandInTexts};
-ghost use Rattle.mdconstructs_document_laws.specs.EmphasisLaws.{DocumentsHaveSpansOfPairs, DocumentsHaveSpansOfTexts, PairsAreOfRuns, RunsHaveMarkers, TextsHaveSpansOfPairs};
+ghost use Rattle.mdconstructs_document_laws.specs.EmphasisLaws.{DocumentsHaveSpansOfPairs, DocumentsHaveSpansOfTexts, PairsAreOfRuns, RunsAreApart, RunsHaveMarkers, TextsHaveSpansOfPairs};
 ghost use Rattle.mdconstructs_document_laws.specs.LineStarts.{BlankStartsNothing, HtmlExcludes, KindsHaveNoOrder, StartsExclude};
 ghost use Rattle.mdconstructs_document_laws.specs.NamesOff.{DocumentsAreNamed, InlinesAreNamed, LeafBlocksAreNamed, OffIsLeftOut, SkeletonsAreNamed, StringsAreNamed};
 ghost use Rattle.mdconstructs_document_laws.specs.Ranks.{EachHeadingTellsItsRank, HeadingsHaveRanks, HeadingsTellTheirRanks};
@@ -76,4 +76,10 @@ pub fn emphasis_is_of_pairs()
     ensures texts { TextsHaveSpansOfPairs }
     ensures in_turn { DocumentsHaveSpansOfTexts }
     ensures documents { DocumentsHaveSpansOfPairs }
+{}
+
+/// Links and images take the delimiter runs of a text apart: runs of one part pair among themselves. Each run of the text is in one part, and in
+/// one alone; and in each part they stand in their order.
+pub fn runs_are_apart()
+    ensures { RunsAreApart }
 {}
