@@ -1,0 +1,3 @@
+pub mod CharPlaces
+pub mod CharSizes
+pub mod StartsUpTo
