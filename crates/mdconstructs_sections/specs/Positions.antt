@@ -1,7 +1,9 @@
 -- Places in a document as editors ask for them: by line and character, counted from 0, as the Language Server Protocol counts ("Position").
 --
 -- A document is any bytes. Its characters are those of UTF-8, and each byte that is in none is a character of its own.
-use Rattle.std.specs.Prelude.{◌≡◌, ℕ, zero, suc, ◌+◌, ◌-◌, ◌==◌, ◌&&◌, ◌||◌, not, min, nat_le, Bool, false, cond, List, [], ◌∷◌, length, take, drop, map, filter, find, sum, take_while, slice_get, slice_index, Option, Some, None, option_map, option_and_then}
+use Rattle.std.specs.Prelude.{◌≡◌, ℕ, zero, suc, ◌+◌, ◌-◌, ◌==◌, ◌&&◌, ◌||◌, not, min, nat_le, Bool, false, cond, List, [], ◌∷◌, length, take, drop, map, filter, find, sum, take_while, slice_get, slice_index, Option, Some, None, option_map, option_and_then, IsUtf8, chars}
+use Rattle.std.specs.Char.{IsScalar, encode_utf8, len_utf8}
+use Rattle.std.specs.Char.Escape.{encode_utf16}
 use Rattle.std.specs.List.{range_with_len}
 use Rattle.std.specs.Option.{unwrap_or}
 use Rattle.std.specs.Str.{is_utf8}
@@ -117,3 +119,15 @@ PositionsComeBack = (encoding : Encoding) (bytes : List ℕ) (position : Positio
 abbrev pub OffsetsComeBack : Type 0
 OffsetsComeBack = (encoding : Encoding) (bytes : List ℕ) (offset : ℕ) (position : Position) → position_of encoding bytes offset ≡ Some position
     → is_between bytes offset ≡ false → offset_of encoding bytes position ≡ Some offset
+
+-- the characters of UTF-8 text are those that std reads from it
+abbrev pub CharactersAreUtf8 : Type 0
+CharactersAreUtf8 = (text : List ℕ) → IsUtf8 text → sizes text ≡ map len_utf8 (chars text)
+
+-- each byte is in one character
+abbrev pub CharactersAreAllBytes : Type 0
+CharactersAreAllBytes = (bytes : List ℕ) → sum (sizes bytes) ≡ length bytes
+
+-- a character has as many units as std writes for it
+abbrev pub UnitsAreWritten : Type 0
+UnitsAreWritten = (char : ℕ) → IsScalar char → (units Utf8 (len_utf8 char) ≡ length (encode_utf8 char)) × (units Utf16 (len_utf8 char) ≡ length (encode_utf16 char))

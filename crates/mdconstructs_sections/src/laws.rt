@@ -1,0 +1,24 @@
+//! Laws about the definitions of this crate. Each is a function that does nothing; its contract is the law.
+
+ghost use Rattle.mdconstructs_sections.specs.Positions.{CharactersAreAllBytes, CharactersAreUtf8, OffsetsComeBack, PositionsComeBack, UnitsAreWritten};
+
+/// The characters of UTF-8 text are those that std reads from it; in any bytes, each byte is in one character.
+pub fn characters_are_utf8()
+    ensures text { CharactersAreUtf8 }
+    ensures all { CharactersAreAllBytes }
+{}
+
+/// A character has as many units of UTF-8 and of UTF-16 as std writes for it.
+pub fn units_are_written()
+    ensures { UnitsAreWritten }
+{}
+
+/// The position of a position's byte index is the position, or its line's end, if it is behind that.
+pub fn positions_come_back()
+    ensures { PositionsComeBack }
+{}
+
+/// The byte index of a byte index's position is the byte index, unless it is between CR and LF.
+pub fn offsets_come_back()
+    ensures { OffsetsComeBack }
+{}
