@@ -3,7 +3,7 @@
 ghost use Rattle.mdconstructs_sections.specs.Positions.{CharactersAreAllBytes, CharactersAreUtf8, OffsetsComeBack, PositionsComeBack, UnitsAreWritten};
 
 /// The characters of UTF-8 text are those that std reads from it; in any bytes, each byte is in one character.
-pub fn characters_are_utf8()
+pub fn bytes_are_cut_into_characters()
     ensures text { CharactersAreUtf8 }
     ensures all { CharactersAreAllBytes }
 {}

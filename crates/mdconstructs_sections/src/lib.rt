@@ -3,3 +3,5 @@
 
 pub mod laws;
 pub mod positions;
+#[cfg(test)]
+mod tests;
