@@ -2,6 +2,7 @@
 #![tactic(auto)]
 
 pub mod laws;
+pub mod packed;
 pub mod positions;
 #[cfg(test)]
 mod tests;
