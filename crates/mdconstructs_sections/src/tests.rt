@@ -1,6 +1,10 @@
-//! Places as the Language Server Protocol tells them.
+//! Places as the Language Server Protocol tells them, and events at the limits of what is packed.
 
+use crate::packed::{PackError, Packed, PackedEvent};
 use crate::positions::{Encoding, Position, offset_of, position_of};
+use markdown_base::event::{Content, Event, Kind, Link, Name, Point};
+use std::alloc::Global;
+use std::mem::size_of;
 
 fn at(line: usize, character: usize) -> Position {
     Position { line, character }
@@ -95,4 +99,65 @@ fn lines_end(rt: HostRuntime) {
     }
     assert_eq!(rt; offset_of(b"", at(0, 3), Encoding::Utf8), Some(0));
     assert_eq!(rt; position_of(b"", 0, Encoding::Utf8), Some(at(0, 0)));
+}
+
+/// An event with these numbers.
+fn event(line: usize, vs: usize, next: Option<usize>) -> Event {
+    Event {
+        kind: Kind::Exit,
+        name: Name::LinePrefix,
+        point: Point {
+            line,
+            column: 4_294_967_295,
+            index: 4_294_967_295,
+            vs,
+        },
+        link: Some(Link {
+            previous: None,
+            next,
+            content: Content::Text,
+        }),
+    }
+}
+
+/// Whether events are packed and come back, if there was memory for them.
+fn come_back(alloc: Global, events: &[Event]) -> bool {
+    match Packed::of(alloc, events) {
+        Ok(packed) => {
+            packed.len() == events.len()
+                && (0..packed.len()).all(|index| packed.event(index) == events[index])
+        }
+        Err(error) => error == PackError::Memory,
+    }
+}
+
+/// It passes also if an allocation fails, which `rt try --test --fail-alloc N` makes one do.
+#[test]
+fn events_are_packed(rt: HostRuntime) {
+    assert_eq!(rt; size_of::<PackedEvent>(), 24);
+    let enter = Event {
+        kind: Kind::Enter,
+        name: Name::AttentionSequence,
+        point: Point::START,
+        link: None,
+    };
+    let last = event(4_294_967_295, 255, Some(4_294_967_294));
+    assert!(rt; come_back(rt.alloc(), &[enter, last]));
+    assert!(rt; come_back(rt.alloc(), &[]));
+    for other in [
+        event(4_294_967_296, 0, None),
+        event(1, 256, None),
+        event(1, 0, Some(4_294_967_295)),
+    ] {
+        let packed = Packed::of(rt.alloc(), &[enter, other]);
+        assert!(rt; packed.is_err_and(|error| error == PackError::TooLong));
+    }
+}
+
+/// Without a failing allocation there is memory.
+#[test]
+fn memory_is_enough(rt: HostRuntime) -> Result<(), PackError> {
+    let packed = Packed::of(rt.alloc(), &[event(1, 0, None)])?;
+    assert_eq!(rt; packed.len(), 1);
+    Ok(())
 }
