@@ -3,5 +3,7 @@ pub mod CharSizes
 pub mod CharsBack
 pub mod ComeBack
 pub mod LinesBack
+pub mod PartStarts
+pub mod PartsMove
 pub mod StartsUpTo
 pub mod TextChars

@@ -23,11 +23,11 @@ lf-ends : (bytes : List ℕ) (k : ℕ) → is_lf bytes k ≡ true → ends_line 
 lf-ends bytes k h = grind arith
 
 module _ (bytes : List ℕ) where
-  abbrev IsStart : ℕ → ℕ → Type 0
+  abbrev pub IsStart : ℕ → ℕ → Type 0
   IsStart line start = (length (starts_up_to bytes start) ≡ line + 1) × (slice_index (starts_up_to bytes start) line ≡ start)
 
   -- a line that starts up to an index: how many lines start up to its start
-  start-at : (n line start : ℕ) → slice_get (starts_up_to bytes n) line ≡ Some start → (start ≤ n) × IsStart line start
+  pub start-at : (n line start : ℕ) → slice_get (starts_up_to bytes n) line ≡ Some start → (start ≤ n) × IsStart line start
   start-at zero zero start h =
       let e : 0 ≡ start = same_Some 0 start h in
       (omega arith, subst (IsStart 0) e (refl, refl))

@@ -9,7 +9,7 @@ use Rattle.mdconstructs_sections.specs.Positions.{starts, starts_up_to}
 
 module _ (bytes : List ℕ) where
   -- one index on, a line starts there, if the byte in front ends one
-  more : (k : ℕ) → starts_up_to bytes (k + 1) ≡ starts_up_to bytes k ++ cond (ends_line bytes k) ((k + 1) ∷ []) []
+  pub more : (k : ℕ) → starts_up_to bytes (k + 1) ≡ starts_up_to bytes k ++ cond (ends_line bytes k) ((k + 1) ∷ []) []
   more k = passing_more (is_line_start bytes) (k + 1) ∙ ap (λ n. starts_up_to bytes k ++ cond (is_line_start bytes n) ((k + 1) ∷ []) []) (add-one k)
 
   pub starts-more : (k : ℕ) → ends_line bytes k ≡ true → starts_up_to bytes (k + 1) ≡ starts_up_to bytes k ++ (k + 1) ∷ []

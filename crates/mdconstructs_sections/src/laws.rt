@@ -1,5 +1,6 @@
 //! Laws about the definitions of this crate. Each is a function that does nothing; its contract is the law.
 
+ghost use Rattle.mdconstructs_sections.specs.PositionParts.{EndingsAdd, OffsetsMove, OffsetsStay, PositionsMove, PositionsStay};
 ghost use Rattle.mdconstructs_sections.specs.Positions.{CharactersAreAllBytes, CharactersAreUtf8, OffsetsComeBack, PositionsComeBack, UnitsAreWritten};
 
 /// The characters of UTF-8 text are those that std reads from it; in any bytes, each byte is in one character.
@@ -21,4 +22,18 @@ pub fn positions_come_back()
 /// The byte index of a byte index's position is the byte index, unless it is between CR and LF.
 pub fn offsets_come_back()
     ensures { OffsetsComeBack }
+{}
+
+/// Where a line starts with the second of two parts, its positions are those that it has alone, further down by the line endings of the
+/// first.
+pub fn positions_move()
+    ensures positions { PositionsMove }
+    ensures offsets { OffsetsMove }
+    ensures endings { EndingsAdd }
+{}
+
+/// Where a line starts with the second of two parts, the positions in the first are those that it has alone.
+pub fn positions_stay()
+    ensures positions { PositionsStay }
+    ensures offsets { OffsetsStay }
 {}

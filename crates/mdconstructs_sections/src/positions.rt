@@ -5,6 +5,7 @@
 
 ghost use Rattle.std.specs.Prelude.{◌≡◌, ◌+◌, ◌<◌, ◌≤◌, IfSome, length, slice_get, take_while};
 ghost use Rattle.std.specs.Str.{continuation_len, is_utf8};
+ghost use Rattle.mdconstructs_sections.specs.PositionParts.{endings};
 ghost use Rattle.mdconstructs_sections.specs.Positions.{character_in, first_size, index_in, is_in_line, line_of, offset_of, position_of, start_of, starts, text_at, units};
 
 use markdown_base::util::place::ends_line;
@@ -165,6 +166,13 @@ fn line_at(bytes: &[u8], offset: usize) -> (usize, usize)
         }
     }
     (line, start)
+}
+
+/// The number of line endings. One less than the number of lines.
+pub fn line_endings(bytes: &[u8]) -> usize
+    ensures { result ≡ endings bytes.now }
+{
+    line_at(bytes, bytes.len()).0
 }
 
 /// The byte index of a position.

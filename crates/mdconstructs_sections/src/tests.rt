@@ -1,7 +1,7 @@
 //! Places as the Language Server Protocol tells them, and events at the limits of what is packed.
 
 use crate::packed::{PackError, Packed, PackedEvent};
-use crate::positions::{Encoding, Position, offset_of, position_of};
+use crate::positions::{Encoding, Position, line_endings, offset_of, position_of};
 use markdown_base::event::{Content, Event, Kind, Link, Name, Point};
 use std::alloc::Global;
 use std::mem::size_of;
@@ -97,6 +97,8 @@ fn lines_end(rt: HostRuntime) {
     ] {
         assert_eq!(rt; position_of(bytes, offset, Encoding::Utf8), position);
     }
+    assert_eq!(rt; line_endings(bytes), 4);
+    assert_eq!(rt; line_endings(b"a"), 0);
     assert_eq!(rt; offset_of(b"", at(0, 3), Encoding::Utf8), Some(0));
     assert_eq!(rt; position_of(b"", 0, Encoding::Utf8), Some(at(0, 0)));
 }
