@@ -2,6 +2,7 @@ pub mod CharPlaces
 pub mod CharSizes
 pub mod CharsBack
 pub mod ComeBack
+pub mod CountedEndings
 pub mod LinesBack
 pub mod PartStarts
 pub mod PartsMove
