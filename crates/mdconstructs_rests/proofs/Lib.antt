@@ -19,6 +19,7 @@ pub mod Events
 pub mod EventsLeft
 mod Examples
 pub mod FirstRows
+pub mod FlowLinks
 pub mod FlowStands
 pub mod Fuel
 pub mod JoinedBlocks

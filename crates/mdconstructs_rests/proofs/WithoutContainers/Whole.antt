@@ -91,7 +91,7 @@ chained-one i j ((v, None) ∷ front) e x back h k = ap (λ l. v ∷ l) (chained
 chained-one i j ((v, Some chunk) ∷ front) e x back h k = absurd (none-some chunk (sym h.0.0))
 
 -- ---- the events of marks of leaf blocks have no links of their own
-fresh-kept : (bytes : List ℕ) → IsKeptBySpans bytes (λ marks seats. AllByRecursion IsFresh marks)
+pub fresh-kept : (bytes : List ℕ) → IsKeptBySpans bytes (λ marks seats. AllByRecursion IsFresh marks)
 fresh-kept bytes = record {
   none = tt;
   both = λ {xs} {ys} {a} {b} h k. every-append IsFresh xs ys h k;
