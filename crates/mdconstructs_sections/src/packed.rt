@@ -56,7 +56,8 @@ pub(crate) struct PackedEvent {
     next: u32,
 }
 
-/// Events that were packed, seen as the list of the events.
+/// Events that were packed, seen as the list of the events. Their places are as they were: those of a section, which is read as a document
+/// of its own, are relative to it, and so fit.
 #[derive(Drop)]
 pub struct Packed {
     events: Vec<PackedEvent>,

@@ -1,7 +1,8 @@
 //! Places in a document as editors ask for them: by line and character, as the Language Server Protocol has it.
 //!
 //! A line ends with a line feed, a carriage return, or both in this order. The document is any bytes: its characters are those of UTF-8, and
-//! each byte that is in none is a character of its own, of one unit, as the U+FFFD is that a decoder puts in its place.
+//! each byte that is in none is a character of its own, of one unit. A decoder may put one U+FFFD in the place of up to three such bytes; an
+//! editor that does so and keeps the U+FFFD has other units there.
 
 ghost use Rattle.std.specs.Prelude.{◌≡◌, ◌+◌, ◌<◌, ◌≤◌, IfSome, length, slice_get, take_while};
 ghost use Rattle.std.specs.Str.{continuation_len, is_utf8};
