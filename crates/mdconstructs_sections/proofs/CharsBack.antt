@@ -93,9 +93,9 @@ module _ (encoding : Encoding) where
   by-character f text q h = found-by (λ r. r.character) character-grows f (record { index = 0; character = 0 }) q (sizes text) (some-sizes 0 text) h
 
 -- what is found passes
-pub passes : {X : Type 0} (f : X → Bool) (xs : List X) (x : X) → find f xs ≡ Some x → f x ≡ true
-passes f [] x h = absurd (cc)
-passes f (y ∷ ys) x h = elim (cases_Bool (f y)) [
+pub find-passes : {X : Type 0} (f : X → Bool) (xs : List X) (x : X) → find f xs ≡ Some x → f x ≡ true
+find-passes f [] x h = absurd (cc)
+find-passes f (y ∷ ys) x h = elim (cases_Bool (f y)) [
   | inl here ↦ let same : y ≡ x = same_Some y x (sym (ap (λ b. cond b (Some y) (find f ys)) here) ∙ h) in subst (λ z. f z ≡ true) same here
-  | inr past ↦ passes f ys x (sym (ap (λ b. cond b (Some y) (find f ys)) past) ∙ h)
+  | inr past ↦ find-passes f ys x (sym (ap (λ b. cond b (Some y) (find f ys)) past) ∙ h)
 ]

@@ -5,7 +5,7 @@ use Rattle.std.specs.Prelude.{◌==◌, find, option_and_then, option_map, slice
 use Rattle.mdconstructs_sections.specs.declared.positions.Encoding.{Encoding}
 use Rattle.mdconstructs_sections.specs.declared.positions.Position.{Position}
 use Rattle.mdconstructs_sections.specs.Positions.{OffsetsComeBack, Place, PositionsComeBack, character_in, clamped, index_in, is_between, length_in, line_of, offset_of, places, position_of, start_of, starts, text_at}
-use Rattle.mdconstructs_sections.proofs.CharsBack.{by-character, by-index, in-text, passes}
+use Rattle.mdconstructs_sections.proofs.CharsBack.{by-character, by-index, in-text, find-passes}
 use Rattle.mdconstructs_sections.proofs.LinesBack.{in-line, offset-in, start-before, start-found}
 
 module _ (encoding : Encoding) (bytes : List ℕ) where
@@ -42,7 +42,7 @@ module _ (encoding : Encoding) (bytes : List ℕ) where
         let here = in-line bytes position.line start q.index first inside.0 in
         let index : q.index ≡ min (start + q.index - start) (length text) = omega (arith, inside.0) in
         let by = ap (λ k. find (λ (r : Place). r.index == k) (places encoding text)) (sym index) ∙ by-index encoding (λ (r : Place). r.character == min position.character (length_in encoding text)) text q found in
-        let character : q.character ≡ min position.character (length_in encoding text) = eqb-true q.character (min position.character (length_in encoding text)) (passes (λ (r : Place). r.character == min position.character (length_in encoding text)) (places encoding text) q found) in
+        let character : q.character ≡ min position.character (length_in encoding text) = eqb-true q.character (min position.character (length_in encoding text)) (find-passes (λ (r : Place). r.character == min position.character (length_in encoding text)) (places encoding text) q found) in
         let same : start ≡ slice_index (starts bytes) position.line = sym (get_or_from_slice_get (starts bytes) position.line start 0 first) in
         ap (position_of encoding bytes) (sym is)
         ∙ position-at (start + q.index) position.line start q here.0 here.1 here.2 by
@@ -64,7 +64,7 @@ module _ (encoding : Encoding) (bytes : List ℕ) where
         let text = text_at bytes start in
         let Q : Place → Bool = λ r. r.index == min (offset - start) (length text) in
         let is : at_line (line_of bytes offset) q.character ≡ position = same_Some (at_line (line_of bytes offset) q.character) position h in
-        let index : q.index ≡ min (offset - start) (length text) = eqb-true q.index (min (offset - start) (length text)) (passes Q (places encoding text) q found) in
+        let index : q.index ≡ min (offset - start) (length text) = eqb-true q.index (min (offset - start) (length text)) (find-passes Q (places encoding text) q found) in
         let total : start + q.index ≡ offset = omega (arith, index, offset-in bytes offset within apart, start-before bytes offset within) in
         let inside = in-text encoding Q text q found in
         let character : q.character ≡ min q.character (length_in encoding text) = omega (arith, inside.1) in
