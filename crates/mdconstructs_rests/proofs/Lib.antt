@@ -22,6 +22,7 @@ pub mod FirstRows
 pub mod FlowLinks
 pub mod FlowStands
 pub mod Fuel
+pub mod JoinedAtRest
 pub mod JoinedBlocks
 pub mod JoinedChunks
 pub mod JoinedDocument

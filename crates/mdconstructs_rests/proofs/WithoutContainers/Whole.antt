@@ -75,7 +75,7 @@ plain-kept wanted [] h = tt
 plain-kept wanted ((e, None) ∷ ms) h = (h.0.1, plain-kept wanted ms h.1)
 plain-kept wanted ((e, Some chunk) ∷ ms) h = absurd (none-some chunk (sym h.0.0))
 
-chained-plain : (i j : ℕ) (p : Option ℕ) (ms : List Mark) → AllByRecursion IsPlain ms → chained_from i p ms ≡ linked_from j ms
+pub chained-plain : (i j : ℕ) (p : Option ℕ) (ms : List Mark) → AllByRecursion IsPlain ms → chained_from i p ms ≡ linked_from j ms
 chained-plain i j p [] h = refl
 chained-plain i j p ((e, None) ∷ ms) h = ap (λ l. e ∷ l) (chained-plain (suc i) (j + 1) p ms h.1)
 chained-plain i j p ((e, Some chunk) ∷ ms) h = absurd (none-some chunk (sym h.0.0))
@@ -119,7 +119,7 @@ module _ (g : Given) (is : IsDocument g) where
   with_leaves events = with_children wanted events (map (child_at events) (fitting_starts wanted events))
 
   -- ---- no chunk
-  none-read : (marks : List Mark) → AllByRecursion IsPlain marks → with_leaves (linked_from 0 marks) ≡ linked_from 0 marks
+  pub none-read : (marks : List Mark) → AllByRecursion IsPlain marks → with_leaves (linked_from 0 marks) ≡ linked_from 0 marks
   none-read marks h =
       let events : List Event = linked_from 0 marks in
       let same : marks ++ [] ≡ marks = append-nil marks in
