@@ -33,6 +33,7 @@ pub mod JoinedSections
 pub mod JoinedWhole
 pub mod LeavesBehind
 pub mod LetteredBoth
+pub mod LetteredLines
 pub mod LikeRows
 pub mod LineFronts
 pub mod Links
