@@ -53,8 +53,11 @@ module _ (at : List ℕ) where
   keeps-from t line column index (x ∷ bytes) h =
       step-keeps t (x == 10) (x == 13) (begins_with_lf bytes) (x == 9) x line column index (λ l c i. virtual_from t l c (suc index) bytes) refl refl h.0 (λ l c i. keeps-from t l c (suc index) bytes h.1)
 
+  pub seats-keep : (t : ℕ) (bytes : List ℕ) → ArePlainFrom 0 at bytes → AllByRecursion Keeps (virtual t bytes)
+  seats-keep t bytes plain = keeps-from t 1 1 0 bytes plain
+
   pub document-keeps : (t : ℕ) (bytes : List ℕ) → ArePlainFrom 0 at bytes → AllByRecursion (AllByRecursion Keeps) (lines_in (virtual t bytes))
-  document-keeps t bytes plain = in-lines Keeps (virtual t bytes) (keeps-from t 1 1 0 bytes plain)
+  document-keeps t bytes plain = in-lines Keeps (virtual t bytes) (seats-keep t bytes plain)
 
   -- ---- lines with letters
   abbrev pub lettered : Line → Line
@@ -145,11 +148,11 @@ drop-more zero xs ys l = refl
 drop-more (suc n) [] ys l = absurd (omega (arith, l))
 drop-more (suc n) (x ∷ xs) ys l = drop-more n xs ys (omega (arith, l))
 
-text-few : (line : Line) → IsWhole line → length (line_text line) ≤ length line
+pub text-few : (line : Line) → IsWhole line → length (line_text line) ≤ length line
 text-few line w = let size = ap (λ (l : Line). length l) (text-and-ending line w) in let both = length-append (line_text line) (ending_of line) in omega (arith, size, both)
 
 -- a line's text, and its ending, behind so many virtual bytes of the text
-text-behind : (n : ℕ) (line : Line) → IsWhole line → n ≤ length (line_text line) → (line_text (drop n line) ≡ drop n (line_text line)) × (ending_of (drop n line) ≡ ending_of line)
+pub text-behind : (n : ℕ) (line : Line) → IsWhole line → n ≤ length (line_text line) → (line_text (drop n line) ≡ drop n (line_text line)) × (ending_of (drop n line) ≡ ending_of line)
 text-behind zero line w l = (refl, refl)
 text-behind (suc n) [] w l = (refl, refl)
 text-behind (suc n) (s ∷ ss) (inl w) l =

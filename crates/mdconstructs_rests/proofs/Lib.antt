@@ -64,6 +64,7 @@ pub mod ReadsOfBoth
 pub mod Rests
 pub mod RowNumbers
 pub mod RowPlaces
+pub mod SeamSeats
 pub mod Seams
 pub mod SectionRows
 pub mod Sections
