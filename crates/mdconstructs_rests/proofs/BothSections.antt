@@ -44,7 +44,7 @@ module _ (on : Constructs) (not-blank : (k : Known) (n : ℕ) (line : Line) → 
   rows-left k n (line ∷ ls) = (left-is-blank k n line, rows-left (known_after on k (row_of on k n line)) (suc n) ls)
 
   -- ---- a paragraph is open behind a row
-  leaf-behind : (k : Known) (n : ℕ) (line : Line) → is_paragraph (known_after on k (row_of on k n line)).before.leaf ≡ is_paragraph (row_of on k n line).leaf
+  pub leaf-behind : (k : Known) (n : ℕ) (line : Line) → is_paragraph (known_after on k (row_of on k n line)).before.leaf ≡ is_paragraph (row_of on k n line).leaf
   leaf-behind k n line = by row.is_left_blank refl row.is_lazy
     where
       row : Row

@@ -58,6 +58,7 @@ pub mod MovedSections
 pub mod MovedSkeleton
 pub mod MovedTexts
 pub mod NoLinksLeft
+pub mod NoUnderlines
 mod Prelude
 pub mod ReadTexts
 pub mod ReadsOfBoth
@@ -75,6 +76,7 @@ pub mod SkeletonLinks
 pub mod SkeletonOfBoth
 pub mod SkeletonStands
 pub mod SplitBlocks
+pub mod StretchLeaves
 pub mod StringsJoin
 pub mod TextLines
 pub mod TextsOfBoth

@@ -77,10 +77,10 @@ module _ (on : Constructs) where
 
   -- ---- one line
   -- a line that is not blank is kept
-  one-kept : (leaf : Leaf) (line : Line) (lines : List Line) → is_left leaf line ≡ false → kept leaf (line ∷ lines) ≡ suc (kept (leaf_next leaf line) lines)
+  pub one-kept : (leaf : Leaf) (line : Line) (lines : List Line) → is_left leaf line ≡ false → kept leaf (line ∷ lines) ≡ suc (kept (leaf_next leaf line) lines)
   one-kept leaf line lines h = let n = kept (leaf_next leaf line) lines in ap (λ b. cond b (cond (nat_le 1 n) (suc n) 0) (suc n)) h
 
-  not-left : (leaf : Leaf) (line : Line) → is_blank_line (text_of line) ≡ false → is_left leaf line ≡ false
+  pub not-left : (leaf : Leaf) (line : Line) → is_blank_line (text_of line) ≡ false → is_left leaf line ≡ false
   not-left leaf line h = ap (λ b. b && not (holds_ending leaf)) h
 
   held-left : (leaf : Leaf) (line : Line) → holds_ending leaf ≡ true → is_left leaf line ≡ false

@@ -32,13 +32,13 @@ module _ (on : Constructs) where
   plain_rows leaf number (line ∷ lines) = plain_row leaf number line ∷ plain_rows (leaf_next on leaf line) (suc number) lines
 
   -- what is known before a line: no container is open
-  abbrev plain_before : Leaf → Before
+  abbrev pub plain_before : Leaf → Before
   plain_before leaf = record { stack = []; depth = 0; leaf = leaf }
 
-  row-plain : (leaf : Leaf) (number : ℕ) (line : Line) → has_none (row_of on (plain_before leaf) number line).begun ≡ true → row_of on (plain_before leaf) number line ≡ plain_row leaf number line
+  pub row-plain : (leaf : Leaf) (number : ℕ) (line : Line) → has_none (row_of on (plain_before leaf) number line).begun ≡ true → row_of on (plain_before leaf) number line ≡ plain_row leaf number line
   row-plain leaf number line h = ap (row_with on (plain_before leaf) number line []) (none_is (row_of on (plain_before leaf) number line).begun h)
 
-  known-plain : (leaf : Leaf) (number : ℕ) (line : Line) → known_after on (plain_before leaf) (plain_row leaf number line) ≡ plain_before (leaf_next on leaf line)
+  pub known-plain : (leaf : Leaf) (number : ℕ) (line : Line) → known_after on (plain_before leaf) (plain_row leaf number line) ≡ plain_before (leaf_next on leaf line)
   known-plain leaf number line = by (is_left on leaf line) (leaf_after on leaf (text_of line))
     where
       by : (b : Bool) (after : Leaf) → let kept : Before = record { stack = []; depth = 0; leaf = closed } in let new : Before = record { stack = []; depth = 0; leaf = cond b closed after } in
