@@ -44,7 +44,7 @@ module _ (on : Constructs) where
     abbrev next_before : (left lazy : Bool) → Before
     next_before left lazy = cond left (record k.before { depth = length row.went_on; leaf = closed }) (cond lazy (record k.before { leaf = row.leaf }) (record { stack = all; depth = length all; leaf = row.leaf }))
 
-    deep-next : IsDeep k → IsDeep (known_after on k row)
+    pub deep-next : IsDeep k → IsDeep (known_after on k row)
     deep-next h = by row.is_left_blank row.is_lazy
       where
         went : length row.went_on ≤ length k.before.stack

@@ -77,6 +77,7 @@ pub mod SkeletonOfBoth
 pub mod SkeletonStands
 pub mod SplitBlocks
 pub mod StretchLeaves
+pub mod StretchStarts
 pub mod StringsJoin
 pub mod TextLines
 pub mod TextsOfBoth
