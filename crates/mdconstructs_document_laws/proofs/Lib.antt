@@ -18,6 +18,7 @@ pub mod ItemNames
 pub mod LineStarts
 pub mod LinkEvents
 pub mod LinkNames
+pub mod MarksWalk
 pub mod Named
 pub mod PlainNames
 pub mod Ranks
@@ -33,5 +34,6 @@ pub mod ReferenceSpelling
 pub mod ReferencesStand
 pub mod RowNames
 pub mod SkeletonNames
+pub mod SkeletonWalk
 pub mod SpanNames
 pub mod WholeSpans
