@@ -1,9 +1,8 @@
 -- The leaf blocks of the chains of a document's skeleton, where the skeleton is those of its parts: they are those of the parts.
-use Rattle.std.proofs.Common.{Bool, List, Option, Some, [], ap, arith, length, map, refl, subst, sym, cond, false, true, ℕ, ◌++◌, ◌<◌, ◌∙◌, ◌∷◌, ◌≡◌, ◌≤◌}
+use Rattle.std.proofs.Common.{Bool, List, Option, Some, [], ap, arith, length, map, subst, sym, cond, false, true, ℕ, ◌++◌, ◌∙◌, ◌∷◌, ◌≡◌, ◌≤◌}
 use Rattle.std.specs.List.{AllByRecursion, flat_map}
 use Rattle.std.specs.Prelude.{filter}
 use Rattle.markdown_base.proofs.Common.{every-append}
-use Rattle.markdown_base.specs.Places.{in_range}
 use Rattle.markdown_base.specs.Virtual.{Seat, virtual}
 use Rattle.markdown_base.specs.declared.configuration.Constructs.{Constructs}
 use Rattle.markdown_base.specs.declared.configuration.ParseOptions.{ParseOptions}
@@ -12,14 +11,14 @@ use Rattle.markdown_base.specs.declared.event.Content.TheVariants as content
 use Rattle.markdown_base.specs.declared.event.Event.{Event}
 use Rattle.markdown_tokenizer.specs.Text.{Given, IsDocument}
 use Rattle.markdown_children.specs.Chains.{chain_of}
-use Rattle.markdown_children.specs.Reads.{text_from, text_of_chain}
+use Rattle.markdown_children.specs.Reads.{text_from}
 use Rattle.markdown_children.specs.Ready.{IsReady}
 use Rattle.markdown_children.proofs.ChainOrder.Forward.{ends-inside}
 use Rattle.mdconstructs_text.proofs.DeepSpans.Chunks.{chunk_seats}
 use Rattle.mdconstructs_flow_read.specs.LeafEvents.{flow_events}
 use Rattle.mdconstructs_containers.specs.Letters.{with_letters}
 use Rattle.mdconstructs_definitions.proofs.PlainLetters.{letters-are-plain}
-use Rattle.mdconstructs_definitions.specs.Blocks.{document_blocks, document_skeleton, shown_as_text}
+use Rattle.mdconstructs_definitions.specs.Blocks.{document_skeleton, shown_as_text}
 use Rattle.mdconstructs_definitions.specs.Skeleton.{letters}
 use Rattle.mdconstructs_documents.proofs.InContainers.Blocks.{content-ready}
 use Rattle.mdconstructs_documents.proofs.InContainers.Skeletons.{skeleton-laws}

@@ -1,5 +1,5 @@
 -- Marks of which each chunk has its exit, and each linked chunk the next, in two lists: with their leaf blocks they are both, links alone lead further on.
-use Rattle.std.proofs.Common.{Bool, List, None, Option, Some, [], ap, append_assoc, arith, cond, false, length, length-append, map, refl, sym, suc, true, zero, ℕ, ◌++◌, ◌+◌, ◌∙◌, ◌∷◌, ◌≡◌}
+use Rattle.std.proofs.Common.{Bool, List, None, Option, Some, [], ap, append_assoc, arith, false, length, length-append, map, refl, sym, suc, true, ℕ, ◌++◌, ◌+◌, ◌∙◌, ◌∷◌, ◌≡◌}
 use Rattle.std.proofs.lemmas.List.{length-map, map-append}
 use Rattle.std.specs.Prelude.{is_some}
 use Rattle.markdown_base.specs.Virtual.{Seat}

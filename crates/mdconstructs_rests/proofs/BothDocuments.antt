@@ -1,5 +1,5 @@
 -- Whole documents at a rest: their blocks and events are those of their parts.
-use Rattle.std.proofs.Common.{Bool, List, Some, [], ap, false, refl, sym, true, ℕ, ◌++◌, ◌∙◌, ◌≡◌}
+use Rattle.std.proofs.Common.{Bool, List, Some, ap, false, refl, sym, true, ℕ, ◌++◌, ◌∙◌, ◌≡◌}
 use Rattle.markdown_base.proofs.Facts.Bools.{and-left}
 use Rattle.markdown_base.specs.Virtual.{virtual}
 use Rattle.markdown_base.specs.declared.configuration.ParseOptions.{ParseOptions}
@@ -17,7 +17,7 @@ use Rattle.mdconstructs_rests.proofs.ReadsOfBoth.{with_chains_read}
 use Rattle.mdconstructs_rests.proofs.Sections.{give}
 use Rattle.mdconstructs_rests.proofs.SkeletonOfBoth.{skeleton-of-both}
 use Rattle.mdconstructs_rests.specs.BothDocuments.{DocumentBlocksOfBoth, DocumentEventsOfBoth, DocumentSectionsGiveEvents, IsOfBoth, blocks_of, events_by, is_rest}
-use Rattle.mdconstructs_rests.specs.DocumentRests.{begins_at_document_rest, first_at_document_rest, goes_on_behind}
+use Rattle.mdconstructs_rests.specs.DocumentRests.{first_at_document_rest, goes_on_behind}
 use Rattle.mdconstructs_rests.specs.Moved.{begins_line}
 use Rattle.mdconstructs_rests.specs.Sections.{document_of}
 

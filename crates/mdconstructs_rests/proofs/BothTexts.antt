@@ -1,11 +1,10 @@
 -- The events of a document are those of its parts, if its blocks are.
-use Rattle.std.proofs.Common.{Bool, List, None, Option, Some, [], ap, arith, false, length, map, refl, sym, true, ℕ, ◌++◌, ◌<◌, ◌∙◌, ◌∷◌, ◌≡◌, ◌⊎◌, inl, inr}
+use Rattle.std.proofs.Common.{Bool, List, Some, [], ap, arith, false, length, map, refl, sym, true, ℕ, ◌++◌, ◌<◌, ◌∙◌, ◌∷◌, ◌≡◌, ◌⊎◌, inl, inr}
 use Rattle.std.specs.List.{AllByRecursion}
 use Rattle.markdown_base.specs.declared.configuration.Constructs.{Constructs}
 use Rattle.markdown_base.specs.declared.configuration.ParseOptions.{ParseOptions}
 use Rattle.markdown_base.specs.declared.event.Content.TheVariants as content
 use Rattle.markdown_base.specs.declared.event.Event.{Event}
-use Rattle.markdown_base.specs.declared.event.Link.{Link}
 use Rattle.markdown_base.specs.declared.event.Point.{Point}
 use Rattle.markdown_tokenizer.specs.Plain.{HaveNoLinks}
 use Rattle.markdown_tokenizer.specs.Text.{Given, IsDocument}

@@ -1,5 +1,5 @@
 -- The parts of a document are documents.
-use Rattle.std.proofs.Common.{List, arith, length, length-append, subst, ℕ, ◌*◌, ◌+◌, ◌++◌, ◌<◌, ◌^◌, ◌≤◌}
+use Rattle.std.proofs.Common.{List, arith, length, length-append, ℕ, ◌++◌, ◌<◌, ◌≤◌}
 use Rattle.std.proofs.Math.Nat.{mul-le-mul_left}
 use Rattle.std.proofs.lemmas.List.Elements.{All-from_recursion, recursion_from_All}
 use Rattle.markdown_base.specs.Virtual.{IsWithinLimit}

@@ -1,5 +1,5 @@
 -- The events of leaf blocks of a document are those of its parts.
-use Rattle.mdconstructs_rests.proofs.Prelude.{◌≡◌, ℕ, ◌+◌, ◌≤◌, List, [], ◌∷◌, ◌++◌, Bool, true, false, cond, length, refl, sym, ap, ◌∙◌, subst, arith, map, AllByRecursion, flat_map, flat_map-append, and-left, Constructs, Event, linked-append, linked-length, Line, LeafBlock, blank_line, break_line, atx_heading, paragraph, setext_heading, indented_code, fenced_code, html_block, leaf_blocks, leaf_block_marks, leaf_blocks_marks, flow_events, linked_from, is_line_ending, joined, lines_in, EventsOfBoth, begins_line, first_at_rest, line_endings, moved_block, moved_event, moved_link, moved_point, moved_seat, block_lines, Seat, virtual, leaf-blocks-lines}
+use Rattle.mdconstructs_rests.proofs.Prelude.{◌≡◌, ℕ, ◌+◌, ◌≤◌, List, [], ◌∷◌, ◌++◌, Bool, true, false, cond, length, refl, sym, ap, ◌∙◌, subst, arith, map, AllByRecursion, flat_map, flat_map-append, and-left, Constructs, linked-append, linked-length, Line, LeafBlock, blank_line, break_line, atx_heading, paragraph, setext_heading, indented_code, fenced_code, html_block, leaf_blocks, leaf_block_marks, leaf_blocks_marks, flow_events, linked_from, is_line_ending, joined, lines_in, EventsOfBoth, begins_line, first_at_rest, line_endings, moved_block, moved_event, moved_link, moved_point, moved_seat, block_lines, Seat, virtual, leaf-blocks-lines}
 use Rattle.markdown_tokenizer.proofs.Positions.Order.{every-back, every-front}
 use Rattle.mdconstructs_documents.proofs.FlowTexts.Segments.{HasByte}
 use Rattle.mdconstructs_rests.proofs.Both.{blocks-of-both}

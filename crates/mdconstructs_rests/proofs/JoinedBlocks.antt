@@ -9,7 +9,7 @@ use Rattle.markdown_tokenizer.specs.Text.{Given}
 use Rattle.mdconstructs_machines.specs.Spans.{event}
 use Rattle.mdconstructs_flow_read.specs.LeafEvents.{Mark, alone, chunk_span}
 use Rattle.mdconstructs_containers.proofs.SkeletonChains.{idle, runs_both}
-use Rattle.mdconstructs_containers.proofs.TightMarks.{Tight, data_tight, tight_more}
+use Rattle.mdconstructs_containers.proofs.TightMarks.{data_tight, tight_more}
 use Rattle.mdconstructs_rests.proofs.BlocksJoin.{AreWhole, behind, behind-both, blocks-join, blocks_in}
 use Rattle.mdconstructs_rests.proofs.MarksForward.{runs-apart, tight-back, tight-front}
 

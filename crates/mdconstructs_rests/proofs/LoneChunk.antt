@@ -1,6 +1,5 @@
 -- The leaf blocks in the place of a chunk that is a chain by itself: those of its virtual bytes, with the document's letters.
-use Rattle.std.proofs.Common.{List, None, Some, [], ap, append-nil, length, map, refl, sym, subst, ℕ, ◌++◌, ◌<◌, ◌∙◌, ◌∷◌, ◌≡◌}
-use Rattle.std.specs.List.{AllByRecursion}
+use Rattle.std.proofs.Common.{List, None, Some, ap, append-nil, length, map, refl, sym, subst, ℕ, ◌++◌, ◌<◌, ◌∙◌, ◌∷◌, ◌≡◌}
 use Rattle.std.specs.Prelude.{All, filter}
 use Rattle.markdown_base.specs.Events.{EndsBelow}
 use Rattle.markdown_base.specs.Places.{in_range, shown}
@@ -14,7 +13,6 @@ use Rattle.markdown_children.specs.Chains.{chain_of}
 use Rattle.markdown_children.specs.Reads.{text_from}
 use Rattle.mdconstructs_machines.specs.Spans.{event}
 use Rattle.mdconstructs_text.proofs.DeepSpans.Places.{chain-from, origin, place-shown, range-of}
-use Rattle.mdconstructs_flow_read.specs.LeafEvents.{Mark}
 use Rattle.mdconstructs_containers.proofs.LetterPlaces.{places_kept}
 use Rattle.mdconstructs_containers.specs.Letters.{ArePlainFrom, lettered_seat, with_letters}
 use Rattle.mdconstructs_containers.specs.Skeleton.{chained_from}

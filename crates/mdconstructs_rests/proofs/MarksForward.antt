@@ -13,7 +13,7 @@ use Rattle.markdown_base.specs.declared.event.Event.{Event}
 use Rattle.markdown_base.specs.declared.event.Kind.TheVariants.{Enter}
 use Rattle.markdown_base.specs.declared.event.Name.{Name}
 use Rattle.markdown_edits.specs.Links.{next_of, previous_of}
-use Rattle.markdown_children.specs.Chains.{begins, chain_from, chain_of, content_at, fits, some_fits}
+use Rattle.markdown_children.specs.Chains.{chain_from, content_at, fits, some_fits}
 use Rattle.markdown_children.specs.Parts.{IsForward}
 use Rattle.markdown_children.proofs.ChainOrder.Following.{by_option}
 use Rattle.mdconstructs_flow_read.specs.LeafEvents.{Chunk, Mark}

@@ -7,7 +7,6 @@ use Rattle.std.specs.Prelude.{map}
 use Rattle.markdown_base.specs.Events.{IsBalanced, empty, is_enter, same_name, span}
 use Rattle.markdown_base.specs.declared.configuration.Constructs.{Constructs}
 use Rattle.markdown_base.specs.declared.event.Event.{Event}
-use Rattle.markdown_base.specs.declared.event.Kind.TheVariants.{Enter, Exit}
 use Rattle.markdown_base.specs.declared.event.Name.TheVariants.{Data}
 use Rattle.markdown_base.specs.declared.event.Point.{Point}
 use Rattle.markdown_edits.proofs.Balanced.{same_name-true}
