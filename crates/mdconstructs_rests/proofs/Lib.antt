@@ -36,6 +36,7 @@ pub mod LetteredBoth
 pub mod LetteredLines
 pub mod LikeRows
 pub mod LineFronts
+pub mod LinesApart
 pub mod Links
 pub mod LoneChunk
 pub mod Longer
