@@ -27,6 +27,7 @@ pub mod JoinedBlocks
 pub mod JoinedChunks
 pub mod JoinedDocument
 pub mod JoinedKnown
+pub mod JoinedLines
 pub mod JoinedMarks
 pub mod JoinedParts
 pub mod JoinedSections

@@ -190,6 +190,14 @@ module _ (a b : List ℕ) (h : begins_line b a ≡ true) where
       let all = rows on (lines_in (virtual t b)) in
       ap (sections_marks (a ++ b)) (map-ext (moved_section (line_endings a) (length a)) (msection goes) section-goes (sections on (first_stays false all))) ∙ first-moved goes t b (any-known goes (λ p. refl) (virtual t b)) on
 
+  -- its sections as they are
+  pub all-behind : (on : Constructs) (t : ℕ) → let ss = sections on (rows on (lines_in (virtual t b))) in
+      sections_marks (a ++ b) (map (moved_section (line_endings a) (length a)) ss) ≡ map moved_mark (sections_marks b ss)
+  unfolding goes
+  all-behind on t =
+      let ss = sections on (rows on (lines_in (virtual t b))) in
+      ap (sections_marks (a ++ b)) (map-ext (moved_section (line_endings a) (length a)) (msection goes) section-goes ss) ∙ whole-marks goes t b (any-known goes (λ p. refl) (virtual t b)) on
+
   -- ---- events of moved marks
   next-same : (i : ℕ) (marks : List Mark) → next_chunk i (map moved_mark marks) ≡ next_chunk i marks
   next-same i [] = refl
@@ -216,22 +224,29 @@ module _ (a b : List ℕ) (h : begins_line b a ≡ true) where
   placed-on k [] = refl
   placed-on k (e ∷ es) = ap (λ l. moved_event (line_endings a) (length a) k e ∷ l) (placed-on k es)
 
-pub skeleton-of-both : SkeletonOfBoth
-skeleton-of-both on t a b rest off =
-    let torn : begins_line b a ≡ true = and-left (begins_line b a) (first_at_document_rest on (lines_in (virtual t a)) (lines_in (virtual t b))) rest in
+-- the events of the marks of both
+pub chained-of-both : (on : Constructs) (t : ℕ) (a b : List ℕ) (torn : begins_line b a ≡ true)
+    → let first = skeleton on a (virtual t a) in
+    chained_from 0 None (sections_marks (a ++ b) (sections on (rows on (lines_in (virtual t a)))) ++ map (moved_mark a b torn) (sections_marks b (sections on (rows on (lines_in (virtual t b))))))
+    ≡ first ++ map (moved_event (line_endings a) (length a) (length first)) (skeleton on b (virtual t b))
+chained-of-both on t a b torn =
     let one = sections_marks a (sections on (rows on (lines_in (virtual t a)))) in
     let two = sections_marks b (sections on (rows on (lines_in (virtual t b)))) in
     let first = chained_from 0 None one in
     let k = length first in
     let size = chained_length 0 None one in
-    let front = front-marks a b torn on t in
-    let behind = behind-marks a b torn on t in
     let linked = (document-alone a on (lines_in (virtual t a))).linked in
     let apart = apart-moved a b torn two (document-alone b on (lines_in (virtual t b))).apart in
-    ap (chained_from 0 None) (marks-of-both on t a b rest off)
-    ∙ (λ i. chained_from 0 None (front i ++ behind i))
+    ap (λ ms. chained_from 0 None (ms ++ map (moved_mark a b torn) two)) (front-marks a b torn on t)
     ∙ chained-append 0 k None one (map (moved_mark a b torn) two) (omega (arith, size)) linked apart
     ∙ ap (λ l. first ++ l)
     (chained-placed a b torn k None two
     ∙ ap (λ l. map (placed a b torn) l) (chained-moved k 0 k None None two (omega arith) refl (document-unlinked b on t))
     ∙ placed-on a b torn k (chained_from 0 None two))
+
+pub skeleton-of-both : SkeletonOfBoth
+skeleton-of-both on t a b rest off =
+    let torn : begins_line b a ≡ true = and-left (begins_line b a) (first_at_document_rest on (lines_in (virtual t a)) (lines_in (virtual t b))) rest in
+    ap (chained_from 0 None) (marks-of-both on t a b rest off)
+    ∙ ap (λ ms. chained_from 0 None (sections_marks (a ++ b) (sections on (rows on (lines_in (virtual t a)))) ++ ms)) (behind-marks a b torn on t)
+    ∙ chained-of-both on t a b torn
