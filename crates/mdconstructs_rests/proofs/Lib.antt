@@ -78,6 +78,7 @@ pub mod SkeletonLinks
 pub mod SkeletonOfBoth
 pub mod SkeletonStands
 pub mod SplitBlocks
+pub mod StretchEnds
 pub mod StretchLeaves
 pub mod StretchStarts
 pub mod StringsJoin

@@ -1,6 +1,7 @@
 -- Lines of sections in which no definitions begin: none of them is text because the text before it is of definitions alone. So it is if an underline behind a text of
 -- definitions alone is all that is left of the longer text.
 use Rattle.std.proofs.Common.{Bool, List, [], ap, append_assoc, arith, cond, false, length, length-append, length-drop, refl, subst, sym, take, true, ℕ, suc, ◌+◌, ◌++◌, ◌<◌, ◌==◌, ◌&&◌, ◌||◌, nat_le, not, ◌∙◌, ◌∷◌, ◌≡◌}
+use Rattle.std.proofs.Math.Bool.{and-false}
 use Rattle.std.proofs.lemmas.Bool.{leb-false}
 use Rattle.std.specs.List.{prefix_len}
 use Rattle.std.specs.Prelude.{is_some}
@@ -120,8 +121,7 @@ module _ (left : LineIsLeft) (on : Constructs) (defines : on.definition ≡ true
           absurd (omega (arith, few, same))
 
   -- the row behind which a paragraph is open
-  module _ (k : Known) (n : ℕ) (line : Line) (rows : List Row) (inside : is_paragraph k.before.leaf ≡ true → Inside k (row_of on k n line ∷ rows)) (none : (not (is_paragraph k.before.leaf) && nat_le 1 (defined_in on (row_of on k n line ∷ rows))) ≡ false)
-      (stay : may_stay (row_of on k n line) ≡ true) (is-open : is_paragraph (row_of on k n line).leaf ≡ true) where
+  module _ (k : Known) (n : ℕ) (line : Line) (rows : List Row) (is-open : is_paragraph (row_of on k n line).leaf ≡ true) where
     abbrev row : Row
     row = row_of on k n line
 
@@ -131,35 +131,16 @@ module _ (left : LineIsLeft) (on : Constructs) (defines : on.definition ≡ true
     full : is_blank_line (rest_of row) ≡ false
     full = open-not-blank on k n line is-open
 
-    stays : row.stays ≡ true
-    stays = sym (ap (λ b. (b && (has_none row.begun && not (row.stays && holds_ending k.before.leaf))) || row.stays) full) ∙ stay
-
     line-full : EndsFull (rest_of row)
     line-full = full-line (rest_of row) (not-blank-some (rest_of row) full) (tens-rest row)
 
     abbrev ps : List Row
     ps = paragraph_of rows
 
-    -- it goes on
-    goes-on : is_paragraph k.before.leaf ≡ true → Inside next rows
-    goes-on e =
-        let there = inside e in
-        let text : next.text ≡ k.text ++ 10 ∷ rest_of row = (λ i. cond (is-open i) (cond (stays i && e i) (k.text ++ 10 ∷ rest_of row) (rest_of row)) []) in
-        let few = there.few in
-        let same : lines_defined (next.text ++ behind_text ps) ≡ lines_defined (k.text ++ behind_text (paragraph_of (row ∷ rows))) =
-        ap (λ t. lines_defined (t ++ behind_text ps)) text ∙ ap lines_defined (sym (more-text k.text row ps)) ∙ ap (λ qs. lines_defined (k.text ++ behind_text qs)) (sym (paragraph-more row rows is-open)) in
-        let some = some-long k.text (some-full k.text (omega (arith, few))) in
-        let here = lines-some k.text some in
-        let size = length-append k.text (10 ∷ rest_of row) in
-        let both = tens-both k.text (10 ∷ rest_of row) in
-        let long : lines_of next.text ≡ suc (tens (k.text ++ 10 ∷ rest_of row)) = ap lines_of text ∙ lines-some (k.text ++ 10 ∷ rest_of row) (omega (arith, size)) in
-        record { few = omega (arith, few, same, here, both, long); full = subst EndsFull (sym text) (full-more k.text (10 ∷ rest_of row) (full-more (10 ∷ []) (rest_of row) line-full)) }
-
     -- it begins
-    begins : is_paragraph k.before.leaf ≡ false → Inside next rows
-    begins e =
-        let text : next.text ≡ rest_of row = (λ i. cond (is-open i) (cond (stays i && e i) (k.text ++ 10 ∷ rest_of row) (rest_of row)) []) in
-        let nothing : nat_le 1 (defined_in on (row ∷ rows)) ≡ false = ap (λ b. not b && nat_le 1 (defined_in on (row ∷ rows))) (sym e) ∙ none in
+    pub begins : is_behind_text k.before row ≡ false → nat_le 1 (defined_in on (row ∷ rows)) ≡ false → Inside next rows
+    begins e nothing =
+        let text : next.text ≡ rest_of row = (λ i. cond (is-open i) (cond (e i) (k.text ++ 10 ∷ rest_of row) (rest_of row)) []) in
         let zero-many : defined_in on (row ∷ rows) ≡ lines_defined (rest_of row ++ behind_text ps) = ap (λ b. cond b (lines_defined (text_in (paragraph_of (row ∷ rows)))) 0) defines ∙ ap (λ qs. lines_defined (text_in qs)) (paragraph-more row rows is-open) in
         let long = lines-some (rest_of row) (some-long (rest_of row) (not-blank-some (rest_of row) full)) in
         let here = ap lines_of text in
@@ -167,12 +148,31 @@ module _ (left : LineIsLeft) (on : Constructs) (defines : on.definition ≡ true
         let few = leb-false 1 (defined_in on (row ∷ rows)) nothing in
         record { few = omega (arith, few, same, zero-many, long, here); full = subst EndsFull (sym text) line-full }
 
-    inside-next : Inside next rows
-    inside-next = by (is_paragraph k.before.leaf) refl
-      where
-        by : (b : Bool) → is_paragraph k.before.leaf ≡ b → Inside next rows
-        by true e = goes-on e
-        by false e = begins e
+    module _ (inside : is_paragraph k.before.leaf ≡ true → Inside k (row ∷ rows)) (none : (not (is_paragraph k.before.leaf) && nat_le 1 (defined_in on (row ∷ rows))) ≡ false) (stay : may_stay row ≡ true) where
+      stays : row.stays ≡ true
+      stays = sym (ap (λ b. (b && (has_none row.begun && not (row.stays && holds_ending k.before.leaf))) || row.stays) full) ∙ stay
+
+      -- it goes on
+      goes-on : is_paragraph k.before.leaf ≡ true → Inside next rows
+      goes-on e =
+          let there = inside e in
+          let text : next.text ≡ k.text ++ 10 ∷ rest_of row = (λ i. cond (is-open i) (cond (stays i && e i) (k.text ++ 10 ∷ rest_of row) (rest_of row)) []) in
+          let few = there.few in
+          let same : lines_defined (next.text ++ behind_text ps) ≡ lines_defined (k.text ++ behind_text (paragraph_of (row ∷ rows))) =
+          ap (λ t. lines_defined (t ++ behind_text ps)) text ∙ ap lines_defined (sym (more-text k.text row ps)) ∙ ap (λ qs. lines_defined (k.text ++ behind_text qs)) (sym (paragraph-more row rows is-open)) in
+          let some = some-long k.text (some-full k.text (omega (arith, few))) in
+          let here = lines-some k.text some in
+          let size = length-append k.text (10 ∷ rest_of row) in
+          let both = tens-both k.text (10 ∷ rest_of row) in
+          let long : lines_of next.text ≡ suc (tens (k.text ++ 10 ∷ rest_of row)) = ap lines_of text ∙ lines-some (k.text ++ 10 ∷ rest_of row) (omega (arith, size)) in
+          record { few = omega (arith, few, same, here, both, long); full = subst EndsFull (sym text) (full-more k.text (10 ∷ rest_of row) (full-more (10 ∷ []) (rest_of row) line-full)) }
+
+      inside-next : Inside next rows
+      inside-next = by (is_paragraph k.before.leaf) refl
+        where
+          by : (b : Bool) → is_paragraph k.before.leaf ≡ b → Inside next rows
+          by true e = goes-on e
+          by false e = begins (ap (λ b. row.stays && b) e ∙ and-false row.stays) (ap (λ b. not b && nat_le 1 (defined_in on (row ∷ rows))) (sym e) ∙ none)
 
   pub none-underlines : (k : Known) (n : ℕ) (ls : List Line) → AllStay (rows_from on k n ls) → (is_paragraph k.before.leaf ≡ true → Inside k (rows_from on k n ls))
       → before_defined on (is_paragraph k.before.leaf) (rows_from on k n ls) ≡ length (rows_from on k n ls) → NoneUnderlines on k n ls
@@ -184,7 +184,7 @@ module _ (left : LineIsLeft) (on : Constructs) (defines : on.definition ≡ true
       let same = leaf-behind on (open-not-blank on) k n line in
       let parts = by (not (is_paragraph k.before.leaf) && nat_le 1 (defined_in on (row ∷ rows))) refl whole in (
         not-here k n line rows inside,
-        none-underlines next (suc n) ls stay.1 (λ e. inside-next k n line rows inside parts.0 stay.0 (sym same ∙ e)) (ap (λ b. before_defined on b rows) same ∙ parts.1),
+        none-underlines next (suc n) ls stay.1 (λ e. inside-next k n line rows (sym same ∙ e) inside parts.0 stay.0) (ap (λ b. before_defined on b rows) same ∙ parts.1),
       )
     where
       row : Row

@@ -48,7 +48,7 @@ module _ (on : Constructs) where
     abbrev rest : List ℕ
     rest = rest_of plain
 
-    no-text : is_behind_text k.before plain ≡ false
+    pub no-text : is_behind_text k.before plain ≡ false
     no-text = by plain.stays refl
       where
         by : (b : Bool) → plain.stays ≡ b → (b && is_paragraph k.before.leaf) ≡ false
