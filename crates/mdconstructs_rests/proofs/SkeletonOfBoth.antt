@@ -17,7 +17,7 @@ use Rattle.mdconstructs_containers.specs.Skeleton.{Frame, Part, chained_from, ne
 use Rattle.mdconstructs_containers.proofs.WrittenLemmas.{chained_length}
 use Rattle.mdconstructs_definitions.specs.Rows.{rows}
 use Rattle.mdconstructs_definitions.specs.Sections.{Section, sections}
-use Rattle.mdconstructs_definitions.specs.Skeleton.{sections_marks}
+use Rattle.mdconstructs_definitions.specs.Skeleton.{skeleton, sections_marks}
 use Rattle.mdconstructs_rests.specs.DocumentRests.{first_at_document_rest, first_stays, known_at_start, moved_container, moved_prefix, moved_row}
 use Rattle.mdconstructs_rests.specs.Moved.{begins_line, line_endings, moved_event, moved_point}
 use Rattle.mdconstructs_rests.specs.MovedSections.{SkeletonOfBoth, moved_section}
