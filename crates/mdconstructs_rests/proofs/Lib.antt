@@ -33,6 +33,7 @@ pub mod JoinedParts
 pub mod JoinedSections
 pub mod JoinedWhole
 pub mod LeavesBehind
+pub mod LetterKinds
 pub mod LetteredBoth
 pub mod LetteredLines
 pub mod LikeRows

@@ -1,6 +1,6 @@
 -- Lines of sections in which no definitions begin: none of them is text because the text before it is of definitions alone. So it is if an underline behind a text of
 -- definitions alone is all that is left of the longer text.
-use Rattle.std.proofs.Common.{Bool, List, [], ap, append_assoc, arith, cond, false, length, length-append, length-drop, refl, subst, sym, take, true, ℕ, suc, ◌+◌, ◌++◌, ◌<◌, ◌==◌, ◌&&◌, ◌||◌, nat_le, not, ◌∙◌, ◌∷◌, ◌≡◌}
+use Rattle.std.proofs.Common.{Bool, List, [], ap, append_assoc, arith, cond, false, length, length-append, length-drop, refl, subst, sym, take, true, ℕ, suc, ◌+◌, ◌++◌, ◌<◌, ◌==◌, ◌≤◌, ◌&&◌, ◌||◌, nat_le, not, ◌∙◌, ◌∷◌, ◌≡◌}
 use Rattle.std.proofs.Math.Bool.{and-false}
 use Rattle.std.proofs.lemmas.Bool.{leb-false}
 use Rattle.std.specs.List.{prefix_len}
@@ -47,7 +47,7 @@ full-line (x ∷ []) h e = record { front = []; last = x; is = refl; full = by (
 full-line (x ∷ y ∷ xs) h e = full-more (x ∷ []) (y ∷ xs) (full-line (y ∷ xs) refl (omega (arith, e, tens-both (x ∷ []) (y ∷ xs))))
 
 -- what comes behind a line of a paragraph
-abbrev behind_text : List Row → List ℕ
+abbrev pub behind_text : List Row → List ℕ
 behind_text ps = cond (has_none ps) [] (10 ∷ text_in ps)
 
 more-text : (text : List ℕ) (r : Row) (ps : List Row) → text ++ behind_text (r ∷ ps) ≡ (text ++ 10 ∷ rest_of r) ++ behind_text ps
@@ -137,6 +137,18 @@ module _ (left : LineIsLeft) (on : Constructs) (defines : on.definition ≡ true
     abbrev ps : List Row
     ps = paragraph_of rows
 
+    -- it goes on, if definitions have no more lines than it had
+    pub goes-on : is_behind_text k.before row ≡ true → lines_defined (k.text ++ behind_text (paragraph_of (row ∷ rows))) ≤ lines_of k.text → has_none k.text ≡ false → Inside next rows
+    goes-on e few full-text =
+        let text : next.text ≡ k.text ++ 10 ∷ rest_of row = (λ i. cond (is-open i) (cond (e i) (k.text ++ 10 ∷ rest_of row) (rest_of row)) []) in
+        let same : lines_defined (next.text ++ behind_text ps) ≡ lines_defined (k.text ++ behind_text (paragraph_of (row ∷ rows))) =
+        ap (λ t. lines_defined (t ++ behind_text ps)) text ∙ ap lines_defined (sym (more-text k.text row ps)) ∙ ap (λ qs. lines_defined (k.text ++ behind_text qs)) (sym (paragraph-more row rows is-open)) in
+        let here = lines-some k.text (some-long k.text full-text) in
+        let size = length-append k.text (10 ∷ rest_of row) in
+        let both = tens-both k.text (10 ∷ rest_of row) in
+        let long : lines_of next.text ≡ suc (tens (k.text ++ 10 ∷ rest_of row)) = ap lines_of text ∙ lines-some (k.text ++ 10 ∷ rest_of row) (omega (arith, size)) in
+        record { few = omega (arith, few, same, here, both, long); full = subst EndsFull (sym text) (full-more k.text (10 ∷ rest_of row) (full-more (10 ∷ []) (rest_of row) line-full)) }
+
     -- it begins
     pub begins : is_behind_text k.before row ≡ false → nat_le 1 (defined_in on (row ∷ rows)) ≡ false → Inside next rows
     begins e nothing =
@@ -152,26 +164,17 @@ module _ (left : LineIsLeft) (on : Constructs) (defines : on.definition ≡ true
       stays : row.stays ≡ true
       stays = sym (ap (λ b. (b && (has_none row.begun && not (row.stays && holds_ending k.before.leaf))) || row.stays) full) ∙ stay
 
-      -- it goes on
-      goes-on : is_paragraph k.before.leaf ≡ true → Inside next rows
-      goes-on e =
+      goes-more : is_paragraph k.before.leaf ≡ true → Inside next rows
+      goes-more e =
           let there = inside e in
-          let text : next.text ≡ k.text ++ 10 ∷ rest_of row = (λ i. cond (is-open i) (cond (stays i && e i) (k.text ++ 10 ∷ rest_of row) (rest_of row)) []) in
           let few = there.few in
-          let same : lines_defined (next.text ++ behind_text ps) ≡ lines_defined (k.text ++ behind_text (paragraph_of (row ∷ rows))) =
-          ap (λ t. lines_defined (t ++ behind_text ps)) text ∙ ap lines_defined (sym (more-text k.text row ps)) ∙ ap (λ qs. lines_defined (k.text ++ behind_text qs)) (sym (paragraph-more row rows is-open)) in
-          let some = some-long k.text (some-full k.text (omega (arith, few))) in
-          let here = lines-some k.text some in
-          let size = length-append k.text (10 ∷ rest_of row) in
-          let both = tens-both k.text (10 ∷ rest_of row) in
-          let long : lines_of next.text ≡ suc (tens (k.text ++ 10 ∷ rest_of row)) = ap lines_of text ∙ lines-some (k.text ++ 10 ∷ rest_of row) (omega (arith, size)) in
-          record { few = omega (arith, few, same, here, both, long); full = subst EndsFull (sym text) (full-more k.text (10 ∷ rest_of row) (full-more (10 ∷ []) (rest_of row) line-full)) }
+          goes-on (λ i. stays i && e i) (omega (arith, few)) (some-full k.text (omega (arith, few)))
 
       inside-next : Inside next rows
       inside-next = by (is_paragraph k.before.leaf) refl
         where
           by : (b : Bool) → is_paragraph k.before.leaf ≡ b → Inside next rows
-          by true e = goes-on e
+          by true e = goes-more e
           by false e = begins (ap (λ b. row.stays && b) e ∙ and-false row.stays) (ap (λ b. not b && nat_le 1 (defined_in on (row ∷ rows))) (sym e) ∙ none)
 
   pub none-underlines : (k : Known) (n : ℕ) (ls : List Line) → AllStay (rows_from on k n ls) → (is_paragraph k.before.leaf ≡ true → Inside k (rows_from on k n ls))
