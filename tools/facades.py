@@ -14,7 +14,7 @@ import sys
 TOP = os.path.dirname(os.path.dirname(os.path.realpath(__file__)))
 PARTS = {
     "markdown": ["markdown_base", "markdown_edits", "markdown_tokenizer", "markdown_children"],
-    "mdconstructs": ["mdconstructs_tables", "mdconstructs_machines", "mdconstructs_text", "mdconstructs_labels", "mdconstructs_attention", "mdconstructs_references", "mdconstructs_inline_constructs", "mdconstructs_strings", "mdconstructs_inlines", "mdconstructs_flow", "mdconstructs_flow_read", "mdconstructs_lines", "mdconstructs_containers", "mdconstructs_documents", "mdconstructs_costs", "mdconstructs_document_laws", "mdconstructs_rests", "mdconstructs_targets"],
+    "mdconstructs": ["mdconstructs_tables", "mdconstructs_machines", "mdconstructs_text", "mdconstructs_labels", "mdconstructs_attention", "mdconstructs_references", "mdconstructs_inline_constructs", "mdconstructs_strings", "mdconstructs_inlines", "mdconstructs_flow", "mdconstructs_flow_read", "mdconstructs_lines", "mdconstructs_containers", "mdconstructs_documents", "mdconstructs_costs", "mdconstructs_document_laws", "mdconstructs_rests", "mdconstructs_targets", "mdconstructs_sections"],
 }
 NAMED = {
     ("markdown_children", "specs", "LawStatements"): "ChildrenLawStatements",

@@ -216,8 +216,10 @@ pub use Rattle.mdconstructs_document_laws.specs.PairedApart
 pub use Rattle.mdconstructs_document_laws.specs.Ranks
 pub use Rattle.mdconstructs_document_laws.specs.ReferencePlaces
 pub use Rattle.mdconstructs_rests.specs.Asked
+pub use Rattle.mdconstructs_rests.specs.BothDocuments
 pub use Rattle.mdconstructs_rests.specs.DocumentLabels
 pub use Rattle.mdconstructs_rests.specs.DocumentRests
+pub use Rattle.mdconstructs_rests.specs.JoinedStretches
 pub use Rattle.mdconstructs_rests.specs.Moved
 pub use Rattle.mdconstructs_rests.specs.MovedSections
 pub use Rattle.mdconstructs_rests.specs.ReadTexts
@@ -230,3 +232,7 @@ pub use Rattle.mdconstructs_targets.specs.Examples as TargetExamples
 pub use Rattle.mdconstructs_targets.specs.Spans as SpansInside
 pub use Rattle.mdconstructs_targets.specs.Strings as StringTexts
 pub use Rattle.mdconstructs_targets.specs.Targets
+pub use Rattle.mdconstructs_sections.specs.Packed
+pub use Rattle.mdconstructs_sections.specs.PackedEvents
+pub use Rattle.mdconstructs_sections.specs.PositionParts
+pub use Rattle.mdconstructs_sections.specs.Positions

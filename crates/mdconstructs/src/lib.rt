@@ -1,6 +1,6 @@
 //! State machines, each proved lawful, `read_text`, `events_of`, and what the author of a machine needs.
 //!
-//! This crate has no code. It re-exports its eighteen parts, which have the code and the proofs: `mdconstructs_tables` (machines as
+//! This crate has no code. It re-exports its nineteen parts, which have the code and the proofs: `mdconstructs_tables` (machines as
 //! tables), `mdconstructs_machines` (the small machines), `mdconstructs_text` (`Text` and its definition), `mdconstructs_labels` (labels of
 //! links), `mdconstructs_attention` (emphasis, as edits), `mdconstructs_references` (the characters of references),
 //! `mdconstructs_inline_constructs` (further constructs of inline text), `mdconstructs_strings` (the strings of links, read in a list of
@@ -8,8 +8,8 @@
 //! `mdconstructs_flow_read` (what `Flow` reads, without states), `mdconstructs_lines` (what a line is and which containers it begins or goes
 //! on), `mdconstructs_containers` (block quotes and lists around leaf blocks), `mdconstructs_documents` (how a document is read, and its
 //! events), `mdconstructs_costs` (how many calls of states that takes), `mdconstructs_document_laws` (laws of whole documents),
-//! `mdconstructs_rests` (where a document can be cut, so that its parts are read apart) and `mdconstructs_targets` (what links and images
-//! lead to, and where labels are defined).
+//! `mdconstructs_rests` (where a document can be cut, so that its parts are read apart), `mdconstructs_targets` (what links and images
+//! lead to, and where labels are defined) and `mdconstructs_sections` (places as editors ask for them, and events in little memory).
 #![tactic(auto)]
 
 pub mod emphasis;
@@ -41,6 +41,7 @@ pub use mdconstructs_machines::wrap::Wrap;
 pub use mdconstructs_machines::{
     back, begin, deep, fail, lines, paragraphs, peek, save, words, wrap,
 };
+pub use mdconstructs_sections::{packed, positions};
 pub use mdconstructs_tables::{chunks, marker};
 pub use mdconstructs_targets::{definitions, targets};
 pub use mdconstructs_text::read::read_text;
