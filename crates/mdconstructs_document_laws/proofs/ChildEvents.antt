@@ -71,10 +71,6 @@ module _ (P : Event → Type 0) where
   read-are of_chain [] h = tt
   read-are of_chain (c ∷ cs) h = (h c, read-are of_chain cs h)
 
-  pub read-at : (of_chain : ℕ → List Event) (cs : List ℕ) → AllByRecursion (λ c. Are (of_chain c)) cs → AllByRecursion Are (map of_chain cs)
-  read-at of_chain [] h = tt
-  read-at of_chain (c ∷ cs) h = (h.0, read-at of_chain cs h.1)
-
   -- the ends of links do not matter
   module _ (moved : (f : ℕ → Option ℕ) (e : Event) → P e → P (relinked f e)) where
     placed-are : (ts us : List Tagged) → AreTagged us → Are (placed_in ts us)
@@ -89,8 +85,3 @@ module _ (P : Event → Type 0) where
     children-are wanted es of_chain h k =
         let cs = fitting_starts wanted es in
         changed-are (child_changes wanted es (map of_chain cs)) es (divided-are es cs (map of_chain cs) (read-are of_chain cs k)) h
-
-    pub children-are-at : (wanted : Option Content) (es : List Event) (of_chain : ℕ → List Event) → Are es → AllByRecursion (λ c. Are (of_chain c)) (fitting_starts wanted es) → Are (with_children wanted es (map of_chain (fitting_starts wanted es)))
-    children-are-at wanted es of_chain h k =
-        let cs = fitting_starts wanted es in
-        changed-are (child_changes wanted es (map of_chain cs)) es (divided-are es cs (map of_chain cs) (read-at of_chain cs k)) h

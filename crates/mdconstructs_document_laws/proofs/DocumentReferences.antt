@@ -110,9 +110,6 @@ module _ (g : Given) where
   named-whole : (es : List Event) → Named NoReference es → Are es
   named-whole es h = others-whole (IsSpanOf g.bytes) es h.all
 
-  and-whole : (xs ys : List Event) → Are xs → Are ys → Are (xs ++ ys)
-  and-whole xs ys h k = whole-both (IsSpanOf g.bytes) xs ys h k
-
   module _ (text : Text) (is : IsText g text) where
     item-whole : (before : List Seat) (s : Seat) (ss : List Seat) → text.seats ≡ before ++ s ∷ ss → (f : Found) → Fits (bytes_of (s ∷ ss)) f → Are (f.events g.bytes (take f.size (s ∷ ss)))
     item-whole before s ss all f (inl h) = named-whole (f.events g.bytes (take f.size (s ∷ ss))) (h g.bytes (take f.size (s ∷ ss)))
@@ -123,12 +120,12 @@ module _ (g : Given) where
         subst (λ (x : Found). Are (x.events g.bytes (take x.size (s ∷ ss)))) (sym r.2) (reference-whole g.bytes g.tab q s ss c w r.0 r.1 (r.3 ∙ ap Some r.2))
 
     string-whole : (on : Constructs) → Are (string_seat_events on g.bytes text.seats)
-    string-whole on = string-has g.bytes text.seats Are refl and-whole named-whole item-whole on
+    string-whole on = string-has g.bytes text.seats Are refl (whole-both (IsSpanOf g.bytes)) named-whole item-whole on
 
     inline-whole : (defined : List ℕ → Bool) → Are (inline_events defined g text)
     inline-whole defined =
         let on = g.options.constructs in
-        links-whole (IsSpanOf g.bytes) g.bytes (flat_map (item_events g.bytes) (inline_items on defined g.bytes text.seats)) (read-has g.bytes text.seats Are refl and-whole named-whole item-whole on defined)
+        links-whole (IsSpanOf g.bytes) g.bytes (flat_map (item_events g.bytes) (inline_items on defined g.bytes text.seats)) (read-has g.bytes text.seats Are refl (whole-both (IsSpanOf g.bytes)) named-whole item-whole on defined)
 
 -- ---- strings in place of data
 

@@ -24,7 +24,7 @@ module _ (P : Event → Type 0) (Of : Name → Type 0) (holds : (e : Event) → 
   Are es = AllByRecursion P es
 
   -- ---- data, and spans
-  data-are : (p : Point) (n : ℕ) → Are (data_of p n)
+  pub data-are : (p : Point) (n : ℕ) → Are (data_of p n)
   data-are p zero = tt
   data-are p (suc n) = (holds _ data_is, (holds _ data_is, tt))
 
@@ -39,12 +39,12 @@ module _ (P : Event → Type 0) (Of : Name → Type 0) (holds : (e : Event) → 
   abbrev AreOn : List Run → Type 0
   AreOn rs = AllByRecursion (λ (r : Run). On) rs
 
-  closings-are : (p : Point) (ss : List Bool) → AreOfEmphasis Of → Are (closings p ss)
+  pub closings-are : (p : Point) (ss : List Bool) → AreOfEmphasis Of → Are (closings p ss)
   closings-are p [] m = tt
   closings-are p (true ∷ ss) m = (holds _ m.strong_text, (holds _ m.strong_sequence, (holds _ m.strong_sequence, (holds _ m.strong, closings-are (later (markers_of true) p) ss m))))
   closings-are p (false ∷ ss) m = (holds _ m.emphasis_text, (holds _ m.emphasis_sequence, (holds _ m.emphasis_sequence, (holds _ m.emphasis, closings-are (later (markers_of false) p) ss m))))
 
-  openings-are : (p : Point) (ss : List Bool) → AreOfEmphasis Of → Are (openings p ss)
+  pub openings-are : (p : Point) (ss : List Bool) → AreOfEmphasis Of → Are (openings p ss)
   openings-are p [] m = tt
   openings-are p (true ∷ ss) m = (holds _ m.strong, (holds _ m.strong_sequence, (holds _ m.strong_sequence, (holds _ m.strong_text, openings-are (later (markers_of true) p) ss m))))
   openings-are p (false ∷ ss) m = (holds _ m.emphasis, (holds _ m.emphasis_sequence, (holds _ m.emphasis_sequence, (holds _ m.emphasis_text, openings-are (later (markers_of false) p) ss m))))

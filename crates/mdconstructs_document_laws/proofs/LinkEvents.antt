@@ -1,12 +1,11 @@
 -- Links, images and emphasis in place of brackets and runs: each event is one of the list, or has a name of theirs.
-use Rattle.std.proofs.Common.{◌≡◌, ℕ, List, [], ◌∷◌, true, false, inl, inr, length, refl, subst, sym}
-use Rattle.std.proofs.lemmas.Bool.{or_cases}
+use Rattle.std.proofs.Common.{◌≡◌, ℕ, List, [], ◌∷◌, true, false, length, refl, subst}
+use Rattle.std.proofs.lemmas.Bool.{false_from_ne_true, false≢true}
 use Rattle.std.specs.List.{AllByRecursion}
-use Rattle.std.specs.Prelude.{◌||◌}
 use Rattle.markdown_base.proofs.Common.{every-append}
 use Rattle.markdown_base.specs.declared.event.Event.{Event}
 use Rattle.markdown_base.specs.declared.event.Name.{Name}
-use Rattle.markdown_base.specs.declared.event.Name.TheVariants.{CharacterReference, Image, Label, LabelText, Link}
+use Rattle.markdown_base.specs.declared.event.Name.TheVariants.{CharacterReference}
 use Rattle.markdown_base.specs.Events.{same_name}
 use Rattle.markdown_edits.proofs.Balanced.{same_name-true}
 use Rattle.markdown_tokenizer.proofs.Positions.Order.{every-back, every-front}
@@ -20,29 +19,21 @@ use Rattle.mdconstructs_links.specs.Places.{Anywhere}
 use Rattle.mdconstructs_document_laws.proofs.EmphasisEvents.{AreOfEmphasis, as-data-are, emphasis-are, spanning-are}
 
 -- another name than that of a reference
-abbrev IsOther : Name → Type 0
+abbrev pub IsOther : Name → Type 0
 IsOther n = same_name n CharacterReference ≡ false
 
-other-of-emphasis : AreOfEmphasis IsOther
+pub other-of-emphasis : AreOfEmphasis IsOther
 other-of-emphasis = record { emphasis = refl; emphasis_sequence = refl; emphasis_text = refl; strong = refl; strong_sequence = refl; strong_text = refl }
 
-other-made : (n : Name) → is_made_of n ≡ true → IsOther n
-other-made n is = elim (or_cases (same_name n Image) (same_name n Label || (same_name n LabelText || same_name n Link)) is) [
-  | inl a ↦ by Image refl a
-  | inr b ↦ elim (or_cases (same_name n Label) (same_name n LabelText || same_name n Link) b) [
-    | inl a ↦ by Label refl a
-    | inr c ↦ elim (or_cases (same_name n LabelText) (same_name n Link) c) [ inl a ↦ by LabelText refl a | inr a ↦ by Link refl a ]
-  ]
-]
-  where
-    by : (m : Name) → IsOther m → same_name n m ≡ true → IsOther n
-    by m other e = subst IsOther (sym (same_name-true n m e)) other
+-- no name that links and images are made of is that of a reference
+pub other-made : (n : Name) → is_made_of n ≡ true → IsOther n
+other-made n made = false_from_ne_true (same_name n CharacterReference) (λ e. false≢true (subst (λ m. is_made_of m ≡ true) (same_name-true n CharacterReference e) made))
 
 -- any run will do
-abbrev AnyRun : Run → Type 0
+abbrev pub AnyRun : Run → Type 0
 AnyRun r = Unit {0}
 
-any-runs : (rs : List Run) → AllByRecursion AnyRun rs
+pub any-runs : (rs : List Run) → AllByRecursion AnyRun rs
 any-runs [] = tt
 any-runs (r ∷ rs) = (tt, any-runs rs)
 

@@ -2,20 +2,20 @@
 --
 -- A child is cut between two events only if the second stands behind the first. In a reference that is so only where a void span is entered, and no
 -- chunks tear one: so nothing comes between the two. No chunk of the list is in a reference, as its events are in no chain.
-use Rattle.std.proofs.Common.{◌≡◌, ℕ, ◌+◌, List, [], ◌∷◌, ◌++◌, Bool, true, false, not, inl, inr, Option, None, drop, length, refl, sym, ap, ◌∙◌, subst, arith, zero-add}
+use Rattle.std.proofs.Common.{◌≡◌, ℕ, ◌+◌, List, [], ◌∷◌, ◌++◌, Bool, true, false, not, inl, inr, Option, drop, length, refl, sym, ap, ◌∙◌, subst, arith, zero-add}
 use Rattle.std.proofs.lemmas.Bool.{and_parts, false≢true}
 use Rattle.std.specs.List.{AllByRecursion, between, take_while}
-use Rattle.std.specs.Option.{option_map}
 use Rattle.std.specs.Prelude.{IsSome, slice_get}
 use Rattle.markdown_base.specs.declared.event.Content.{Content}
 use Rattle.markdown_base.specs.declared.event.Event.{Event}
 use Rattle.markdown_base.specs.declared.event.Kind.TheVariants.{Exit}
 use Rattle.markdown_base.specs.declared.event.Name.TheVariants.{CharacterReference}
 use Rattle.markdown_base.specs.declared.event.Point.{Point}
-use Rattle.markdown_base.specs.Events.{is_enter, relinked, same_name, with_ends}
+use Rattle.markdown_base.specs.Events.{is_enter, relinked, same_name}
 use Rattle.markdown_base.specs.Places.{stands_before}
 use Rattle.markdown_edits.proofs.Edits.Passes.{woven-pass}
 use Rattle.markdown_edits.specs.Woven.{Change, Tagged, placed_end, placed_in, woven}
+use Rattle.markdown_tokenizer.proofs.Readings.Plain.{unlinked-same}
 use Rattle.markdown_children.proofs.ChainOrder.Following.{Fits, chunk, fits_next}
 use Rattle.markdown_children.proofs.ChainOrder.Spaced.{changes_are_apart}
 use Rattle.markdown_children.proofs.Parts.Kept.{after_changes, between-none, joined, joined-parts, part_after, split-at, untagged, untagged-olds, with_children_holds}
@@ -119,14 +119,11 @@ module _ (Is : Event → List Event → Type 0) where
 
   -- ---- ends of links
 
-  same-relinked : (f : ℕ → Option ℕ) (e : Event) → e.link ≡ None → relinked f e ≡ e
-  same-relinked f e h = ap (λ l. record e { link = l }) (ap (option_map (with_ends f)) h ∙ sym h)
-
   step-relinked : (f : ℕ → Option ℕ) (s t : State) (e : Event) → Step Is s e t → Step Is s (relinked f e) t
   step-relinked f outside t e (inl h) = inl h
-  step-relinked f outside t e (inr h) = subst (λ x. Step Is outside x t) (sym (same-relinked f e h.1.own.unlinked)) (inr h)
+  step-relinked f outside t e (inr h) = subst (λ x. Step Is outside x t) (sym (unlinked-same f e h.1.own.unlinked)) (inr h)
   step-relinked f (inside last []) t e h = absurd h
-  step-relinked f (inside last (y ∷ ys)) t e h = subst (λ x. Step Is (inside last (y ∷ ys)) x t) (sym (same-relinked f e h.1.own.unlinked)) h
+  step-relinked f (inside last (y ∷ ys)) t e h = subst (λ x. Step Is (inside last (y ∷ ys)) x t) (sym (unlinked-same f e h.1.own.unlinked)) h
 
   goes-placed : (ts us : List Tagged) (s : State) → Goes Is s (untagged us) outside → Goes Is s (placed_in ts us) outside
   goes-placed ts [] s h = h

@@ -59,7 +59,7 @@ data-plain (e ∷ es) = (refl, (refl, tt))
 
 -- ---- runs that ascend
 -- some in the middle, and the others around them
-ascend-around : (xs ys zs : List Run) → AreAscending ((xs ++ ys) ++ zs) → AreAscending ys × AreAscending (xs ++ zs)
+pub ascend-around : (xs ys zs : List Run) → AreAscending ((xs ++ ys) ++ zs) → AreAscending ys × AreAscending (xs ++ zs)
 ascend-around [] [] zs h = (tt, h)
 ascend-around [] (y ∷ ys) zs h = (ascending-front (y ∷ ys) zs h, (ascend-around [] ys zs h.1).1)
 ascend-around (x ∷ xs) ys zs h =
@@ -69,11 +69,11 @@ ascend-around (x ∷ xs) ys zs h =
 
 -- ---- parts
 -- the runs of parts and others behind them, and the spans between
-record AreOfBoth (ps qs : List Part) : Type 0 where
+pub record AreOfBoth (ps qs : List Part) : Type 0 where
   pub runs : runs_of_parts (ps ++ qs) ≡ runs_of_parts ps ++ runs_of_parts qs
   pub spans : spans_between (ps ++ qs) ≡ spans_between ps ++ spans_between qs
 
-of-both : (ps qs : List Part) → AreOfBoth ps qs
+pub of-both : (ps qs : List Part) → AreOfBoth ps qs
 of-both [] qs = record { runs = refl; spans = refl }
 of-both (run r ∷ ps) qs = let more = of-both ps qs in record { runs = ap (λ l. r ∷ l) more.runs; spans = more.spans }
 of-both (events es ∷ ps) qs =
@@ -89,7 +89,7 @@ record IsOpener (w : Waiting) : Type 0 where
   pub plain : ArePlain w.opener
   pub before : AreGood w.before
 
-abbrev runs_waiting : List Waiting → List Run
+abbrev pub runs_waiting : List Waiting → List Run
 runs_waiting [] = []
 runs_waiting (w ∷ ws) = runs_waiting ws ++ runs_of_parts w.before
 
@@ -97,7 +97,7 @@ abbrev spans_waiting : List Waiting → List EmphasisSpan
 spans_waiting [] = []
 spans_waiting (w ∷ ws) = spans_waiting ws ++ spans_between w.before
 
-abbrev runs_so_far : SoFar → List Run
+abbrev pub runs_so_far : SoFar → List Run
 runs_so_far z = runs_waiting z.waiting ++ runs_of_parts z.behind
 
 abbrev spans_so_far : SoFar → List EmphasisSpan
@@ -118,7 +118,7 @@ all-good (w ∷ ws) ps h g =
     all-good ws (w.before ++ events (as_data w.opener) ∷ ps) h.1
     (every-append IsGood w.before (events (as_data w.opener) ∷ ps) h.0.before (good-events (as_data w.opener) (data-plain w.opener), g))
 
-all-runs : (ws : List Waiting) (ps : List Part) → runs_of_parts (all_parts ws ps) ≡ runs_waiting ws ++ runs_of_parts ps
+pub all-runs : (ws : List Waiting) (ps : List Part) → runs_of_parts (all_parts ws ps) ≡ runs_waiting ws ++ runs_of_parts ps
 all-runs [] ps = refl
 all-runs (w ∷ ws) ps =
     all-runs ws (w.before ++ events (as_data w.opener) ∷ ps) ∙ ap (λ l. runs_waiting ws ++ l) ((of-both w.before (events (as_data w.opener) ∷ ps)).runs)

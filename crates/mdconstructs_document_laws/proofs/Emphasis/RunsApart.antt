@@ -1,5 +1,5 @@
 -- The delimiter runs of a text are taken apart by links and images: each is in one part, and in each part they stand in their order.
-use Rattle.std.proofs.Common.{◌≡◌, ℕ, zero, suc, ◌+◌, ◌-◌, ◌<◌, ◌≤◌, ◌∙◌, List, [], ◌∷◌, ◌++◌, Bool, true, false, cond, inl, inr, not, Option, Some, None, append-nil, append_assoc, arith, length, refl, sym, ap, subst}
+use Rattle.std.proofs.Common.{◌≡◌, ℕ, zero, suc, ◌+◌, ◌-◌, ◌≤◌, ◌∙◌, List, [], ◌∷◌, ◌++◌, Bool, true, false, cond, inl, inr, not, Option, Some, None, append-nil, append_assoc, arith, length, refl, sym, ap, subst}
 use Rattle.std.proofs.Math.Dec.{eqb-suc-zero}
 use Rattle.std.proofs.lemmas.Bool.{and_parts, cond_both, false_from_ne_true, false≢true, or_cases}
 use Rattle.std.proofs.lemmas.Grind.{flat_map-append}
@@ -18,13 +18,13 @@ use Rattle.markdown_base.specs.Events.{is_enter, same_name}
 use Rattle.markdown_edits.proofs.Balanced.{same_name-true}
 use Rattle.mdconstructs_attention.specs.Emphasis.{Run}
 use Rattle.mdconstructs_attention.specs.Runs.{depth_after, index_of_event, is_sequence, run_at, runs_from, runs_in}
-use Rattle.mdconstructs_links.proofs.Laid.{all-back, all-front}
 use Rattle.mdconstructs_links.proofs.Reached.{runs-ascend}
-use Rattle.mdconstructs_links.proofs.Steps.{ascending-front}
+use Rattle.mdconstructs_links.proofs.Plain.{no-run}
 use Rattle.mdconstructs_links.specs.Laid.{AreAscending}
 use Rattle.mdconstructs_links.specs.Linked.{Part, SoFar, Waiting, added, all_parts, as_data, ended, events, failed, is_bracket, is_named, is_run, is_tail, made, opened, outermost_spans, part_of, run, runs_of_parts, span_at, spans_in, taken}
 use Rattle.mdconstructs_document_laws.specs.EmphasisLaws.{RunsAreApart}
 use Rattle.mdconstructs_document_laws.specs.PairedApart.{runs_apart, runs_apart_from, runs_inside, runs_outside}
+use Rattle.mdconstructs_document_laws.proofs.Emphasis.LinkSpans.{all-runs, ascend-around, of-both, runs_so_far, runs_waiting}
 use Rattle.mdconstructs_document_laws.proofs.WholeSpans.{runs_among}
 
 -- ---- as many runs are found as there are spans that are runs
@@ -85,10 +85,6 @@ module _ (bytes : List ℕ) where
       let more = rest-short (depth_after e.kind d) es in
       cond_both (depth_after e.kind d == 0) (e ∷ [], es) (e ∷ (span_at (depth_after e.kind d) es).0, (span_at (depth_after e.kind d) es).1) (λ (p : List Event × List Event). length p.1 ≤ length es) (λ x. omega arith) (λ x. more)
 
-  not-run : (e f : Event) (xs : List Event) → is_sequence e f ≡ false → is_run (e ∷ f ∷ xs) ≡ false
-  not-run e f [] h = h
-  not-run e f (x ∷ xs) h = refl
-
   -- of the first span, and what is behind it
   abbrev Counts : ℕ → Option ℕ → List Event → (List Event × List Event) → Type 0
   Counts i before es p = (j : ℕ) × (b : Option ℕ) × (length (runs_from bytes i 0 before es) ≡ cond (is_run p.0) 1 0 + length (runs_from bytes j 0 b p.1))
@@ -125,7 +121,7 @@ module _ (bytes : List ℕ) where
           ap (λ b. cond b (run_at bytes i e f before (index_of_event (slice_get es 0)) ∷ runs_from bytes (i + 2) 0 (Some f.point.index) es) (runs_from bytes (i + 1) (depth_after e.kind 0) (Some e.point.index) (f ∷ es))) is
           ∙ ap (λ k. runs_from bytes (i + 1) (depth_after k 0) (Some e.point.index) (f ∷ es)) h in
           let none : is_run (e ∷ (span_at 1 (f ∷ es)).0) ≡ false =
-          cond_both (depth_after f.kind 1 == 0) (f ∷ [], es) (f ∷ (span_at (depth_after f.kind 1) es).0, (span_at (depth_after f.kind 1) es).1) (λ (p : List Event × List Event). is_run (e ∷ p.0) ≡ false) (λ x. is) (λ x. not-run e f (span_at (depth_after f.kind 1) es).0 is) in
+          cond_both (depth_after f.kind 1 == 0) (f ∷ [], es) (f ∷ (span_at (depth_after f.kind 1) es).0, (span_at (depth_after f.kind 1) es).1) (λ (p : List Event × List Event). is_run (e ∷ p.0) ≡ false) (λ x. is) (λ x. no-run e f (span_at (depth_after f.kind 1) es).0 is) in
           let zero_more : (n : ℕ) → n ≡ 0 + n = λ n. omega arith in
           (more.index, more.since, ap length (on ∙ more.is) ∙ zero_more _ ∙ sym (ap (λ b. cond b 1 0 + length (runs_from bytes more.index 0 more.since (span_at 1 (f ∷ es)).1)) none))
 
@@ -150,41 +146,11 @@ module _ (bytes : List ℕ) where
       let more = count-runs bound first.0 first.1 p.1 (omega (arith, few, short)) in
       ap (λ n. cond (is_run p.0) 1 0 + n) more ∙ sym first.2
 
--- ---- runs that ascend
-
-ascending-behind : (xs ys : List Run) → AreAscending (xs ++ ys) → AreAscending ys
-ascending-behind [] ys h = h
-ascending-behind (x ∷ xs) ys h = ascending-behind xs ys h.1
-
-ascending-without : (xs ys zs : List Run) → AreAscending ((xs ++ ys) ++ zs) → AreAscending (xs ++ zs)
-ascending-without [] ys zs h = ascending-behind ys zs h
-ascending-without (x ∷ xs) ys zs h =
-    let Above = λ (s : Run). x.index < s.index in
-    (every-append Above xs zs (all-front Above xs ys (all-front Above (xs ++ ys) zs h.0)) (all-back Above (xs ++ ys) zs h.0), ascending-without xs ys zs h.1)
-
 -- ---- what a fold over spans has so far
 
-runs-both : (ps qs : List Part) → runs_of_parts (ps ++ qs) ≡ runs_of_parts ps ++ runs_of_parts qs
-runs-both [] qs = refl
-runs-both (run r ∷ ps) qs = ap (λ l. r ∷ l) (runs-both ps qs)
-runs-both (events es ∷ ps) qs = runs-both ps qs
-
--- the runs before the brackets that wait
-abbrev before_waiting : List Waiting → List Run
-before_waiting [] = []
-before_waiting (w ∷ ws) = before_waiting ws ++ runs_of_parts w.before
-
-all-runs : (ws : List Waiting) (ps : List Part) → runs_of_parts (all_parts ws ps) ≡ before_waiting ws ++ runs_of_parts ps
-all-runs [] ps = refl
-all-runs (w ∷ ws) ps =
-    all-runs ws (w.before ++ events (as_data w.opener) ∷ ps) ∙ ap (λ l. before_waiting ws ++ l) (runs-both w.before (events (as_data w.opener) ∷ ps)) ∙ sym (append_assoc (before_waiting ws) (runs_of_parts w.before) (runs_of_parts ps))
-
 -- all runs of the text that are in no link or image so far
-abbrev held : SoFar → List Run
-held z = before_waiting z.waiting ++ runs_of_parts z.behind
-
 abbrev left : SoFar → List Run
-left z = held z ++ z.runs
+left z = runs_so_far z ++ z.runs
 
 -- a run has no other name
 run-named : (span : List Event) (n : Name) → same_name AttentionSequence n ≡ false → is_run span ≡ true → is_named n span ≡ false
@@ -211,24 +177,24 @@ record IsStep (span : List Event) (z new : SoFar) : Type 0 where
   same : left new ≡ left z
   fewer : length z.runs ≡ runs_at span + length new.runs
 
-no-run : (span : List Event) (z : SoFar) → is_run span ≡ false → length z.runs ≡ runs_at span + length z.runs
-no-run span z h = (let zero_more : length z.runs ≡ 0 + length z.runs = omega arith in zero_more) ∙ sym (ap (λ b. cond b 1 0 + length z.runs) h)
+same-runs : (span : List Event) (z : SoFar) → is_run span ≡ false → length z.runs ≡ runs_at span + length z.runs
+same-runs span z h = (let zero_more : length z.runs ≡ 0 + length z.runs = omega arith in zero_more) ∙ sym (ap (λ b. cond b 1 0 + length z.runs) h)
 
 is-opened : (span : List Event) (z : SoFar) → is_run span ≡ false → IsStep span z (opened span z)
-is-opened span z h = record { same = ap (λ l. l ++ z.runs) (append-nil (before_waiting z.waiting ++ runs_of_parts z.behind)); fewer = no-run span z h }
+is-opened span z h = record { same = ap (λ l. l ++ z.runs) (append-nil (runs_waiting z.waiting ++ runs_of_parts z.behind)); fewer = same-runs span z h }
 
-behind-more : (ws : List Waiting) (ps : List Part) (es : List Event) → before_waiting ws ++ runs_of_parts (ps ++ events es ∷ []) ≡ before_waiting ws ++ runs_of_parts ps
-behind-more ws ps es = ap (λ l. before_waiting ws ++ l) (runs-both ps (events es ∷ []) ∙ append-nil (runs_of_parts ps))
+behind-more : (ws : List Waiting) (ps : List Part) (es : List Event) → runs_waiting ws ++ runs_of_parts (ps ++ events es ∷ []) ≡ runs_waiting ws ++ runs_of_parts ps
+behind-more ws ps es = ap (λ l. runs_waiting ws ++ l) ((of-both ps (events es ∷ [])).runs ∙ append-nil (runs_of_parts ps))
 
 is-failed : (span : List Event) (ws : List Waiting) (z : SoFar) → is_run span ≡ false → z.waiting ≡ ws → IsStep span z (failed span ws z)
-is-failed span [] z h is = record { same = ap (λ l. l ++ z.runs) (behind-more z.waiting z.behind (as_data span)); fewer = no-run span z h }
+is-failed span [] z h is = record { same = ap (λ l. l ++ z.runs) (behind-more z.waiting z.behind (as_data span)); fewer = same-runs span z h }
 is-failed span (w ∷ ws) z h is = record {
   same =
       let more = events (as_data w.opener) ∷ (z.behind ++ events (as_data span) ∷ []) in
-      let inner : runs_of_parts (w.before ++ more) ≡ runs_of_parts w.before ++ runs_of_parts z.behind = runs-both w.before more ∙ ap (λ l. runs_of_parts w.before ++ l) (runs-both z.behind (events (as_data span) ∷ []) ∙ append-nil (runs_of_parts z.behind)) in
+      let inner : runs_of_parts (w.before ++ more) ≡ runs_of_parts w.before ++ runs_of_parts z.behind = (of-both w.before more).runs ∙ ap (λ l. runs_of_parts w.before ++ l) ((of-both z.behind (events (as_data span) ∷ [])).runs ∙ append-nil (runs_of_parts z.behind)) in
       ap (λ l. l ++ z.runs)
-      (ap (λ l. before_waiting ws ++ l) inner ∙ sym (append_assoc (before_waiting ws) (runs_of_parts w.before) (runs_of_parts z.behind)) ∙ ap (λ xs. before_waiting xs ++ runs_of_parts z.behind) (sym is));
-  fewer = no-run span z h;
+      (ap (λ l. runs_waiting ws ++ l) inner ∙ sym (append_assoc (runs_waiting ws) (runs_of_parts w.before) (runs_of_parts z.behind)) ∙ ap (λ xs. runs_waiting xs ++ runs_of_parts z.behind) (sym is));
+  fewer = same-runs span z h;
 }
 
 abbrev with_part : SoFar → Part × List Run → SoFar
@@ -237,20 +203,20 @@ with_part z p = record z { behind = z.behind ++ p.0 ∷ []; runs = p.1 }
 added-run : (span : List Event) (z : SoFar) (r : Run) (rs : List Run) → z.runs ≡ r ∷ rs → is_run span ≡ true → IsStep span z (with_part z (run r, rs))
 added-run span z r rs is e = record {
   same =
-      let front = before_waiting z.waiting in
+      let front = runs_waiting z.waiting in
       let mine = runs_of_parts z.behind in
-      ap (λ l. (front ++ l) ++ rs) (runs-both z.behind (run r ∷ [])) ∙ ap (λ l. l ++ rs) (sym (append_assoc front mine (r ∷ []))) ∙ append_assoc (front ++ mine) (r ∷ []) rs ∙ ap (λ l. (front ++ mine) ++ l) (sym is);
+      ap (λ l. (front ++ l) ++ rs) ((of-both z.behind (run r ∷ [])).runs) ∙ ap (λ l. l ++ rs) (sym (append_assoc front mine (r ∷ []))) ∙ append_assoc (front ++ mine) (r ∷ []) rs ∙ ap (λ l. (front ++ mine) ++ l) (sym is);
   fewer = ap length is ∙ (let one : length (r ∷ rs) ≡ 1 + length rs = omega arith in one) ∙ sym (ap (λ b. cond b 1 0 + length rs) e);
 }
 
 added-events : (span : List Event) (z : SoFar) (rs : List Run) → z.runs ≡ rs → length z.runs ≡ runs_at span + length rs → IsStep span z (with_part z (events span, rs))
-added-events span z rs is few = record { same = ap (λ l. l ++ rs) (behind-more z.waiting z.behind span) ∙ ap (λ l. held z ++ l) (sym is); fewer = few }
+added-events span z rs is few = record { same = ap (λ l. l ++ rs) (behind-more z.waiting z.behind span) ∙ ap (λ l. runs_so_far z ++ l) (sym is); fewer = few }
 
 part-added : (span : List Event) (z : SoFar) (rs : List Run) → z.runs ≡ rs → runs_at span ≤ length rs → IsStep span z (with_part z (part_of span rs))
 part-added span z [] is some = let none = ap length is in added-events span z [] is (omega (arith, some, none))
 part-added span z (r ∷ rs) is some =
     cond_both (is_run span) (run r, rs) (events span, r ∷ rs) (λ (p : Part × List Run). IsStep span z (with_part z p)) (λ e. added-run span z r rs is e)
-    (λ e. added-events span z (r ∷ rs) is (no-run span z e ∙ ap (λ l. runs_at span + length l) is))
+    (λ e. added-events span z (r ∷ rs) is (same-runs span z e ∙ ap (λ l. runs_at span + length l) is))
 
 is-added : (span : List Event) (z : SoFar) → runs_at span ≤ length z.runs → IsStep span z (added span z)
 is-added span z some = part-added span z z.runs refl some
@@ -289,19 +255,20 @@ is-ended span tail [] z is up =
     let same : left (ended span tail [] z) ≡ left z = ap (λ l. l ++ z.runs) (behind-more z.waiting z.behind (span ++ tail)) in
     record { runs = refl; all = subst (λ l. IsPermutation l (left z)) (sym same) (IsPermutation-refl (left z)); order = tt; up = subst AreAscending (sym same) up }
 is-ended span tail (w ∷ ws) z is up =
-    let front = before_waiting ws ++ runs_of_parts w.before in
+    let front = runs_waiting ws ++ runs_of_parts w.before in
     let mine = runs_of_parts z.behind in
     let new = ended span tail (w ∷ ws) z in
     let same : left new ≡ front ++ z.runs = ap (λ l. l ++ z.runs) (behind-more ws w.before (made w.opener z.behind span tail)) in
-    let whole : left z ≡ (front ++ mine) ++ z.runs = ap (λ xs. (before_waiting xs ++ mine) ++ z.runs) is in
+    let whole : left z ≡ (front ++ mine) ++ z.runs = ap (λ xs. (runs_waiting xs ++ mine) ++ z.runs) is in
     let rises : AreAscending ((front ++ mine) ++ z.runs) = subst AreAscending whole up in
+    let around = ascend-around front mine z.runs rises in
     let swapped : IsPermutation ((mine ++ front) ++ z.runs) ((front ++ mine) ++ z.runs) = IsPermutation-append_left z.runs (mine ++ front) (front ++ mine) (IsPermutation-append_comm mine front) in
     let here : all_of (mine ∷ []) ++ left new ≡ (mine ++ front) ++ z.runs = ap (λ l. l ++ left new) (append-nil mine) ∙ ap (λ l. mine ++ l) same ∙ sym (append_assoc mine front z.runs) in
     record {
       runs = refl;
       all = subst (λ l. IsPermutation (all_of (mine ∷ []) ++ left new) l) (sym whole) (subst (λ l. IsPermutation l ((front ++ mine) ++ z.runs)) (sym here) swapped);
-      order = (ascending-behind front mine (ascending-front (front ++ mine) z.runs rises), tt);
-      up = subst AreAscending (sym same) (ascending-without front mine z.runs rises);
+      order = (around.0, tt);
+      up = subst AreAscending (sym same) around.1;
     }
 
 record Holds (z : SoFar) (parts : List (List Run)) : Type 0 where
@@ -315,7 +282,7 @@ none-left (r ∷ rs) h = absurd (omega (arith, h))
 outside-holds : (z : SoFar) → length z.runs ≡ 0 → AreAscending (left z) → Holds z (runs_outside z)
 outside-holds z none up =
     let parts = runs_of_parts (all_parts z.waiting z.behind) in
-    let same : parts ≡ left z = all-runs z.waiting z.behind ∙ sym (append-nil (held z)) ∙ ap (λ l. held z ++ l) (sym (none-left z.runs none)) in
+    let same : parts ≡ left z = all-runs z.waiting z.behind ∙ sym (append-nil (runs_so_far z)) ∙ ap (λ l. runs_so_far z ++ l) (sym (none-left z.runs none)) in
     record { all = subst (IsPermutation (parts ++ [])) (append-nil parts ∙ same) (IsPermutation-refl (parts ++ [])); order = (subst AreAscending (sym same) up, tt) }
 
 step-holds : (span : List Event) (z new : SoFar) (parts : List (List Run)) → IsStep span z new → Holds new parts → Holds z parts
