@@ -31,11 +31,6 @@ take-front (x ∷ xs) ys zero lt out =
 take-front (x ∷ xs) ys (suc k) lt out =
     take_while-cons is_in_line x (xs ++ ys) ∙ ap (λ zs. cond (is_in_line x) (x ∷ zs) []) (take-front xs ys k (omega arith) out) ∙ sym (take_while-cons is_in_line x xs)
 
--- what a list gives behind its front
-pub get-behind : {A : Type 0} (xs ys : List A) (i : ℕ) → slice_get (xs ++ ys) (length xs + i) ≡ slice_get ys i
-get-behind [] ys i = ap (slice_get ys) (let e : 0 + i ≡ i = omega arith in e)
-get-behind (x ∷ xs) ys i = ap (slice_get (x ∷ (xs ++ ys))) (let e : suc (length xs) + i ≡ suc (length xs + i) = omega arith in e) ∙ get-behind xs ys i
-
 map-cond : (f : ℕ → ℕ) (b : Bool) (x : ℕ) → map f (cond b (x ∷ []) []) ≡ cond b (f x ∷ []) []
 map-cond f true x = refl
 map-cond f false x = refl

@@ -1,16 +1,18 @@
 -- Places in the second part move, and those in the first stay.
 use Rattle.std.proofs.Common.{◌≡◌, ℕ, ◌+◌, ◌-◌, ◌<◌, Bool, true, false, cond, List, ◌∷◌, [], ◌++◌, length, refl, sym, ap, ◌∙◌, arith, le-leb, nat_le, Option, Some, None, add_assoc}
+use Rattle.std.proofs.Math.Seq.{drop-append_seam}
 use Rattle.std.proofs.lemmas.Bool.Decides.{nat_tests}
 use Rattle.std.proofs.lemmas.List.{length-append}
 use Rattle.std.proofs.lemmas.Option.{slice_get-map}
 use Rattle.std.specs.Prelude.{map, option_and_then, option_map, slice_get, slice_index}
 use Rattle.markdown_base.proofs.Common.{get-front}
+use Rattle.markdown_base.proofs.Facts.Lists.{get-dropped}
 use Rattle.mdconstructs_sections.specs.declared.positions.Encoding.{Encoding}
 use Rattle.mdconstructs_sections.specs.declared.positions.Position.{Position}
 use Rattle.mdconstructs_sections.specs.PositionParts.{EndingsAdd, OffsetsMove, OffsetsStay, PositionsMove, PositionsStay, StartsLine, down, endings}
 use Rattle.mdconstructs_sections.specs.Positions.{character_in, index_in, line_of, start_of, starts, starts_up_to, text_at}
 use Rattle.mdconstructs_sections.proofs.LinesBack.{start-before}
-use Rattle.mdconstructs_sections.proofs.PartStarts.{Before, endings-are, get-behind, line-behind, seam-is, start-behind, starts-behind, starts-in, text-behind, text-in}
+use Rattle.mdconstructs_sections.proofs.PartStarts.{Before, endings-are, line-behind, seam-is, start-behind, starts-behind, starts-in, text-behind, text-in}
 
 abbrev at : ℕ → ℕ → Position
 at line character = record { line = line; character = character }
@@ -75,7 +77,7 @@ offsets-move encoding front part position seam =
     let found =
     ap (λ xs. slice_get xs (endings front + position.line)) (starts-all encoding front part b)
     ∙ ap (λ k. slice_get (b.before ++ map f (starts part)) (k + position.line)) (endings-are front part b)
-    ∙ get-behind b.before (map f (starts part)) position.line
+    ∙ sym (get-dropped (length b.before) (b.before ++ map f (starts part)) position.line) ∙ ap (λ l. slice_get l position.line) (drop-append_seam b.before (map f (starts part)))
     ∙ slice_get-map f (starts part) position.line
     in
     ap (λ o. option_and_then (λ start. option_map (λ index. start + index) (index_in encoding (text_at (front ++ part) start) position.character)) o) found
