@@ -141,54 +141,58 @@ module _ (t most : ℕ) where
   begin-before [] line column index l = tt
   begin-before (x ∷ a) line column index l = step-before (x == 10) (x == 13) (begins_with_lf a) (x == 9) x (length a) line column index (λ line column index. virtual_from t line column index a) (begin-before a) l
 
-  -- rows of such lines
-  abbrev IsRowBefore : Row → Type 0
-  IsRowBefore row = AllByRecursion BeginsBefore row.line
+-- what holds of the indices of rows holds of those of letters
+module _ (P : ℕ → Type 0) where
+  abbrev pub IsIn : Seat → Type 0
+  IsIn s = P s.point.index
 
-  rows-before : (on : Constructs) (k : Known) (n : ℕ) (ls : List Line) → AllByRecursion (AllByRecursion BeginsBefore) ls → AllByRecursion IsRowBefore (rows_from on k n ls)
-  rows-before on k n [] h = tt
-  rows-before on k n (l ∷ ls) h = (h.0, rows-before on (known_after on k (row_of on k n l)) (suc n) ls h.1)
+  abbrev pub IsRowIn : Row → Type 0
+  IsRowIn row = AllByRecursion IsIn row.line
 
-  indices-before : (seats : List Seat) → AllByRecursion BeginsBefore seats → AllByRecursion (λ i. i < most) (map (λ (s : Seat). s.point.index) seats)
-  indices-before [] h = tt
-  indices-before (s ∷ seats) h = (h.0, indices-before seats h.1)
+  rows-in : (on : Constructs) (k : Known) (n : ℕ) (ls : List Line) → AllByRecursion (AllByRecursion IsIn) ls → AllByRecursion IsRowIn (rows_from on k n ls)
+  rows-in on k n [] h = tt
+  rows-in on k n (l ∷ ls) h = (h.0, rows-in on (known_after on k (row_of on k n l)) (suc n) ls h.1)
 
-  one-before : (n : ℕ) (line : Line) → AllByRecursion BeginsBefore line → AllByRecursion (λ i. i < most) (map (λ (s : Seat). s.point.index) (take 1 (drop n line)))
-  one-before n line h = indices-before (take 1 (drop n line)) (every-take BeginsBefore 1 (drop n line) (every-drop BeginsBefore n line h))
+  indices-in : (seats : List Seat) → AllByRecursion IsIn seats → AllByRecursion P (map (λ (s : Seat). s.point.index) seats)
+  indices-in [] h = tt
+  indices-in (s ∷ seats) h = (h.0, indices-in seats h.1)
 
-  underline-before : (on : Constructs) (row : Row) → IsRowBefore row → AllByRecursion (λ i. i < most) (lazy_underline on row)
-  underline-before on row h = by (row.is_lazy && is_some (underline_rank on (rest_of row)))
+  pub one-in : (n : ℕ) (line : Line) → AllByRecursion IsIn line → AllByRecursion P (map (λ (s : Seat). s.point.index) (take 1 (drop n line)))
+  one-in n line h = indices-in (take 1 (drop n line)) (every-take IsIn 1 (drop n line) (every-drop IsIn n line h))
+
+  underline-in : (on : Constructs) (row : Row) → IsRowIn row → AllByRecursion P (lazy_underline on row)
+  underline-in on row h = by (row.is_lazy && is_some (underline_rank on (rest_of row)))
     where
-      by : (c : Bool) → AllByRecursion (λ i. i < most) (cond c (map (λ (s : Seat). s.point.index) (take 1 (drop (row.columns + indent (rest_of row)) row.line))) [])
-      by true = one-before (row.columns + indent (rest_of row)) row.line h
+      by : (c : Bool) → AllByRecursion P (cond c (map (λ (s : Seat). s.point.index) (take 1 (drop (row.columns + indent (rest_of row)) row.line))) [])
+      by true = one-in (row.columns + indent (rest_of row)) row.line h
       by false = tt
 
-  underlines-before : (on : Constructs) (rs : List Row) → AllByRecursion IsRowBefore rs → AllByRecursion (λ i. i < most) (flat_map (lazy_underline on) rs)
-  underlines-before on [] h = tt
-  underlines-before on (r ∷ rs) h = every-append (λ i. i < most) (lazy_underline on r) (flat_map (lazy_underline on) rs) (underline-before on r h.0) (underlines-before on rs h.1)
+  underlines-in : (on : Constructs) (rs : List Row) → AllByRecursion IsRowIn rs → AllByRecursion P (flat_map (lazy_underline on) rs)
+  underlines-in on [] h = tt
+  underlines-in on (r ∷ rs) h = every-append P (lazy_underline on r) (flat_map (lazy_underline on) rs) (underline-in on r h.0) (underlines-in on rs h.1)
 
-  section-before : (on : Constructs) (s : Section) → AllByRecursion IsRowBefore (all_rows s.part) → AllByRecursion (λ i. i < most) (letters_of_section on s)
-  section-before on s h = by s.inside
+  section-in : (on : Constructs) (s : Section) → AllByRecursion IsRowIn (all_rows s.part) → AllByRecursion P (letters_of_section on s)
+  section-in on s h = by s.inside
     where
-      first : (x : Bool) → AllByRecursion (λ i. i < most) (cond x (text_begin s.part.first) (lazy_underline on s.part.first))
-      first true = one-before (s.part.first.columns + indent (rest_of s.part.first)) s.part.first.line h.0
-      first false = underline-before on s.part.first h.0
+      first : (x : Bool) → AllByRecursion P (cond x (text_begin s.part.first) (lazy_underline on s.part.first))
+      first true = one-in (s.part.first.columns + indent (rest_of s.part.first)) s.part.first.line h.0
+      first false = underline-in on s.part.first h.0
 
-      by : (i : Inside) → AllByRecursion (λ i. i < most) (elim i as (λ _. List ℕ) [ lines is_behind ↦ cond is_behind (text_begin s.part.first) (lazy_underline on s.part.first) ++ flat_map (lazy_underline on) s.part.more | defined ds ↦ [] ])
-      by (lines x) = every-append (λ i. i < most) (cond x (text_begin s.part.first) (lazy_underline on s.part.first)) (flat_map (lazy_underline on) s.part.more) (first x) (underlines-before on s.part.more h.1)
+      by : (i : Inside) → AllByRecursion P (elim i as (λ _. List ℕ) [ lines is_behind ↦ cond is_behind (text_begin s.part.first) (lazy_underline on s.part.first) ++ flat_map (lazy_underline on) s.part.more | defined ds ↦ [] ])
+      by (lines x) = every-append P (cond x (text_begin s.part.first) (lazy_underline on s.part.first)) (flat_map (lazy_underline on) s.part.more) (first x) (underlines-in on s.part.more h.1)
       by (defined ds) = tt
 
-  sections-before : (on : Constructs) (ss : List Section) → AllByRecursion IsRowBefore (rows_of ss) → AllByRecursion (λ i. i < most) (flat_map (letters_of_section on) ss)
-  sections-before on [] h = tt
-  sections-before on (s ∷ ss) h =
-      every-append (λ i. i < most) (letters_of_section on s) (flat_map (letters_of_section on) ss) (section-before on s (every-front IsRowBefore (all_rows s.part) (rows_of ss) h)) (sections-before on ss (every-back IsRowBefore (all_rows s.part) (rows_of ss) h))
+  pub letters-in : (on : Constructs) (ss : List Section) → AllByRecursion IsRowIn (rows_of ss) → AllByRecursion P (flat_map (letters_of_section on) ss)
+  letters-in on [] h = tt
+  letters-in on (s ∷ ss) h =
+      every-append P (letters_of_section on s) (flat_map (letters_of_section on) ss) (section-in on s (every-front IsRowIn (all_rows s.part) (rows_of ss) h)) (letters-in on ss (every-back IsRowIn (all_rows s.part) (rows_of ss) h))
 
 pub letters-before : (on : Constructs) (t : ℕ) (a : List ℕ) → AllByRecursion (λ i. i < length a) (letters on (virtual t a))
 letters-before on t a =
     let n = length a in
     let ls = lines_in (virtual t a) in
-    let all = rows-before t n on (known_at_start on) 1 ls (in-lines (BeginsBefore t n) (virtual t a) (begin-before t n a 1 1 0 (omega arith))) in
-    sections-before t n on (sections on (rows on ls)) (subst (AllByRecursion (IsRowBefore t n)) (sym (sections-hold-lines on (rows on ls))) all)
+    let all = rows-in (λ i. i < n) on (known_at_start on) 1 ls (in-lines (BeginsBefore t n) (virtual t a) (begin-before t n a 1 1 0 (omega arith))) in
+    letters-in (λ i. i < n) on (sections on (rows on ls)) (subst (AllByRecursion (IsRowIn (λ i. i < n))) (sym (sections-hold-lines on (rows on ls))) all)
 
 -- ---- a document of which leaf blocks are read, and the same of its parts
 module _ (on : Constructs) (t : ℕ) (a b : List ℕ) (rest : begins_at_document_rest on t a b ≡ true) where

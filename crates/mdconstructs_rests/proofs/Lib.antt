@@ -27,7 +27,6 @@ pub mod JoinedBlocks
 pub mod JoinedChunks
 pub mod JoinedDocument
 pub mod JoinedKnown
-pub mod JoinedLines
 pub mod JoinedMarks
 pub mod JoinedParts
 pub mod JoinedSections
@@ -68,6 +67,7 @@ pub mod ReadsOfBoth
 pub mod Rests
 pub mod RowNumbers
 pub mod RowPlaces
+pub mod SeamLetters
 pub mod SeamSeats
 pub mod Seams
 pub mod SectionRows
