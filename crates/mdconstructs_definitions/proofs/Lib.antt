@@ -13,6 +13,7 @@ pub mod KnownLemmas
 pub mod KnownReads
 pub mod KnownRows
 pub mod LaidParts
+pub mod LeftLines
 pub mod Linked
 pub mod Longer
 pub mod MarksCosts

@@ -262,7 +262,7 @@ module _ (w : List ℕ) where
         ap (λ o. option_map {T = ℕ} {U = Definition} (λ n. record { label = l; destination = de; title = t; size = at + n }) o) (ap line_left (drop-longer at x h) ∙ line-longer (drop at x))
 
     -- a definition of a text of definitions alone
-    definition-longer : (x : List ℕ) (d : Definition) → rest x ≡ [] → 0 < length x → definition_at x ≡ Some d → (definition_at (x ++ 10 ∷ w) ≡ Some d) × (d.size ≤ length x)
+    pub definition-longer : (x : List ℕ) (d : Definition) → rest x ≡ [] → 0 < length x → definition_at x ≡ Some d → (definition_at (x ++ 10 ∷ w) ≡ Some d) × (d.size ≤ length x)
     definition-longer x d used some e = one (label_at x) refl
       where
         -- its title would be given back

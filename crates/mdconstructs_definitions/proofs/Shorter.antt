@@ -348,7 +348,7 @@ module _ (w : List ℕ) (some : 0 < length w) where
 -- ---- where what is left begins
 
 -- behind a definition its line ends
-line-ends-there : (y : List ℕ) → IfSome (definition_at y) (λ d. line_ends (drop d.size y) ≡ true)
+pub line-ends-there : (y : List ℕ) → IfSome (definition_at y) (λ d. line_ends (drop d.size y) ≡ true)
 line-ends-there y = one (label_at y)
   where
     left : (at : ℕ) → IfSome (line_left (drop at y)) (λ n. line_ends (drop (at + n) y) ≡ true)

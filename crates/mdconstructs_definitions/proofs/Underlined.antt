@@ -18,7 +18,7 @@ use Rattle.mdconstructs_definitions.specs.Rows.{is_used_up}
 use Rattle.mdconstructs_definitions.proofs.Longer.{line-is-left}
 
 -- white space in front of something
-front-white : (u s : List ℕ) → 0 < length (drop (prefix_len is_white u) u) → drop (prefix_len is_white (u ++ s)) (u ++ s) ≡ drop (prefix_len is_white u) u ++ s
+pub front-white : (u s : List ℕ) → 0 < length (drop (prefix_len is_white u) u) → drop (prefix_len is_white (u ++ s)) (u ++ s) ≡ drop (prefix_len is_white u) u ++ s
 front-white [] s h = absurd (omega (arith, h))
 front-white (b ∷ bs) s h = by (is_white b) (front-white bs s) h
   where
@@ -35,7 +35,7 @@ some-line [] s h = absurd (omega (arith, h))
 some-line (b ∷ bs) s h = refl
 
 -- a mark that begins neither a label nor a title
-other-mark : (m : ℕ) (v s : List ℕ) → begins_with m v ≡ true → title_end m ≡ None → (m == 91) ≡ false → (title_size (v ++ s) ≡ None) × (tails.begins_with 91 (v ++ s) ≡ false)
+pub other-mark : (m : ℕ) (v s : List ℕ) → begins_with m v ≡ true → title_end m ≡ None → (m == 91) ≡ false → (title_size (v ++ s) ≡ None) × (tails.begins_with 91 (v ++ s) ≡ false)
 other-mark m [] s h t e = absurd (false≢true h)
 other-mark m (b ∷ bs) s h t e =
     let is : b ≡ m = eqb-true b m h in (

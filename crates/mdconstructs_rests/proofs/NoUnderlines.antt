@@ -17,18 +17,12 @@ use Rattle.mdconstructs_labels.specs.Definitions.{rest}
 use Rattle.mdconstructs_definitions.proofs.DefinedText.{lines-some, tens-both, tens-rest}
 use Rattle.mdconstructs_definitions.proofs.PlainLetters.{open-not-blank}
 use Rattle.mdconstructs_definitions.proofs.SectionLemmas.{tens}
+use Rattle.mdconstructs_definitions.proofs.LeftLines.{EndsFull}
 use Rattle.mdconstructs_definitions.specs.Rows.{Known, is_behind_text, is_used_up, known_after, row_of, rows_from, underlines_nothing}
 use Rattle.mdconstructs_definitions.specs.Sections.{before_defined, defined_in, lines_defined, lines_of, paragraph_of, text_in}
 use Rattle.mdconstructs_rests.specs.JoinedStretches.{AllStay, may_stay}
 use Rattle.mdconstructs_rests.proofs.BothSections.{leaf-behind}
 use Rattle.mdconstructs_rests.proofs.StretchLeaves.{NoneUnderlines}
-
--- a text ends in a byte that is no line feed
-pub record EndsFull (text : List ℕ) : Type 0 where
-  pub front : List ℕ
-  pub last : ℕ
-  pub is : text ≡ front ++ (last ∷ [])
-  pub full : (last == 10) ≡ false
 
 -- of a text of definitions alone, and an underline behind it, the line is left that would be one, with what comes behind it
 abbrev pub LineIsLeft : Type 0
