@@ -134,7 +134,7 @@ module _ (bytes : List ℕ) (x : List Row) (r : Row) (rs : List Row) (whole firs
   end-full : h.end.first.is_blank ≡ false
   end-full = ap (λ (r : Row). r.is_blank) h.end_is ∙ full
 
-  pub chunk-at-seam : ChunkSeam bytes (sections_marks bytes whole) (sections_marks bytes first) (sections_marks bytes second)
+  abbrev pub chunk-at-seam : ChunkSeam bytes (sections_marks bytes whole) (sections_marks bytes first) (sections_marks bytes second)
   chunk-at-seam =
       let begin = h.begin in
       let blanks = h.blanks in

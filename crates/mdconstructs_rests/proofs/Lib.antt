@@ -68,6 +68,7 @@ pub mod Rests
 pub mod RowNumbers
 pub mod RowPlaces
 pub mod SeamLetters
+pub mod SeamParts
 pub mod SeamSeats
 pub mod Seams
 pub mod SectionRows

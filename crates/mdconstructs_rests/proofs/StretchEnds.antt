@@ -28,7 +28,7 @@ use Rattle.mdconstructs_rests.proofs.WithoutContainers.SameTexts.{Agree, agree-s
 
 module _ (on : Constructs) where
   -- rows have the lines of which they are made
-  rows-lines : (k : Known) (n : ℕ) (ls : List Line) → lines_of (rows_from on k n ls) ≡ ls
+  pub rows-lines : (k : Known) (n : ℕ) (ls : List Line) → lines_of (rows_from on k n ls) ≡ ls
   rows-lines k n [] = refl
   rows-lines k n (line ∷ ls) = ap (λ l. line ∷ l) (rows-lines (known_after on k (row_of on k n line)) (suc n) ls)
 
