@@ -69,6 +69,7 @@ pub mod RowNumbers
 pub mod RowPlaces
 pub mod SeamLetters
 pub mod SeamParts
+pub mod SeamRows
 pub mod SeamSeats
 pub mod Seams
 pub mod SectionRows
