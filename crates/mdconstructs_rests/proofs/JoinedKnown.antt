@@ -65,7 +65,7 @@ module _ (on : Constructs) where
         by false e false = refl
 
     -- where no container is open, a line without containers stays
-    stays-at-top : IsDeep k → k.before.stack ≡ [] → row.begun ≡ [] → row.stays ≡ true
+    pub stays-at-top : IsDeep k → k.before.stack ≡ [] → row.begun ≡ [] → row.stays ≡ true
     stays-at-top deep none begun =
         let went = ap (λ (ps : List Prefix). length ps) (none-goes on k n line none) in
         let stack = ap (λ (cs : List Container). length cs) none in

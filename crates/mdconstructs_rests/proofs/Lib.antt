@@ -71,6 +71,7 @@ pub mod SeamLetters
 pub mod SeamParts
 pub mod SeamRows
 pub mod SeamSeats
+pub mod SeamText
 pub mod Seams
 pub mod SectionRows
 pub mod Sections

@@ -278,7 +278,7 @@ module _ (on : Constructs) where
   abbrev IsLong : LineKind → Type 0
   IsLong kind = (f : Fence) → kind ≡ fence f → 3 ≤ f.size
 
-  fence-long : (t : List ℕ) → IsLong (line_kind on t)
+  pub fence-long : (t : List ℕ) → IsLong (line_kind on t)
   fence-long t = elim (is_blank_line t) as (λ b. IsLong (cond b blank (cond (is_far on t) indented (kind_of_rest on (indent t) (unindented t))))) [
     | true ↦ λ f e. absurd (cc)
     | false ↦ elim (is_far on t) as (λ b. IsLong (cond b indented (kind_of_rest on (indent t) (unindented t)))) [
@@ -293,7 +293,7 @@ module _ (on : Constructs) where
           let same : g ≡ f = cc in
           subst (λ (h : Fence). 3 ≤ h.size) same (leb-true 3 (run byte r) (and-left (nat_le 3 (run byte r)) _ is))
 
-  closing-text : (f : Fence) (t : List ℕ) → 3 ≤ f.size → closes on f t ≡ true → t ≡ [] → ⊥
+  pub closing-text : (f : Fence) (t : List ℕ) → 3 ≤ f.size → closes on f t ≡ true → t ≡ [] → ⊥
   closing-text f t long is e =
       let none : closes on f [] ≡ true = subst (λ t. closes on f t ≡ true) e is in
       let few = leb-true f.size 0 (and-left (nat_le f.size 0) _ (and-right (not (is_far on [])) _ none)) in
@@ -390,7 +390,7 @@ module _ (on : Constructs) where
       }
 
   -- HTML that ends with a line
-  ends-none : (kind : HtmlKind) → ends kind [] ≡ true → ⊥
+  pub ends-none : (kind : HtmlKind) → ends kind [] ≡ true → ⊥
   ends-none raw h = absurd (cc)
   ends-none comment h = absurd (cc)
   ends-none instruction h = absurd (cc)
