@@ -1,6 +1,7 @@
 -- The last line of a stretch at a seam: it has text, if the stretch does not hold its line ending.
 use Rattle.std.proofs.Common.{Bool, List, [], ap, arith, cond, drop, false, length, refl, subst, sym, take, true, zero, ℕ, suc, ◌++◌, ◌≤◌, ◌&&◌, nat_le, not, ◌∙◌, ◌∷◌, ◌≡◌, leb-true}
 use Rattle.std.proofs.Math.Bool.{and-false}
+use Rattle.std.proofs.Math.Seq.{drop-nil}
 use Rattle.std.specs.List.{AllByRecursion, flat_map}
 use Rattle.std.specs.Prelude.{is_some, map}
 use Rattle.markdown_base.specs.declared.configuration.Constructs.{Constructs}
@@ -161,10 +162,6 @@ module _ (on : Constructs) where
   held-no-text (open_fence f) h = refl
   held-no-text (open_html kind) h = refl
 
-  drop-none : (n : ℕ) → let none : List ℕ = [] in drop n none ≡ none
-  drop-none zero = refl
-  drop-none (suc n) = refl
-
   module _ (k : Known) (n : ℕ) (line : Line) where
     abbrev row : Row
     row = row_of on k n line
@@ -192,7 +189,7 @@ module _ (on : Constructs) where
         by false false = row-long h
 
     empty-rest : text_of line ≡ [] → rest_of row ≡ []
-    empty-rest e = ap (drop row.columns) e ∙ drop-none row.columns
+    empty-rest e = ap (drop row.columns) e ∙ drop-nil row.columns
 
     -- where no container is open, a line that is not left blank has text, if no leaf block holds its ending
     row-text : IsDeep on k → k.before.stack ≡ [] → IsLong k.before.leaf → row.begun ≡ [] → row.is_left_blank ≡ false → holds_ending row.leaf ≡ false → HasText line
