@@ -26,7 +26,7 @@ use Rattle.mdconstructs_documents.specs.Documents.{document}
 use Rattle.mdconstructs_rests.proofs.ChildrenOfBoth.{ready-forward}
 use Rattle.mdconstructs_rests.proofs.DocumentParts.{behind-document, front-document}
 use Rattle.mdconstructs_rests.proofs.Events.{flow-behind, flow-front}
-use Rattle.mdconstructs_rests.proofs.LetteredBoth.{lettered-endings, lettered-length, shown-begins, shown-both}
+use Rattle.mdconstructs_rests.proofs.LetteredBoth.{lettered-many, shown-begins, shown-both}
 use Rattle.mdconstructs_rests.proofs.ReadsOfBoth.{EndUpTo, chains-read-both, document-of-both, ready-up-to, with_chains_read}
 use Rattle.mdconstructs_rests.proofs.Shown.{within}
 use Rattle.mdconstructs_rests.proofs.TextsOfBoth.{IsDocumentOfBoth, seats-of}
@@ -76,10 +76,10 @@ module _ (options : ParseOptions) (a b : List ℕ) (is : IsDocument (document op
   bytes-are = shown-both on t a b rest
 
   size : length shown_first ≡ length a
-  size = lettered-length (letters on (virtual t a)) 0 a
+  size = (lettered-many (letters on (virtual t a)) 0 a (letters-are-plain on t a)).long
 
   endings : line_endings shown_first ≡ line_endings a
-  endings = lettered-endings (letters on (virtual t a)) 0 a (letters-are-plain on t a)
+  endings = (lettered-many (letters on (virtual t a)) 0 a (letters-are-plain on t a)).endings
 
   of-both : IsDocumentOfBoth (line_endings a) (length a) whole first second
   of-both =

@@ -1,6 +1,5 @@
 -- The events of a document are those of its parts, if its blocks are.
 use Rattle.std.proofs.Common.{Bool, List, Some, [], ap, arith, false, length, map, refl, sym, true, ℕ, ◌++◌, ◌<◌, ◌∙◌, ◌∷◌, ◌≡◌, ◌⊎◌, inl, inr}
-use Rattle.std.specs.List.{AllByRecursion}
 use Rattle.markdown_base.specs.declared.configuration.Constructs.{Constructs}
 use Rattle.markdown_base.specs.declared.configuration.ParseOptions.{ParseOptions}
 use Rattle.markdown_base.specs.declared.event.Content.TheVariants as content
@@ -8,6 +7,7 @@ use Rattle.markdown_base.specs.declared.event.Event.{Event}
 use Rattle.markdown_base.specs.declared.event.Point.{Point}
 use Rattle.markdown_tokenizer.specs.Plain.{HaveNoLinks}
 use Rattle.markdown_tokenizer.specs.Text.{Given, IsDocument}
+use Rattle.markdown_tokenizer.proofs.Positions.Order.{every-all}
 use Rattle.mdconstructs_documents.proofs.InContainers.Skeletons.{skeleton-laws}
 use Rattle.mdconstructs_documents.proofs.InContainers.TextsFormed.{content-ready, strings-ready, texts-orderly}
 use Rattle.mdconstructs_documents.specs.Documents.{document}
@@ -34,10 +34,6 @@ unlinked-same l n j k (e ∷ es) h =
     let link : moved_link j e.link ≡ moved_link k e.link = ap (moved_link j) h.0 ∙ sym (ap (moved_link k) h.0) in
     let rest = unlinked-same l n j k es h.1 in
     (λ i. (let v : Event = record { kind = e.kind; name = e.name; point = moved_point l n e.point; link = link i } in v) ∷ rest i)
-
-all-unit : (es : List Event) → AllByRecursion (λ (e : Event). Unit {0}) es
-all-unit [] = tt
-all-unit (e ∷ es) = (tt, all-unit es)
 
 out-false : (b : Bool) → (b ≡ false) ⊎ (b ≡ false) → b ≡ false
 out-false b h = elim h [ inl e ↦ e | inr e ↦ e ]
@@ -119,7 +115,7 @@ module _ (defined : List ℕ → Bool) (options : ParseOptions) (a b : List ℕ)
         ∙ strings-moved-by on t a (a ++ b) (λ p. p) (λ e. e) (λ e. refl) (λ e. refl) (λ e. refl) (IsKnownData first) same-line false s (texts-known first one b torn defined)
         ∙ map-same (λ (e : Event). e) (λ e. refl) (with_strings on t a s) in
         let behind : with_strings_from on t (a ++ b) false (map (moved_event l n k) (strings_of b)) ≡ map (moved_event l n (length (with_strings on t a s))) (with_strings on t b (strings_of b)) =
-        strings-moved-by on t b (a ++ b) (moved_point l n) (moved_event l n k) (λ e. refl) (λ e. refl) (λ e. refl) (λ e. Unit {0}) (moved-line k) false (strings_of b) (all-unit (strings_of b))
+        strings-moved-by on t b (a ++ b) (moved_point l n) (moved_event l n k) (λ e. refl) (λ e. refl) (λ e. refl) (λ e. Unit {0}) (moved-line k) false (strings_of b) (every-all (λ e. Unit {0}) (λ e. tt) (strings_of b))
         ∙ unlinked-same l n k (length (with_strings on t a s)) (with_strings on t b (strings_of b)) ((strings_keep on t b (strings_of b)).1 (no-links-left second two defined)) in
         ap (with_strings on t (a ++ b)) strings-both
         ∙ strings-join on t (a ++ b) false s (map (moved_event l n k) (strings_of b)) out

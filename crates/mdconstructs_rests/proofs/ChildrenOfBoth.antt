@@ -33,12 +33,12 @@ use Rattle.mdconstructs_rests.proofs.Chained.{further_on}
 use Rattle.mdconstructs_rests.proofs.WovenBoth.{IsOfFirst, IsOfList, changed-both, map-cond, moved_change, moved_tagged}
 
 -- each chunk of the chains that fit ends inside the list, and its chain goes on behind it
-pub record GoForward (wanted : Option Content) (events : List Event) : Type 0 where
-  pub chunks : (c : ℕ) → begins wanted events c ≡ true → AllByRecursion (IsForward events) (chain_of events c)
+abbrev pub GoForward : Option Content → List Event → Type 0
+GoForward wanted events = (c : ℕ) → begins wanted events c ≡ true → AllByRecursion (IsForward events) (chain_of events c)
 
 -- lists whose chains can be read go forward
 pub ready-forward : (tab : ℕ) (bytes : List ℕ) (wanted : Option Content) (events : List Event) → IsReady tab bytes wanted events → GoForward wanted events
-ready-forward tab bytes wanted events ready = record { chunks = forward-chain tab bytes wanted events ready }
+ready-forward tab bytes wanted events ready = forward-chain tab bytes wanted events ready
 
 -- ---- cases
 
@@ -264,7 +264,7 @@ module _ (x y : List Event) (lines bytes : ℕ) where
     second-changes k m (c ∷ cs) [] h = refl
     second-changes k m (c ∷ cs) (child ∷ children) h =
         let one : chain_changes (divided both (length x + c) (map (moved_event lines bytes 0) child)) ≡ map (moved_change lines bytes (length x) m) (chain_changes (divided y c child)) =
-        ap chain_changes (second-divided c child (starts-inside wanted y c h.0) (k.chunks c h.0)) ∙ chain-changes-moved lines bytes (length x) m (chain_of y c) (divided y c child).parts in
+        ap chain_changes (second-divided c child (starts-inside wanted y c h.0) (k c h.0)) ∙ chain-changes-moved lines bytes (length x) m (chain_of y c) (divided y c child).parts in
         let rest = second-changes k m cs children h.1 in
         (λ d. one d ++ rest d) ∙ sym (map-append (moved_change lines bytes (length x) m) (chain_changes (divided y c child)) (flat_map chain_changes (divided_over y cs children)))
 
@@ -274,7 +274,7 @@ module _ (x y : List Event) (lines bytes : ℕ) where
     first-changes k [] more (child ∷ children) others e h = absurd (omega arith)
     first-changes k (c ∷ cs) more [] others e h = absurd (omega arith)
     first-changes k (c ∷ cs) more (child ∷ children) others e h =
-        let one = ap chain_changes (first-divided c child (starts-inside wanted x c h.0) (k.chunks c h.0)) in
+        let one = ap chain_changes (first-divided c child (starts-inside wanted x c h.0) (k c h.0)) in
         let rest = first-changes k cs more children others (omega arith) h.1 in
         (λ d. one d ++ rest d) ∙ sym (append_assoc (chain_changes (divided x c child)) (flat_map chain_changes (divided_over x cs children)) (flat_map chain_changes (divided_over both more others)))
 
@@ -300,7 +300,7 @@ all-changes-of wanted events k [] children h = tt
 all-changes-of wanted events k (c ∷ cs) [] h = tt
 all-changes-of wanted events k (c ∷ cs) (child ∷ children) h =
     every-append (IsOfList (length events)) (chain_changes (divided events c child)) (flat_map chain_changes (divided_over events cs children))
-    (chain-changes-of events (chain_of events c) (divided events c child).parts (k.chunks c h.0)) (all-changes-of wanted events k cs children h.1)
+    (chain-changes-of events (chain_of events c) (divided events c child).parts (k c h.0)) (all-changes-of wanted events k cs children h.1)
 
 pub all-begin : (wanted : Option Content) (events : List Event) → AllByRecursion (λ c. begins wanted events c ≡ true) (fitting_starts wanted events)
 all-begin wanted events = recursion_from_All (λ c. begins wanted events c ≡ true) (fitting_starts wanted events) (filter_passes (begins wanted events) (range_with_len 0 (length events)))

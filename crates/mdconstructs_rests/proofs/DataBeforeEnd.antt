@@ -24,6 +24,7 @@ use Rattle.markdown_children.specs.Chains.{begins, content_at, fits, fitting_sta
 use Rattle.markdown_children.specs.Children.{child_changes, with_children}
 use Rattle.markdown_children.specs.LawStatements.{IsWholeFrom, LeadOnFrom}
 use Rattle.markdown_children.specs.Ready.{IsReady, place_at}
+use Rattle.mdconstructs_rests.proofs.LetteredBoth.{lettered-many}
 use Rattle.mdconstructs_text.proofs.Paragraphs.ChainEvents.{all-begin, is-text}
 use Rattle.mdconstructs_text.specs.ReadChains.{chain_text}
 use Rattle.mdconstructs_flow_read.proofs.Marks.Courses.{Course, course-every, text-course}
@@ -48,7 +49,7 @@ use Rattle.mdconstructs_documents.proofs.InContainers.Skeletons.{SkeletonLaws, s
 use Rattle.mdconstructs_documents.proofs.InContainers.TextsFormed.{content-ready as ready-for, strings-ready, texts-orderly}
 use Rattle.mdconstructs_rests.specs.Moved.{begins_line}
 use Rattle.mdconstructs_rests.specs.ReadTexts.{StandsBefore}
-use Rattle.mdconstructs_rests.proofs.EndsBefore.{Before, IsInside, as-many, before-down, course-texts, document-lines, ends-stands, lettered-line, shown-inside, virtual-inside}
+use Rattle.mdconstructs_rests.proofs.EndsBefore.{Before, IsInside, before-down, course-texts, document-lines, ends-stands, lettered-line, shown-inside, virtual-inside}
 use Rattle.mdconstructs_rests.proofs.EventsLeft.{AtData, Each, StandsAt, all-left, each-all, exit-removed, none-stand, stands-moved}
 use Rattle.mdconstructs_rests.proofs.FlowStands.{flow-stands}
 use Rattle.mdconstructs_rests.proofs.SkeletonStands.{chained-left, skeleton-stands}
@@ -141,7 +142,7 @@ module _ (laws : SkeletonLaws) (g : Given) (is : IsDocument g) (b : List ℕ) (e
   wide = let tab = is.tab.0 in omega (arith, tab)
 
   same-length : length s.bytes ≡ n
-  same-length = as-many (at laws g is) 0 g.bytes
+  same-length = (lettered-many (at laws g is) 0 g.bytes (laws.plain g is)).long
 
   -- ---- leaf blocks
   leaf-at : (c : ℕ) → begins of_content sk c ≡ true → AllByRecursion (StandsAt At) (blocks_at laws g is c)

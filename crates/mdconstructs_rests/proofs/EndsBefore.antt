@@ -1,5 +1,5 @@
 -- Where bytes end a line, the virtual bytes of their texts stand before the end: but for a line ending at the end of a text.
-use Rattle.std.proofs.Common.{◌≡◌, ℕ, suc, ◌-◌, ◌<◌, ◌≤◌, ◌==◌, ◌&&◌, ◌||◌, not, Bool, true, false, cond, List, [], ◌∷◌, length, refl, ap, arith, ltb-false}
+use Rattle.std.proofs.Common.{◌≡◌, ℕ, suc, ◌-◌, ◌<◌, ◌≤◌, ◌==◌, ◌&&◌, ◌||◌, not, Bool, true, false, cond, List, [], ◌∷◌, length, refl, arith, ltb-false}
 use Rattle.std.proofs.lemmas.Bool.{eqb-true, or_parts}
 use Rattle.std.proofs.lemmas.List.{get_or_past}
 use Rattle.std.specs.List.{AllByRecursion, list_any}
@@ -98,10 +98,6 @@ module _ (bytes : List ℕ) where
 
 -- ---- with letters
 module _ (at : List ℕ) where
-  pub as-many : (n : ℕ) (bytes : List ℕ) → length (lettered_from n at bytes) ≡ length bytes
-  as-many n [] = refl
-  as-many n (x ∷ bytes) = ap suc (as-many (suc n) bytes)
-
   -- bytes that end a line do so
   pub lettered-line : (b : List ℕ) (n : ℕ) (bytes : List ℕ) → ArePlainFrom n at bytes → begins_line b bytes ≡ true → begins_line b (lettered_from n at bytes) ≡ true
   lettered-line b n [] plain h = refl

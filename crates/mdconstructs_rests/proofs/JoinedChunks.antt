@@ -1,5 +1,5 @@
 -- Marks of a document at a rest where a stretch of lines goes on: those of its parts, but for the chunk at the seam.
-use Rattle.std.proofs.Common.{Bool, List, [], ap, append_assoc, arith, cond, drop, false, length, length-append, refl, subst, sym, take, true, ℕ, suc, ◌+◌, ◌++◌, ◌<◌, ◌≤◌, ◌&&◌, not, ◌∙◌, ◌∷◌, ◌≡◌}
+use Rattle.std.proofs.Common.{Bool, List, [], ap, append_assoc, arith, cond, drop, false, length, refl, subst, sym, take, true, ℕ, suc, ◌+◌, ◌++◌, ◌<◌, ◌≤◌, ◌&&◌, not, ◌∙◌, ◌∷◌, ◌≡◌}
 use Rattle.std.proofs.Math.Bool.{and-false}
 use Rattle.std.proofs.lemmas.List.{length-map, map-append, take-append-le}
 use Rattle.std.proofs.lemmas.List.Sums.{prefix_len-le-length}
@@ -10,9 +10,10 @@ use Rattle.markdown_base.proofs.Facts.Bools.{and-left}
 use Rattle.markdown_base.specs.declared.event.Name.TheVariants as name
 use Rattle.markdown_base.specs.Virtual.{Seat, virtual}
 use Rattle.markdown_tokenizer.proofs.Positions.Order.{every-back, every-front}
+use Rattle.mdconstructs_flow_read.proofs.Marks.LeafSpans.{text-shorter}
 use Rattle.mdconstructs_machines.specs.Breaks.{is_white}
 use Rattle.mdconstructs_machines.specs.LineEvents.{all_of, ending_of, line_text, lines_in}
-use Rattle.mdconstructs_flow_read.proofs.Lines.WholeLines.{IsWhole, text-and-ending, whole-lines}
+use Rattle.mdconstructs_flow_read.proofs.Lines.WholeLines.{IsWhole, whole-lines}
 use Rattle.mdconstructs_flow_read.specs.BlocksRead.{block_seats}
 use Rattle.mdconstructs_flow_read.specs.LeafBlocks.{Line, blank_line, text_of}
 use Rattle.mdconstructs_flow_read.specs.LeafEvents.{body, last_end, leaf_blocks_marks, leaf_marks, white}
@@ -34,18 +35,14 @@ use Rattle.mdconstructs_rests.proofs.DocumentRests.{stretches-go-on-at-top}
 use Rattle.mdconstructs_rests.proofs.JoinedDocument.{bare-from, goes-on, sections-of-stretch}
 use Rattle.mdconstructs_rests.proofs.JoinedKnown.{IsRead, ahead-bare, all-read, columns-read, last-holds-from}
 use Rattle.mdconstructs_rests.proofs.JoinedMarks.{IsPlainPart, IsPlainRow, after_marks, blank_marks, first-marks, lines_of, part_white, same-held, second-marks, white_columns, whole-marks}
-use Rattle.mdconstructs_rests.proofs.JoinedWhole.{BareBehind}
+use Rattle.mdconstructs_rests.proofs.JoinedWhole.{BareBehind, lefts}
 use Rattle.mdconstructs_rests.proofs.MarksOfBoth.{apart}
 use Rattle.mdconstructs_rests.proofs.RowNumbers.{rows-are, sections-are}
-use Rattle.mdconstructs_rests.proofs.SectionRows.{AllLeft}
 use Rattle.mdconstructs_rests.proofs.WithoutContainers.PlainRows.{IsBare}
 
 -- ---- the white space in front
-text-length : (line : Line) → IsWhole line → length (line_text line) ≤ length line
-text-length line w = let size = ap (λ (l : Line). length l) (text-and-ending line w) in let both = length-append (line_text line) (ending_of line) in omega (arith, size, both)
-
 front-more : (n : ℕ) (line more : Line) → IsWhole line → n ≤ length (line_text line) → take n (line ++ more) ≡ take n (line_text line)
-front-more n line more w few = let size = text-length line w in take-append-le n line more (omega (arith, few, size)) ∙ take_text line n w few
+front-more n line more w few = let size = text-shorter line w in take-append-le n line more (omega (arith, few, size)) ∙ take_text line n w few
 
 front-seats : (n : ℕ) (held : Bool) (line : Line) (ls : List Line) → IsWhole line → n ≤ length (line_text line) → take n (block_seats held (line ∷ ls)) ≡ take n (line_text line)
 front-seats n true line ls w few = front-more n line (all_of ls) w few
@@ -99,10 +96,6 @@ module _ (around : Row) where
   plain-blanks : (ps : List Part) → AllByRecursion (IsSame (at_top around)) ps → AllByRecursion IsBlankPart ps → AllByRecursion IsPlainRow (firsts ps) → AllByRecursion IsPlainPart ps
   plain-blanks [] s b h = tt
   plain-blanks (p ∷ ps) s b h = (plain-part p s.0 h.0 (subst (AllByRecursion IsPlainRow) (sym b.0.alone) tt), plain-blanks ps s.1 b.1 h.1)
-
-lefts : (ps : List Part) → AllByRecursion IsBlankPart ps → AllLeft (firsts ps)
-lefts [] h = tt
-lefts (p ∷ ps) h = (h.0.left, lefts ps h.1)
 
 -- ---- at a seam
 module _ (bytes : List ℕ) (x : List Row) (r : Row) (rs : List Row) (whole first second : List Section) (h : SectionSeam (at_top r) x r rs whole first second)

@@ -7,6 +7,8 @@ use Rattle.markdown_base.proofs.Common.{and-right}
 use Rattle.markdown_base.proofs.Facts.Bools.{and-left}
 use Rattle.markdown_base.specs.declared.configuration.Constructs.{Constructs}
 use Rattle.markdown_base.specs.Virtual.{virtual}
+use Rattle.std.proofs.lemmas.List.{nil_from_length}
+use Rattle.mdconstructs_tables.proofs.Rows.Misfits.{none-left}
 use Rattle.mdconstructs_machines.specs.LineEvents.{lines_in}
 use Rattle.mdconstructs_flow_read.specs.LeafBlocks.{Line, text_of}
 use Rattle.mdconstructs_lines.specs.Containers.{Container, Prefix}
@@ -31,17 +33,9 @@ use Rattle.mdconstructs_rests.proofs.WithoutContainers.PlainRows.{IsBare}
 
 -- ---- rows without containers
 module _ (on : Constructs) where
-  pub none-long : {A : Type 0} (xs : List A) → length xs ≡ 0 → xs ≡ []
-  none-long [] e = refl
-  none-long (x ∷ xs) e = absurd (omega (arith, e))
-
   pub no-containers : (ps : List Prefix) → containers_of ps ≡ [] → ps ≡ []
   no-containers [] e = refl
   no-containers (p ∷ ps) e = absurd (cc)
-
-  pub none-both : {A : Type 0} (xs ys : List A) → xs ++ ys ≡ [] → (xs ≡ []) × (ys ≡ [])
-  none-both [] ys e = (refl, e)
-  none-both (x ∷ xs) ys e = absurd (cc)
 
   none-taken : (n : ℕ) → let no : List Container = [] in take n no ≡ no
   none-taken zero = refl
@@ -76,20 +70,20 @@ module _ (on : Constructs) where
     may-stay true lazy el ez s e = (e, (none-goes k n line e, left-begins-none el))
     may-stay false true el ez s e = (e, (none-goes k n line e, lazy-begins-none ez))
     may-stay false false el ez s e =
-        let both = none-both (containers_of row.went_on) (containers_of row.begun) e in
+        let both = none-left (containers_of row.went_on) (containers_of row.begun) e in
         let went = no-containers row.went_on both.0 in
         let on_all = and-right (has_none row.begun) ((length row.went_on == k.before.depth) && (length k.before.stack == k.before.depth)) s in
         let one = eqb-true (length row.went_on) k.before.depth (and-left (length row.went_on == k.before.depth) (length k.before.stack == k.before.depth) on_all) in
         let two = eqb-true (length k.before.stack) k.before.depth (and-right (length row.went_on == k.before.depth) (length k.before.stack == k.before.depth) on_all) in
         let none = ap (λ (ps : List Prefix). length ps) went in
-        (none-long k.before.stack (omega (arith, one, two, none)), (went, no-containers row.begun both.1))
+        (nil_from_length k.before.stack (omega (arith, one, two, none)), (went, no-containers row.begun both.1))
 
     -- any other
     pub full-bare : (left lazy : Bool) → row.is_left_blank ≡ left → row.is_lazy ≡ lazy → row.is_blank ≡ false → next_stack left lazy ≡ [] → IsBare row
     full-bare true lazy el ez full e = let blank = and-left row.is_blank (has_none row.begun && not (row.stays && holds_ending k.before.leaf)) el in absurd (cc)
     full-bare false true el ez full e = (none-goes k n line e, lazy-begins-none ez)
     full-bare false false el ez full e =
-        let both = none-both (containers_of row.went_on) (containers_of row.begun) e in
+        let both = none-left (containers_of row.went_on) (containers_of row.begun) e in
         (no-containers row.went_on both.0, no-containers row.begun both.1)
 
   -- rows that may all be in a stretch, behind which no container is open

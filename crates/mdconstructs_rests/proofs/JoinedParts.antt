@@ -2,13 +2,15 @@
 -- between them.
 use Rattle.std.proofs.Common.{Bool, List, [], ap, append_assoc, arith, cond, drop, false, inl, inr, length, length-append, length-drop, nat_le, refl, subst, sym, take, true, zero, ℕ, suc, ◌+◌, ◌++◌, ◌≤◌, ◌||◌, ◌∙◌, ◌∷◌, ◌≡◌}
 use Rattle.std.proofs.lemmas.List.{drop-append-le, length-take-le, take-append-drop, take-append-le}
+use Rattle.std.proofs.Math.Seq.{drop-append-add, take-append-add}
 use Rattle.std.specs.List.{AllByRecursion}
+use Rattle.markdown_base.proofs.Common.{every-drop}
 use Rattle.mdconstructs_lines.specs.Containers.{Container}
 use Rattle.mdconstructs_containers.proofs.RestLemmas.{further_few}
 use Rattle.mdconstructs_containers.specs.Rows.{Row}
 use Rattle.mdconstructs_containers.specs.Skeleton.{Frame, Part, further}
 use Rattle.mdconstructs_rests.specs.JoinedStretches.{AllStay, Begin, IsBlankPart, firsts, joined_part}
-use Rattle.mdconstructs_rests.proofs.SectionRows.{AllLeft, Follows, FurtherApart, LeftIsBlank, cut_off, every-drop, further-apart, further-cut, going, left-behind}
+use Rattle.mdconstructs_rests.proofs.SectionRows.{AllLeft, Follows, FurtherApart, LeftIsBlank, cut_off, further-apart, further-cut, going, left-behind}
 
 further-stay : (rs : List Row) → AllStay (take (further rs) rs)
 further-stay [] = tt
@@ -179,17 +181,6 @@ module _ (F : Row → List Row → List Frame) (S : Row → List Row → List Co
               (ap (λ l. q ∷ l) (take-append-drop n x)) (sym whole) (sym first) refl
               (joins-more part (q ∷ take n x) (drop n x) (parts_by c (drop n x ++ y)) (parts_by b (drop n x)) (parts_by (suc b2) y) (later n within))
 
-          suc-plus : (m n : ℕ) → suc m + n ≡ suc (m + n)
-          suc-plus m n = omega arith
-
-          take-both : (all : List Row) (n : ℕ) → take (length all + n) (all ++ y) ≡ all ++ take n y
-          take-both [] n = let same : 0 + n ≡ n = omega arith in ap (λ m. take m y) same
-          take-both (a ∷ all) n = ap (λ m. take m (a ∷ (all ++ y))) (suc-plus (length all) n) ∙ ap (λ l. a ∷ l) (take-both all n)
-
-          drop-both : (all : List Row) (n : ℕ) → drop (length all + n) (all ++ y) ≡ drop n y
-          drop-both [] n = let same : 0 + n ≡ n = omega arith in ap (λ m. drop m y) same
-          drop-both (a ∷ all) n = ap (λ m. drop m (a ∷ (all ++ y))) (suc-plus (length all) n) ∙ drop-both all n
-
           -- it does
           far : q.is_blank ≡ false → r.is_blank ≡ false → further (r ∷ rs) ≡ suc (further rs) → further (x ++ y) ≡ length x + further y → AllStay x → Goal
           far full some more all stay =
@@ -209,7 +200,7 @@ module _ (F : Row → List Row → List Frame) (S : Row → List Row → List Co
               let fuel : parts_by c (drop k rs) ≡ back = parts-by-fuel c b2 (drop k rs) (omega (arith, l, size, last)) (omega (arith, m2, last)) in
               let whole : parts_by (suc c) (q ∷ (x ++ y)) ≡ joined_part begin blanks end ∷ back =
               (λ i. (let p : Part = record { first = q; more = take (reach i) (x ++ y); frames = f-same q x i; stands = s-same q x i } in p) ∷ parts_by c (drop (reach i) (x ++ y)))
-              ∙ (λ i. (let p : Part = record { first = q; more = take-both x (suc k) i; frames = F q x; stands = S q x } in p) ∷ parts_by c (drop-both x (suc k) i))
+              ∙ (λ i. (let p : Part = record { first = q; more = take-append-add x y (suc k) i; frames = F q x; stands = S q x } in p) ∷ parts_by c (drop-append-add x y (suc k) i))
               ∙ (λ i. (let p : Part = record { first = q; more = sym halves i ++ (r ∷ take k rs); frames = F q x; stands = S q x } in p) ∷ fuel i) in
               let first : parts_by (suc b) (q ∷ x) ≡ begin ∷ blanks = (λ i. let n = cond (full i) 0 (further x) in (let p : Part = record { first = q; more = take n x; frames = F q x; stands = S q x } in p) ∷ parts_by b (drop n x)) in
               let second : parts_by (suc b2) y ≡ end ∷ back = (λ i. let n = cond (some i) 0 (further rs) in (let p : Part = record { first = r; more = take n rs; frames = F r rs; stands = S r rs } in p) ∷ parts_by b2 (drop n rs)) in

@@ -3,9 +3,11 @@
 use Rattle.std.proofs.Common.{Bool, List, [], ap, append_assoc, arith, cond, drop, false, inl, inr, length, length-append, nat_le, refl, subst, sym, take, true, zero, ℕ, suc, ◌+◌, ◌++◌, ◌≤◌, ◌&&◌, ◌∙◌, ◌∷◌, ◌≡◌}
 use Rattle.std.proofs.lemmas.List.{append-nil, drop-append-le, map-append, take-append-drop, take-append-le}
 use Rattle.std.proofs.lemmas.List.Sums.{prefix_len-le-length}
+use Rattle.std.proofs.Math.Seq.{drop-append-add, drop-length, take-append-add, take-length}
 use Rattle.std.specs.List.{AllByRecursion}
 use Rattle.std.specs.Prelude.{map}
 use Rattle.markdown_base.specs.declared.configuration.Constructs.{Constructs}
+use Rattle.markdown_base.proofs.Common.{every-drop}
 use Rattle.mdconstructs_lines.specs.Containers.{Container}
 use Rattle.mdconstructs_containers.specs.Rows.{Row, is_paragraph}
 use Rattle.mdconstructs_containers.specs.Skeleton.{Frame, Part, further, parts, parts_in}
@@ -14,7 +16,7 @@ use Rattle.mdconstructs_definitions.specs.Sections.{Section, before_defined, beg
 use Rattle.mdconstructs_definitions.proofs.Covered.{fewer-left}
 use Rattle.mdconstructs_rests.specs.JoinedStretches.{IsSame, SectionsJoin, firsts, joined_part, plain_section, plain_sections, section_seam, sections_apart}
 use Rattle.mdconstructs_rests.proofs.JoinedParts.{Joins, apart, parts-join, parts_by, seam}
-use Rattle.mdconstructs_rests.proofs.SectionRows.{AllLeft, Apart, Follows, LeftIsBlank, before-apart, cut_off, defined-apart, defined-within, every-drop, going, joined, joined-behind, joined-drop, paragraph-apart}
+use Rattle.mdconstructs_rests.proofs.SectionRows.{AllLeft, Apart, Follows, LeftIsBlank, before-apart, cut_off, defined-apart, defined-within, going, joined, joined-behind, joined-drop, paragraph-apart, text-taken}
 
 -- ---- rows that are left blank, or that go on with a stretch
 pub data Behind (r : Row) (rs : List Row) : Type 0 where
@@ -286,39 +288,13 @@ module _ (on : Constructs) (around : Part) where
   sections-none (suc b) p = refl
 
   -- lines that do not begin with text: whether definitions come before them does not matter
-  taken-flag : (p : Bool) (n : ℕ) (y : List Row) → (p && begins_text y) ≡ false → (p && begins_text (take n y)) ≡ false
-  taken-flag false n y e = refl
-  taken-flag true zero y e = refl
-  taken-flag true (suc n) [] e = refl
-  taken-flag true (suc n) (r ∷ y) e = e
-
   sections-any : (bound : ℕ) (p : Bool) (y : List Row) → (p && begins_text y) ≡ false → sections_in on bound p around y ≡ sections_in on bound false around y
   sections-any zero p y e = refl
   sections-any (suc bound) p [] e = refl
   sections-any (suc bound) p (r ∷ y) e =
       let all = r ∷ y in
       let n = before_defined on false all in
-      ap (λ flag. sections_of flag (map (in_same around) (parts (take n all))) ++ from_cut bound (drop n all)) (taken-flag p n all e)
-
-  -- so many of rows
-  all-gone : (all : List Row) → drop (length all) all ≡ []
-  all-gone [] = refl
-  all-gone (q ∷ all) = all-gone all
-
-  all-there : (all : List Row) → take (length all) all ≡ all
-  all-there [] = refl
-  all-there (q ∷ all) = ap (λ l. q ∷ l) (all-there all)
-
-  suc-plus : (m n : ℕ) → suc m + n ≡ suc (m + n)
-  suc-plus m n = omega arith
-
-  drop-both : (all y : List Row) (n : ℕ) → drop (length all + n) (all ++ y) ≡ drop n y
-  drop-both [] y n = let same : 0 + n ≡ n = omega arith in ap (λ m. drop m y) same
-  drop-both (q ∷ all) y n = ap (λ m. drop m (q ∷ (all ++ y))) (suc-plus (length all) n) ∙ drop-both all y n
-
-  take-both : (all y : List Row) (n : ℕ) → take (length all + n) (all ++ y) ≡ all ++ take n y
-  take-both [] y n = let same : 0 + n ≡ n = omega arith in ap (λ m. take m y) same
-  take-both (q ∷ all) y n = ap (λ m. take m (q ∷ (all ++ y))) (suc-plus (length all) n) ∙ ap (λ l. q ∷ l) (take-both all y n)
+      ap (λ flag. sections_of flag (map (in_same around) (parts (take n all))) ++ from_cut bound (drop n all)) (text-taken p n all e)
 
   no-take : (n : ℕ) → let no : List Row = [] in take n no ≡ no
   no-take zero = refl
@@ -336,7 +312,7 @@ module _ (on : Constructs) (around : Part) where
   sections-plain b p q x whole =
       let all = q ∷ x in
       ap (λ n. cut_at b p n all) whole
-      ∙ (λ i. undefined p around (all-there all i) ++ from_cut b (all-gone all i))
+      ∙ (λ i. undefined p around (take-length all i) ++ from_cut b (drop-length all i))
       ∙ ap (λ l. undefined p around all ++ l) (from-none b)
       ∙ append-nil (undefined p around all)
 
@@ -360,7 +336,7 @@ module _ (on : Constructs) (around : Part) where
         let fuel : from_cut c behind ≡ from_cut b2 behind = ap (λ l. defining (definitions (text_in (paragraph_of behind))) around (take k behind) ++ l) (sections-fuel c b2 true left few (fewer-left on r rs b2 m2)) in
         let first : sections_in on (suc c) p around (all ++ y) ≡ undefined p around (all ++ take n y) ++ from_cut b2 behind =
         ap (λ n. cut_at c p n (all ++ y)) both
-        ∙ (λ i. undefined p around (take-both all y n i) ++ from_cut c (drop-both all y n i))
+        ∙ (λ i. undefined p around (take-append-add all y n i) ++ from_cut c (drop-append-add all y n i))
         ∙ ap (λ l. undefined p around (all ++ take n y) ++ l) fuel in
         joins-same around r rs all all (undefined p around (all ++ take n y) ++ from_cut b2 behind) (sections_in on (suc c) p around (all ++ y)) (undefined p around all) (sections_in on (suc b) p around all)
         (undefined false around (take n y) ++ from_cut b2 behind) (sections_in on (suc b2) false around y)

@@ -1,25 +1,27 @@
 -- Sections of rows behind others, of all parts. Where the second go on with a stretch with which the first end, no container is open, and the stretch is cut as in
 -- the parts, but for the section at the seam.
-use Rattle.std.proofs.Common.{Bool, List, [], ap, arith, cond, drop, false, length, nat_le, not, refl, subst, sym, take, true, zero, ℕ, suc, ◌+◌, ◌++◌, ◌≤◌, ◌==◌, ◌&&◌, ◌∙◌, ◌∷◌, ◌≡◌}
+use Rattle.std.proofs.Common.{Bool, List, [], ap, arith, cond, drop, false, length, nat_le, not, refl, subst, sym, take, true, zero, ℕ, suc, ◌++◌, ◌≤◌, ◌==◌, ◌&&◌, ◌∙◌, ◌∷◌, ◌≡◌}
 use Rattle.std.proofs.Math.Bool.{and-false}
 use Rattle.std.proofs.lemmas.Grind.{flat_map-append}
 use Rattle.std.proofs.lemmas.List.{append-nil}
-use Rattle.std.specs.List.{AllByRecursion, flat_map, prefix_len}
+use Rattle.std.specs.List.{AllByRecursion, flat_map}
 use Rattle.std.specs.Prelude.{map, reverse}
 use Rattle.markdown_base.specs.declared.configuration.Constructs.{Constructs}
 use Rattle.markdown_tokenizer.proofs.Positions.Order.{every-back, every-front}
+use Rattle.std.proofs.lemmas.Bool.{false≢true}
+use Rattle.mdconstructs_definitions.proofs.SectionCosts.{defined-text}
 use Rattle.mdconstructs_lines.specs.Containers.{Container}
 use Rattle.mdconstructs_containers.specs.Prefixes.{containers_of}
 use Rattle.mdconstructs_containers.specs.Rows.{Row, is_paragraph}
 use Rattle.mdconstructs_containers.specs.Skeleton.{Frame, Part, frames_at, frames_of, further, going_on_at, left_in, list_at, list_begun, parts, parts_in, standing}
 use Rattle.mdconstructs_labels.specs.declared.definitions.Definition.{Definition}
 use Rattle.mdconstructs_labels.specs.Definitions.{definitions}
-use Rattle.mdconstructs_definitions.specs.Sections.{Section, before_defined, begins_text, cut, defined, defined_in, defining, lines_defined, paragraph_of, sections, sections_in, sections_of, text_in}
+use Rattle.mdconstructs_definitions.specs.Sections.{Section, before_defined, begins_text, cut, defined, defined_in, defining, paragraph_of, sections, sections_in, sections_of, text_in}
 use Rattle.mdconstructs_rests.specs.JoinedStretches.{AllStay, IsBlankPart, IsSame, SectionsJoin, at_top, firsts, joined_part, plain_section, plain_sections, section_seam, sections_apart}
 use Rattle.mdconstructs_rests.proofs.JoinedParts.{Joins, Seam, apart, joins-as, left-parts-by, parts-join, parts_by, seam}
 use Rattle.mdconstructs_rests.proofs.JoinedSections.{Behind, all-same, follows, its_frames, its_parts, its_stands, joins-back, joins-front, joins-longer, joins-same, left, same-parts, sections-fuel, sections-join, sections-none, sections-plain, stays}
 use Rattle.mdconstructs_rests.proofs.SectionRows.{AllLeft, LeftIsBlank, joined, joined-first, joined-none, left-no-text}
-use Rattle.mdconstructs_rests.proofs.SectionsApart.{Begins, frames-apart, standing-apart}
+use Rattle.mdconstructs_rests.proofs.SectionsApart.{GoesOnWithNone, frames-apart, standing-apart}
 use Rattle.mdconstructs_rests.proofs.WithoutContainers.PlainParts.{IsAlone, parts-alone}
 use Rattle.mdconstructs_rests.proofs.WithoutContainers.PlainRows.{IsBare}
 
@@ -48,6 +50,15 @@ around-any on (suc bound) p a b (r ∷ rs) f s =
     defining-any ds (q ∷ qs) = (λ i. (let o : Section = record { part = record { first = q; more = qs; frames = f i; stands = s i }; inside = defined ds } in o) ∷ [])
 
 -- ---- rows that are left blank are sections of their own
+pub lefts : (ps : List Part) → AllByRecursion IsBlankPart ps → AllLeft (firsts ps)
+lefts [] k = tt
+lefts (p ∷ ps) k = (k.0.left, lefts ps k.1)
+
+-- no number that is none at least
+zero-if : (n : ℕ) → (1 ≤ n → ⊥) → n ≡ 0
+zero-if zero h = refl
+zero-if (suc n) h = absurd (h (omega arith))
+
 module _ (around : Part) where
   abbrev pub blank_parts : List Row → List Part
   blank_parts rows = map (λ (row : Row). let p : Part = record { first = row; more = []; frames = around.frames; stands = around.stands } in p) rows
@@ -57,20 +68,10 @@ module _ (around : Part) where
   blanks-are (p ∷ ps) h k = (λ i. (let o : Part = record { first = p.first; more = h.0.alone i; frames = k.0.frames i; stands = k.0.stands i } in o) ∷ blanks-are ps h.1 k.1 i)
 
   module _ (on : Constructs) where
-    none-here : (r : Row) (y : List Row) → is_paragraph r.leaf ≡ false → defined_in on (r ∷ y) ≡ 0
-    none-here r y e = ap (λ b. cond on.definition (lines_defined (text_in (take (cond b (1 + n) 0) (r ∷ y)))) 0) e ∙ either on.definition
-      where
-        n : ℕ
-        n = prefix_len (λ (row : Row). is_paragraph row.leaf) y
-
-        either : (b : Bool) → cond b (lines_defined []) 0 ≡ 0
-        either true = refl
-        either false = refl
-
     left-before : (p : Bool) (y : List Row) → AllLeft y → AllByRecursion LeftIsBlank y → before_defined on p y ≡ length y
     left-before p [] l k = refl
     left-before p (r ∷ y) l k =
-        let none = none-here r y (k.0 l.0).1 in
+        let none = zero-if (defined_in on (r ∷ y)) (λ some. false≢true (sym (k.0 l.0).1 ∙ defined-text on r y some)) in
         ap (λ n. cond (not p && nat_le 1 n) 0 (suc (before_defined on (is_paragraph r.leaf) y))) none ∙ ap (λ b. cond b 0 (suc (before_defined on (is_paragraph r.leaf) y))) (and-false (not p)) ∙ ap suc (left-before (is_paragraph r.leaf) y l.1 k.1)
 
     left-sections : (b : ℕ) (y : List Row) → length y ≤ b → AllLeft y → AllByRecursion LeftIsBlank y → sections_in on b false around y ≡ plain_sections (blank_parts y)
@@ -93,10 +94,6 @@ module _ (around : Part) where
         by (sections-join on around p.first (firsts ps) (left all) c b (length y) false (q ∷ x) l m (omega arith) (joined-none on no_row no_rows false (q ∷ x) y (left-no-text on no_row no_rows y all g)) h)
         ∙ ap (λ l. sections_in on b false around (q ∷ x) ++ l) (left-sections (length y) y (omega arith) all g ∙ ap plain_sections (sym (blanks-are (p ∷ ps) k same)))
       where
-        lefts : (ps : List Part) → AllByRecursion IsBlankPart ps → AllLeft (firsts ps)
-        lefts [] k = tt
-        lefts (p ∷ ps) k = (k.0.left, lefts ps k.1)
-
         by : {w f s : List Section} → SectionsJoin around (q ∷ x) p.first (firsts ps) w f s → w ≡ f ++ s
         by (sections_apart e) = e
         by (section_seam t) = let both : true ≡ false = sym k.0.left ∙ t.going_on in absurd (cc)
@@ -117,30 +114,9 @@ module _ (r : Row) (rs : List Row) (goes : GoesOn r) where
   abbrev y : List Row
   y = r ∷ rs
 
-  abbrev cut_row : Row
-  cut_row = record r { stays = false }
-
-  begins : Begins cut_row
-  begins = record { left = goes.left; cut_off = refl; none = goes.bare.0; no_list = ap list_begun goes.bare.1 }
-
-  going-any : (x : List Row) → going_on_at (x ++ y) ≡ going_on_at (x ++ cut_row ∷ rs)
-  going-any [] = refl
-  going-any (q ∷ x) = ap (λ n. cond q.is_left_blank n (length q.went_on)) (going-any x)
-
-  list-any : (x : List Row) → list_at (x ++ y) ≡ list_at (x ++ cut_row ∷ rs)
-  list-any [] = refl
-  list-any (q ∷ x) = ap (λ fs. cond q.is_left_blank fs (list_begun q.begun)) (list-any x)
-
-  standing-any : (row : Row) (x : List Row) → standing row (x ++ y) ≡ standing row (x ++ cut_row ∷ rs)
-  standing-any row x = let all = containers_of row.went_on ++ containers_of row.begun in ap (λ m. cond row.is_blank (reverse (left_in m row.number (reverse all))) all) (going-any x)
-
-  same-standing : (row : Row) (x : List Row) → standing row (x ++ y) ≡ standing row x
-  same-standing row x = standing-any row x ∙ standing-apart cut_row rs begins row x
-
-  same-frames : (row : Row) (x : List Row) → frames_at row (x ++ y) ≡ frames_at row x
-  same-frames row x =
-      (λ i. let stands = standing-any row x i in flat_map frames_of stands ++ cond (row.is_left_blank && (length stands == going-any x i)) (list-any x i) [])
-      ∙ frames-apart cut_row rs begins row x
+  -- no container goes on with it
+  outside : GoesOnWithNone r
+  outside = record { left = goes.left; none = goes.bare.0; no_list = ap list_begun goes.bare.1 }
 
   -- it stands in no spans
   end-standing : standing r rs ≡ []
@@ -237,7 +213,7 @@ module _ (r : Row) (rs : List Row) (goes : GoesOn r) where
           let n = length (x ++ y) in
           by (joins-as frames_at standing r rs x x (parts_by frames_at standing n (x ++ y)) (parts (x ++ y)) (parts_by frames_at standing (length x) x) (parts x) (parts_by frames_at standing (length y) y) (parts y)
           refl (sym (real n (x ++ y))) (sym (real (length x) x)) (sym (real (length y) y))
-          (parts-join frames_at standing r rs same-frames same-standing n (length x) (length y) x (omega arith) (omega arith) (omega arith) blank (follows r rs (stays goes.full goes.left goes.stays_on))))
+          (parts-join frames_at standing r rs (frames-apart r rs outside) (standing-apart r rs outside) n (length x) (length y) x (omega arith) (omega arith) (omega arith) blank (follows r rs (stays goes.full goes.left goes.stays_on))))
         where
           by : Joins frames_at standing x r rs (parts (x ++ y)) (parts x) (parts y) → Goal
           by (apart e) = sections_apart (ap (flat_map (cut on)) e ∙ flat_map-append (cut on) (parts x) (parts y))

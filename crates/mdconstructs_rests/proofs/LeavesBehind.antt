@@ -72,11 +72,11 @@ module _ (g : Given) (reads : List Seat → List Event) where
     module _ (wanted : Option Content) (gx : GoForward wanted x) (gy : GoForward wanted y) where
       first-children : (cs : List ℕ) → AllByRecursion (λ c. begins wanted x c ≡ true) cs → map (child_at both) cs ≡ map (child_at x) cs
       first-children [] h = refl
-      first-children (c ∷ cs) h = let here = first-child c (starts-inside wanted x c h.0) (gx.chunks c h.0) in let rest = first-children cs h.1 in (λ d. here d ∷ rest d)
+      first-children (c ∷ cs) h = let here = first-child c (starts-inside wanted x c h.0) (gx c h.0) in let rest = first-children cs h.1 in (λ d. here d ∷ rest d)
 
       second-children : (cs : List ℕ) → AllByRecursion (λ c. begins wanted y c ≡ true) cs → map (child_at both) (map (λ c. length x + c) cs) ≡ map (child_at y) cs
       second-children [] h = refl
-      second-children (c ∷ cs) h = let here = second-child c (starts-inside wanted y c h.0) (gy.chunks c h.0) in let rest = second-children cs h.1 in (λ d. here d ∷ rest d)
+      second-children (c ∷ cs) h = let here = second-child c (starts-inside wanted y c h.0) (gy c h.0) in let rest = second-children cs h.1 in (λ d. here d ∷ rest d)
 
       pub leaves-behind : All (EndsBelow (length x)) x → let first = with_leaves wanted x in
           with_leaves wanted (x ++ map (further_on (length x)) y) ≡ first ++ map (further_on (length first)) (with_leaves wanted y)

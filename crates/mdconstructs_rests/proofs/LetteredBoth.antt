@@ -102,20 +102,20 @@ module _ (at and : List ℕ) where
       (λ i. plain-lf c c x refl h.0 i || (plain-cr c x h.0 i && not (begins-lf m b k i)))
   begins-lettered n m (x ∷ y ∷ a) b h k = begins-lettered (suc n) m (y ∷ a) b h.1 k
 
--- they are as many, and have as many line endings
-pub lettered-length : (at : List ℕ) (n : ℕ) (bs : List ℕ) → length (lettered_from n at bs) ≡ length bs
-lettered-length at n [] = refl
-lettered-length at n (b ∷ bs) = ap suc (lettered-length at (suc n) bs)
+-- bytes that are as many, with as many line endings
+pub record AreAsMany (xs ys : List ℕ) : Type 0 where
+  pub long : length xs ≡ length ys
+  pub endings : line_endings xs ≡ line_endings ys
 
-pub lettered-endings : (at : List ℕ) (n : ℕ) (bs : List ℕ) → ArePlainFrom n at bs → line_endings (lettered_from n at bs) ≡ line_endings bs
-lettered-endings at n [] h = refl
-lettered-endings at n (b ∷ bs) h =
+pub lettered-many : (at : List ℕ) (n : ℕ) (bs : List ℕ) → ArePlainFrom n at bs → AreAsMany (lettered_from n at bs) bs
+lettered-many at n [] h = record { long = refl; endings = refl }
+lettered-many at n (b ∷ bs) h =
     let c = list_any (λ i. i == n) at in
     let lf = plain-lf at at c c b refl h.0 in
     let cr = plain-cr at at c b h.0 in
     let first = begins-lf at at (suc n) bs h.1 in
-    let more = lettered-endings at (suc n) bs h.1 in
-    (λ i. cond (lf i) (suc (more i)) (cond (cr i) (cond (first i) (more i) (suc (more i))) (more i)))
+    let more = lettered-many at (suc n) bs h.1 in
+    record { long = ap suc more.long; endings = (λ i. cond (lf i) (suc (more.endings i)) (cond (cr i) (cond (first i) (more.endings i) (suc (more.endings i))) (more.endings i))) }
 
 -- ---- letters of a document are at indices of it
 

@@ -112,7 +112,7 @@ module _ (ms : List Mark) (runs : Runs ms idle) (tight : Tight ms) where
       by (Some d) e rest = rest d (ap (some_fits (Some content.Content)) (next_in ms runs k d e).read_as)
 
   pub marks-forward : GoForward (Some content.Content) es
-  marks-forward = record { chunks = λ c b. forward-from (length es) c (and_parts (fits (Some content.Content) es c) (is_none (previous_of es c)) b).0 }
+  marks-forward c b = forward-from (length es) c (and_parts (fits (Some content.Content) es c) (is_none (previous_of es c)) b).0
 
   pub marks-inside : All (EndsBelow (length es)) es
   marks-inside = let size = chained_length 0 None ms in All-from_recursion (EndsBelow (length es)) es (ends-below (length es) 0 None ms (omega (arith, size)) tt tight)

@@ -20,7 +20,8 @@ use Rattle.mdconstructs_labels.specs.Tails.{begins_with}
 use Rattle.mdconstructs_definitions.specs.Definitions.{Place, StringLine, all_seats, between, byte_at, definitions_marks, destination_marks, ending_at, ending_marks, further_line, gap_marks, is_byte, line_marks, marked, parts_marks, places_in, places_of, seats_of, string_lines, text_of}
 use Rattle.mdconstructs_definitions.specs.Definitions as those
 use Rattle.mdconstructs_rests.proofs.MovedPieces.{prefixes}
-use Rattle.mdconstructs_rests.proofs.MovedLines.{AreOk, AreRowsOk, IsOk, Moved, Shift, bs, columns-same, dr, ending, joined-parts, leaf, mk, mrs, ms, span, tk, two, txt, whites, whole}
+use Rattle.mdconstructs_rests.proofs.MovedMarks.{two}
+use Rattle.mdconstructs_rests.proofs.MovedLines.{AreOk, AreRowsOk, IsOk, Moved, Shift, bs, columns-same, dr, either, ending, joined-parts, leaf, mk, mrs, ms, span, tk, txt, whites, whole}
 
 module _ (m : Shift) where
   -- ---- places of a text
@@ -87,7 +88,7 @@ module _ (m : Shift) where
   endings-there : (ys : List Place) → AllByRecursion IsPlaceOk ys → flat_map (ending_marks m.new) (map mplace ys) ≡ mk m (flat_map (ending_marks m.old) ys)
   endings-there [] h = refl
   endings-there (byte_at s ∷ ys) h = endings-there ys h.1
-  endings-there (ending_at end prefixes marks ∷ ys) h = two m _ _ _ _ (two m _ _ _ _ (leaf m name.LineEnding _ _ (whole m end h.0.0)) refl) (endings-there ys h.1)
+  endings-there (ending_at end prefixes marks ∷ ys) h = two _ _ _ _ _ (two _ _ _ _ _ (leaf m name.LineEnding _ _ (whole m end h.0.0)) refl) (endings-there ys h.1)
 
   endings : (xs ys : List Place) → Places xs ys → flat_map (ending_marks m.new) xs ≡ mk m (flat_map (ending_marks m.old) ys)
   endings xs ys p = ap (λ l. flat_map (ending_marks m.new) l) p.are ∙ endings-there ys p.ok
@@ -95,11 +96,11 @@ module _ (m : Shift) where
   gap : (xs ys : List Place) → Places xs ys → gap_marks m.new xs ≡ mk m (gap_marks m.old ys)
   gap xs ys p =
       let n = ap (prefix_len is_byte) p.are ∙ line-there ys in
-      two m _ _ _ _ (whites m _ _ (seats _ _ (front xs ys _ _ n p)))
-      (two m _ _ _ _ (endings _ _ (front _ _ 1 1 refl (back xs ys _ _ n p))) (whites m _ _ (seats _ _ (back xs ys _ _ (ap (λ n. n + 1) n) p))))
+      two _ _ _ _ _ (whites m _ _ (seats _ _ (front xs ys _ _ n p)))
+      (two _ _ _ _ _ (endings _ _ (front _ _ 1 1 refl (back xs ys _ _ n p))) (whites m _ _ (seats _ _ (back xs ys _ _ (ap (λ n. n + 1) n) p))))
 
   further : (s r : List Seat) → Moved m s r → further_line m.new s ≡ mk m (further_line m.old r)
-  further s r p = let e = ap indent (bs m s r p) in two m _ _ _ _ (whites m _ _ (tk m s r _ _ e p)) (leaf m name.Data _ _ (dr m s r _ _ e p))
+  further s r p = let e = ap indent (bs m s r p) in two _ _ _ _ _ (whites m _ _ (tk m s r _ _ e p)) (leaf m name.Data _ _ (dr m s r _ _ e p))
 
   -- ---- lines of a string
   abbrev mline : StringLine → StringLine
@@ -117,24 +118,23 @@ module _ (m : Shift) where
   lines-there (ending_at end prefixes marks ∷ ys) h =
       let rest = lines-there ys h.1 in
       record { are = ap (λ l. (let line : StringLine = record { seats = []; behind = ending_at (ms m end) (ms m prefixes) (mk m marks) ∷ [] } in line) ∷ l) rest.are; ok = ((tt, (h.0, tt)), rest.ok) }
-  lines-there (byte_at s ∷ ys) h = by (string_lines (map mplace ys)) (string_lines ys) (lines-there ys h.1)
+  lines-there (byte_at s ∷ ys) h =
+      let rest = lines-there ys h.1 in
+      let l = same (string_lines ys) rest.ok in
+      record { are = ap (λ ls. elim ls [ [] ↦ record { seats = there ∷ []; behind = [] } ∷ [] | line ∷ lines ↦ record line { seats = there ∷ line.seats } ∷ lines ]) rest.are ∙ l.are; ok = l.ok }
     where
-      with-byte : Seat → List StringLine → List StringLine
-      with-byte s ls = elim ls [
-        | [] ↦ record { seats = s ∷ []; behind = [] } ∷ []
-        | line ∷ lines ↦ record line { seats = s ∷ line.seats } ∷ lines
-      ]
+      there : Seat
+      there = record { byte = s.byte; point = m.to s.point; end = m.to s.end }
 
-      same : (ls : List StringLine) → AllByRecursion IsLineOk ls → Lines (with-byte (record { byte = s.byte; point = m.to s.point; end = m.to s.end }) (map mline ls)) (with-byte s ls)
+      same : (ls : List StringLine) → AllByRecursion IsLineOk ls
+          → Lines (elim (map mline ls) [ [] ↦ record { seats = there ∷ []; behind = [] } ∷ [] | line ∷ lines ↦ record line { seats = there ∷ line.seats } ∷ lines ])
+          (elim ls [ [] ↦ record { seats = s ∷ []; behind = [] } ∷ [] | line ∷ lines ↦ record line { seats = s ∷ line.seats } ∷ lines ])
       same [] k = record { are = refl; ok = (((h.0, tt), tt), tt) }
       same (line ∷ lines) k = record { are = refl; ok = (((h.0, k.0.0), k.0.1), k.1) }
 
-      by : (us vs : List StringLine) → Lines us vs → Lines (with-byte (record { byte = s.byte; point = m.to s.point; end = m.to s.end }) us) (with-byte s vs)
-      by us vs ls = let l = same vs ls.ok in record { are = ap (with-byte (record { byte = s.byte; point = m.to s.point; end = m.to s.end })) ls.are ∙ l.are; ok = l.ok }
-
   line-marks : (is_first : Bool) (ls : List StringLine) → AllByRecursion IsLineOk ls → line_marks m.new is_first (map mline ls) ≡ mk m (line_marks m.old is_first ls)
   line-marks is_first [] h = refl
-  line-marks is_first (line ∷ lines) h = two m _ _ _ _ (by is_first) (two m _ _ _ _ (endings-there line.behind h.0.1) (line-marks false lines h.1))
+  line-marks is_first (line ∷ lines) h = two _ _ _ _ _ (by is_first) (two _ _ _ _ _ (endings-there line.behind h.0.1) (line-marks false lines h.1))
     where
       by : (b : Bool) → cond b (leaf_marks m.new name.Data (ms m line.seats)) (further_line m.new (ms m line.seats)) ≡ mk m (cond b (leaf_marks m.old name.Data line.seats) (further_line m.old line.seats))
       by true = leaf m name.Data _ _ (whole m line.seats h.0.0)
@@ -148,28 +148,24 @@ module _ (m : Shift) where
   between-marks : (n k : Name) (xs ys : List Place) → Places xs ys → marked m.new n k xs ≡ mk m (marked m.old n k ys)
   between-marks n k xs ys p =
       let last = ap (λ n. n - 1) (counts xs ys p) in
-      two m _ _ _ _ (leaf-of n _ _ (inner xs ys 0 1 0 1 refl refl p)) (two m _ _ _ _ (string k _ _ (inner xs ys 1 _ 1 _ refl last p)) (leaf-of n _ _ (back xs ys _ _ last p)))
+      two _ _ _ _ _ (leaf-of n _ _ (inner xs ys 0 1 0 1 refl refl p)) (two _ _ _ _ _ (string k _ _ (inner xs ys 1 _ 1 _ refl last p)) (leaf-of n _ _ (back xs ys _ _ last p)))
 
   destination : (xs ys : List Place) → Places xs ys → destination_marks m.new xs ≡ mk m (destination_marks m.old ys)
   destination xs ys p =
       let literal = span-of name.DefinitionDestinationLiteral xs ys _ _ p (between-marks name.DefinitionDestinationLiteralMarker name.DefinitionDestinationString xs ys p) in
       let raw = span-of name.DefinitionDestinationRaw xs ys _ _ p (string name.DefinitionDestinationString xs ys p) in
-      span-of name.DefinitionDestination xs ys _ _ p ((λ i. cond (begins_with 60 (texts xs ys p i)) (literal i) (raw i)) ∙ by (begins_with 60 (text_of ys)) _ _)
-    where
-      by : (b : Bool) (u v : List Mark) → cond b (mk m u) (mk m v) ≡ mk m (cond b u v)
-      by true u v = refl
-      by false u v = refl
+      span-of name.DefinitionDestination xs ys _ _ p ((λ i. cond (begins_with 60 (texts xs ys p i)) (literal i) (raw i)) ∙ either m (begins_with 60 (text_of ys)) _ _)
 
   -- ---- definitions
   parts : (d : Definition) (xs ys : List Place) → Places xs ys → parts_marks m.new d xs ≡ mk m (parts_marks m.old d ys)
   parts d xs ys p =
       let at = λ (a b : ℕ). inner xs ys a b a b refl refl p in
-      two m _ _ _ _ (gap _ _ (at 0 d.label.from))
-      (two m _ _ _ _ (span-of name.DefinitionLabel _ _ _ _ (at d.label.from (end d.label)) (between-marks name.DefinitionLabelMarker name.DefinitionLabelString _ _ (at d.label.from (end d.label))))
-      (two m _ _ _ _ (leaf-of name.DefinitionMarker _ _ (at (end d.label) (end d.label + 1)))
-      (two m _ _ _ _ (gap _ _ (at (end d.label + 1) d.destination.from))
-      (two m _ _ _ _ (destination _ _ (at d.destination.from (end d.destination)))
-      (two m _ _ _ _ (title d.title) (gap _ _ (at (end_of d.title d.destination) d.size)))))))
+      two _ _ _ _ _ (gap _ _ (at 0 d.label.from))
+      (two _ _ _ _ _ (span-of name.DefinitionLabel _ _ _ _ (at d.label.from (end d.label)) (between-marks name.DefinitionLabelMarker name.DefinitionLabelString _ _ (at d.label.from (end d.label))))
+      (two _ _ _ _ _ (leaf-of name.DefinitionMarker _ _ (at (end d.label) (end d.label + 1)))
+      (two _ _ _ _ _ (gap _ _ (at (end d.label + 1) d.destination.from))
+      (two _ _ _ _ _ (destination _ _ (at d.destination.from (end d.destination)))
+      (two _ _ _ _ _ (title d.title) (gap _ _ (at (end_of d.title d.destination) d.size)))))))
     where
       title : (o : Option Stretch)
           → elim o [ None ↦ [] | Some t ↦ gap_marks m.new (between (end d.destination) t.from xs) ++ span_marks m.new name.DefinitionTitle (seats_of (places_of t xs)) (marked m.new name.DefinitionTitleMarker name.DefinitionTitleString (places_of t xs)) ]
@@ -177,14 +173,14 @@ module _ (m : Shift) where
       title None = refl
       title (Some t) =
           let at = λ (a b : ℕ). inner xs ys a b a b refl refl p in
-          two m _ _ _ _ (gap _ _ (at (end d.destination) t.from)) (span-of name.DefinitionTitle _ _ _ _ (at t.from (end t)) (between-marks name.DefinitionTitleMarker name.DefinitionTitleString _ _ (at t.from (end t))))
+          two _ _ _ _ _ (gap _ _ (at (end d.destination) t.from)) (span-of name.DefinitionTitle _ _ _ _ (at t.from (end t)) (between-marks name.DefinitionTitleMarker name.DefinitionTitleString _ _ (at t.from (end t))))
 
   pub definitions : (ds : List Definition) (xs ys : List Place) → Places xs ys → definitions_marks m.new ds xs ≡ mk m (definitions_marks m.old ds ys)
   definitions [] xs ys p = refl
   definitions (d ∷ ds) xs ys p =
       let first = front xs ys d.size d.size refl p in
-      two m _ _ _ _ (span-of name.Definition _ _ _ _ first (parts d _ _ first))
-      (two m _ _ _ _ (endings _ _ (inner xs ys d.size (d.size + 1) d.size (d.size + 1) refl refl p)) (definitions ds _ _ (back xs ys (d.size + 1) (d.size + 1) refl p)))
+      two _ _ _ _ _ (span-of name.Definition _ _ _ _ first (parts d _ _ first))
+      (two _ _ _ _ _ (endings _ _ (inner xs ys d.size (d.size + 1) d.size (d.size + 1) refl refl p)) (definitions ds _ _ (back xs ys (d.size + 1) (d.size + 1) refl p)))
 
   -- ---- the text of lines
   bytes-there : (r : List Seat) → AreOk m r → Places (map byte_at (ms m r)) (map byte_at r)

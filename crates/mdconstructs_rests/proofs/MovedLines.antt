@@ -1,5 +1,5 @@
 -- Two documents, where places of the first are in the second, and which numbers its lines have there: so are virtual bytes, marks, lines, parts and sections of it.
-use Rattle.std.proofs.Common.{◌≡◌, ℕ, ◌+◌, ◌==◌, ◌∙◌, sym, Bool, true, List, [], ◌∷◌, ◌++◌, take, drop, ap, refl, None, Option}
+use Rattle.std.proofs.Common.{◌≡◌, ℕ, ◌+◌, ◌==◌, ◌∙◌, sym, Bool, true, false, cond, List, [], ◌∷◌, ◌++◌, take, drop, ap, refl, None, Option}
 use Rattle.std.proofs.lemmas.List.Sums.{sum_by-cons}
 use Rattle.std.specs.List.{AllByRecursion}
 use Rattle.std.specs.Prelude.{map}
@@ -131,8 +131,9 @@ module _ (m : Shift) where
   pub end-ok : (p : Point) (ss : List Seat) → IsOk p → AreOk ss → IsOk (end_after p ss)
   end-ok = marks.end-ok m.old m.new m.to m.link m.unlinked IsOk m.shows
 
-  pub two : (x y x2 y2 : List Mark) → x ≡ mk y → x2 ≡ mk y2 → x ++ x2 ≡ mk (y ++ y2)
-  two = marks.two m.old m.new m.to m.link m.unlinked IsOk m.shows
+  pub either : (b : Bool) (x y : List Mark) → cond b (mk x) (mk y) ≡ mk (cond b x y)
+  either true x y = refl
+  either false x y = refl
 
   pub span : (chunk : Option Chunk) (n : Name) (s r : List Seat) (x y : List Mark) → Moved s r → x ≡ mk y → chunk_span m.new chunk n s x ≡ mk (chunk_span m.old chunk n r y)
   span = marks.span m.old m.new m.to m.link m.unlinked IsOk m.shows

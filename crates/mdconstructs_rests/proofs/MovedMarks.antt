@@ -4,6 +4,10 @@ use Rattle.markdown_base.proofs.Common.{every-append, every-drop, every-take}
 use Rattle.markdown_base.specs.declared.event.Name.TheVariants as name
 use Rattle.mdconstructs_rests.proofs.TextLines.{AnySeat, AreInner, AreTextLines, any-blocks, inner-body, inner-text, texts-front}
 
+-- two lists, one behind the other
+pub two : {A X : Type 0} (h : A → X) (x : List X) (y : List A) (x2 : List X) (y2 : List A) → x ≡ map h y → x2 ≡ map h y2 → x ++ x2 ≡ map h (y ++ y2)
+two h x y x2 y2 e e2 = (λ i. e i ++ e2 i) ∙ sym (map-append h y y2)
+
 -- places of one document, B, and where they are in another, C
 module _ (B C : List ℕ) (f : Point → Point) (g : Option Link → Option Link) (none : g None ≡ None) (Ok : Point → Type 0) (sh : (p : Point) → Ok p → shown C (f p) ≡ f (shown B p)) where
   abbrev pub fs : Seat → Seat
@@ -132,9 +136,6 @@ module _ (B C : List ℕ) (f : Point → Point) (g : Option Link → Option Link
   end-ok p [] h k = h
   end-ok p (s ∷ ss) h k = end-ok s.end ss k.0.1 k.1
 
-  pub two : (x y x2 y2 : List Mark) → x ≡ mk y → x2 ≡ mk y2 → x ++ x2 ≡ mk (y ++ y2)
-  two x y x2 y2 e e2 = (λ i. e i ++ e2 i) ∙ sym (map-append fm y y2)
-
   span-whole : (chunk : Option Chunk) (n : Name) (r : List Seat) (x y : List Mark) → AreOk r → x ≡ mk y → chunk_span C chunk n (ms r) x ≡ mk (chunk_span B chunk n r y)
   span-whole chunk n [] x y h e = e
   span-whole chunk n (s ∷ ss) x y h e =
@@ -158,8 +159,8 @@ module _ (B C : List ℕ) (f : Point → Point) (g : Option Link → Option Link
   sequence : (n : Name) (size size2 : ℕ) (s r : List Seat) → size ≡ size2 → Part s r → sequence_marks C n size s ≡ mk (sequence_marks B n size2 r)
   sequence n size size2 s r e p =
       let c = ap indent (bs s r p) in
-      two _ _ _ _ (whites _ _ (tk s r _ _ c p))
-      (two _ _ _ _ (leaf n _ _ (tk _ _ _ _ e (dr s r _ _ c p))) (whites _ _ (dr s r _ _ (λ i. c i + e i) p)))
+      two _ _ _ _ _ (whites _ _ (tk s r _ _ c p))
+      (two _ _ _ _ _ (leaf n _ _ (tk _ _ _ _ e (dr s r _ _ c p))) (whites _ _ (dr s r _ _ (λ i. c i + e i) p)))
 
   breaks : (bound : ℕ) (s r : List Seat) → Part s r → break_marks C bound s ≡ mk (break_marks B bound r)
   breaks zero s r p = refl
@@ -167,8 +168,8 @@ module _ (B C : List ℕ) (f : Point → Point) (g : Option Link → Option Link
       let t = bs s r p in
       let c = ap indent t in
       let e = ap (λ t. indent t + prefix_len (λ b. not (is_white b)) (drop (indent t) t)) t in
-      two _ _ _ _ (whites _ _ (tk s r _ _ c p))
-      (two _ _ _ _ (leaf name.ThematicBreakSequence _ _ (tk _ _ _ _ (λ i. e i - c i) (dr s r _ _ c p))) (breaks bound _ _ (dr s r _ _ e p)))
+      two _ _ _ _ _ (whites _ _ (tk s r _ _ c p))
+      (two _ _ _ _ _ (leaf name.ThematicBreakSequence _ _ (tk _ _ _ _ (λ i. e i - c i) (dr s r _ _ c p))) (breaks bound _ _ (dr s r _ _ e p)))
 
   module _ (Inner : Seat → Type 0) (read2 read : List Seat → List Mark) (reads : (s r : List Seat) → Text Inner s r → read2 s ≡ mk (read r)) where
     read-front : (n k n2 k2 : ℕ) (s r : List Seat) → n ≡ n2 → k ≡ k2 → Part s r → AreInner Inner r → read2 (take n (drop k s)) ≡ mk (read (take n2 (drop k2 r)))
@@ -181,8 +182,8 @@ module _ (B C : List ℕ) (f : Point → Point) (g : Option Link → Option Link
         let start = λ (t : List ℕ). signs t + indent (drop (signs t) t) in
         let end = λ (t : List ℕ). start t + length (heading_text (drop (start t) t)) in
         let part = tk _ _ _ _ (ap (λ t. end t - start t) t) (dr s r _ _ (ap start t) p) in
-        two _ _ _ _ (sequence name.HeadingAtxSequence _ _ _ _ (ap (λ t. run 35 (unindented t)) t) (tk s r _ _ (ap start t) p))
-        (two _ _ _ _ (span None name.HeadingAtxText _ _ _ _ part (read-front _ _ _ _ s r (ap (λ t. end t - start t) t) (ap start t) p i))
+        two _ _ _ _ _ (sequence name.HeadingAtxSequence _ _ _ _ (ap (λ t. run 35 (unindented t)) t) (tk s r _ _ (ap start t) p))
+        (two _ _ _ _ _ (span None name.HeadingAtxText _ _ _ _ part (read-front _ _ _ _ s r (ap (λ t. end t - start t) t) (ap start t) p i))
         (sequence name.HeadingAtxSequence _ _ _ _ (ap (λ t. run 35 (unindented (drop (end t) t))) t) (dr s r _ _ (ap end t) p)))
 
     fence-around : (size : ℕ) (s r : List Seat) → Part s r → AreInner Inner r → fence_around C read2 size s ≡ mk (fence_around B read size r)
@@ -195,27 +196,27 @@ module _ (B C : List ℕ) (f : Point → Point) (g : Option Link → Option Link
         let info = tk _ _ _ _ (ap (λ t. word t - start t) t) (dr s r _ _ (ap start t) p) in
         let meta = dr s r _ _ (ap rest t) p in
         span None name.CodeFencedFence _ _ _ _ p
-        (two _ _ _ _ (sequence name.CodeFencedFenceSequence size size _ _ refl (tk s r _ _ (ap start t) p))
-        (two _ _ _ _ (span None name.CodeFencedFenceInfo _ _ _ _ info (read-front _ _ _ _ s r (ap (λ t. word t - start t) t) (ap start t) p i))
-        (two _ _ _ _ (whites _ _ (tk _ _ _ _ (ap (λ t. rest t - word t) t) (dr s r _ _ (ap word t) p))) (span None name.CodeFencedFenceMeta _ _ _ _ meta (reads _ _ (record { part = meta; inner = every-drop Inner _ r i }))))))
+        (two _ _ _ _ _ (sequence name.CodeFencedFenceSequence size size _ _ refl (tk s r _ _ (ap start t) p))
+        (two _ _ _ _ _ (span None name.CodeFencedFenceInfo _ _ _ _ info (read-front _ _ _ _ s r (ap (λ t. word t - start t) t) (ap start t) p i))
+        (two _ _ _ _ _ (whites _ _ (tk _ _ _ _ (ap (λ t. rest t - word t) t) (dr s r _ _ (ap word t) p))) (span None name.CodeFencedFenceMeta _ _ _ _ meta (reads _ _ (record { part = meta; inner = every-drop Inner _ r i }))))))
 
   code : (most : ℕ) (s r : List Seat) → Part s r → code_marks C most s ≡ mk (code_marks B most r)
   code most s r p =
       let e = ap (λ t. min most (indent t)) (bs s r p) in
-      two _ _ _ _ (whites _ _ (tk s r _ _ e p)) (leaf name.CodeFlowChunk _ _ (dr s r _ _ e p))
+      two _ _ _ _ _ (whites _ _ (tk s r _ _ e p)) (leaf name.CodeFlowChunk _ _ (dr s r _ _ e p))
 
   -- ---- lines
   texts : (has_previous : Bool) (lines : List Line) → AreLinesOk lines → text_marks C has_previous (mls lines) ≡ mk (text_marks B has_previous lines)
   texts has_previous [] h = refl
   texts has_previous (line ∷ []) h = span _ name.Data _ _ [] [] (txt _ _ (whole line h.0)) refl
-  texts has_previous (line ∷ next ∷ lines) h = two _ _ _ _ (span _ name.Data _ _ [] [] (whole line h.0) refl) (texts true (next ∷ lines) h.1)
+  texts has_previous (line ∷ next ∷ lines) h = two _ _ _ _ _ (span _ name.Data _ _ [] [] (whole line h.0) refl) (texts true (next ∷ lines) h.1)
 
   module _ (read2 read : List Seat → List Mark) (reads : (s r : List Seat) → Part s r → read2 s ≡ mk (read r)) where
     lines-marks : (is_open : Bool) (lines : List Line) → AreLinesOk lines → lines_marks C read2 is_open (mls lines) ≡ mk (lines_marks B read is_open lines)
     lines-marks is_open [] h = refl
-    lines-marks true (line ∷ []) h = let p = whole line h.0 in two _ _ _ _ (reads _ _ (txt _ _ p)) (line-end _ _ p)
-    lines-marks false (line ∷ []) h = let p = whole line h.0 in two _ _ [] [] (reads _ _ (txt _ _ p)) refl
-    lines-marks is_open (line ∷ next ∷ lines) h = let p = whole line h.0 in two _ _ _ _ (reads _ _ (txt _ _ p)) (two _ _ _ _ (line-end _ _ p) (lines-marks is_open (next ∷ lines) h.1))
+    lines-marks true (line ∷ []) h = let p = whole line h.0 in two _ _ _ _ _ (reads _ _ (txt _ _ p)) (line-end _ _ p)
+    lines-marks false (line ∷ []) h = let p = whole line h.0 in two _ _ _ [] [] (reads _ _ (txt _ _ p)) refl
+    lines-marks is_open (line ∷ next ∷ lines) h = let p = whole line h.0 in two _ _ _ _ _ (reads _ _ (txt _ _ p)) (two _ _ _ _ _ (line-end _ _ p) (lines-marks is_open (next ∷ lines) h.1))
 
   last-end : (lines : List Line) → AreLinesOk lines → last_end C (mls lines) ≡ mk (last_end B lines)
   last-end [] h = refl
@@ -235,7 +236,7 @@ module _ (B C : List ℕ) (f : Point → Point) (g : Option Link → Option Link
   all (line ∷ lines) h = joined-parts _ _ _ _ (whole line h.0) (all lines h.1)
 
   block-span : (n : Name) (is_open : Bool) (lines : List Line) (x y : List Mark) → AreLinesOk lines → x ≡ mk y → block_span C n is_open (mls lines) x ≡ mk (block_span B n is_open lines y)
-  block-span n false lines x y h e = two _ _ _ _ (span None n _ _ x y (bodies lines h) e) (last-end lines h)
+  block-span n false lines x y h e = two _ _ _ _ _ (span None n _ _ x y (bodies lines h) e) (last-end lines h)
   block-span n true lines x y h e = span None n _ _ x y (all lines h) e
 
   fenced : (fence : Fence) (is_closed : Bool) (lines : List Line) → AreLinesOk lines → fenced_marks C fence is_closed (mls lines) ≡ mk (fenced_marks B fence is_closed lines)
@@ -243,16 +244,16 @@ module _ (B C : List ℕ) (f : Point → Point) (g : Option Link → Option Link
   fenced fence true (line ∷ []) h =
       let p = txt _ _ (whole line h.0) in
       span None name.CodeFencedFence _ _ _ _ p (sequence name.CodeFencedFenceSequence _ _ _ _ (ap (λ t. run fence.byte (unindented t)) (bs _ _ p)) p)
-  fenced fence false (line ∷ []) h = let p = whole line h.0 in two _ _ _ _ (code fence.indent _ _ (txt _ _ p)) (line-end _ _ p)
-  fenced fence is_closed (line ∷ next ∷ lines) h = let p = whole line h.0 in two _ _ _ _ (code fence.indent _ _ (txt _ _ p)) (two _ _ _ _ (line-end _ _ p) (fenced fence is_closed (next ∷ lines) h.1))
+  fenced fence false (line ∷ []) h = let p = whole line h.0 in two _ _ _ _ _ (code fence.indent _ _ (txt _ _ p)) (line-end _ _ p)
+  fenced fence is_closed (line ∷ next ∷ lines) h = let p = whole line h.0 in two _ _ _ _ _ (code fence.indent _ _ (txt _ _ p)) (two _ _ _ _ _ (line-end _ _ p) (fenced fence is_closed (next ∷ lines) h.1))
 
   code-fenced : (Inner : Seat → Type 0) (read2 read : List Seat → List Mark) → ((s r : List Seat) → Text Inner s r → read2 s ≡ mk (read r)) → (fence : Fence) (is_closed : Bool) (lines : List Line) → AreLinesOk lines → AreTextLines Inner lines
       → code_fenced_around C read2 fence is_closed (mls lines) ≡ mk (code_fenced_around B read fence is_closed lines)
   code-fenced Inner read2 read reads fence is_closed [] h i = refl
-  code-fenced Inner read2 read reads fence is_closed (line ∷ []) h i = let p = whole line h.0 in two _ _ _ _ (fence-around Inner read2 read reads fence.size _ _ (txt _ _ p) i) (line-end _ _ p)
+  code-fenced Inner read2 read reads fence is_closed (line ∷ []) h i = let p = whole line h.0 in two _ _ _ _ _ (fence-around Inner read2 read reads fence.size _ _ (txt _ _ p) i) (line-end _ _ p)
   code-fenced Inner read2 read reads fence is_closed (line ∷ next ∷ lines) h i =
       let p = whole line h.0 in
-      two _ _ _ _ (fence-around Inner read2 read reads fence.size _ _ (txt _ _ p) (inner-text Inner line i.0)) (two _ _ _ _ (line-end _ _ p) (fenced fence is_closed (next ∷ lines) h.1))
+      two _ _ _ _ _ (fence-around Inner read2 read reads fence.size _ _ (txt _ _ p) (inner-text Inner line i.0)) (two _ _ _ _ _ (line-end _ _ p) (fenced fence is_closed (next ∷ lines) h.1))
 
   htmls : (is_open : Bool) (lines : List Line) → AreLinesOk lines → html_marks C is_open (mls lines) ≡ mk (html_marks B is_open lines)
   htmls is_open [] h = refl
@@ -260,7 +261,7 @@ module _ (B C : List ℕ) (f : Point → Point) (g : Option Link → Option Link
       let p = whole line h.0 in
       let c = ap indent (bs _ _ (txt _ _ p)) in
       let d = dr _ _ _ _ c p in
-      two _ _ _ _ (leaf name.HtmlFlowData _ _ (tk _ _ _ _ c p))
+      two _ _ _ _ _ (leaf name.HtmlFlowData _ _ (tk _ _ _ _ c p))
       (ap (λ l. lines_marks C (leaf_marks C name.HtmlFlowData) is_open (l ∷ mls lines)) d.is ∙ lines-marks (leaf_marks C name.HtmlFlowData) (leaf_marks B name.HtmlFlowData) (leaf name.HtmlFlowData) is_open (_ ∷ lines) (d.ok, h.1))
 
   underlines : (s r : List Seat) → Part s r → underline_marks C s ≡ mk (underline_marks B r)
@@ -292,7 +293,7 @@ module _ (B C : List ℕ) (f : Point → Point) (g : Option Link → Option Link
       (lines2 lines1 : List Line → List Mark) (lines-reads : (lines : List Line) → AreLinesOk lines → AreTextLines Inner lines → lines2 (mls lines) ≡ mk (lines1 lines))
       (string2 string : List Seat → List Mark) (string-reads : (s r : List Seat) → Text Inner s r → string2 s ≡ mk (string r)) where
     block : (b : LeafBlock) → IsBlockOk b → AreBlockTexts Inner b → block_around C text2 lines2 string2 (mb b) ≡ mk (block_around B text lines1 string b)
-    block (blank_line line) h i = let p = whole line h.0 in two _ _ _ _ (whites _ _ (txt _ _ p)) (leaf name.BlankLineEnding _ _ (ending _ _ p))
+    block (blank_line line) h i = let p = whole line h.0 in two _ _ _ _ _ (whites _ _ (txt _ _ p)) (leaf name.BlankLineEnding _ _ (ending _ _ p))
     block (break_line line) h i =
         let p = whole line h.0 in
         block-span name.ThematicBreak false (line ∷ []) _ _ h (ap (λ n. break_marks C n (line_text (ms line))) (length-map line fs) ∙ breaks (length line) _ _ (txt _ _ p))
@@ -302,7 +303,7 @@ module _ (B C : List ℕ) (f : Point → Point) (g : Option Link → Option Link
         let front = lines-front lines (below ∷ []) h in
         let back = lines-back lines (below ∷ []) h in
         let read = lines-reads lines front (texts-front Inner lines (below ∷ []) i) in
-        let inside = two _ _ _ _ (span None name.HeadingSetextText _ _ _ _ (bodies lines front) read) (two _ _ _ _ (last-end lines front) (underlines _ _ (txt _ _ (whole below back.0)))) in
+        let inside = two _ _ _ _ _ (span None name.HeadingSetextText _ _ _ _ (bodies lines front) read) (two _ _ _ _ _ (last-end lines front) (underlines _ _ (txt _ _ (whole below back.0)))) in
         let x = span_marks C name.HeadingSetextText (body (mls lines)) (lines2 (mls lines)) ++ (last_end C (mls lines) ++ underline_marks C (line_text (ms below))) in
         ap (λ ls. block_span C name.HeadingSetext false ls x) (sym (map-append ms lines (below ∷ []))) ∙ block-span name.HeadingSetext false (lines ++ below ∷ []) _ _ h inside
     block (indented_code lines) h i = block-span name.CodeIndented false lines _ _ h (lines-marks (code_marks C 4) (code_marks B 4) (code 4) false lines h)
@@ -311,7 +312,7 @@ module _ (B C : List ℕ) (f : Point → Point) (g : Option Link → Option Link
 
     pub around-moved : (blocks : List LeafBlock) → AllByRecursion IsBlockOk blocks → AllByRecursion (AreBlockTexts Inner) blocks → flat_map (block_around C text2 lines2 string2) (map mb blocks) ≡ mk (flat_map (block_around B text lines1 string) blocks)
     around-moved [] h i = refl
-    around-moved (b ∷ blocks) h i = two _ _ _ _ (block b h.0 i.0) (around-moved blocks h.1 i.1)
+    around-moved (b ∷ blocks) h i = two _ _ _ _ _ (block b h.0 i.0) (around-moved blocks h.1 i.1)
 
   pub blocks-marks-moved : (blocks : List LeafBlock) → AllByRecursion IsBlockOk blocks → leaf_blocks_marks C (map mb blocks) ≡ mk (leaf_blocks_marks B blocks)
   blocks-marks-moved blocks h =

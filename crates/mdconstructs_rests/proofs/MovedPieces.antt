@@ -12,18 +12,15 @@ use Rattle.markdown_base.specs.Virtual.{Seat}
 use Rattle.mdconstructs_documents.proofs.FlowTexts.Segments.{HasByte}
 use Rattle.mdconstructs_machines.specs.LineEvents.{line_text}
 use Rattle.mdconstructs_machines.specs.Spans.{event}
-use Rattle.mdconstructs_flow_read.specs.LeafEvents.{Chunk, Mark, chunk_span}
+use Rattle.mdconstructs_flow_read.specs.LeafEvents.{Chunk, chunk_span}
 use Rattle.mdconstructs_flow_read.specs.LineKinds.{indent}
 use Rattle.mdconstructs_lines.specs.Containers.{Container, Prefix, item, quote}
 use Rattle.mdconstructs_containers.specs.Prefixes.{columns_of}
 use Rattle.mdconstructs_containers.specs.Rows.{Row, has_none, holds_ending}
 use Rattle.mdconstructs_containers.specs.Skeleton.{Part, Piece, begin_of, begun_all, begun_marks, chunks_of, enters_of, going_marks, inside_of, is_held, joined_pieces, last_of, list_name, piece_of, pieces_of, prefixes_marks}
 use Rattle.mdconstructs_containers.proofs.JoinLemmas.{join, join_is}
-use Rattle.mdconstructs_rests.proofs.MovedLines.{AreOk, AreRowsOk, HaveRoom, IsOk, IsPartOk, IsRowOk, Moved, Shift, bs, columns-same, dr, event-moved, fe, fm, leaf, mc, mk, mp, mpart, mps, mr, mrs, ms, span, tk, two, txt, whites, whole}
-
-none-there : {A X : Type 0} (f : A → X) (xs : List A) → has_none (map f xs) ≡ has_none xs
-none-there f [] = refl
-none-there f (x ∷ xs) = refl
+use Rattle.mdconstructs_rests.proofs.MovedMarks.{two}
+use Rattle.mdconstructs_rests.proofs.MovedLines.{AreOk, AreRowsOk, HaveRoom, IsOk, IsPartOk, IsRowOk, Moved, Shift, bs, columns-same, dr, either, event-moved, fe, leaf, mc, mk, mp, mpart, mps, mr, mrs, ms, span, tk, txt, whites, whole}
 
 module _ (m : Shift) where
   -- ---- prefixes
@@ -34,22 +31,22 @@ module _ (m : Shift) where
   going : (c : Container) (s r : List Seat) → Moved m s r → going_marks m.new (mc m c) s ≡ mk m (going_marks m.old c r)
   going (quote line) s r p =
       let e = ap indent (bs m s r p) in
-      two m _ _ _ _ (whites m _ _ (tk m s r _ _ e p))
-      (span m None name.BlockQuotePrefix _ _ _ _ (dr m s r _ _ e p) (two m _ _ _ _ (leaf m name.BlockQuoteMarker _ _ (tk m _ _ 1 1 refl (dr m s r _ _ e p))) (whites m _ _ (dr m s r _ _ (ap suc e) p))))
+      two _ _ _ _ _ (whites m _ _ (tk m s r _ _ e p))
+      (span m None name.BlockQuotePrefix _ _ _ _ (dr m s r _ _ e p) (two _ _ _ _ _ (leaf m name.BlockQuoteMarker _ _ (tk m _ _ 1 1 refl (dr m s r _ _ e p))) (whites m _ _ (dr m s r _ _ (ap suc e) p))))
   going (item i) s r p = whites m s r p
 
   begun : (c : Container) (s r : List Seat) → Moved m s r → begun_marks m.new (mc m c) s ≡ mk m (begun_marks m.old c r)
   begun (quote line) s r p = going (quote line) s r p
   begun (item i) s r p =
       let e = ap indent (bs m s r p) in
-      two m _ _ _ _ (whites m _ _ (tk m s r _ _ e p))
+      two _ _ _ _ _ (whites m _ _ (tk m s r _ _ e p))
       (span m None name.ListItemPrefix _ _ _ _ (dr m s r _ _ e p)
-      (two m _ _ _ _ (leaf m name.ListItemValue _ _ (tk m _ _ i.digits i.digits refl (dr m s r _ _ e p)))
-      (two m _ _ _ _ (leaf m name.ListItemMarker _ _ (tk m _ _ 1 1 refl (dr m s r _ _ (ap (λ n. n + i.digits) e) p))) (whites m _ _ (dr m s r _ _ (ap (λ n. suc (n + i.digits)) e) p)))))
+      (two _ _ _ _ _ (leaf m name.ListItemValue _ _ (tk m _ _ i.digits i.digits refl (dr m s r _ _ e p)))
+      (two _ _ _ _ _ (leaf m name.ListItemMarker _ _ (tk m _ _ 1 1 refl (dr m s r _ _ (ap (λ n. n + i.digits) e) p))) (whites m _ _ (dr m s r _ _ (ap (λ n. suc (n + i.digits)) e) p)))))
 
   pub prefixes : (ps : List Prefix) (s r : List Seat) → Moved m s r → prefixes_marks m.new (mps m ps) s ≡ mk m (prefixes_marks m.old ps r)
   prefixes [] s r q = refl
-  prefixes (p ∷ ps) s r q = two m _ _ _ _ (going p.container _ _ (tk m s r p.size p.size refl q)) (prefixes ps _ _ (dr m s r p.size p.size refl q))
+  prefixes (p ∷ ps) s r q = two _ _ _ _ _ (going p.container _ _ (tk m s r p.size p.size refl q)) (prefixes ps _ _ (dr m s r p.size p.size refl q))
 
   enters : (c : Container) (p : Point) → IsOk m p → enters_of m.new (mc m c) (m.to p) ≡ mk m (enters_of m.old c p)
   enters (quote line) p k = let e = event-moved m Enter name.BlockQuote p k in (λ i. (e i, None) ∷ [])
@@ -66,8 +63,8 @@ module _ (m : Shift) where
   begun-all [] s r q k = refl
   begun-all (p ∷ ps) s r q k =
       let b = begins s r q k.0 in
-      two m _ _ _ _ (ap (enters_of m.new (mc m p.container)) b.0 ∙ enters p.container (begin_of r) b.1)
-      (two m _ _ _ _ (begun p.container _ _ (tk m s r p.size p.size refl q)) (begun-all ps _ _ (dr m s r p.size p.size refl q) k.1))
+      two _ _ _ _ _ (ap (enters_of m.new (mc m p.container)) b.0 ∙ enters p.container (begin_of r) b.1)
+      (two _ _ _ _ _ (begun p.container _ _ (tk m s r p.size p.size refl q)) (begun-all ps _ _ (dr m s r p.size p.size refl q) k.1))
 
   -- ---- pieces of a stretch
   abbrev pub mpiece : Piece m.old → Piece m.new
@@ -101,8 +98,9 @@ module _ (m : Shift) where
   join-same : (p : Piece m.old) (js : List (Piece m.old)) → join m.new (mpiece p) (map mpiece js) ≡ map mpiece (join m.old p js)
   join-same p [] = refl
   join-same p (r ∷ rs) =
+      let none : has_none (mk m r.before) ≡ has_none r.before = elim r.before as (λ ms. has_none (mk m ms) ≡ has_none ms) [ [] ↦ refl | x ∷ ms ↦ refl ] in
       let seats = sym (map-append (λ s. record { byte = s.byte; point = m.to s.point; end = m.to s.end }) p.seats r.seats) in
-      (λ i. cond (none-there (fm m) r.before i) ((let q : Piece m.new = record { before = mk m p.before; seats = seats i } in q) ∷ map mpiece rs) (mpiece p ∷ mpiece r ∷ map mpiece rs)) ∙ by (has_none r.before)
+      (λ i. cond (none i) ((let q : Piece m.new = record { before = mk m p.before; seats = seats i } in q) ∷ map mpiece rs) (mpiece p ∷ mpiece r ∷ map mpiece rs)) ∙ by (has_none r.before)
     where
       by : (b : Bool) → cond b (mpiece (record p { seats = p.seats ++ r.seats }) ∷ map mpiece rs) (mpiece p ∷ mpiece r ∷ map mpiece rs) ≡ map mpiece (cond b (record p { seats = p.seats ++ r.seats } ∷ rs) (p ∷ r ∷ rs))
       by true = refl
@@ -149,8 +147,8 @@ module _ (m : Shift) where
   chunks w (p ∷ ps) h =
       let chunk : Bool → Option Chunk = λ none. Some (record { content = content.Content; has_previous = w; has_next = not none }) in
       let none = has_none (flat_map (λ (q : Piece m.old). q.seats) ps) in
-      two m _ _ _ _ refl
-      (two m _ _ _ _ (ap (λ n. chunk_span m.new (chunk n) name.Data (ms m p.seats) []) (none-left ps) ∙ span m (chunk none) name.Data _ _ [] [] (whole m p.seats h.0) refl) (chunks true ps h.1))
+      two _ _ _ _ _ refl
+      (two _ _ _ _ _ (ap (λ n. chunk_span m.new (chunk n) name.Data (ms m p.seats) []) (none-left ps) ∙ span m (chunk none) name.Data _ _ [] [] (whole m p.seats h.0) refl) (chunks true ps h.1))
 
   -- the first of them stands behind nothing
   pub first-chunks : (js : List (Piece m.new)) (ps : List (Piece m.old)) → ArePieces js ps
@@ -183,13 +181,10 @@ module _ (m : Shift) where
   inside part h =
       let r = part.first in
       let n = length part.stands in
+      let none : has_none (mps m r.begun) ≡ has_none r.begun = elim r.begun as (λ ps. has_none (mps m ps) ≡ has_none ps) [ [] ↦ refl | p ∷ ps ↦ refl ] in
       let cut : cond (has_none (mps m r.begun)) (columns_of (take (length (map (mc m) part.stands)) (mps m r.went_on))) r.columns ≡ cond (has_none r.begun) (columns_of (take n r.went_on)) r.columns =
-      (λ i. cond (none-there (mp m) r.begun i) (columns_of (take (length-map part.stands (mc m) i) (mps m r.went_on))) r.columns)
+      (λ i. cond (none i) (columns_of (take (length-map part.stands (mc m) i) (mps m r.went_on))) r.columns)
       ∙ ap (λ n. cond (has_none r.begun) n r.columns) (ap columns_of (take-map (mp m) n r.went_on) ∙ columns-same m (take n r.went_on)) in
       let first = whites m _ _ (txt m _ _ (dr m _ _ _ _ cut (whole m r.line h.0.seats))) in
       let all = first-chunks _ _ (stretch part h) in
-      (λ i. cond r.is_blank (first i) (all i)) ∙ by r.is_blank _ _
-    where
-      by : (b : Bool) (xs ys : List Mark) → cond b (mk m xs) (mk m ys) ≡ mk m (cond b xs ys)
-      by true xs ys = refl
-      by false xs ys = refl
+      (λ i. cond r.is_blank (first i) (all i)) ∙ either m r.is_blank _ _

@@ -1,14 +1,15 @@
 -- Texts and strings of a document whose first part ends a line: they are read as in its parts.
-use Rattle.std.proofs.Common.{◌≡◌, ℕ, suc, ◌+◌, ◌-◌, ◌==◌, ◌<◌, ◌≤◌, ◌&&◌, nat_lt, Bool, true, false, cond, List, [], ◌∷◌, ◌++◌, length, take, drop, refl, sym, ap, ◌∙◌, Some, length-append, length-drop, lt-ltb, ltb-true, arith}
+use Rattle.std.proofs.Common.{◌≡◌, ℕ, ◌+◌, ◌-◌, ◌==◌, ◌<◌, ◌≤◌, ◌&&◌, nat_lt, Bool, true, false, cond, List, [], ◌∷◌, ◌++◌, length, take, drop, refl, sym, ap, ◌∙◌, length-drop, lt-ltb, ltb-true, arith}
 use Rattle.std.proofs.Math.Seq.{drop-append-add, take-append-add}
-use Rattle.std.proofs.lemmas.List.{drop-append-le, get_or_append_left, take-append-le}
-use Rattle.std.proofs.lemmas.Option.{slice_get-get_or}
+use Rattle.std.proofs.lemmas.List.{drop-append-le, take-append-le}
 use Rattle.std.specs.List.{AllByRecursion, between}
 use Rattle.std.specs.Prelude.{map, slice_get, slice_index}
 use Rattle.markdown_base.specs.declared.event.Event.{Event}
 use Rattle.markdown_base.specs.declared.event.Point.{Point}
 use Rattle.markdown_base.specs.Places.{follows_cr, shown}
 use Rattle.markdown_base.specs.Virtual.{Seat}
+use Rattle.markdown_edits.proofs.Edits.Survivors.{slice_get-behind}
+use Rattle.markdown_base.proofs.Common.{get-front}
 use Rattle.mdconstructs_attention.specs.Classes.{class_at_end, first_char, last_char}
 use Rattle.mdconstructs_rests.specs.Moved.{begins_line, moved_link, moved_point, moved_seat}
 use Rattle.mdconstructs_rests.specs.ReadTexts.{InlinesMove, StandsBefore, StringsMove}
@@ -18,15 +19,6 @@ use Rattle.mdconstructs_rests.proofs.MovedPlaces.{AreKnownSeats, Moving, Part}
 use Rattle.mdconstructs_rests.proofs.MovedTexts.{inlines-moved}
 use Rattle.mdconstructs_rests.proofs.Seams.{class-after-front, class-before-behind}
 use Rattle.mdconstructs_rests.proofs.Shown.{shown-behind, shown-front}
-
-pub get-add : (a b : List ℕ) (i : ℕ) → slice_get (a ++ b) (length a + i) ≡ slice_get b i
-get-add [] b i = let e : 0 + i ≡ i = omega arith in ap (slice_get b) e
-get-add (x ∷ a) b i = let e : length (x ∷ a) + i ≡ suc (length a + i) = omega arith in ap (slice_get (x ∷ a ++ b)) e ∙ get-add a b i
-
-pub get-front : (a b : List ℕ) (i : ℕ) → i < length a → slice_get (a ++ b) i ≡ slice_get a i
-get-front a b i lt =
-    let long = length-append a b in
-    slice_get-get_or (a ++ b) i 0 (omega (arith, lt, long)) ∙ ap (λ x. Some x) (get_or_append_left a b 0 i lt) ∙ sym (slice_get-get_or a i 0 lt)
 
 abbrev back_one : Point → Point
 back_one p = record { line = p.line; column = p.column; index = p.index - 1; vs = p.vs }
@@ -95,7 +87,7 @@ module _ (a b : List ℕ) (h : begins_line b a ≡ true) where
     further = λ n p. let e : (p.index + n) + length a ≡ (p.index + length a) + n = omega arith in (λ i. let q : Point = record { line = p.line + lines; column = p.column + n; index = e i; vs = p.vs } in q);
     shows = λ p k. shown-behind a b h lines p;
     stays = λ p k. refl;
-    byte = λ p k. let e : p.index + length a ≡ length a + p.index = omega arith in ap (slice_get (a ++ b)) e ∙ get-add a b p.index;
+    byte = λ p k. let e : p.index + length a ≡ length a + p.index = omega arith in ap (slice_get (a ++ b)) e ∙ slice_get-behind a b p.index;
     before = λ p k. class-before-behind a b h p.index;
     after = λ p k. let e : p.index + length a ≡ length a + p.index = omega arith in ap (λ rest. class_at_end rest (first_char rest)) (ap (λ n. drop n (a ++ b)) e ∙ drop-append-add a b p.index);
     range = λ p q k also. range-behind a b p.index q.index;

@@ -19,7 +19,8 @@ use Rattle.mdconstructs_definitions.specs.Sections.{Inside, Section, defined, li
 use Rattle.mdconstructs_definitions.specs.Skeleton.{all_rows, behind_definitions, behind_marks, inside_marks, section_marks, sections_marks}
 use Rattle.mdconstructs_rests.proofs.MovedDefinitions.{definitions, lines-places}
 use Rattle.mdconstructs_rests.proofs.MovedPieces.{ArePiecesOk, begins, begun-all, chunks, held-same, inside, kept, last-ok, last-same, mpiece, prefixes, stretch}
-use Rattle.mdconstructs_rests.proofs.MovedLines.{IsOk, IsPartOk, IsRowOk, Shift, bs, columns-same, dr, end-moved, end-ok, ending, event-moved, leaf, mf, mk, mp, mpart, mps, mr, ms, msection, tk, two, txt, whites, whole}
+use Rattle.mdconstructs_rests.proofs.MovedMarks.{two}
+use Rattle.mdconstructs_rests.proofs.MovedLines.{IsOk, IsPartOk, IsRowOk, Shift, bs, columns-same, dr, end-moved, end-ok, ending, event-moved, leaf, mf, mk, mp, mpart, mps, mr, ms, msection, tk, txt, whites, whole}
 
 module _ (m : Shift) where
   abbrev pub IsSectionOk : Section → Type 0
@@ -45,7 +46,7 @@ module _ (m : Shift) where
       by (p ∷ ps) k =
           let n = indent (rest_of part.first) in
           let left = dr m _ _ n n refl (whole m p.seats k.0) in
-          two m _ _ _ _ (whites m _ _ (tk m _ _ n n refl (whole m p.seats k.0)))
+          two _ _ _ _ _ (whites m _ _ (tk m _ _ n n refl (whole m p.seats k.0)))
           (ap (λ (l : List Seat). chunks_of m.new false ((let q : Piece m.new = record { before = []; seats = l } in q) ∷ map (mpiece m) ps)) left.is ∙ chunks m false ((let q : Piece m.old = record { before = []; seats = drop n p.seats } in q) ∷ ps) (left.ok, k.1))
 
   inside-of : (part : Part) (i : Inside) → IsPartOk m part → inside_marks m.new (mpart m part) i ≡ mk m (inside_marks m.old part i)
@@ -109,20 +110,20 @@ module _ (m : Shift) where
       let line = whole m r.line h.0.seats in
       let went : take (length (msection m s).part.stands) (mps m r.went_on) ≡ mps m (take n r.went_on) = ap (λ n. take n (mps m r.went_on)) (length-map part.stands _) ∙ take-map (mp m) n r.went_on in
       let left = dr m _ _ _ _ (columns-same m r.went_on) line in
-      two m _ _ _ _ (ap (λ ps. prefixes_marks m.new ps (ms m r.line)) went ∙ prefixes m (take n r.went_on) _ _ line) (two m _ _ _ _ (begun-all m r.begun _ _ left h.0.room) (inside-of part s.inside h))
+      two _ _ _ _ _ (ap (λ ps. prefixes_marks m.new ps (ms m r.line)) went ∙ prefixes m (take n r.went_on) _ _ line) (two _ _ _ _ _ (begun-all m r.begun _ _ left h.0.room) (inside-of part s.inside h))
 
   behinds : (part : Part) → IsPartOk m part → (ss : List Section) → AllByRecursion IsSectionOk ss → behind_marks m.new (mpart m part) (map (msection m) ss) ≡ mk m (behind_marks m.old part ss)
   behinds part h [] k =
       let e = ends part h in
-      two m _ _ _ _ (exits-of part.frames _ _ e.0 e.1) (endings part h)
+      two _ _ _ _ _ (exits-of part.frames _ _ e.0 e.1) (endings part h)
   behinds part h (next ∷ more) k =
       let e = ends part h in
       let n = shared part.frames next.part.frames in
       let left : drop (shared (map (mf m) part.frames) (map (mf m) next.part.frames)) (map (mf m) part.frames) ≡ map (mf m) (drop n part.frames) = ap (λ n. drop n (map (mf m) part.frames)) (shared-same part.frames next.part.frames) ∙ drop-map (mf m) n part.frames in
-      two m _ _ _ _ (ap (λ fs. exits m.new fs (end_of m.new (mpart m part))) left ∙ exits-of (drop n part.frames) _ _ e.0 e.1)
-      (two m _ _ _ _ (endings part h) (two m _ _ _ _ (one next k.0) (behinds next.part k.0 more k.1)))
+      two _ _ _ _ _ (ap (λ fs. exits m.new fs (end_of m.new (mpart m part))) left ∙ exits-of (drop n part.frames) _ _ e.0 e.1)
+      (two _ _ _ _ _ (endings part h) (two _ _ _ _ _ (one next k.0) (behinds next.part k.0 more k.1)))
 
   -- The marks of moved sections are those of the sections, moved
   pub sections-marks-moved : (ss : List Section) → AllByRecursion IsSectionOk ss → sections_marks m.new (map (msection m) ss) ≡ mk m (sections_marks m.old ss)
   sections-marks-moved [] h = refl
-  sections-marks-moved (s ∷ ss) h = two m _ _ _ _ (one s h.0) (behinds s.part h.0 ss h.1)
+  sections-marks-moved (s ∷ ss) h = two _ _ _ _ _ (one s h.0) (behinds s.part h.0 ss h.1)

@@ -64,11 +64,11 @@ chains-read-both wanted lines bytes all one two x y reads reads_one reads_two h 
     let second_starts = fitting_starts wanted y in
     let firsts : map of_both first_starts ≡ map of_one first_starts =
     map-agree (λ c. begins wanted x c ≡ true) of_both of_one
-    (λ c b. ap reads (text-first lines bytes all one two h x y c (starts-inside wanted x c b) (k.chunks c b) (up.chunks c b)) ∙ same c b) first_starts (all-begin wanted x) in
+    (λ c b. ap reads (text-first lines bytes all one two h x y c (starts-inside wanted x c b) (k c b) (up.chunks c b)) ∙ same c b) first_starts (all-begin wanted x) in
     let seconds : map of_both (map (λ c. length x + c) second_starts) ≡ map (map (moved_event lines bytes 0)) (map of_two second_starts) =
     map-after of_both (λ c. length x + c) second_starts
     ∙ map-agree (λ c. begins wanted y c ≡ true) (λ c. of_both (length x + c)) (λ c. map (moved_event lines bytes 0) (of_two c))
-    (λ c b. ap reads (text-second lines bytes all one two h x y c (starts-inside wanted y c b) (l.chunks c b)) ∙ moves c b) second_starts (all-begin wanted y)
+    (λ c b. ap reads (text-second lines bytes all one two h x y c (starts-inside wanted y c b) (l c b)) ∙ moves c b) second_starts (all-begin wanted y)
     ∙ sym (map-after (map (moved_event lines bytes 0)) of_two second_starts) in
     ap (with_children wanted both)
     (ap (map of_both) (starts-both x y lines bytes wanted) ∙ map-append of_both first_starts (map (λ c. length x + c) second_starts) ∙ (λ d. firsts d ++ seconds d))

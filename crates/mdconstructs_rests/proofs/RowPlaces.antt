@@ -1,5 +1,5 @@
 -- Sections of a document by its lines: their lines are lines of the document, with its places, and where a container begins in one a byte is left.
-use Rattle.std.proofs.Common.{◌≡◌, ℕ, suc, ◌+◌, ◌-◌, ◌≤◌, ◌==◌, ◌&&◌, not, cond, Bool, true, false, List, [], ◌∷◌, drop, take, length, arith, refl, subst, sym}
+use Rattle.std.proofs.Common.{◌≡◌, ℕ, suc, ◌+◌, ◌-◌, ◌≤◌, not, Bool, true, false, List, [], ◌∷◌, drop, length, arith, refl, subst, sym}
 use Rattle.std.proofs.lemmas.List.{length-drop, length-map}
 use Rattle.std.proofs.lemmas.List.Filters.{length-filter_both}
 use Rattle.std.proofs.lemmas.List.Sums.{sum_by-cons}
@@ -10,10 +10,10 @@ use Rattle.markdown_tokenizer.proofs.Positions.Order.{every-back, every-front}
 use Rattle.mdconstructs_documents.proofs.FlowTexts.Segments.{HasByte}
 use Rattle.mdconstructs_machines.specs.LineEvents.{is_line_ending, line_text}
 use Rattle.mdconstructs_flow_read.specs.LeafBlocks.{Line, text_of}
-use Rattle.mdconstructs_lines.specs.Containers.{Container, Prefix}
-use Rattle.mdconstructs_containers.specs.Prefixes.{beginning, columns_of, going_on, with_list}
-use Rattle.mdconstructs_containers.specs.Rows.{Row, is_paragraph, is_raw}
-use Rattle.mdconstructs_containers.proofs.RowFacts.{begun_within, columns_listed, sizes_of}
+use Rattle.mdconstructs_lines.specs.Containers.{Prefix}
+use Rattle.mdconstructs_containers.specs.Prefixes.{columns_of}
+use Rattle.mdconstructs_containers.specs.Rows.{Row}
+use Rattle.mdconstructs_containers.proofs.RowFacts.{begun_sizes, columns_within}
 use Rattle.mdconstructs_definitions.specs.Rows.{Known, known_after, row_of, rows_from}
 use Rattle.mdconstructs_definitions.specs.Sections.{Section, sections}
 use Rattle.mdconstructs_definitions.specs.Skeleton.{all_rows}
@@ -34,11 +34,6 @@ have-room (p ∷ ps) seats h w =
     let left = length-drop p.size seats in
     (some-byte seats (omega (arith, some, all, w)), have-room ps (drop p.size seats) h.1 (omega (arith, all, w, left)))
 
-listed-sizes : (ended : List Container) (ps : List Prefix) → AllByRecursion (λ (p : Prefix). 1 ≤ p.size) ps → AllByRecursion (λ (p : Prefix). 1 ≤ p.size) (with_list ended ps)
-listed-sizes [] ps h = h
-listed-sizes (c ∷ cs) [] h = tt
-listed-sizes (c ∷ cs) (p ∷ ps) h = h
-
 -- a line is no shorter than its text
 pub text-few : (line : Line) → length (text_of line) ≤ length line
 text-few line =
@@ -56,27 +51,11 @@ text-few line =
 module _ (m : Shift) (on : Constructs) where
   row-ok : (k : Known) (number : ℕ) (line : Line) → AreOk m line → HasByte line → IsRowOk m (row_of on k number line)
   row-ok k number line h some =
-      let b = k.before in
-      let went = going_on (take b.depth b.stack) number (text_of line) in
-      let rest = drop (columns_of went) (text_of line) in
-      let all = length went == b.depth in
-      let begun = beginning on (length rest) number (all && is_paragraph b.leaf) rest in
-      let ended = drop (length went) b.stack in
-      let left : length (drop (columns_of went) line) ≡ length line - columns_of went = length-drop (columns_of went) line in
-      let text : length rest ≡ length (text_of line) - columns_of went = length-drop (columns_of went) (text_of line) in
+      let row = row_of on k number line in
+      let left : length (drop (columns_of row.went_on) line) ≡ length line - columns_of row.went_on = length-drop (columns_of row.went_on) line in
       let few = text-few line in
-      let within = begun_within on number (length rest) (all && is_paragraph b.leaf) rest in
-      let columns = columns_listed ended begun in
-      record {
-        seats = h;
-        some = some;
-        room = by (all && is_raw b.leaf) (with_list ended begun) (drop (columns_of went) line)
-            (have-room (with_list ended begun) (drop (columns_of went) line) (listed-sizes ended begun (sizes_of on number (length rest) (all && is_paragraph b.leaf) rest)) (omega (arith, left, text, few, within, columns)));
-      }
-    where
-      by : (c : Bool) (ps : List Prefix) (seats : List Seat) → HaveRoom ps seats → HaveRoom (cond c [] ps) seats
-      by true ps seats r = tt
-      by false ps seats r = r
+      let within = columns_within on k.before number line in
+      record { seats = h; some = some; room = have-room row.begun (drop (columns_of row.went_on) line) (begun_sizes on k.before number line) (omega (arith, left, few, within)) }
 
   pub rows-ok : (k : Known) (number : ℕ) (ls : List Line) → AllByRecursion (AreOk m) ls → AllByRecursion HasByte ls → AreRowsOk m (rows_from on k number ls)
   rows-ok k number [] h some = tt

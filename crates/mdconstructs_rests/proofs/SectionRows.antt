@@ -1,11 +1,13 @@
 -- What is said of the sections of rows, row by row: of rows behind others it is what is said of both, if no paragraph goes on from the first to the second.
 use Rattle.std.proofs.Math.Bool.{and-false}
+use Rattle.std.proofs.Math.Seq.{drop-append-add, drop-length, take-append-add, take-length}
 use Rattle.std.proofs.lemmas.Bool.{le-leb}
 use Rattle.std.proofs.Common.{Bool, List, [], ap, append_assoc, arith, cond, drop, false, inl, inr, length, length-append, length-drop, length-take, refl, subst, sym, take, true, zero, ℕ, suc, ◌+◌, ◌++◌, ◌<◌, ◌≤◌, ◌⊎◌, nat_le, not, ◌&&◌, ◌||◌, ◌∙◌, ◌∷◌, ◌≡◌}
 use Rattle.std.proofs.lemmas.Grind.{flat_map-append}
 use Rattle.std.proofs.lemmas.List.{append-nil, drop-append-le, take-append-drop, take-append-le}
 use Rattle.std.proofs.lemmas.List.Sums.{prefix_len-le-length}
 use Rattle.std.specs.List.{AllByRecursion, flat_map, prefix_len}
+use Rattle.markdown_base.proofs.Common.{every-drop}
 use Rattle.markdown_base.proofs.Facts.Bools.{cond-same}
 use Rattle.markdown_base.specs.declared.configuration.Constructs.{Constructs}
 pub use Rattle.mdconstructs_containers.proofs.RestLemmas.{further_few as further-within}
@@ -60,6 +62,13 @@ paragraph-apart (r ∷ x) y h = by (is_paragraph r.leaf) refl (paragraph-apart x
     by true e more =
         one-more (prefix_len is_text_row (x ++ y)) r (x ++ y) ∙ ap (λ l. r ∷ l) (more (sym (ap (λ b. joined b x y) e) ∙ h)) ∙ sym (one-more (prefix_len is_text_row x) r x)
     by false e more = refl
+
+-- rows that begin with no text, and the first of them
+pub text-taken : (b : Bool) (n : ℕ) (y : List Row) → (b && begins_text y) ≡ false → (b && begins_text (take n y)) ≡ false
+text-taken false n y e = refl
+text-taken true zero y e = refl
+text-taken true (suc n) [] e = refl
+text-taken true (suc n) (r ∷ y) e = e
 
 module _ (on : Constructs) where
   pub defined-apart : (x y : List Row) → joined true x y ≡ false → defined_in on (x ++ y) ≡ defined_in on x
@@ -155,12 +164,6 @@ module _ {A : Type 0} (on : Constructs) (h : Bool → Row → List A) (d : List 
   rows-append b (r ∷ x) (q ∷ u) l =
       ap (λ l. h b r ++ l) (flat_map-append (h false) x (q ∷ u)) ∙ sym (append_assoc (h b r) (flat_map (h false) x) (flat_map (h false) (q ∷ u)))
 
-  text-taken : (b : Bool) (n : ℕ) (y : List Row) → (b && begins_text y) ≡ false → (b && begins_text (take n y)) ≡ false
-  text-taken false n y e = refl
-  text-taken true zero y e = refl
-  text-taken true (suc n) [] e = refl
-  text-taken true (suc n) (r ∷ y) e = e
-
   -- rows that do not begin with text: whether definitions come before them does not matter
   lines-any : (bound : ℕ) (b : Bool) (y : List Row) → (b && begins_text y) ≡ false → of_lines bound b y ≡ of_lines bound false y
   lines-any zero b y e = refl
@@ -171,26 +174,6 @@ module _ {A : Type 0} (on : Constructs) (h : Bool → Row → List A) (d : List 
       let behind = drop n all in
       let k = defined_in on behind in
       ap (λ b. of_rows b (take n all) ++ (of_definitions (definitions (text_in (paragraph_of behind))) (take k behind) ++ of_lines bound true (drop k behind))) (text-taken b n all e)
-
-  -- ---- so many of rows
-  all-gone : (all : List Row) → drop (length all) all ≡ []
-  all-gone [] = refl
-  all-gone (q ∷ all) = all-gone all
-
-  all-there : (all : List Row) → take (length all) all ≡ all
-  all-there [] = refl
-  all-there (q ∷ all) = ap (λ l. q ∷ l) (all-there all)
-
-  suc-plus : (m n : ℕ) → suc m + n ≡ suc (m + n)
-  suc-plus m n = omega arith
-
-  drop-both : (all y : List Row) (n : ℕ) → drop (length all + n) (all ++ y) ≡ drop n y
-  drop-both [] y n = let same : 0 + n ≡ n = omega arith in ap (λ m. drop m y) same
-  drop-both (q ∷ all) y n = ap (λ m. drop m (q ∷ (all ++ y))) (suc-plus (length all) n) ∙ drop-both all y n
-
-  take-both : (all y : List Row) (n : ℕ) → take (length all + n) (all ++ y) ≡ all ++ take n y
-  take-both [] y n = let same : 0 + n ≡ n = omega arith in ap (λ m. take m y) same
-  take-both (q ∷ all) y n = ap (λ m. take m (q ∷ (all ++ y))) (suc-plus (length all) n) ∙ ap (λ l. q ∷ l) (take-both all y n)
 
   abbrev no_rows : List Row
   no_rows = []
@@ -222,7 +205,7 @@ module _ {A : Type 0} (on : Constructs) (h : Bool → Row → List A) (d : List 
   lines-plain b p q x whole =
       let all = q ∷ x in
       ap (λ n. cut_at b p n all) whole
-      ∙ (λ i. of_rows (p && begins_text (all-there all i)) (all-there all i) ++ from_defined b (all-gone all i))
+      ∙ (λ i. of_rows (p && begins_text (take-length all i)) (take-length all i) ++ from_defined b (drop-length all i))
       ∙ ap (λ l. of_rows (p && begins_text all) all ++ l) (from-none b)
       ∙ append-nil (of_rows (p && begins_text all) all)
 
@@ -243,7 +226,7 @@ module _ {A : Type 0} (on : Constructs) (h : Bool → Row → List A) (d : List 
       let few : length left ≤ c = omega (arith, l, size, back) in
       let fuel : from_defined b2 behind ≡ from_defined c behind = ap (λ l. of_definitions (definitions (text_in (paragraph_of behind))) (take k behind) ++ l) (of-lines-fuel b2 c true left (fewer-left on r rs b2 m2) few) in
       ap (λ n. cut_at c p n (all ++ y)) both
-      ∙ (λ i. of_rows (p && begins_text (take-both all y n i)) (take-both all y n i) ++ from_defined c (drop-both all y n i))
+      ∙ (λ i. of_rows (p && begins_text (take-append-add all y n i)) (take-append-add all y n i) ++ from_defined c (drop-append-add all y n i))
       ∙ ap (λ l. l ++ from_defined c behind) (rows-append (p && begins_text all) all (take n y) (omega arith))
       ∙ append_assoc (of_rows (p && begins_text all) all) (of_rows false (take n y)) (from_defined c behind)
       ∙ (λ i. sym front i ++ (of_rows false (take n y) ++ sym fuel i))
@@ -322,11 +305,6 @@ module _ {A : Type 0} (on : Constructs) (h : Bool → Row → List A) (d : List 
       ap (λ l. of_part r (take n rs) ++ l) (of-parts-fuel b c (drop n rs) (omega (arith, l, few)) (omega (arith, m, few)))
 
 -- ---- how far a stretch goes on over rows behind others
-
-pub every-drop : (P : Row → Type 0) (n : ℕ) (rs : List Row) → AllByRecursion P rs → AllByRecursion P (drop n rs)
-every-drop P zero rs h = h
-every-drop P (suc n) [] h = tt
-every-drop P (suc n) (r ∷ rs) h = every-drop P n rs h.1
 
 abbrev pub AllLeft : List Row → Type 0
 AllLeft rs = AllByRecursion (λ (row : Row). row.is_left_blank ≡ true) rs
@@ -499,7 +477,7 @@ module _ {A : Type 0} (on : Constructs) (h : Bool → Row → List A) (d : List 
           let few2 : length y ≤ suc (length rs) = omega arith in
           let few3 : length left ≤ length rs = let back = length-drop n rs in omega (arith, back) in
           ap (λ n. of_part on h d q (take n (x ++ y)) ++ of_parts on h d c (drop n (x ++ y))) reach
-          ∙ (λ i. cond (full i) (of_rows on h d false (q ∷ take-both on h d x y (suc n) i)) (of_lines on h d (suc (length (take-both on h d x y (suc n) i))) false (q ∷ take-both on h d x y (suc n) i)) ++ of_parts on h d c (drop-both on h d x y (suc n) i))
+          ∙ (λ i. cond (full i) (of_rows on h d false (q ∷ take-append-add x y (suc n) i)) (of_lines on h d (suc (length (take-append-add x y (suc n) i))) false (q ∷ take-append-add x y (suc n) i)) ++ of_parts on h d c (drop-append-add x y (suc n) i))
           ∙ ap (λ a. a ++ of_parts on h d c left) (lines-append on h d (suc (length (x ++ front))) (suc (length x)) (suc (length (take n rs))) false (q ∷ x) front (omega arith) (omega arith) (omega arith) (joined-first (is_paragraph q.leaf) x r (take n rs) rs ∙ e))
           ∙ append_assoc (of_lines on h d (suc (length x)) false (q ∷ x)) (of_lines on h d (suc (length (take n rs))) false front) (of_parts on h d c left)
           ∙ (λ i. stretch-and-left b q x (omega (arith, m)) full stay blank.1 i ++ (of_lines on h d (suc (length (take n rs))) false front ++ of-parts-fuel on h d c (length rs) left few few3 i))

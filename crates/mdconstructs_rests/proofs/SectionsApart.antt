@@ -29,33 +29,41 @@ use Rattle.mdconstructs_rests.proofs.MovedBlocks.{text-moved}
 use Rattle.mdconstructs_rests.proofs.MovedSections.{sections-move}
 use Rattle.mdconstructs_rests.proofs.SectionRows.{further-cut}
 
--- a row with which nothing before it goes on
-pub record Begins (r : Row) : Type 0 where
+-- a row with which no container goes on, and no list
+pub record GoesOnWithNone (r : Row) : Type 0 where
   pub left : r.is_left_blank ≡ false
-  pub cut_off : r.stays ≡ false
   pub none : r.went_on ≡ []
   pub no_list : list_begun r.begun ≡ []
+
+-- a row with which nothing before it goes on
+pub record Begins (r : Row) : Type 0 where
+  pub outside : GoesOnWithNone r
+  pub cut_off : r.stays ≡ false
+
+module _ (r : Row) (rs : List Row) (h : GoesOnWithNone r) where
+  abbrev behind : List Row
+  behind = r ∷ rs
+
+  going-apart : (x : List Row) → going_on_at (x ++ behind) ≡ going_on_at x
+  going-apart [] = (λ i. cond (h.left i) (going_on_at rs) (length (h.none i)))
+  going-apart (q ∷ x) = ap (λ n. cond q.is_left_blank n (length q.went_on)) (going-apart x)
+
+  list-apart : (x : List Row) → list_at (x ++ behind) ≡ list_at x
+  list-apart [] = (λ i. cond (h.left i) (list_at rs) (h.no_list i))
+  list-apart (q ∷ x) = ap (λ fs. cond q.is_left_blank fs (list_begun q.begun)) (list-apart x)
+
+  pub standing-apart : (row : Row) (x : List Row) → standing row (x ++ behind) ≡ standing row x
+  standing-apart row x = let all = containers_of row.went_on ++ containers_of row.begun in ap (λ m. cond row.is_blank (reverse (left_in m row.number (reverse all))) all) (going-apart x)
+
+  pub frames-apart : (row : Row) (x : List Row) → frames_at row (x ++ behind) ≡ frames_at row x
+  frames-apart row x = (λ i. let stands = standing-apart row x i in flat_map frames_of stands ++ cond (row.is_left_blank && (length stands == going-apart x i)) (list-apart x i) [])
 
 module _ (r : Row) (rs : List Row) (h : Begins r) where
   abbrev y : List Row
   y = r ∷ rs
 
-  going-apart : (x : List Row) → going_on_at (x ++ y) ≡ going_on_at x
-  going-apart [] = (λ i. cond (h.left i) (going_on_at rs) (length (h.none i)))
-  going-apart (q ∷ x) = ap (λ n. cond q.is_left_blank n (length q.went_on)) (going-apart x)
-
-  list-apart : (x : List Row) → list_at (x ++ y) ≡ list_at x
-  list-apart [] = (λ i. cond (h.left i) (list_at rs) (h.no_list i))
-  list-apart (q ∷ x) = ap (λ fs. cond q.is_left_blank fs (list_begun q.begun)) (list-apart x)
-
-  pub standing-apart : (row : Row) (x : List Row) → standing row (x ++ y) ≡ standing row x
-  standing-apart row x = let all = containers_of row.went_on ++ containers_of row.begun in ap (λ m. cond row.is_blank (reverse (left_in m row.number (reverse all))) all) (going-apart x)
-
-  pub frames-apart : (row : Row) (x : List Row) → frames_at row (x ++ y) ≡ frames_at row x
-  frames-apart row x = (λ i. let stands = standing-apart row x i in flat_map frames_of stands ++ cond (row.is_left_blank && (length stands == going-apart x i)) (list-apart x i) [])
-
   stretch-apart : (x : List Row) → further (x ++ y) ≡ further x
-  stretch-apart x = further-cut x y (λ i. cond (h.left i) (cond (nat_le 1 (further rs)) (suc (further rs)) 0) (cond (h.cut_off i) (suc (further rs)) 0))
+  stretch-apart x = further-cut x y (λ i. cond (h.outside.left i) (cond (nat_le 1 (further rs)) (suc (further rs)) 0) (cond (h.cut_off i) (suc (further rs)) 0))
 
   parts-apart : (c b b2 : ℕ) (x : List Row) → length (x ++ y) ≤ c → length x ≤ b → length y ≤ b2 → parts_in c (x ++ y) ≡ parts_in b x ++ parts_in b2 y
   parts-apart c b b2 [] l m m2 = parts_bound c b2 y l m2 ∙ ap (λ ps. ps ++ parts_in b2 y) (sym (none_in b))
@@ -68,7 +76,7 @@ module _ (r : Row) (rs : List Row) (h : Begins r) where
       let size = length-append x y in
       let size2 = length-append (drop n x) y in
       let few = length-drop n x in
-      (λ i. let n = cond q.is_blank 0 (many i) in (let p : Part = record { first = q; more = take n (x ++ y); frames = frames-apart q x i; stands = standing-apart q x i } in p) ∷ parts_in c (drop n (x ++ y)))
+      (λ i. let n = cond q.is_blank 0 (many i) in (let p : Part = record { first = q; more = take n (x ++ y); frames = frames-apart r rs h.outside q x i; stands = standing-apart r rs h.outside q x i } in p) ∷ parts_in c (drop n (x ++ y)))
       ∙ (λ i. (let p : Part = record { first = q; more = take-append-le n x y within i; frames = frames_at q x; stands = standing q x } in p) ∷ parts_in c (drop-append-le n x y within i))
       ∙ ap (λ ps. (let p : Part = record { first = q; more = take n x; frames = frames_at q x; stands = standing q x } in p) ∷ ps) (parts-apart c b b2 (drop n x) (omega (arith, l, size, size2, few)) (omega (arith, m, few)) m2)
     where
@@ -125,10 +133,12 @@ sections-of-both on t a b rest cut_off =
         let ps = new on (suc m) ml in
         let stays = (row_of on k (suc m) ml).stays in
         let starts : Begins (row_of on k (suc m) ml) = record {
-          left = ap (λ (r : Row). r.is_left_blank) is.row ∙ not-left on (suc m) ml ps stays (is-not-blank on (suc m) ml k there);
+          outside = record {
+            left = ap (λ (r : Row). r.is_left_blank) is.row ∙ not-left on (suc m) ml ps stays (is-not-blank on (suc m) ml k there);
+            none = ap (λ (r : Row). r.went_on) is.row;
+            no_list = ap (λ (r : Row). list_begun r.begun) is.row ∙ new-lists on (length (text_of ml)) (suc m) false (text_of ml);
+          };
           cut_off = ap (λ (r : Row). r.stays) row;
-          none = ap (λ (r : Row). r.went_on) is.row;
-          no_list = ap (λ (r : Row). list_begun r.begun) is.row ∙ new-lists on (length (text_of ml)) (suc m) false (text_of ml);
         } in
         subst (λ n. sections on (rows on before ++ map (moved_row n (length a)) (first_stays false (r ∷ rs))) ≡ sections on (rows on before) ++ map (moved_section n (length a)) (sections on (first_stays false (r ∷ rs)))) (sym e)
         (sections-apart (moved_row m (length a) (record r { stays = false })) (map (moved_row m (length a)) rs) (subst Begins row starts) on (rows on before)

@@ -87,7 +87,7 @@ module _ (on : Constructs) where
         by text e f h = shut-content e h
 
   -- ---- all blocks
-  behind-both : (leaf : Leaf) (xs ys : List Line) → leaf_behind on leaf (xs ++ ys) ≡ leaf_behind on (leaf_behind on leaf xs) ys
+  pub behind-both : (leaf : Leaf) (xs ys : List Line) → leaf_behind on leaf (xs ++ ys) ≡ leaf_behind on (leaf_behind on leaf xs) ys
   behind-both leaf [] ys = refl
   behind-both leaf (x ∷ xs) ys = behind-both (leaf_next on leaf x) xs ys
 

@@ -1,8 +1,10 @@
 -- Leaf blocks of a stretch that goes on over a rest: those of the lines before it, with their line ending and blank lines behind them, and those of the lines from it
 -- on.
+use Rattle.markdown_tokenizer.proofs.Positions.Order.{every-back, every-front}
 use Rattle.mdconstructs_rests.proofs.Prelude.{◌≡◌, ℕ, ◌≤◌, ◌&&◌, List, [], ◌∷◌, ◌++◌, Bool, true, false, cond, not, length, take, refl, sym, ap, ◌∙◌, subst, arith, append_assoc, map, AllByRecursion, flat_map-append, Constructs, Line, Mark, blank_line, bytes_of, last_end, leaf_block_marks, leaf_blocks, leaf_blocks_marks, line_kind, lines_in, line_text, text_of, begins_near, is_at_rest, kind_of_line, Seat}
 use Rattle.mdconstructs_flow_read.proofs.Lines.WholeLines.{IsWhole}
 use Rattle.mdconstructs_flow_read.specs.BlocksRead.{block_seats}
+use Rattle.mdconstructs_containers.proofs.PartGoes.{lines_end_behind, lines_end_front}
 use Rattle.mdconstructs_containers.proofs.SeatFacts.{LineIs, LinesEnd}
 use Rattle.mdconstructs_containers.specs.Rows.{closed, holds_ending}
 use Rattle.mdconstructs_rests.specs.DocumentRests.{is_closed}
@@ -75,38 +77,19 @@ module _ (on : Constructs) where
       split-held false (y ∷ ys) = split-lines line (cut_last (y ∷ ys)) refl
 
     -- ---- as virtual bytes
-    ends-back : (xs ys : List Line) → LinesEnd (xs ++ ys) → LinesEnd ys
-    ends-back [] ys h = h
-    ends-back (x ∷ []) [] h = tt
-    ends-back (x ∷ []) (y ∷ ys) h = h.1
-    ends-back (x ∷ next ∷ xs) ys h = ends-back (next ∷ xs) ys h.1
-
-    ends-ahead : (xs ys : List Line) → LinesEnd (xs ++ ys) → LinesEnd xs
-    ends-ahead [] ys h = tt
-    ends-ahead (x ∷ []) ys h = tt
-    ends-ahead (x ∷ next ∷ xs) ys h = (h.0, ends-ahead (next ∷ xs) ys h.1)
-
-    are-ahead : (xs ys : List Line) → AllByRecursion LineIs (xs ++ ys) → AllByRecursion LineIs xs
-    are-ahead [] ys h = tt
-    are-ahead (x ∷ xs) ys h = (h.0, are-ahead xs ys h.1)
-
-    are-back : (xs ys : List Line) → AllByRecursion LineIs (xs ++ ys) → AllByRecursion LineIs ys
-    are-back [] ys h = h
-    are-back (x ∷ xs) ys h = are-back xs ys h.1
-
     pub split-blocks : (xs bs : List Line) (line : Line) (ys : List Line) (is_held : Bool) → EndsBefore xs bs line → AllByRecursion LineIs ((xs ++ bs) ++ (line ∷ ys)) → LinesEnd ((xs ++ bs) ++ (line ∷ ys)) → (is_held ≡ false → HasText (last_line (line ∷ ys)))
         → marks_in (block_seats is_held ((xs ++ bs) ++ (line ∷ ys))) ≡ marks_in (block_seats false xs) ++ (marks_between bytes xs bs ++ marks_in (block_seats is_held (line ∷ ys)))
     split-blocks xs bs line ys is_held h are ends text =
         let before = xs ++ bs in
         let behind = line ∷ ys in
-        let first_are = are-ahead before behind are in
-        let first_ends = ends-ahead before behind ends in
+        let first_are = every-front LineIs before behind are in
+        let first_ends = lines_end_front 0 bytes on before behind ends in
         let whole = lines-whole before first_are in
         let last : last_line (before ++ behind) ≡ last_line behind = last-both before behind (omega arith) in
         let all : lines_in (block_seats is_held (before ++ behind)) ≡ before ++ held_lines is_held behind =
         lines-held is_held (before ++ behind) are ends (λ shut _. subst HasText (sym last) (text shut)) ∙ held-both is_held before behind (omega arith) in
-        let first : lines_in (block_seats false xs) ≡ held_lines false xs = lines-held false xs (are-ahead xs bs first_are) (ends-ahead xs bs first_ends) (λ _ _. text-there xs bs line h whole) in
-        let second : lines_in (block_seats is_held behind) ≡ held_lines is_held behind = lines-held is_held behind (are-back before behind are) (ends-back before behind ends) (λ shut _. text shut) in
+        let first : lines_in (block_seats false xs) ≡ held_lines false xs = lines-held false xs (every-front LineIs xs bs first_are) (lines_end_front 0 bytes on xs bs first_ends) (λ _ _. text-there xs bs line h whole) in
+        let second : lines_in (block_seats is_held behind) ≡ held_lines is_held behind = lines-held is_held behind (every-back LineIs before behind are) (lines_end_behind 0 bytes on before behind ends) (λ shut _. text shut) in
         ap marks_of_lines all
         ∙ split-held xs bs line h whole is_held ys
         ∙ (λ i. marks_of_lines (sym first i) ++ (marks_between bytes xs bs ++ marks_of_lines (sym second i)))

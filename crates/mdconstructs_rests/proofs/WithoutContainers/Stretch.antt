@@ -9,6 +9,7 @@ use Rattle.mdconstructs_flow_read.proofs.Marks.Cuts.{IsCut}
 use Rattle.mdconstructs_flow_read.specs.LineKinds.{is_far, kind_of_rest, indent, unindented}
 use Rattle.mdconstructs_containers.specs.Rows.{Leaf, closed, holds_ending, leaf_after}
 use Rattle.mdconstructs_rests.proofs.Rests.{leaf-step}
+use Rattle.mdconstructs_rests.proofs.ShutLeaves.{behind-both}
 use Rattle.mdconstructs_rests.proofs.WithoutContainers.Ends.{IsNoBlank, closed-cut, cut_last, length-cut, text-twice}
 use Rattle.mdconstructs_rests.proofs.WithoutContainers.Leaves.{Acts, Front, HasText, acts-behind, acts-closed, acts-kept, blank-is, front, is_left, is_open, kept, last_line, leaf_behind, leaf_next}
 use Rattle.mdconstructs_rests.proofs.WithoutContainers.SameTexts.{Agree, agree-self, agree-take, agree-trans, same-front, with_lines}
@@ -194,17 +195,13 @@ module _ (on : Constructs) where
       abbrev held_by : ℕ → List Line → Bool
       held_by k ls = holds_ending (leaf_behind on closed (take k ls))
 
-      behind-both : (leaf : Leaf) (xs ys : List Line) → leaf_behind on leaf (xs ++ ys) ≡ leaf_behind on (leaf_behind on leaf xs) ys
-      behind-both leaf [] ys = refl
-      behind-both leaf (x ∷ xs) ys = behind-both (leaf_next on leaf x) xs ys
-
       -- the last line that is not left blank is behind the block
       stretch-on : (n : ℕ) → m ≡ suc n → Acts on after more → IsStretch bytes more m (held_by m more) → IsStretch bytes all (c.1 + m) (held_by (c.1 + m) all)
       stretch-on n e acts h =
           let h_within = h.within in
           let some : 1 ≤ m = omega (arith, e) in
           let there : 1 ≤ length (take m more) = omega (arith, e, h_within, length-take m more) in
-          let held : held_by (c.1 + m) all ≡ held_by m more = ap (λ l. holds_ending (leaf_behind on closed l)) (split m) ∙ ap holds_ending (behind-both closed ahead (take m more) ∙ acts-behind on after more (take m more) n acts (ap (λ k. take k more) e) there) in
+          let held : held_by (c.1 + m) all ≡ held_by m more = ap (λ l. holds_ending (leaf_behind on closed l)) (split m) ∙ ap holds_ending (behind-both on closed ahead (take m more) ∙ acts-behind on after more (take m more) n acts (ap (λ k. take k more) e) there) in
           let last : last_line (take (c.1 + m) all) ≡ last_line (take m more) = ap last_line (split m) ∙ last-both ahead (take m more) there in
           subst (IsStretch bytes all (c.1 + m)) (sym held) (record {
             within = more-within m h_within;
