@@ -1,4 +1,5 @@
 pub mod BlockPlaces
+pub mod BlockWalk
 pub mod ChildEvents
 pub mod ChildNames
 pub mod Chosen
@@ -13,6 +14,7 @@ pub mod FlowNames
 pub mod HeadChildren
 pub mod Heads
 pub mod HtmlStarts
+pub mod InnerTexts
 pub mod Inside
 pub mod ItemNames
 pub mod LineStarts

@@ -15,6 +15,7 @@ use Rattle.mdconstructs_containers.specs.Skeleton.{Part, chained_from}
 use Rattle.mdconstructs_definitions.specs.Rows.{rows}
 use Rattle.mdconstructs_definitions.specs.Sections.{Inside, Section, defined, lines}
 use Rattle.mdconstructs_definitions.specs.Skeleton.{all_rows, sections_in_seats, sections_marks, skeleton}
+use Rattle.mdconstructs_document_laws.proofs.InnerTexts.{AnySeat, any-seats}
 use Rattle.mdconstructs_document_laws.proofs.MarksWalk.{Walk}
 use Rattle.mdconstructs_document_laws.proofs.Named.{Marked, Named, alone, around, both, none}
 use Rattle.mdconstructs_document_laws.proofs.PlainNames.{stands_bare}
@@ -71,13 +72,9 @@ module _ (on : Constructs) (bytes : List ℕ) where
     title_string = h;
   }
 
-  -- data may be at any virtual byte
-  abbrev AnySeat : Seat → Type 0
-  AnySeat s = Unit {0}
-
   inside-may : (part : Part) (inside : Inside) → InsideIsOn on inside → InsideMay May AnySeat part inside
   inside-may part (lines is_behind) h = tt
-  inside-may part (defined ds) h = (of-definition h, every-all (RowAt AnySeat) (λ r. every-all AnySeat (λ s. tt) (line_text r.line)) (all_rows part))
+  inside-may part (defined ds) h = (of-definition h, every-all (RowAt AnySeat) (λ r. any-seats (line_text r.line)) (all_rows part))
 
   sections-may : (ss : List Section) → SectionsAreOn on ss → AllByRecursion (SectionMay May AnySeat) ss
   sections-may ss h = every-map (SectionIsOn on) (SectionMay May AnySeat) (λ s k. record { part = part-may s.part k.part; inside = inside-may s.part s.inside k.inside }) ss h

@@ -86,33 +86,30 @@ module _ (bytes : List ℕ) (Are : List Mark → Type 0) (May : Name → Type 0)
   nothing : Are []
   nothing = w.none
 
-  joined : {xs ys : List Mark} → Are xs → Are ys → Are (xs ++ ys)
-  joined {xs} {ys} h k = w.both xs ys h k
-
   over : (n : Name) (seats : List Seat) {inside : List Mark} → May n → Are inside → Are (span_marks bytes n seats inside)
   over n seats {inside} m h = w.over n seats inside m h
 
   -- ---- prefixes
   goings : (c : Container) (seats : List Seat) → MayHold May c → Are (going_marks bytes c seats)
-  goings (quote line) seats m = joined (whites w _) (over name.BlockQuotePrefix _ m.1 (joined (leafs w name.BlockQuoteMarker _ m.2) (whites w _)))
+  goings (quote line) seats m = w.both _ _ (whites w _) (over name.BlockQuotePrefix _ m.1 (w.both _ _ (leafs w name.BlockQuoteMarker _ m.2) (whites w _)))
   goings (item i) seats m = whites w seats
 
   begins : (c : Container) (seats : List Seat) → MayHold May c → Are (begun_marks bytes c seats)
   begins (quote line) seats m = goings (quote line) seats m
-  begins (item i) seats m = joined (whites w _) (over name.ListItemPrefix _ m.2 (joined (leafs w name.ListItemValue _ m.3) (joined (leafs w name.ListItemMarker _ m.4) (whites w _))))
+  begins (item i) seats m = w.both _ _ (whites w _) (over name.ListItemPrefix _ m.2 (w.both _ _ (leafs w name.ListItemValue _ m.3) (w.both _ _ (leafs w name.ListItemMarker _ m.4) (whites w _))))
 
   prefixes : (ps : List Prefix) (seats : List Seat) → PrefixesMay May ps → Are (prefixes_marks bytes ps seats)
   prefixes [] seats m = nothing
-  prefixes (p ∷ ps) seats m = joined (goings p.container (take p.size seats) m.0) (prefixes ps (drop p.size seats) m.1)
+  prefixes (p ∷ ps) seats m = w.both _ _ (goings p.container (take p.size seats) m.0) (prefixes ps (drop p.size seats) m.1)
 
   enters : (c : Container) (place : Point) → MayHold May c → Are (enters_of bytes c place)
   enters (quote line) place m = w.mark Enter name.BlockQuote place m.0
   enters (item i) place m =
-      joined (cond_both (i.list == i.line) ((event bytes Enter (list_name i) place, None) ∷ []) [] Are (λ e. w.mark Enter (list_name i) place m.0) (λ e. nothing)) (w.mark Enter name.ListItem place m.1)
+      w.both _ _ (cond_both (i.list == i.line) ((event bytes Enter (list_name i) place, None) ∷ []) [] Are (λ e. w.mark Enter (list_name i) place m.0) (λ e. nothing)) (w.mark Enter name.ListItem place m.1)
 
   all-begun : (ps : List Prefix) (seats : List Seat) → PrefixesMay May ps → Are (begun_all bytes ps seats)
   all-begun [] seats m = nothing
-  all-begun (p ∷ ps) seats m = joined (enters p.container (begin_of seats) m.0) (joined (begins p.container (take p.size seats) m.0) (all-begun ps (drop p.size seats) m.1))
+  all-begun (p ∷ ps) seats m = w.both _ _ (enters p.container (begin_of seats) m.0) (w.both _ _ (begins p.container (take p.size seats) m.0) (all-begun ps (drop p.size seats) m.1))
 
   -- ---- stretches
   abbrev PieceIs : Piece bytes → Type 0
@@ -134,7 +131,7 @@ module _ (bytes : List ℕ) (Are : List Mark → Type 0) (May : Name → Type 0)
 
   chunks : (has_previous : Bool) (ps : List (Piece bytes)) → AllByRecursion PieceIs ps → Are (chunks_of bytes has_previous ps)
   chunks has_previous [] h = nothing
-  chunks has_previous (p ∷ ps) h = joined h.0 (joined (chunk _ p.seats) (chunks true ps h.1))
+  chunks has_previous (p ∷ ps) h = w.both _ _ h.0 (w.both _ _ (chunk _ p.seats) (chunks true ps h.1))
 
   insides : (part : Part) → PartMay May part → Are (inside_of bytes part)
   insides part m = cond_both part.first.is_blank _ _ Are (λ e. whites w _) (λ e. by (joined_pieces bytes (pieces_of bytes (is_held part) part.first part.more)) (joins _ (pieces (is_held part) part.first part.more m.rows)))
@@ -149,7 +146,7 @@ module _ (bytes : List ℕ) (Are : List Mark → Type 0) (May : Name → Type 0)
       by : (ps : List (Piece bytes)) → AllByRecursion PieceIs ps
           → Are (elim ps [ [] ↦ [] | p ∷ ps ↦ white bytes (take (indent (rest_of part.first)) p.seats) ++ chunks_of bytes false (record p { before = []; seats = drop (indent (rest_of part.first)) p.seats } ∷ ps) ])
       by [] k = nothing
-      by (p ∷ ps) k = joined (whites w (take (indent (rest_of part.first)) p.seats)) (chunks false (record p { before = []; seats = drop (indent (rest_of part.first)) p.seats } ∷ ps) (nothing, k.1))
+      by (p ∷ ps) k = w.both _ _ (whites w (take (indent (rest_of part.first)) p.seats)) (chunks false (record p { before = []; seats = drop (indent (rest_of part.first)) p.seats } ∷ ps) (nothing, k.1))
 
   -- ---- definitions
   abbrev PlaceIs : Place → Type 0
@@ -177,11 +174,11 @@ module _ (bytes : List ℕ) (Are : List Mark → Type 0) (May : Name → Type 0)
 
   endings : (ps : List Place) → PlacesAre ps → Are (flat_map (definitions.ending_marks bytes) ps)
   endings [] h = nothing
-  endings (byte_at s ∷ ps) h = joined nothing (endings ps h.1)
-  endings (ending_at ending further marks ∷ ps) h = joined (joined (leafs w name.LineEnding ending w.line_ending) h.0) (endings ps h.1)
+  endings (byte_at s ∷ ps) h = w.both _ _ nothing (endings ps h.1)
+  endings (ending_at ending further marks ∷ ps) h = w.both _ _ (w.both _ _ (leafs w name.LineEnding ending w.line_ending) h.0) (endings ps h.1)
 
   gaps : (ps : List Place) → PlacesAre ps → Are (gap_marks bytes ps)
-  gaps ps h = let n = prefix_len is_byte ps in joined (whites w (seats_of (take n ps))) (joined (endings (take 1 (drop n ps)) (every-take PlaceIs 1 (drop n ps) (every-drop PlaceIs n ps h))) (whites w (seats_of (drop (n + 1) ps))))
+  gaps ps h = let n = prefix_len is_byte ps in w.both _ _ (whites w (seats_of (take n ps))) (w.both _ _ (endings (take 1 (drop n ps)) (every-take PlaceIs 1 (drop n ps) (every-drop PlaceIs n ps h))) (whites w (seats_of (drop (n + 1) ps))))
 
   record LineIs (line : StringLine) : Type 0 where
     seats : AreAt line.seats
@@ -197,12 +194,12 @@ module _ (bytes : List ℕ) (Are : List Mark → Type 0) (May : Name → Type 0)
       by (line ∷ ls) k = (record { seats = (h.0, k.0.seats); behind = k.0.behind }, k.1)
 
   further : (seats : List Seat) → AreAt seats → Are (further_line bytes seats)
-  further seats i = joined (whites w (take (indent (bytes_of seats)) seats)) (some-data (drop (indent (bytes_of seats)) seats) (every-drop At (indent (bytes_of seats)) seats i))
+  further seats i = w.both _ _ (whites w (take (indent (bytes_of seats)) seats)) (some-data (drop (indent (bytes_of seats)) seats) (every-drop At (indent (bytes_of seats)) seats i))
 
   of-lines : (is_first : Bool) (ls : List StringLine) → AllByRecursion LineIs ls → Are (line_marks bytes is_first ls)
   of-lines is_first [] h = nothing
   of-lines is_first (line ∷ ls) h =
-      joined (cond_both is_first (leaf_marks bytes name.Data line.seats) (further_line bytes line.seats) Are (λ e. some-data line.seats h.0.seats) (λ e. further line.seats h.0.seats)) (joined (endings line.behind h.0.behind) (of-lines false ls h.1))
+      w.both _ _ (cond_both is_first (leaf_marks bytes name.Data line.seats) (further_line bytes line.seats) Are (λ e. some-data line.seats h.0.seats) (λ e. further line.seats h.0.seats)) (w.both _ _ (endings line.behind h.0.behind) (of-lines false ls h.1))
 
   strings : (n : Name) (ps : List Place) → May n → PlacesAre ps → Are (string bytes n ps)
   strings n ps other h = over n (seats_of ps) other (of-lines true (string_lines ps) (string-lines-are ps h))
@@ -210,7 +207,7 @@ module _ (bytes : List ℕ) (Are : List Mark → Type 0) (May : Name → Type 0)
   marked-are : (mark inside : Name) (ps : List Place) → May mark → May inside → PlacesAre ps → Are (marked bytes mark inside ps)
   marked-are mark inside ps m i h =
       let last = length ps - 1 in
-      joined (leafs w mark (seats_of (definitions.between 0 1 ps)) m) (joined (strings inside (definitions.between 1 last ps) i (some-places 1 last ps h)) (leafs w mark (seats_of (drop last ps)) m))
+      w.both _ _ (leafs w mark (seats_of (definitions.between 0 1 ps)) m) (w.both _ _ (strings inside (definitions.between 1 last ps) i (some-places 1 last ps h)) (leafs w mark (seats_of (drop last ps)) m))
 
   -- where definitions may be
   module _ (d : AreOfDefinition May) where
@@ -232,25 +229,25 @@ module _ (bytes : List ℕ) (Are : List Mark → Type 0) (May : Name → Type 0)
         ])
     titles q ps h None = nothing
     titles q ps h (Some t) =
-        joined (gaps (definitions.between (end q.destination) t.from ps) (some-places (end q.destination) t.from ps h))
+        w.both _ _ (gaps (definitions.between (end q.destination) t.from ps) (some-places (end q.destination) t.from ps h))
         (over name.DefinitionTitle (seats_of (places_of t ps)) d.title (marked-are name.DefinitionTitleMarker name.DefinitionTitleString (places_of t ps) d.title_marker d.title_string (some-places t.from (end t) ps h)))
 
     of-parts : (q : Definition) (ps : List Place) → PlacesAre ps → Are (definitions.parts_marks bytes q ps)
     of-parts q ps h =
         let label = places_of q.label ps in
-        joined (gaps (definitions.between 0 q.label.from ps) (some-places 0 q.label.from ps h))
-        (joined (over name.DefinitionLabel (seats_of label) d.label (marked-are name.DefinitionLabelMarker name.DefinitionLabelString label d.label_marker d.label_string (some-places q.label.from (end q.label) ps h)))
-        (joined (leafs w name.DefinitionMarker (seats_of (definitions.between (end q.label) (end q.label + 1) ps)) d.marker)
-        (joined (gaps (definitions.between (end q.label + 1) q.destination.from ps) (some-places (end q.label + 1) q.destination.from ps h))
-        (joined (destinations (places_of q.destination ps) (some-places q.destination.from (end q.destination) ps h))
-        (joined (titles q ps h q.title)
+        w.both _ _ (gaps (definitions.between 0 q.label.from ps) (some-places 0 q.label.from ps h))
+        (w.both _ _ (over name.DefinitionLabel (seats_of label) d.label (marked-are name.DefinitionLabelMarker name.DefinitionLabelString label d.label_marker d.label_string (some-places q.label.from (end q.label) ps h)))
+        (w.both _ _ (leafs w name.DefinitionMarker (seats_of (definitions.between (end q.label) (end q.label + 1) ps)) d.marker)
+        (w.both _ _ (gaps (definitions.between (end q.label + 1) q.destination.from ps) (some-places (end q.label + 1) q.destination.from ps h))
+        (w.both _ _ (destinations (places_of q.destination ps) (some-places q.destination.from (end q.destination) ps h))
+        (w.both _ _ (titles q ps h q.title)
         (gaps (definitions.between (end_of_title q.title q.destination) q.size ps) (some-places (end_of_title q.title q.destination) q.size ps h)))))))
 
     all-defined : (ds : List Definition) (ps : List Place) → PlacesAre ps → Are (definitions_marks bytes ds ps)
     all-defined [] ps h = nothing
     all-defined (q ∷ ds) ps h =
-        joined (over name.Definition (seats_of (take q.size ps)) d.definition (of-parts q (take q.size ps) (every-take PlaceIs q.size ps h)))
-        (joined (endings (definitions.between q.size (q.size + 1) ps) (some-places q.size (q.size + 1) ps h)) (all-defined ds (drop (q.size + 1) ps) (every-drop PlaceIs (q.size + 1) ps h)))
+        w.both _ _ (over name.Definition (seats_of (take q.size ps)) d.definition (of-parts q (take q.size ps) (every-take PlaceIs q.size ps h)))
+        (w.both _ _ (endings (definitions.between q.size (q.size + 1) ps) (some-places q.size (q.size + 1) ps h)) (all-defined ds (drop (q.size + 1) ps) (every-drop PlaceIs (q.size + 1) ps h)))
 
   -- ---- sections
   in-section : (part : Part) → PartMay May part → (inside : Inside) → InsideMay May At part inside → Are (inside_marks bytes part inside)
@@ -261,12 +258,12 @@ module _ (bytes : List ℕ) (Are : List Mark → Type 0) (May : Name → Type 0)
   of-section s m =
       let first = s.part.first in
       let n = length s.part.stands in
-      joined (prefixes (take n first.went_on) first.line (every-take (λ (p : Prefix). MayHold May p.container) n first.went_on m.part.rows.0))
-      (joined (all-begun first.begun (drop (columns_of first.went_on) first.line) m.part.begun) (in-section s.part m.part s.inside m.inside))
+      w.both _ _ (prefixes (take n first.went_on) first.line (every-take (λ (p : Prefix). MayHold May p.container) n first.went_on m.part.rows.0))
+      (w.both _ _ (all-begun first.begun (drop (columns_of first.went_on) first.line) m.part.begun) (in-section s.part m.part s.inside m.inside))
 
   exit-marks : (fs : List Frame) (place : Point) → FramesMay May fs → Are (map (λ (f : Frame). (event bytes Exit f.name place, None)) fs)
   exit-marks [] place m = nothing
-  exit-marks (f ∷ fs) place m = joined (w.mark Exit f.name place m.0) (exit-marks fs place m.1)
+  exit-marks (f ∷ fs) place m = w.both _ _ (w.mark Exit f.name place m.0) (exit-marks fs place m.1)
 
   all-exit : (fs : List Frame) (place : Point) → FramesMay May fs → Are (exits bytes fs place)
   all-exit fs place m = exit-marks (reverse fs) place (every-reverse (λ (f : Frame). May f.name) fs m)
@@ -277,12 +274,12 @@ module _ (bytes : List ℕ) (Are : List Mark → Type 0) (May : Name → Type 0)
       (λ e. leafs w (cond part.first.is_blank name.BlankLineEnding name.LineEnding) (ending_of (last_line bytes part)) (cond_both part.first.is_blank name.BlankLineEnding name.LineEnding May (λ b. w.blank_ending) (λ b. w.line_ending)))
 
   behind : (part : Part) (ss : List Section) → FramesMay May part.frames → AllByRecursion (SectionMay May At) ss → Are (behind_marks bytes part ss)
-  behind part [] fs m = joined (all-exit part.frames (end_of bytes part) fs) (ends part)
+  behind part [] fs m = w.both _ _ (all-exit part.frames (end_of bytes part) fs) (ends part)
   behind part (next ∷ more) fs m =
       let n = shared part.frames next.part.frames in
-      joined (all-exit (drop n part.frames) (end_of bytes part) (every-drop (λ (f : Frame). May f.name) n part.frames fs)) (joined (ends part) (joined (of-section next m.0) (behind next.part more m.0.part.frames m.1)))
+      w.both _ _ (all-exit (drop n part.frames) (end_of bytes part) (every-drop (λ (f : Frame). May f.name) n part.frames fs)) (w.both _ _ (ends part) (w.both _ _ (of-section next m.0) (behind next.part more m.0.part.frames m.1)))
 
   -- The marks of sections have it
   pub sections-are : (ss : List Section) → AllByRecursion (SectionMay May At) ss → Are (sections_marks bytes ss)
   sections-are [] m = nothing
-  sections-are (s ∷ more) m = joined (of-section s m.0) (behind s.part more m.0.part.frames m.1)
+  sections-are (s ∷ more) m = w.both _ _ (of-section s m.0) (behind s.part more m.0.part.frames m.1)
