@@ -20,48 +20,48 @@ use Rattle.mdconstructs_rests.proofs.MovedTexts.{IsKnownMemory, after-known, aft
 use Rattle.markdown_base.proofs.Common.{every-drop}
 
 module _ (m : Moving) where
-  own-label-same : (b : Bracket) (q : Memory) → IsKnownMemory m q → own_label m.new b (moved_memory m q) ≡ own_label m.old b q
+  own-label-same : (b : Bracket) (q : Memory) → IsKnownMemory m q → own_label m.places.new b (moved_memory m q) ≡ own_label m.places.old b q
   own-label-same b q h =
-      ap (spanned_bytes (bytes_before m.new (all_moved m q.ahead))) (drop-map (moved_event m) b.count q.events)
+      ap (spanned_bytes (bytes_before m.places.new (all_moved m q.ahead))) (drop-map (moved_event m) b.count q.events)
       ∙ label-same m q.ahead h.ahead (drop b.count q.events) (every-drop (IsKnown m) b.count q.events h.events)
 
-  ahead-same : (ahead : List Seat) → AreKnownSeats m ahead → (label : List ℕ) → label_ahead m.new (all_moved m ahead) label ≡ label_ahead m.old ahead label
+  ahead-same : (ahead : List Seat) → AreKnownSeats m ahead → (label : List ℕ) → label_ahead m.places.new (all_moved m ahead) label ≡ label_ahead m.places.old ahead label
   ahead-same ahead h label =
       let text = back _ _ 2 2 refl (whole m ahead h) in
       let rest = back _ _ (length label) (length label) refl text in
       let inner = lines-move m _ _ (front _ _ (length label) (length label) refl text) in
-      (λ i. spanned_bytes (bytes_before m.new (rest.is i)) (inner.is i)) ∙ label-same m (drop (length label) (drop 2 ahead)) rest.ok _ inner.known
+      (λ i. spanned_bytes (bytes_before m.places.new (rest.is i)) (inner.is i)) ∙ label-same m (drop (length label) (drop 2 ahead)) rest.ok _ inner.known
 
-  labels-same : (bs : List Bracket) (q : Memory) (behind : List ℕ) → IsKnownMemory m q → labels_at m.new bs (moved_memory m q) behind ≡ labels_at m.old bs q behind
+  labels-same : (bs : List Bracket) (q : Memory) (behind : List ℕ) → IsKnownMemory m q → labels_at m.places.new bs (moved_memory m q) behind ≡ labels_at m.places.old bs q behind
   labels-same [] q behind h = refl
   labels-same (b ∷ bs) q behind h = let own = own-label-same b q h in let ahead = by (label_length behind) in (λ i. own i ∷ ahead i)
     where
-      by : (o : Option ℕ) → label_behind m.new (all_moved m q.ahead) behind o ≡ label_behind m.old q.ahead behind o
+      by : (o : Option ℕ) → label_behind m.places.new (all_moved m q.ahead) behind o ≡ label_behind m.places.old q.ahead behind o
       by None = refl
       by (Some n) = ap (λ label. label ∷ []) (ahead-same q.ahead h.ahead (label_text n behind))
 
   module _ (on : Constructs) (defined : List ℕ → Bool) where
-    looked-same : (q : Memory) (text : List ℕ) → IsKnownMemory m q → looked_up m.new on (moved_memory m q) text ≡ looked_up m.old on q text
+    looked-same : (q : Memory) (text : List ℕ) → IsKnownMemory m q → looked_up m.places.new on (moved_memory m q) text ≡ looked_up m.places.old on q text
     looked-same q text h = ap (λ labels. cond (has_byte_at text 0 (begins_end on)) labels []) (labels-same q.waiting q (drop 1 text) h)
 
-    from-same : (n : ℕ) (q : Memory) (seats : List Seat) → IsKnownMemory m q → AreKnownSeats m seats → asked_from m.new on defined n (moved_memory m q) (all_moved m seats) ≡ asked_from m.old on defined n q seats
+    from-same : (n : ℕ) (q : Memory) (seats : List Seat) → IsKnownMemory m q → AreKnownSeats m seats → asked_from m.places.new on defined n (moved_memory m q) (all_moved m seats) ≡ asked_from m.places.old on defined n q seats
     from-same zero q seats h k = refl
     from-same (suc n) q [] h k = refl
     from-same (suc n) q (s ∷ ss) h k =
         let p = whole m (s ∷ ss) k in
         let text = bytes_of (s ∷ ss) in
         let bytes = same-bytes _ _ p in
-        let item = inline_item_at on defined m.old q text in
+        let item = inline_item_at on defined m.places.old q text in
         let moves = item-moves m on defined q text in
-        let same : inline_item_at on defined m.new (moved_memory m q) (bytes_of (all_moved m (s ∷ ss))) ≡ item = ap (inline_item_at on defined m.new (moved_memory m q)) bytes ∙ item-same m on defined q text h in
-        let here = ap (looked_up m.new on (moved_memory m q)) bytes ∙ looked-same q text h in
+        let same : inline_item_at on defined m.places.new (moved_memory m q) (bytes_of (all_moved m (s ∷ ss))) ≡ item = ap (inline_item_at on defined m.places.new (moved_memory m q)) bytes ∙ item-same m on defined q text h in
+        let here = ap (looked_up m.places.new on (moved_memory m q)) bytes ∙ looked-same q text h in
         let rest = back _ _ item.size item.size refl p in
         let after = after-moved m on defined q item h moves in
-        (λ i. here i ++ asked_from m.new on defined n (after_item m.new (moved_memory m q) (same i)) (drop (same i).size (all_moved m (s ∷ ss))))
-        ∙ (λ i. looked_up m.old on q text ++ asked_from m.new on defined n (after i) (rest.is i))
-        ∙ ap (λ labels. looked_up m.old on q text ++ labels) (from-same n (after_item m.old q item) (drop item.size (s ∷ ss)) (after-known m on defined q item h moves) rest.ok)
+        (λ i. here i ++ asked_from m.places.new on defined n (after_item m.places.new (moved_memory m q) (same i)) (drop (same i).size (all_moved m (s ∷ ss))))
+        ∙ (λ i. looked_up m.places.old on q text ++ asked_from m.places.new on defined n (after i) (rest.is i))
+        ∙ ap (λ labels. looked_up m.places.old on q text ++ labels) (from-same n (after_item m.places.old q item) (drop item.size (s ∷ ss)) (after-known m on defined q item h moves) rest.ok)
 
-    asked-same : (s r : List Seat) → Part m s r → asked_labels m.new on defined s ≡ asked_labels m.old on defined r
+    asked-same : (s r : List Seat) → Part m s r → asked_labels m.places.new on defined s ≡ asked_labels m.places.old on defined r
     asked-same s r p =
         let q = whole m r p.ok in
         let n = prefix_len is_white (bytes_of r) in
@@ -72,10 +72,10 @@ module _ (m : Moving) where
         let moves : MovesAs m (white_space n) = alone m SpaceOrTab in
         let rest = back _ _ n n refl q in
         let after = after-moved m on defined start (white_space n) known moves in
-        ap (asked_labels m.new on defined) p.is
-        ∙ (λ i. asked_from m.new on defined (count i) (after_item m.new (nothing_read (all_moved m r)) (white_space (white i))) (drop (white i) (all_moved m r)))
-        ∙ (λ i. asked_from m.new on defined (length r) (after i) (rest.is i))
-        ∙ from-same (length r) (after_item m.old start (white_space n)) (drop n r) (after-known m on defined start (white_space n) known moves) rest.ok
+        ap (asked_labels m.places.new on defined) p.is
+        ∙ (λ i. asked_from m.places.new on defined (count i) (after_item m.places.new (nothing_read (all_moved m r)) (white_space (white i))) (drop (white i) (all_moved m r)))
+        ∙ (λ i. asked_from m.places.new on defined (length r) (after i) (rest.is i))
+        ∙ from-same (length r) (after_item m.places.old start (white_space n)) (drop n r) (after-known m on defined start (white_space n) known moves) rest.ok
 
 pub asked-move : AskedLabelsMove
 asked-move defined on a b h = (

@@ -26,7 +26,7 @@ use Rattle.mdconstructs_rests.proofs.MovedLines.{AreOk, AreRowsOk, IsOk, Moved, 
 module _ (m : Shift) where
   -- ---- places of a text
   abbrev pub mplace : Place → Place
-  mplace (byte_at s) = byte_at (record { byte = s.byte; point = m.to s.point; end = m.to s.end })
+  mplace (byte_at s) = byte_at (record { byte = s.byte; point = m.places.to s.point; end = m.places.to s.end })
   mplace (ending_at end prefixes marks) = ending_at (ms m end) (ms m prefixes) (mk m marks)
 
   abbrev pub IsPlaceOk : Place → Type 0
@@ -79,27 +79,27 @@ module _ (m : Shift) where
   seats xs ys p = let q = seats-all ys p.ok in record { is = ap seats_of p.are ∙ q.is; ok = q.ok }
 
   -- ---- their marks
-  leaf-of : (n : Name) (xs ys : List Place) → Places xs ys → leaf_marks m.new n (seats_of xs) ≡ mk m (leaf_marks m.old n (seats_of ys))
+  leaf-of : (n : Name) (xs ys : List Place) → Places xs ys → leaf_marks m.places.new n (seats_of xs) ≡ mk m (leaf_marks m.places.old n (seats_of ys))
   leaf-of n xs ys p = leaf m n _ _ (seats xs ys p)
 
-  span-of : (n : Name) (xs ys : List Place) (u v : List Mark) → Places xs ys → u ≡ mk m v → span_marks m.new n (seats_of xs) u ≡ mk m (span_marks m.old n (seats_of ys) v)
+  span-of : (n : Name) (xs ys : List Place) (u v : List Mark) → Places xs ys → u ≡ mk m v → span_marks m.places.new n (seats_of xs) u ≡ mk m (span_marks m.places.old n (seats_of ys) v)
   span-of n xs ys u v p e = span m None n _ _ u v (seats xs ys p) e
 
-  endings-there : (ys : List Place) → AllByRecursion IsPlaceOk ys → flat_map (ending_marks m.new) (map mplace ys) ≡ mk m (flat_map (ending_marks m.old) ys)
+  endings-there : (ys : List Place) → AllByRecursion IsPlaceOk ys → flat_map (ending_marks m.places.new) (map mplace ys) ≡ mk m (flat_map (ending_marks m.places.old) ys)
   endings-there [] h = refl
   endings-there (byte_at s ∷ ys) h = endings-there ys h.1
   endings-there (ending_at end prefixes marks ∷ ys) h = two _ _ _ _ _ (two _ _ _ _ _ (leaf m name.LineEnding _ _ (whole m end h.0.0)) refl) (endings-there ys h.1)
 
-  endings : (xs ys : List Place) → Places xs ys → flat_map (ending_marks m.new) xs ≡ mk m (flat_map (ending_marks m.old) ys)
-  endings xs ys p = ap (λ l. flat_map (ending_marks m.new) l) p.are ∙ endings-there ys p.ok
+  endings : (xs ys : List Place) → Places xs ys → flat_map (ending_marks m.places.new) xs ≡ mk m (flat_map (ending_marks m.places.old) ys)
+  endings xs ys p = ap (λ l. flat_map (ending_marks m.places.new) l) p.are ∙ endings-there ys p.ok
 
-  gap : (xs ys : List Place) → Places xs ys → gap_marks m.new xs ≡ mk m (gap_marks m.old ys)
+  gap : (xs ys : List Place) → Places xs ys → gap_marks m.places.new xs ≡ mk m (gap_marks m.places.old ys)
   gap xs ys p =
       let n = ap (prefix_len is_byte) p.are ∙ line-there ys in
       two _ _ _ _ _ (whites m _ _ (seats _ _ (front xs ys _ _ n p)))
       (two _ _ _ _ _ (endings _ _ (front _ _ 1 1 refl (back xs ys _ _ n p))) (whites m _ _ (seats _ _ (back xs ys _ _ (ap (λ n. n + 1) n) p))))
 
-  further : (s r : List Seat) → Moved m s r → further_line m.new s ≡ mk m (further_line m.old r)
+  further : (s r : List Seat) → Moved m s r → further_line m.places.new s ≡ mk m (further_line m.places.old r)
   further s r p = let e = ap indent (bs m s r p) in two _ _ _ _ _ (whites m _ _ (tk m s r _ _ e p)) (leaf m name.Data _ _ (dr m s r _ _ e p))
 
   -- ---- lines of a string
@@ -124,7 +124,7 @@ module _ (m : Shift) where
       record { are = ap (λ ls. elim ls [ [] ↦ record { seats = there ∷ []; behind = [] } ∷ [] | line ∷ lines ↦ record line { seats = there ∷ line.seats } ∷ lines ]) rest.are ∙ l.are; ok = l.ok }
     where
       there : Seat
-      there = record { byte = s.byte; point = m.to s.point; end = m.to s.end }
+      there = record { byte = s.byte; point = m.places.to s.point; end = m.places.to s.end }
 
       same : (ls : List StringLine) → AllByRecursion IsLineOk ls
           → Lines (elim (map mline ls) [ [] ↦ record { seats = there ∷ []; behind = [] } ∷ [] | line ∷ lines ↦ record line { seats = there ∷ line.seats } ∷ lines ])
@@ -132,32 +132,32 @@ module _ (m : Shift) where
       same [] k = record { are = refl; ok = (((h.0, tt), tt), tt) }
       same (line ∷ lines) k = record { are = refl; ok = (((h.0, k.0.0), k.0.1), k.1) }
 
-  line-marks : (is_first : Bool) (ls : List StringLine) → AllByRecursion IsLineOk ls → line_marks m.new is_first (map mline ls) ≡ mk m (line_marks m.old is_first ls)
+  line-marks : (is_first : Bool) (ls : List StringLine) → AllByRecursion IsLineOk ls → line_marks m.places.new is_first (map mline ls) ≡ mk m (line_marks m.places.old is_first ls)
   line-marks is_first [] h = refl
   line-marks is_first (line ∷ lines) h = two _ _ _ _ _ (by is_first) (two _ _ _ _ _ (endings-there line.behind h.0.1) (line-marks false lines h.1))
     where
-      by : (b : Bool) → cond b (leaf_marks m.new name.Data (ms m line.seats)) (further_line m.new (ms m line.seats)) ≡ mk m (cond b (leaf_marks m.old name.Data line.seats) (further_line m.old line.seats))
+      by : (b : Bool) → cond b (leaf_marks m.places.new name.Data (ms m line.seats)) (further_line m.places.new (ms m line.seats)) ≡ mk m (cond b (leaf_marks m.places.old name.Data line.seats) (further_line m.places.old line.seats))
       by true = leaf m name.Data _ _ (whole m line.seats h.0.0)
       by false = further _ _ (whole m line.seats h.0.0)
 
-  string : (n : Name) (xs ys : List Place) → Places xs ys → those.string m.new n xs ≡ mk m (those.string m.old n ys)
+  string : (n : Name) (xs ys : List Place) → Places xs ys → those.string m.places.new n xs ≡ mk m (those.string m.places.old n ys)
   string n xs ys p =
       let ls = lines-there ys p.ok in
-      span-of n xs ys _ _ p (ap (λ l. line_marks m.new true (string_lines l)) p.are ∙ ap (line_marks m.new true) ls.are ∙ line-marks true (string_lines ys) ls.ok)
+      span-of n xs ys _ _ p (ap (λ l. line_marks m.places.new true (string_lines l)) p.are ∙ ap (line_marks m.places.new true) ls.are ∙ line-marks true (string_lines ys) ls.ok)
 
-  between-marks : (n k : Name) (xs ys : List Place) → Places xs ys → marked m.new n k xs ≡ mk m (marked m.old n k ys)
+  between-marks : (n k : Name) (xs ys : List Place) → Places xs ys → marked m.places.new n k xs ≡ mk m (marked m.places.old n k ys)
   between-marks n k xs ys p =
       let last = ap (λ n. n - 1) (counts xs ys p) in
       two _ _ _ _ _ (leaf-of n _ _ (inner xs ys 0 1 0 1 refl refl p)) (two _ _ _ _ _ (string k _ _ (inner xs ys 1 _ 1 _ refl last p)) (leaf-of n _ _ (back xs ys _ _ last p)))
 
-  destination : (xs ys : List Place) → Places xs ys → destination_marks m.new xs ≡ mk m (destination_marks m.old ys)
+  destination : (xs ys : List Place) → Places xs ys → destination_marks m.places.new xs ≡ mk m (destination_marks m.places.old ys)
   destination xs ys p =
       let literal = span-of name.DefinitionDestinationLiteral xs ys _ _ p (between-marks name.DefinitionDestinationLiteralMarker name.DefinitionDestinationString xs ys p) in
       let raw = span-of name.DefinitionDestinationRaw xs ys _ _ p (string name.DefinitionDestinationString xs ys p) in
       span-of name.DefinitionDestination xs ys _ _ p ((λ i. cond (begins_with 60 (texts xs ys p i)) (literal i) (raw i)) ∙ either m (begins_with 60 (text_of ys)) _ _)
 
   -- ---- definitions
-  parts : (d : Definition) (xs ys : List Place) → Places xs ys → parts_marks m.new d xs ≡ mk m (parts_marks m.old d ys)
+  parts : (d : Definition) (xs ys : List Place) → Places xs ys → parts_marks m.places.new d xs ≡ mk m (parts_marks m.places.old d ys)
   parts d xs ys p =
       let at = λ (a b : ℕ). inner xs ys a b a b refl refl p in
       two _ _ _ _ _ (gap _ _ (at 0 d.label.from))
@@ -168,14 +168,14 @@ module _ (m : Shift) where
       (two _ _ _ _ _ (title d.title) (gap _ _ (at (end_of d.title d.destination) d.size)))))))
     where
       title : (o : Option Stretch)
-          → elim o [ None ↦ [] | Some t ↦ gap_marks m.new (between (end d.destination) t.from xs) ++ span_marks m.new name.DefinitionTitle (seats_of (places_of t xs)) (marked m.new name.DefinitionTitleMarker name.DefinitionTitleString (places_of t xs)) ]
-          ≡ mk m (elim o [ None ↦ [] | Some t ↦ gap_marks m.old (between (end d.destination) t.from ys) ++ span_marks m.old name.DefinitionTitle (seats_of (places_of t ys)) (marked m.old name.DefinitionTitleMarker name.DefinitionTitleString (places_of t ys)) ])
+          → elim o [ None ↦ [] | Some t ↦ gap_marks m.places.new (between (end d.destination) t.from xs) ++ span_marks m.places.new name.DefinitionTitle (seats_of (places_of t xs)) (marked m.places.new name.DefinitionTitleMarker name.DefinitionTitleString (places_of t xs)) ]
+          ≡ mk m (elim o [ None ↦ [] | Some t ↦ gap_marks m.places.old (between (end d.destination) t.from ys) ++ span_marks m.places.old name.DefinitionTitle (seats_of (places_of t ys)) (marked m.places.old name.DefinitionTitleMarker name.DefinitionTitleString (places_of t ys)) ])
       title None = refl
       title (Some t) =
           let at = λ (a b : ℕ). inner xs ys a b a b refl refl p in
           two _ _ _ _ _ (gap _ _ (at (end d.destination) t.from)) (span-of name.DefinitionTitle _ _ _ _ (at t.from (end t)) (between-marks name.DefinitionTitleMarker name.DefinitionTitleString _ _ (at t.from (end t))))
 
-  pub definitions : (ds : List Definition) (xs ys : List Place) → Places xs ys → definitions_marks m.new ds xs ≡ mk m (definitions_marks m.old ds ys)
+  pub definitions : (ds : List Definition) (xs ys : List Place) → Places xs ys → definitions_marks m.places.new ds xs ≡ mk m (definitions_marks m.places.old ds ys)
   definitions [] xs ys p = refl
   definitions (d ∷ ds) xs ys p =
       let first = front xs ys d.size d.size refl p in
@@ -185,9 +185,9 @@ module _ (m : Shift) where
   -- ---- the text of lines
   bytes-there : (r : List Seat) → AreOk m r → Places (map byte_at (ms m r)) (map byte_at r)
   bytes-there [] h = record { are = refl; ok = tt }
-  bytes-there (s ∷ r) h = let rest = bytes-there r h.1 in record { are = ap (λ l. byte_at (record { byte = s.byte; point = m.to s.point; end = m.to s.end }) ∷ l) rest.are; ok = (h.0, rest.ok) }
+  bytes-there (s ∷ r) h = let rest = bytes-there r h.1 in record { are = ap (λ l. byte_at (record { byte = s.byte; point = m.places.to s.point; end = m.places.to s.end }) ∷ l) rest.are; ok = (h.0, rest.ok) }
 
-  pub lines-places : (rows : List Row) → AreRowsOk m rows → Places (places_in m.new (mrs m rows)) (places_in m.old rows)
+  pub lines-places : (rows : List Row) → AreRowsOk m rows → Places (places_in m.places.new (mrs m rows)) (places_in m.places.old rows)
   lines-places [] h = record { are = refl; ok = tt }
   lines-places (row ∷ rows) h =
       let here = dr m _ _ row.columns row.columns refl (txt m _ _ (whole m row.line h.0.seats)) in
@@ -195,8 +195,8 @@ module _ (m : Shift) where
       both _ _ _ _ (record { are = ap (λ l. map byte_at l) here.is ∙ bytes.are; ok = bytes.ok }) (by rows _ _ h.1 (lines-places rows h.1))
     where
       by : (rows : List Row) (xs ys : List Place) → AreRowsOk m rows → Places xs ys
-          → Places (elim (mrs m rows) [ [] ↦ [] | next ∷ more ↦ ending_at (ending_of (ms m row.line)) (take (columns_of next.went_on) next.line) (prefixes_marks m.new next.went_on next.line) ∷ xs ])
-          (elim rows [ [] ↦ [] | next ∷ more ↦ ending_at (ending_of row.line) (take (columns_of next.went_on) next.line) (prefixes_marks m.old next.went_on next.line) ∷ ys ])
+          → Places (elim (mrs m rows) [ [] ↦ [] | next ∷ more ↦ ending_at (ending_of (ms m row.line)) (take (columns_of next.went_on) next.line) (prefixes_marks m.places.new next.went_on next.line) ∷ xs ])
+          (elim rows [ [] ↦ [] | next ∷ more ↦ ending_at (ending_of row.line) (take (columns_of next.went_on) next.line) (prefixes_marks m.places.old next.went_on next.line) ∷ ys ])
       by [] xs ys k p = record { are = refl; ok = tt }
       by (next ∷ more) xs ys k p =
           let last = ending m _ _ (whole m row.line h.0.seats) in

@@ -43,7 +43,7 @@ use Rattle.mdconstructs_inline_constructs.proofs.References.Bytes.{reference-hol
 module _ (m : Moving) where
   -- over moved virtual bytes what is found has its events, moved
   abbrev pub MovesAs : Found → Type 0
-  MovesAs found = (s r : List Seat) → Part m s r → Moves m (found.events m.new s) (found.events m.old r)
+  MovesAs found = (s r : List Seat) → Part m s r → Moves m (found.events m.places.new s) (found.events m.places.old r)
 
   abbrev MovesIf : Option Found → Type 0
   MovesIf o = OfOption MovesAs o
@@ -56,17 +56,17 @@ module _ (m : Moving) where
   middle i j i2 j2 s r e f p = front _ _ (j - i) (j2 - i2) (λ d. f d - e d) (back s r i i2 e p)
 
   -- ---- what has one part, or three
-  one : (n : Name) (s r : List Seat) → Part m s r → Moves m (leaf m.new n s) (leaf m.old n r)
+  one : (n : Name) (s r : List Seat) → Part m s r → Moves m (leaf m.places.new n s) (leaf m.places.old n r)
   one n s r p = alone m n s r p
 
-  two : (a c : Name) (s r s2 r2 : List Seat) → Part m s r → Part m s2 r2 → Moves m (leaf m.new a s ++ leaf m.new c s2) (leaf m.old a r ++ leaf m.old c r2)
+  two : (a c : Name) (s r s2 r2 : List Seat) → Part m s r → Part m s2 r2 → Moves m (leaf m.places.new a s ++ leaf m.places.new c s2) (leaf m.places.old a r ++ leaf m.places.old c r2)
   two a c s r s2 r2 p q = both m _ _ _ _ (one a s r p) (one c s2 r2 q)
 
-  three : (a c : Name) (x y : List Event) (s r s2 r2 : List Seat) → Part m s r → Moves m x y → Part m s2 r2 → Moves m (leaf m.new a s ++ (x ++ leaf m.new c s2)) (leaf m.old a r ++ (y ++ leaf m.old c r2))
+  three : (a c : Name) (x y : List Event) (s r s2 r2 : List Seat) → Part m s r → Moves m x y → Part m s2 r2 → Moves m (leaf m.places.new a s ++ (x ++ leaf m.places.new c s2)) (leaf m.places.old a r ++ (y ++ leaf m.places.old c r2))
   three a c x y s r s2 r2 p h q = both m _ _ _ _ (one a s r p) (both m _ _ _ _ h (one c s2 r2 q))
 
   -- ---- constructs
-  part-moves : (n : Name) (a : TextPart) (s r : List Seat) → Part m s r → Moves m (part_events m.new n (a, s)) (part_events m.old n (a, r))
+  part-moves : (n : Name) (a : TextPart) (s r : List Seat) → Part m s r → Moves m (part_events m.places.new n (a, s)) (part_events m.places.old n (a, r))
   part-moves n line_ending s r p = one name.LineEnding s r p
   part-moves n (plain_run k) s r p = one n s r p
 
@@ -82,8 +82,8 @@ module _ (m : Moving) where
   code text = let k = backticks text in when-there MovesAs _ (option_map (code_span k) (before_backtick_string k (drop k text))) (mapped (code_span k) (code-moves k) (before_backtick_string k (drop k text)))
 
   link-moves : (outer marker inner : Name) (n : ℕ) (s r : List Seat) → Part m s r
-      → Moves m (span m.new outer s (leaf m.new marker (take 1 s) ++ (leaf m.new inner (between 1 (1 + n) s) ++ leaf m.new marker (drop (1 + n) s))))
-      (span m.old outer r (leaf m.old marker (take 1 r) ++ (leaf m.old inner (between 1 (1 + n) r) ++ leaf m.old marker (drop (1 + n) r))))
+      → Moves m (span m.places.new outer s (leaf m.places.new marker (take 1 s) ++ (leaf m.places.new inner (between 1 (1 + n) s) ++ leaf m.places.new marker (drop (1 + n) s))))
+      (span m.places.old outer r (leaf m.places.old marker (take 1 r) ++ (leaf m.places.old inner (between 1 (1 + n) r) ++ leaf m.places.old marker (drop (1 + n) r))))
   link-moves outer marker inner n s r p =
       around m outer s r _ _ p
       (three marker marker _ _ _ _ _ _ (front s r 1 1 refl p) (one inner _ _ (middle 1 (1 + n) 1 (1 + n) s r refl refl p)) (back s r (1 + n) (1 + n) refl p))
@@ -101,7 +101,7 @@ module _ (m : Moving) where
       let inside = n + 1 + prefix_len is_domain_byte (drop (n + 2) text) in
       when-there MovesAs _ (email_with text n) (when-there MovesAs _ (Some (email inside)) (link-moves name.Autolink name.AutolinkMarker name.AutolinkEmail inside))
 
-  piece-moves : (a : Piece) (s r : List Seat) → Part m s r → Moves m (piece_events m.new (a, s)) (piece_events m.old (a, r))
+  piece-moves : (a : Piece) (s r : List Seat) → Part m s r → Moves m (piece_events m.places.new (a, s)) (piece_events m.places.old (a, r))
   piece-moves (html_break n) s r p = two name.LineEnding name.SpaceOrTab _ _ _ _ (front s r 1 1 refl p) (back s r 1 1 refl p)
   piece-moves (html_data n) s r p = one name.HtmlTextData s r p
 
@@ -118,7 +118,7 @@ module _ (m : Moving) where
   breaks : (text : List ℕ) → MovesIf (break_escape_at text)
   breaks text = when-there MovesAs _ (Some hard_break_escape) (one name.HardBreakEscape)
 
-  marks-move : (kind : Kind) (s r : List Seat) → Part m s r → Moves m (mark_events m.new kind s) (mark_events m.old kind r)
+  marks-move : (kind : Kind) (s r : List Seat) → Part m s r → Moves m (mark_events m.places.new kind s) (mark_events m.places.old kind r)
   marks-move named s r p = one name.CharacterReferenceMarker _ _ (front s r 1 1 refl p)
   marks-move decimal s r p = two name.CharacterReferenceMarker name.CharacterReferenceMarkerNumeric _ _ _ _ (front s r 1 1 refl p) (middle 1 2 1 2 s r refl refl p)
   marks-move hexadecimal s r p =
@@ -153,28 +153,28 @@ module _ (m : Moving) where
       by false false = one name.Data
 
   -- ---- resources and references
-  marked-moves : (outer mark : Name) (x y : List Event) (s r : List Seat) → Moves m x y → Part m s r → Moves m (in_marks m.new outer mark x s) (in_marks m.old outer mark y r)
+  marked-moves : (outer mark : Name) (x y : List Event) (s r : List Seat) → Moves m x y → Part m s r → Moves m (in_marks m.places.new outer mark x s) (in_marks m.places.old outer mark y r)
   marked-moves outer mark x y s r h p = around m outer s r _ _ p (three mark mark x y _ _ _ _ (front s r 1 1 refl p) h (back s r _ _ (ap (λ n. n - 1) (same-length s r p)) p))
 
-  inside : (s r : List Seat) → Part m s r → Part m (unmarked m.new s) (unmarked m.old r)
+  inside : (s r : List Seat) → Part m s r → Part m (unmarked m.places.new s) (unmarked m.places.old r)
   inside s r p = middle 1 _ 1 _ s r refl (ap (λ n. n - 1) (same-length s r p)) p
 
-  pub lines-move : (s r : List Seat) → Part m s r → Moves m (string_events m.new s) (string_events m.old r)
+  pub lines-move : (s r : List Seat) → Part m s r → Moves m (string_events m.places.new s) (string_events m.places.old r)
   lines-move s r p = cuts m line_part part_length (λ bytes. part_events bytes name.Data) (λ t s r p. part-moves name.Data _ s r p) _ _ s r (same-length s r p) p
 
-  gap-moves : (s r : List Seat) → Part m s r → Moves m (gap_events m.new s) (gap_events m.old r)
+  gap-moves : (s r : List Seat) → Part m s r → Moves m (gap_events m.places.new s) (gap_events m.places.old r)
   gap-moves s r p =
       let n = ap (prefix_len is_space_or_tab) (same-bytes s r p) in
       let rest = back s r _ _ n p in
       both m _ _ _ _ (one name.SpaceOrTab _ _ (front s r _ _ n p)) (two name.LineEnding name.SpaceOrTab _ _ _ _ (front _ _ 1 1 refl rest) (back _ _ 1 1 refl rest))
 
-  string-moves : (s r : List Seat) → Part m s r → Moves m (destination_string m.new s) (destination_string m.old r)
+  string-moves : (s r : List Seat) → Part m s r → Moves m (destination_string m.places.new s) (destination_string m.places.old r)
   string-moves s r p = around m name.ResourceDestinationString s r _ _ p (one name.Data s r p)
 
-  title-moves : (s r : List Seat) → Part m s r → Moves m (title_events m.new s) (title_events m.old r)
+  title-moves : (s r : List Seat) → Part m s r → Moves m (title_events m.places.new s) (title_events m.places.old r)
   title-moves s r p = let q = inside s r p in marked-moves name.ResourceTitle name.ResourceTitleMarker _ _ s r (around m name.ResourceTitleString _ _ _ _ q (lines-move _ _ q)) p
 
-  destination-moves : (s r : List Seat) → Part m s r → Moves m (destination_events m.new s) (destination_events m.old r)
+  destination-moves : (s r : List Seat) → Part m s r → Moves m (destination_events m.places.new s) (destination_events m.places.old r)
   destination-moves s r p =
       let enclosed = marked-moves name.ResourceDestinationLiteral name.ResourceDestinationLiteralMarker _ _ s r (string-moves _ _ (inside s r p)) p in
       let raw = around m name.ResourceDestinationRaw s r _ _ p (string-moves s r p) in
@@ -186,13 +186,13 @@ module _ (m : Moving) where
       by true false e x y x2 y2 h k = absurd (cc)
       by false true e x y x2 y2 h k = absurd (cc)
 
-  tail-moves : (title : Option Stretch) (from last : ℕ) (s r : List Seat) → Part m s r → Moves m (behind_destination m.new title from last s) (behind_destination m.old title from last r)
+  tail-moves : (title : Option Stretch) (from last : ℕ) (s r : List Seat) → Part m s r → Moves m (behind_destination m.places.new title from last s) (behind_destination m.places.old title from last r)
   tail-moves None from last s r p = gap-moves _ _ (middle from last from last s r refl refl p)
   tail-moves (Some t) from last s r p =
       both m _ _ _ _ (gap-moves _ _ (middle from t.from from t.from s r refl refl p))
       (both m _ _ _ _ (title-moves _ _ (middle t.from (end t) t.from (end t) s r refl refl p)) (gap-moves _ _ (middle (end t) last (end t) last s r refl refl p)))
 
-  parts-move : (destination title : Option Stretch) (last : ℕ) (s r : List Seat) → Part m s r → Moves m (in_resource m.new destination title last s) (in_resource m.old destination title last r)
+  parts-move : (destination title : Option Stretch) (last : ℕ) (s r : List Seat) → Part m s r → Moves m (in_resource m.places.new destination title last s) (in_resource m.places.old destination title last r)
   parts-move None title last s r p = gap-moves _ _ (middle 1 last 1 last s r refl refl p)
   parts-move (Some d) title last s r p =
       both m _ _ _ _ (gap-moves _ _ (middle 1 d.from 1 d.from s r refl refl p))
@@ -256,5 +256,5 @@ module _ (m : Moving) where
   string-item on text = there-holds MovesAs string_grammars on text (string_part text) (escapes text, (references text, tt)) (string-part text)
 
   -- what virtual bytes are read as, as a string
-  pub strings-move : (on : Constructs) (s r : List Seat) → Part m s r → Moves m (string_seat_events on m.new s) (string_seat_events on m.old r)
+  pub strings-move : (on : Constructs) (s r : List Seat) → Part m s r → Moves m (string_seat_events on m.places.new s) (string_seat_events on m.places.old r)
   strings-move on s r p = cuts m (string_item_at on) item_length item_events (λ t. string-item on t) _ _ s r (same-length s r p) p

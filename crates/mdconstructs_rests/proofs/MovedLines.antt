@@ -1,14 +1,12 @@
 -- Two documents, where places of the first are in the second, and which numbers its lines have there: so are virtual bytes, marks, lines, parts and sections of it.
-use Rattle.std.proofs.Common.{◌≡◌, ℕ, ◌+◌, ◌==◌, ◌∙◌, sym, Bool, true, false, cond, List, [], ◌∷◌, ◌++◌, take, drop, ap, refl, None, Option}
+use Rattle.std.proofs.Common.{◌≡◌, ℕ, ◌+◌, ◌==◌, ◌∙◌, sym, Bool, true, false, cond, List, [], ◌∷◌, ◌++◌, take, drop, ap, refl, Option}
 use Rattle.std.proofs.lemmas.List.Sums.{sum_by-cons}
 use Rattle.std.specs.List.{AllByRecursion}
 use Rattle.std.specs.Prelude.{map}
 use Rattle.markdown_base.specs.declared.event.Event.{Event}
 use Rattle.markdown_base.specs.declared.event.Kind.{Kind}
-use Rattle.markdown_base.specs.declared.event.Link.{Link}
 use Rattle.markdown_base.specs.declared.event.Name.{Name}
 use Rattle.markdown_base.specs.declared.event.Point.{Point}
-use Rattle.markdown_base.specs.Places.{shown}
 use Rattle.markdown_base.specs.Virtual.{Seat, end_after}
 use Rattle.mdconstructs_documents.proofs.FlowTexts.Segments.{HasByte}
 use Rattle.mdconstructs_machines.specs.LineEvents.{ending_of, line_text}
@@ -20,17 +18,12 @@ use Rattle.mdconstructs_containers.specs.Prefixes.{columns_of}
 use Rattle.mdconstructs_containers.specs.Rows.{Row}
 use Rattle.mdconstructs_containers.specs.Skeleton.{Frame, Part}
 use Rattle.mdconstructs_definitions.specs.Sections.{Section}
+use Rattle.mdconstructs_rests.proofs.MovedMarks.{Places}
 use Rattle.mdconstructs_rests.proofs.MovedMarks as marks
 
--- Two documents; where a place of the first is in the second, and what a link comes to be; which places are known, and are shown alike; and the numbers of lines
+-- Two documents, of which places of the first are in the second, and the numbers of lines there
 pub record Shift : Type 0 where
-  pub old : List ℕ
-  pub new : List ℕ
-  pub to : Point → Point
-  pub link : Option Link → Option Link
-  pub unlinked : link None ≡ None
-  pub known : Point → Bool
-  pub shows : (p : Point) → known p ≡ true → shown new (to p) ≡ to (shown old p)
+  pub places : Places
   pub number : ℕ → ℕ
   pub same : (i j : ℕ) → (number i == number j) ≡ (i == j)
 
@@ -41,10 +34,10 @@ HaveRoom (p ∷ ps) seats = HasByte seats × HaveRoom ps (drop p.size seats)
 
 module _ (m : Shift) where
   abbrev pub ms : List Seat → List Seat
-  ms seats = map (λ s. record { byte = s.byte; point = m.to s.point; end = m.to s.end }) seats
+  ms seats = map (λ s. record { byte = s.byte; point = m.places.to s.point; end = m.places.to s.end }) seats
 
   abbrev pub fe : Event → Event
-  fe e = record { kind = e.kind; name = e.name; point = m.to e.point; link = m.link e.link }
+  fe e = record { kind = e.kind; name = e.name; point = m.places.to e.point; link = m.places.link e.link }
 
   abbrev pub fm : Mark → Mark
   fm mark = (fe mark.0, mark.1)
@@ -80,7 +73,7 @@ module _ (m : Shift) where
 
   -- ---- what is known of them
   abbrev pub IsOk : Point → Type 0
-  IsOk p = m.known p ≡ true
+  IsOk p = m.places.known p ≡ true
 
   abbrev pub AreOk : List Seat → Type 0
   AreOk seats = AllByRecursion (λ s. IsOk s.point × IsOk s.end) seats
@@ -99,50 +92,50 @@ module _ (m : Shift) where
 
   -- ---- virtual bytes that are others, moved, and their marks
   abbrev pub Moved : (s r : List Seat) → Type 0
-  Moved s r = marks.Part m.old m.new m.to m.link m.unlinked IsOk m.shows s r
+  Moved s r = marks.Part m.places.old m.places.new m.places.to m.places.link m.places.unlinked IsOk m.places.shows s r
 
   pub whole : (r : List Seat) → AreOk r → Moved (ms r) r
-  whole = marks.whole m.old m.new m.to m.link m.unlinked IsOk m.shows
+  whole = marks.whole m.places.old m.places.new m.places.to m.places.link m.places.unlinked IsOk m.places.shows
 
   pub bs : (s r : List Seat) → Moved s r → bytes_of s ≡ bytes_of r
-  bs = marks.bs m.old m.new m.to m.link m.unlinked IsOk m.shows
+  bs = marks.bs m.places.old m.places.new m.places.to m.places.link m.places.unlinked IsOk m.places.shows
 
   pub tk : (s r : List Seat) (n k : ℕ) → n ≡ k → Moved s r → Moved (take n s) (take k r)
-  tk = marks.tk m.old m.new m.to m.link m.unlinked IsOk m.shows
+  tk = marks.tk m.places.old m.places.new m.places.to m.places.link m.places.unlinked IsOk m.places.shows
 
   pub dr : (s r : List Seat) (n k : ℕ) → n ≡ k → Moved s r → Moved (drop n s) (drop k r)
-  dr = marks.dr m.old m.new m.to m.link m.unlinked IsOk m.shows
+  dr = marks.dr m.places.old m.places.new m.places.to m.places.link m.places.unlinked IsOk m.places.shows
 
   pub txt : (s r : List Seat) → Moved s r → Moved (line_text s) (line_text r)
-  txt = marks.txt m.old m.new m.to m.link m.unlinked IsOk m.shows
+  txt = marks.txt m.places.old m.places.new m.places.to m.places.link m.places.unlinked IsOk m.places.shows
 
   pub ending : (s r : List Seat) → Moved s r → Moved (ending_of s) (ending_of r)
-  ending = marks.ending m.old m.new m.to m.link m.unlinked IsOk m.shows
+  ending = marks.ending m.places.old m.places.new m.places.to m.places.link m.places.unlinked IsOk m.places.shows
 
   pub joined-parts : (s r s2 r2 : List Seat) → Moved s r → Moved s2 r2 → Moved (s ++ s2) (r ++ r2)
-  joined-parts = marks.joined-parts m.old m.new m.to m.link m.unlinked IsOk m.shows
+  joined-parts = marks.joined-parts m.places.old m.places.new m.places.to m.places.link m.places.unlinked IsOk m.places.shows
 
-  pub event-moved : (kind : Kind) (n : Name) (p : Point) → IsOk p → event m.new kind n (m.to p) ≡ fe (event m.old kind n p)
-  event-moved = marks.event-moved m.old m.new m.to m.link m.unlinked IsOk m.shows
+  pub event-moved : (kind : Kind) (n : Name) (p : Point) → IsOk p → event m.places.new kind n (m.places.to p) ≡ fe (event m.places.old kind n p)
+  event-moved = marks.event-moved m.places.old m.places.new m.places.to m.places.link m.places.unlinked IsOk m.places.shows
 
-  pub end-moved : (p : Point) (ss : List Seat) → end_after (m.to p) (ms ss) ≡ m.to (end_after p ss)
-  end-moved = marks.end-moved m.old m.new m.to m.link m.unlinked IsOk m.shows
+  pub end-moved : (p : Point) (ss : List Seat) → end_after (m.places.to p) (ms ss) ≡ m.places.to (end_after p ss)
+  end-moved = marks.end-moved m.places.old m.places.new m.places.to m.places.link m.places.unlinked IsOk m.places.shows
 
   pub end-ok : (p : Point) (ss : List Seat) → IsOk p → AreOk ss → IsOk (end_after p ss)
-  end-ok = marks.end-ok m.old m.new m.to m.link m.unlinked IsOk m.shows
+  end-ok = marks.end-ok m.places.old m.places.new m.places.to m.places.link m.places.unlinked IsOk m.places.shows
 
   pub either : (b : Bool) (x y : List Mark) → cond b (mk x) (mk y) ≡ mk (cond b x y)
   either true x y = refl
   either false x y = refl
 
-  pub span : (chunk : Option Chunk) (n : Name) (s r : List Seat) (x y : List Mark) → Moved s r → x ≡ mk y → chunk_span m.new chunk n s x ≡ mk (chunk_span m.old chunk n r y)
-  span = marks.span m.old m.new m.to m.link m.unlinked IsOk m.shows
+  pub span : (chunk : Option Chunk) (n : Name) (s r : List Seat) (x y : List Mark) → Moved s r → x ≡ mk y → chunk_span m.places.new chunk n s x ≡ mk (chunk_span m.places.old chunk n r y)
+  span = marks.span m.places.old m.places.new m.places.to m.places.link m.places.unlinked IsOk m.places.shows
 
-  pub leaf : (n : Name) (s r : List Seat) → Moved s r → leaf_marks m.new n s ≡ mk (leaf_marks m.old n r)
-  leaf = marks.leaf m.old m.new m.to m.link m.unlinked IsOk m.shows
+  pub leaf : (n : Name) (s r : List Seat) → Moved s r → leaf_marks m.places.new n s ≡ mk (leaf_marks m.places.old n r)
+  leaf = marks.leaf m.places.old m.places.new m.places.to m.places.link m.places.unlinked IsOk m.places.shows
 
-  pub whites : (s r : List Seat) → Moved s r → white m.new s ≡ mk (white m.old r)
-  whites = marks.whites m.old m.new m.to m.link m.unlinked IsOk m.shows
+  pub whites : (s r : List Seat) → Moved s r → white m.places.new s ≡ mk (white m.places.old r)
+  whites = marks.whites m.places.old m.places.new m.places.to m.places.link m.places.unlinked IsOk m.places.shows
 
   pub columns-same : (ps : List Prefix) → columns_of (mps ps) ≡ columns_of ps
   columns-same [] = refl

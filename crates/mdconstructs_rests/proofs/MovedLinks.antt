@@ -92,11 +92,11 @@ module _ (m : Moving) where
       (λ i. emphasised (text_before [] (moved_parts ps)) (rs i) (rest i)) ∙ emphasised-moved m (text_before [] ps) (text_before [] (moved_parts ps)) (before-moved [] ps) (runs_of_parts ps) (text_behind [] ps)
 
   -- ---- links and images
-  last-moved : (p : Point) (es : List Event) → last_place (m.to p) (moved_events m es) ≡ m.to (last_place p es)
+  last-moved : (p : Point) (es : List Event) → last_place (m.places.to p) (moved_events m es) ≡ m.places.to (last_place p es)
   last-moved p [] = refl
   last-moved p (e ∷ es) = last-moved e.point es
 
-  spanning-moved : (name : Name) (start end : Point) (es : List Event) → spanning name (m.to start) (m.to end) (moved_events m es) ≡ moved_events m (spanning name start end es)
+  spanning-moved : (name : Name) (start end : Point) (es : List Event) → spanning name (m.places.to start) (m.places.to end) (moved_events m es) ≡ moved_events m (spanning name start end es)
   spanning-moved name start end es =
       let enter = unlinked-moved m Enter name start in
       let exit = unlinked-moved m Exit name end in
@@ -105,7 +105,7 @@ module _ (m : Moving) where
 
   around-moved : (name : Name) (es : List Event) → around name (moved_events m es) ≡ moved_events m (around name es)
   around-moved name [] = refl
-  around-moved name (e ∷ es) = ap (λ p. spanning name (m.to e.point) p (moved_events m (e ∷ es))) (last-moved e.point es) ∙ spanning-moved name e.point (last_place e.point es) (e ∷ es)
+  around-moved name (e ∷ es) = ap (λ p. spanning name (m.places.to e.point) p (moved_events m (e ∷ es))) (last-moved e.point es) ∙ spanning-moved name e.point (last_place e.point es) (e ∷ es)
 
   data-moved : (es : List Event) → as_data (moved_events m es) ≡ moved_events m (as_data es)
   data-moved [] = refl
@@ -121,7 +121,7 @@ module _ (m : Moving) where
   text-moved (e ∷ es) (f ∷ fs) (p ∷ ps) =
       let start = last-moved e.point es in
       let inside = parts-moved (p ∷ ps) in
-      (λ i. spanning LabelText (start i) (m.to f.point) (inside i)) ∙ spanning-moved LabelText (last_place e.point es) f.point (emphasised_parts (p ∷ ps))
+      (λ i. spanning LabelText (start i) (m.places.to f.point) (inside i)) ∙ spanning-moved LabelText (last_place e.point es) f.point (emphasised_parts (p ∷ ps))
 
   made-moved : (opener : List Event) (between : List Part) (close tail : List Event)
       → made (moved_events m opener) (moved_parts between) (moved_events m close) (moved_events m tail) ≡ moved_events m (made opener between close tail)
@@ -229,9 +229,9 @@ module _ (m : Moving) where
       by false d x y w = refl
 
   -- the events of a text, moved, have links, images and emphasis that are the others, moved
-  pub links-moved : (es : List Event) → AreKnown m es → with_links m.new (moved_events m es) ≡ moved_events m (with_links m.old es)
+  pub links-moved : (es : List Event) → AreKnown m es → with_links m.places.new (moved_events m es) ≡ moved_events m (with_links m.places.old es)
   links-moved es h =
-      let rs = runs_in m.old es in
+      let rs = runs_in m.places.old es in
       let first = so_far [] [] rs in
       let z = linked_from first (outermost_spans es) in
       let runs = runs-moved m es h in

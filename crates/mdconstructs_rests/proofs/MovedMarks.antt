@@ -4,6 +4,16 @@ use Rattle.markdown_base.proofs.Common.{every-append, every-drop, every-take}
 use Rattle.markdown_base.specs.declared.event.Name.TheVariants as name
 use Rattle.mdconstructs_rests.proofs.TextLines.{AnySeat, AreInner, AreTextLines, any-blocks, inner-body, inner-text, texts-front}
 
+-- Two documents; where a place of the first is in the second, and what a link comes to be; and which places are known, and are shown alike
+pub record Places : Type 0 where
+  pub old : List ℕ
+  pub new : List ℕ
+  pub to : Point → Point
+  pub link : Option Link → Option Link
+  pub unlinked : link None ≡ None
+  pub known : Point → Bool
+  pub shows : (p : Point) → known p ≡ true → shown new (to p) ≡ to (shown old p)
+
 -- two lists, one behind the other
 pub two : {A X : Type 0} (h : A → X) (x : List X) (y : List A) (x2 : List X) (y2 : List A) → x ≡ map h y → x2 ≡ map h y2 → x ++ x2 ≡ map h (y ++ y2)
 two h x y x2 y2 e e2 = (λ i. e i ++ e2 i) ∙ sym (map-append h y y2)

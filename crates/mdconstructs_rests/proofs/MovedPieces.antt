@@ -24,18 +24,18 @@ use Rattle.mdconstructs_rests.proofs.MovedLines.{AreOk, AreRowsOk, HaveRoom, IsO
 
 module _ (m : Shift) where
   -- ---- prefixes
-  pub begins : (s r : List Seat) → Moved m s r → HasByte r → (begin_of s ≡ m.to (begin_of r)) × IsOk m (begin_of r)
+  pub begins : (s r : List Seat) → Moved m s r → HasByte r → (begin_of s ≡ m.places.to (begin_of r)) × IsOk m (begin_of r)
   begins s [] p h = absurd h
   begins s (x ∷ r) p h = (ap begin_of p.is, p.ok.0.0)
 
-  going : (c : Container) (s r : List Seat) → Moved m s r → going_marks m.new (mc m c) s ≡ mk m (going_marks m.old c r)
+  going : (c : Container) (s r : List Seat) → Moved m s r → going_marks m.places.new (mc m c) s ≡ mk m (going_marks m.places.old c r)
   going (quote line) s r p =
       let e = ap indent (bs m s r p) in
       two _ _ _ _ _ (whites m _ _ (tk m s r _ _ e p))
       (span m None name.BlockQuotePrefix _ _ _ _ (dr m s r _ _ e p) (two _ _ _ _ _ (leaf m name.BlockQuoteMarker _ _ (tk m _ _ 1 1 refl (dr m s r _ _ e p))) (whites m _ _ (dr m s r _ _ (ap suc e) p))))
   going (item i) s r p = whites m s r p
 
-  begun : (c : Container) (s r : List Seat) → Moved m s r → begun_marks m.new (mc m c) s ≡ mk m (begun_marks m.old c r)
+  begun : (c : Container) (s r : List Seat) → Moved m s r → begun_marks m.places.new (mc m c) s ≡ mk m (begun_marks m.places.old c r)
   begun (quote line) s r p = going (quote line) s r p
   begun (item i) s r p =
       let e = ap indent (bs m s r p) in
@@ -44,37 +44,37 @@ module _ (m : Shift) where
       (two _ _ _ _ _ (leaf m name.ListItemValue _ _ (tk m _ _ i.digits i.digits refl (dr m s r _ _ e p)))
       (two _ _ _ _ _ (leaf m name.ListItemMarker _ _ (tk m _ _ 1 1 refl (dr m s r _ _ (ap (λ n. n + i.digits) e) p))) (whites m _ _ (dr m s r _ _ (ap (λ n. suc (n + i.digits)) e) p)))))
 
-  pub prefixes : (ps : List Prefix) (s r : List Seat) → Moved m s r → prefixes_marks m.new (mps m ps) s ≡ mk m (prefixes_marks m.old ps r)
+  pub prefixes : (ps : List Prefix) (s r : List Seat) → Moved m s r → prefixes_marks m.places.new (mps m ps) s ≡ mk m (prefixes_marks m.places.old ps r)
   prefixes [] s r q = refl
   prefixes (p ∷ ps) s r q = two _ _ _ _ _ (going p.container _ _ (tk m s r p.size p.size refl q)) (prefixes ps _ _ (dr m s r p.size p.size refl q))
 
-  enters : (c : Container) (p : Point) → IsOk m p → enters_of m.new (mc m c) (m.to p) ≡ mk m (enters_of m.old c p)
+  enters : (c : Container) (p : Point) → IsOk m p → enters_of m.places.new (mc m c) (m.places.to p) ≡ mk m (enters_of m.places.old c p)
   enters (quote line) p k = let e = event-moved m Enter name.BlockQuote p k in (λ i. (e i, None) ∷ [])
   enters (item i) p k =
       let list = event-moved m Enter (list_name i) p k in
       let this = event-moved m Enter name.ListItem p k in
       (λ j. cond (m.same i.list i.line j) ((list j, None) ∷ []) [] ++ (this j, None) ∷ []) ∙ by (i.list == i.line)
     where
-      by : (b : Bool) → cond b ((fe m (event m.old Enter (list_name i) p), None) ∷ []) [] ++ (fe m (event m.old Enter name.ListItem p), None) ∷ [] ≡ mk m (cond b ((event m.old Enter (list_name i) p, None) ∷ []) [] ++ (event m.old Enter name.ListItem p, None) ∷ [])
+      by : (b : Bool) → cond b ((fe m (event m.places.old Enter (list_name i) p), None) ∷ []) [] ++ (fe m (event m.places.old Enter name.ListItem p), None) ∷ [] ≡ mk m (cond b ((event m.places.old Enter (list_name i) p, None) ∷ []) [] ++ (event m.places.old Enter name.ListItem p, None) ∷ [])
       by true = refl
       by false = refl
 
-  pub begun-all : (ps : List Prefix) (s r : List Seat) → Moved m s r → HaveRoom ps r → begun_all m.new (mps m ps) s ≡ mk m (begun_all m.old ps r)
+  pub begun-all : (ps : List Prefix) (s r : List Seat) → Moved m s r → HaveRoom ps r → begun_all m.places.new (mps m ps) s ≡ mk m (begun_all m.places.old ps r)
   begun-all [] s r q k = refl
   begun-all (p ∷ ps) s r q k =
       let b = begins s r q k.0 in
-      two _ _ _ _ _ (ap (enters_of m.new (mc m p.container)) b.0 ∙ enters p.container (begin_of r) b.1)
+      two _ _ _ _ _ (ap (enters_of m.places.new (mc m p.container)) b.0 ∙ enters p.container (begin_of r) b.1)
       (two _ _ _ _ _ (begun p.container _ _ (tk m s r p.size p.size refl q)) (begun-all ps _ _ (dr m s r p.size p.size refl q) k.1))
 
   -- ---- pieces of a stretch
-  abbrev pub mpiece : Piece m.old → Piece m.new
+  abbrev pub mpiece : Piece m.places.old → Piece m.places.new
   mpiece p = record { before = mk m p.before; seats = ms m p.seats }
 
-  abbrev pub ArePiecesOk : List (Piece m.old) → Type 0
-  ArePiecesOk ps = AllByRecursion (λ (p : Piece m.old). AreOk m p.seats) ps
+  abbrev pub ArePiecesOk : List (Piece m.places.old) → Type 0
+  ArePiecesOk ps = AllByRecursion (λ (p : Piece m.places.old). AreOk m p.seats) ps
 
   -- pieces that are others, moved
-  pub record ArePieces (xs : List (Piece m.new)) (ys : List (Piece m.old)) : Type 0 where
+  pub record ArePieces (xs : List (Piece m.places.new)) (ys : List (Piece m.places.old)) : Type 0 where
     pub are : xs ≡ map mpiece ys
     pub ok : ArePiecesOk ys
 
@@ -82,31 +82,31 @@ module _ (m : Shift) where
   kept true line h = whole m line h
   kept false line h = txt m _ _ (whole m line h)
 
-  piece : (b : Bool) (row : Row) → IsRowOk m row → (piece_of m.new b (mr m row) ≡ mpiece (piece_of m.old b row)) × AreOk m (piece_of m.old b row).seats
+  piece : (b : Bool) (row : Row) → IsRowOk m row → (piece_of m.places.new b (mr m row) ≡ mpiece (piece_of m.places.old b row)) × AreOk m (piece_of m.places.old b row).seats
   piece b row h =
       let before = prefixes row.went_on _ _ (whole m row.line h.seats) in
       let seats = dr m _ _ row.columns row.columns refl (kept b row.line h.seats) in
-      ((λ i. let p : Piece m.new = record { before = before i; seats = seats.is i } in p), seats.ok)
+      ((λ i. let p : Piece m.places.new = record { before = before i; seats = seats.is i } in p), seats.ok)
 
-  pub pieces : (held : Bool) (row : Row) (more : List Row) → IsRowOk m row → AreRowsOk m more → ArePieces (pieces_of m.new held (mr m row) (mrs m more)) (pieces_of m.old held row more)
+  pub pieces : (held : Bool) (row : Row) (more : List Row) → IsRowOk m row → AreRowsOk m more → ArePieces (pieces_of m.places.new held (mr m row) (mrs m more)) (pieces_of m.places.old held row more)
   pieces held row [] h hs = let p = piece held row h in record { are = ap (λ x. x ∷ []) p.0; ok = (p.1, tt) }
   pieces held row (next ∷ more) h hs =
       let p = piece true row h in
       let ps = pieces held next more hs.0 hs.1 in
       record { are = (λ i. p.0 i ∷ ps.are i); ok = (p.1, ps.ok) }
 
-  join-same : (p : Piece m.old) (js : List (Piece m.old)) → join m.new (mpiece p) (map mpiece js) ≡ map mpiece (join m.old p js)
+  join-same : (p : Piece m.places.old) (js : List (Piece m.places.old)) → join m.places.new (mpiece p) (map mpiece js) ≡ map mpiece (join m.places.old p js)
   join-same p [] = refl
   join-same p (r ∷ rs) =
       let none : has_none (mk m r.before) ≡ has_none r.before = elim r.before as (λ ms. has_none (mk m ms) ≡ has_none ms) [ [] ↦ refl | x ∷ ms ↦ refl ] in
-      let seats = sym (map-append (λ s. record { byte = s.byte; point = m.to s.point; end = m.to s.end }) p.seats r.seats) in
-      (λ i. cond (none i) ((let q : Piece m.new = record { before = mk m p.before; seats = seats i } in q) ∷ map mpiece rs) (mpiece p ∷ mpiece r ∷ map mpiece rs)) ∙ by (has_none r.before)
+      let seats = sym (map-append (λ s. record { byte = s.byte; point = m.places.to s.point; end = m.places.to s.end }) p.seats r.seats) in
+      (λ i. cond (none i) ((let q : Piece m.places.new = record { before = mk m p.before; seats = seats i } in q) ∷ map mpiece rs) (mpiece p ∷ mpiece r ∷ map mpiece rs)) ∙ by (has_none r.before)
     where
       by : (b : Bool) → cond b (mpiece (record p { seats = p.seats ++ r.seats }) ∷ map mpiece rs) (mpiece p ∷ mpiece r ∷ map mpiece rs) ≡ map mpiece (cond b (record p { seats = p.seats ++ r.seats } ∷ rs) (p ∷ r ∷ rs))
       by true = refl
       by false = refl
 
-  join-ok : (p : Piece m.old) (js : List (Piece m.old)) → AreOk m p.seats → ArePiecesOk js → ArePiecesOk (join m.old p js)
+  join-ok : (p : Piece m.places.old) (js : List (Piece m.places.old)) → AreOk m p.seats → ArePiecesOk js → ArePiecesOk (join m.places.old p js)
   join-ok p [] h k = (h, tt)
   join-ok p (r ∷ rs) h k = by (has_none r.before)
     where
@@ -114,49 +114,49 @@ module _ (m : Shift) where
       by true = (every-append (λ s. IsOk m s.point × IsOk m s.end) p.seats r.seats h k.0, k.1)
       by false = (h, k)
 
-  joined : (ps : List (Piece m.old)) → ArePiecesOk ps → ArePieces (joined_pieces m.new (map mpiece ps)) (joined_pieces m.old ps)
+  joined : (ps : List (Piece m.places.old)) → ArePiecesOk ps → ArePieces (joined_pieces m.places.new (map mpiece ps)) (joined_pieces m.places.old ps)
   joined [] h = record { are = refl; ok = tt }
   joined (p ∷ ps) h =
       let rest = joined ps h.1 in
-      let js = joined_pieces m.old ps in
-      let is = join_is m.old p ps in
+      let js = joined_pieces m.places.old ps in
+      let is = join_is m.places.old p ps in
       record {
-        are = join_is m.new (mpiece p) (map mpiece ps) ∙ ap (join m.new (mpiece p)) rest.are ∙ join-same p js ∙ ap (λ l. map mpiece l) (sym is);
+        are = join_is m.places.new (mpiece p) (map mpiece ps) ∙ ap (join m.places.new (mpiece p)) rest.are ∙ join-same p js ∙ ap (λ l. map mpiece l) (sym is);
         ok = subst ArePiecesOk (sym is) (join-ok p js h.0 rest.ok);
       }
 
   -- the pieces of lines of a part
-  pub joined-lines : (held : Bool) (row : Row) (more : List Row) → IsRowOk m row → AreRowsOk m more → ArePieces (joined_pieces m.new (pieces_of m.new held (mr m row) (mrs m more))) (joined_pieces m.old (pieces_of m.old held row more))
+  pub joined-lines : (held : Bool) (row : Row) (more : List Row) → IsRowOk m row → AreRowsOk m more → ArePieces (joined_pieces m.places.new (pieces_of m.places.new held (mr m row) (mrs m more))) (joined_pieces m.places.old (pieces_of m.places.old held row more))
   joined-lines held row more h hs =
       let ps = pieces held row more h hs in
-      let js = joined (pieces_of m.old held row more) ps.ok in
-      record { are = ap (joined_pieces m.new) ps.are ∙ js.are; ok = js.ok }
+      let js = joined (pieces_of m.places.old held row more) ps.ok in
+      record { are = ap (joined_pieces m.places.new) ps.are ∙ js.are; ok = js.ok }
 
   -- ---- chunks
-  none-left : (ps : List (Piece m.old)) → has_none (flat_map (λ (q : Piece m.new). q.seats) (map mpiece ps)) ≡ has_none (flat_map (λ (q : Piece m.old). q.seats) ps)
+  none-left : (ps : List (Piece m.places.old)) → has_none (flat_map (λ (q : Piece m.places.new). q.seats) (map mpiece ps)) ≡ has_none (flat_map (λ (q : Piece m.places.old). q.seats) ps)
   none-left [] = refl
   none-left (p ∷ ps) = by p.seats (none-left ps)
     where
-      by : (ss : List Seat) → has_none (flat_map (λ (q : Piece m.new). q.seats) (map mpiece ps)) ≡ has_none (flat_map (λ (q : Piece m.old). q.seats) ps)
-          → has_none (ms m ss ++ flat_map (λ (q : Piece m.new). q.seats) (map mpiece ps)) ≡ has_none (ss ++ flat_map (λ (q : Piece m.old). q.seats) ps)
+      by : (ss : List Seat) → has_none (flat_map (λ (q : Piece m.places.new). q.seats) (map mpiece ps)) ≡ has_none (flat_map (λ (q : Piece m.places.old). q.seats) ps)
+          → has_none (ms m ss ++ flat_map (λ (q : Piece m.places.new). q.seats) (map mpiece ps)) ≡ has_none (ss ++ flat_map (λ (q : Piece m.places.old). q.seats) ps)
       by [] e = e
       by (s ∷ ss) e = refl
 
-  pub chunks : (w : Bool) (ps : List (Piece m.old)) → ArePiecesOk ps → chunks_of m.new w (map mpiece ps) ≡ mk m (chunks_of m.old w ps)
+  pub chunks : (w : Bool) (ps : List (Piece m.places.old)) → ArePiecesOk ps → chunks_of m.places.new w (map mpiece ps) ≡ mk m (chunks_of m.places.old w ps)
   chunks w [] h = refl
   chunks w (p ∷ ps) h =
       let chunk : Bool → Option Chunk = λ none. Some (record { content = content.Content; has_previous = w; has_next = not none }) in
-      let none = has_none (flat_map (λ (q : Piece m.old). q.seats) ps) in
+      let none = has_none (flat_map (λ (q : Piece m.places.old). q.seats) ps) in
       two _ _ _ _ _ refl
-      (two _ _ _ _ _ (ap (λ n. chunk_span m.new (chunk n) name.Data (ms m p.seats) []) (none-left ps) ∙ span m (chunk none) name.Data _ _ [] [] (whole m p.seats h.0) refl) (chunks true ps h.1))
+      (two _ _ _ _ _ (ap (λ n. chunk_span m.places.new (chunk n) name.Data (ms m p.seats) []) (none-left ps) ∙ span m (chunk none) name.Data _ _ [] [] (whole m p.seats h.0) refl) (chunks true ps h.1))
 
   -- the first of them stands behind nothing
-  pub first-chunks : (js : List (Piece m.new)) (ps : List (Piece m.old)) → ArePieces js ps
-      → elim js [ [] ↦ [] | p ∷ qs ↦ chunks_of m.new false (record p { before = [] } ∷ qs) ] ≡ mk m (elim ps [ [] ↦ [] | p ∷ qs ↦ chunks_of m.old false (record p { before = [] } ∷ qs) ])
-  first-chunks js ps h = ap (λ (l : List (Piece m.new)). elim l [ [] ↦ [] | p ∷ qs ↦ chunks_of m.new false (record p { before = [] } ∷ qs) ]) h.are ∙ by ps h.ok
+  pub first-chunks : (js : List (Piece m.places.new)) (ps : List (Piece m.places.old)) → ArePieces js ps
+      → elim js [ [] ↦ [] | p ∷ qs ↦ chunks_of m.places.new false (record p { before = [] } ∷ qs) ] ≡ mk m (elim ps [ [] ↦ [] | p ∷ qs ↦ chunks_of m.places.old false (record p { before = [] } ∷ qs) ])
+  first-chunks js ps h = ap (λ (l : List (Piece m.places.new)). elim l [ [] ↦ [] | p ∷ qs ↦ chunks_of m.places.new false (record p { before = [] } ∷ qs) ]) h.are ∙ by ps h.ok
     where
-      by : (ps : List (Piece m.old)) → ArePiecesOk ps
-          → elim (map mpiece ps) [ [] ↦ [] | p ∷ qs ↦ chunks_of m.new false (record p { before = [] } ∷ qs) ] ≡ mk m (elim ps [ [] ↦ [] | p ∷ qs ↦ chunks_of m.old false (record p { before = [] } ∷ qs) ])
+      by : (ps : List (Piece m.places.old)) → ArePiecesOk ps
+          → elim (map mpiece ps) [ [] ↦ [] | p ∷ qs ↦ chunks_of m.places.new false (record p { before = [] } ∷ qs) ] ≡ mk m (elim ps [ [] ↦ [] | p ∷ qs ↦ chunks_of m.places.old false (record p { before = [] } ∷ qs) ])
       by [] k = refl
       by (p ∷ qs) k = chunks false (record p { before = [] } ∷ qs) k
 
@@ -172,12 +172,12 @@ module _ (m : Shift) where
   pub held-same : (part : Part) → is_held (mpart m part) ≡ is_held part
   held-same part = ap (λ (r : Row). not part.first.is_blank && holds_ending r.leaf) (last-same part.first part.more)
 
-  pub stretch : (part : Part) → IsPartOk m part → ArePieces (joined_pieces m.new (pieces_of m.new (is_held (mpart m part)) (mr m part.first) (mrs m part.more))) (joined_pieces m.old (pieces_of m.old (is_held part) part.first part.more))
+  pub stretch : (part : Part) → IsPartOk m part → ArePieces (joined_pieces m.places.new (pieces_of m.places.new (is_held (mpart m part)) (mr m part.first) (mrs m part.more))) (joined_pieces m.places.old (pieces_of m.places.old (is_held part) part.first part.more))
   stretch part h =
       let js = joined-lines (is_held part) part.first part.more h.0 h.1 in
-      record { are = ap (λ b. joined_pieces m.new (pieces_of m.new b (mr m part.first) (mrs m part.more))) (held-same part) ∙ js.are; ok = js.ok }
+      record { are = ap (λ b. joined_pieces m.places.new (pieces_of m.places.new b (mr m part.first) (mrs m part.more))) (held-same part) ∙ js.are; ok = js.ok }
 
-  pub inside : (part : Part) → IsPartOk m part → inside_of m.new (mpart m part) ≡ mk m (inside_of m.old part)
+  pub inside : (part : Part) → IsPartOk m part → inside_of m.places.new (mpart m part) ≡ mk m (inside_of m.places.old part)
   inside part h =
       let r = part.first in
       let n = length part.stands in

@@ -55,16 +55,18 @@ module _ (a b : List ℕ) (h : begins_line b a ≡ true) where
   -- places of the first part stay
   abbrev pub staying : Moving
   staying = record {
-    old = a;
-    new = a ++ b;
+    places = record {
+      old = a;
+      new = a ++ b;
+      to = λ p. p;
+      link = λ l. l;
+      unlinked = refl;
+      known = λ p. nat_lt p.index (length a);
+      shows = λ p k. let lt = is-before p k in shown-front a b h p (omega (arith, lt));
+    };
     bytes = 0;
-    to = λ p. p;
-    link = λ l. l;
-    known = λ p. nat_lt p.index (length a);
-    unlinked = refl;
     index = λ p. omega arith;
     further = λ n p. refl;
-    shows = λ p k. let lt = is-before p k in shown-front a b h p (omega (arith, lt));
     stays = λ p k. lt-ltb (shown a p).index (length a) (shown-before a p (length a) (is-before p k));
     byte = λ p k. get-front a b p.index (is-before p k);
     before = λ p k. let lt = is-before p k in ap (λ front. class_at_end front (last_char front)) (take-append-le p.index a b (omega (arith, lt)));
@@ -76,16 +78,18 @@ module _ (a b : List ℕ) (h : begins_line b a ≡ true) where
   -- places of the second go behind the first
   abbrev pub going : (lines events : ℕ) → Moving
   going lines events = record {
-    old = b;
-    new = a ++ b;
+    places = record {
+      old = b;
+      new = a ++ b;
+      to = moved_point lines (length a);
+      link = moved_link events;
+      unlinked = refl;
+      known = λ p. true;
+      shows = λ p k. shown-behind a b h lines p;
+    };
     bytes = length a;
-    to = moved_point lines (length a);
-    link = moved_link events;
-    known = λ p. true;
-    unlinked = refl;
     index = λ p. refl;
     further = λ n p. let e : (p.index + n) + length a ≡ (p.index + length a) + n = omega arith in (λ i. let q : Point = record { line = p.line + lines; column = p.column + n; index = e i; vs = p.vs } in q);
-    shows = λ p k. shown-behind a b h lines p;
     stays = λ p k. refl;
     byte = λ p k. let e : p.index + length a ≡ length a + p.index = omega arith in ap (slice_get (a ++ b)) e ∙ slice_get-behind a b p.index;
     before = λ p k. class-before-behind a b h p.index;

@@ -21,7 +21,7 @@ same-test a b n = grind (arith)
 
 module _ (m : Moving) where
   abbrev pub moved_run : Run → Run
-  moved_run r = record r { start = m.to r.start }
+  moved_run r = record r { start = m.places.to r.start }
 
   abbrev pub moved_runs : List Run → List Run
   moved_runs rs = map moved_run rs
@@ -31,32 +31,32 @@ module _ (m : Moving) where
   shifted (Some i) = Some (i + m.bytes)
 
   -- ---- the runs of events
-  beside-moved : (o : Option ℕ) (p : Point) (c d : Kind) → c ≡ d → class_beside (shifted o) (m.to p).index c ≡ class_beside o p.index d
+  beside-moved : (o : Option ℕ) (p : Point) (c d : Kind) → c ≡ d → class_beside (shifted o) (m.places.to p).index c ≡ class_beside o p.index d
   beside-moved None p c d e = refl
   beside-moved (Some j) p c d e =
       let at = m.index p in
-      let test : ((j + m.bytes) == (m.to p).index) ≡ (j == p.index) = ap (λ i. (j + m.bytes) == i) at ∙ same-test j p.index m.bytes in
+      let test : ((j + m.bytes) == (m.places.to p).index) ≡ (j == p.index) = ap (λ i. (j + m.bytes) == i) at ∙ same-test j p.index m.bytes in
       (λ i. cond (test i) (e i) Whitespace)
 
   next-moved : (es : List Event) → index_of_event (slice_get (moved_events m es) 0) ≡ shifted (index_of_event (slice_get es 0))
   next-moved [] = refl
   next-moved (e ∷ es) = ap (λ i. Some i) (m.index e.point)
 
-  length-moved : (p q : Point) → (m.to q).index - (m.to p).index ≡ q.index - p.index
+  length-moved : (p q : Point) → (m.places.to q).index - (m.places.to p).index ≡ q.index - p.index
   length-moved p q = let a = m.index p in let b = m.index q in omega (arith, a, b)
 
-  run-moved : (i : ℕ) (e f : Event) (before before2 behind behind2 : Option ℕ) → m.known e.point ≡ true → m.known f.point ≡ true → before2 ≡ shifted before → behind2 ≡ shifted behind
-      → run_at m.new i (moved_event m e) (moved_event m f) before2 behind2 ≡ moved_run (run_at m.old i e f before behind)
+  run-moved : (i : ℕ) (e f : Event) (before before2 behind behind2 : Option ℕ) → m.places.known e.point ≡ true → m.places.known f.point ≡ true → before2 ≡ shifted before → behind2 ≡ shifted behind
+      → run_at m.places.new i (moved_event m e) (moved_event m f) before2 behind2 ≡ moved_run (run_at m.places.old i e f before behind)
   run-moved i e f before before2 behind behind2 h k is was =
-      let left = ap (λ o. class_beside o (m.to e.point).index (class_before m.new (m.to e.point).index)) is ∙ beside-moved before e.point _ _ (m.before e.point h) in
-      let right = ap (λ o. class_beside o (m.to f.point).index (class_after m.new (m.to f.point).index)) was ∙ beside-moved behind f.point _ _ (m.after f.point k) in
+      let left = ap (λ o. class_beside o (m.places.to e.point).index (class_before m.places.new (m.places.to e.point).index)) is ∙ beside-moved before e.point _ _ (m.before e.point h) in
+      let right = ap (λ o. class_beside o (m.places.to f.point).index (class_after m.places.new (m.places.to f.point).index)) was ∙ beside-moved behind f.point _ _ (m.after f.point k) in
       let byte = m.byte e.point h in
       let size = length-moved e.point f.point in
       (λ d.
       let star = is_star_byte (byte d) in
       let r : Run = record {
         index = i;
-        start = m.to e.point;
+        start = m.places.to e.point;
         is_star = star;
         rest = size d % 3;
         opens = can_open star (left d) (right d);
@@ -66,7 +66,7 @@ module _ (m : Moving) where
         opened = [];
       } in r)
 
-  runs-from-moved : (es : List Event) (i depth : ℕ) (before before2 : Option ℕ) → before2 ≡ shifted before → AreKnown m es → runs_from m.new i depth before2 (moved_events m es) ≡ moved_runs (runs_from m.old i depth before es)
+  runs-from-moved : (es : List Event) (i depth : ℕ) (before before2 : Option ℕ) → before2 ≡ shifted before → AreKnown m es → runs_from m.places.new i depth before2 (moved_events m es) ≡ moved_runs (runs_from m.places.old i depth before es)
   runs-from-moved [] i depth before before2 is h = refl
   runs-from-moved (e ∷ []) i depth before before2 is h = refl
   runs-from-moved (e ∷ f ∷ es) i depth before before2 is h =
@@ -77,7 +77,7 @@ module _ (m : Moving) where
       by true r r2 x x2 y y2 p q s = (λ d. p d ∷ q d)
       by false r r2 x x2 y y2 p q s = s
 
-  pub runs-moved : (es : List Event) → AreKnown m es → runs_in m.new (moved_events m es) ≡ moved_runs (runs_in m.old es)
+  pub runs-moved : (es : List Event) → AreKnown m es → runs_in m.places.new (moved_events m es) ≡ moved_runs (runs_in m.places.old es)
   runs-moved es h = runs-from-moved es 0 0 None None refl h
 
   -- ---- their pairs
@@ -162,13 +162,13 @@ module _ (m : Moving) where
   paired-moved rs = ap (λ ps. all_in_pairs ps 0 (moved_runs rs)) (pairs-moved 0 [] rs) ∙ all-moved (pairs rs) 0 rs
 
   -- ---- emphasis
-  pub unlinked-moved : (kind : EventKind) (name : Name) (p : Point) → unlinked_event kind name (m.to p) ≡ moved_event m (unlinked_event kind name p)
-  unlinked-moved kind name p = let none = sym m.unlinked in (λ i. let e : Event = record { kind = kind; name = name; point = m.to p; link = none i } in e)
+  pub unlinked-moved : (kind : EventKind) (name : Name) (p : Point) → unlinked_event kind name (m.places.to p) ≡ moved_event m (unlinked_event kind name p)
+  unlinked-moved kind name p = let none = sym m.places.unlinked in (λ i. let e : Event = record { kind = kind; name = name; point = m.places.to p; link = none i } in e)
 
   pub join : (x y x2 y2 : List Event) → x2 ≡ moved_events m x → y2 ≡ moved_events m y → x2 ++ y2 ≡ moved_events m (x ++ y)
   join x y x2 y2 e f = (λ i. e i ++ f i) ∙ sym (map-append (moved_event m) x y)
 
-  closings-moved : (p : Point) (ss : List Bool) → closings (m.to p) ss ≡ moved_events m (closings p ss)
+  closings-moved : (p : Point) (ss : List Bool) → closings (m.places.to p) ss ≡ moved_events m (closings p ss)
   closings-moved p [] = refl
   closings-moved p (s ∷ ss) =
       let q = later (markers_of s) p in
@@ -177,10 +177,10 @@ module _ (m : Moving) where
       let exit = unlinked-moved Exit (sequence_name s) q in
       let outer = unlinked-moved Exit (outer_name s) q in
       let more = closings-moved q ss in
-      ap (λ q. unlinked_event Exit (inner_name s) (m.to p) ∷ unlinked_event Enter (sequence_name s) (m.to p) ∷ unlinked_event Exit (sequence_name s) q ∷ unlinked_event Exit (outer_name s) q ∷ closings q ss) (sym (m.further (markers_of s) p))
+      ap (λ q. unlinked_event Exit (inner_name s) (m.places.to p) ∷ unlinked_event Enter (sequence_name s) (m.places.to p) ∷ unlinked_event Exit (sequence_name s) q ∷ unlinked_event Exit (outer_name s) q ∷ closings q ss) (sym (m.further (markers_of s) p))
       ∙ (λ i. inner i ∷ enter i ∷ exit i ∷ outer i ∷ more i)
 
-  openings-moved : (p : Point) (ss : List Bool) → openings (m.to p) ss ≡ moved_events m (openings p ss)
+  openings-moved : (p : Point) (ss : List Bool) → openings (m.places.to p) ss ≡ moved_events m (openings p ss)
   openings-moved p [] = refl
   openings-moved p (s ∷ ss) =
       let q = later (markers_of s) p in
@@ -189,21 +189,21 @@ module _ (m : Moving) where
       let exit = unlinked-moved Exit (sequence_name s) q in
       let inner = unlinked-moved Enter (inner_name s) q in
       let more = openings-moved q ss in
-      ap (λ q. unlinked_event Enter (outer_name s) (m.to p) ∷ unlinked_event Enter (sequence_name s) (m.to p) ∷ unlinked_event Exit (sequence_name s) q ∷ unlinked_event Enter (inner_name s) q ∷ openings q ss) (sym (m.further (markers_of s) p))
+      ap (λ q. unlinked_event Enter (outer_name s) (m.places.to p) ∷ unlinked_event Enter (sequence_name s) (m.places.to p) ∷ unlinked_event Exit (sequence_name s) q ∷ unlinked_event Enter (inner_name s) q ∷ openings q ss) (sym (m.further (markers_of s) p))
       ∙ (λ i. outer i ∷ enter i ∷ exit i ∷ inner i ∷ more i)
 
-  data-moved : (p : Point) (n : ℕ) → data_of (m.to p) n ≡ moved_events m (data_of p n)
+  data-moved : (p : Point) (n : ℕ) → data_of (m.places.to p) n ≡ moved_events m (data_of p n)
   data-moved p zero = refl
   data-moved p (suc n) =
       let enter = unlinked-moved Enter Data p in
       let exit = unlinked-moved Exit Data (later (suc n) p) in
-      ap (λ q. unlinked_event Enter Data (m.to p) ∷ unlinked_event Exit Data q ∷ []) (sym (m.further (suc n) p)) ∙ (λ i. enter i ∷ exit i ∷ [])
+      ap (λ q. unlinked_event Enter Data (m.places.to p) ∷ unlinked_event Exit Data q ∷ []) (sym (m.further (suc n) p)) ∙ (λ i. enter i ∷ exit i ∷ [])
 
   tail-moved : (r : Run) → tail_events (moved_run r) ≡ moved_events m (tail_events r)
   tail-moved r =
       let p = later (markers_of_all r.closed) r.start in
       ap (λ q. data_of q r.left ++ openings (later r.left q) r.opened) (sym (m.further (markers_of_all r.closed) r.start))
-      ∙ ap (λ q. data_of (m.to p) r.left ++ openings q r.opened) (sym (m.further r.left p))
+      ∙ ap (λ q. data_of (m.places.to p) r.left ++ openings q r.opened) (sym (m.further r.left p))
       ∙ join (data_of p r.left) (openings (later r.left p) r.opened) _ _ (data-moved p r.left) (openings-moved (later r.left p) r.opened)
 
   module _ (texts texts2 : ℕ → List Event) (same : (i : ℕ) → texts2 i ≡ moved_events m (texts i)) where

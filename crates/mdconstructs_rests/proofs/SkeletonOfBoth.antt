@@ -32,7 +32,7 @@ use Rattle.mdconstructs_rests.proofs.Shown.{shown-behind, shown-front, within}
 use Rattle.mdconstructs_rests.proofs.SkeletonLinks.{document-alone}
 
 -- ---- sections of which lines and places are where they are
-module _ (m : Shift) (to-is : (p : Point) → m.to p ≡ p) (number-is : (n : ℕ) → m.number n ≡ n) where
+module _ (m : Shift) (to-is : (p : Point) → m.places.to p ≡ p) (number-is : (n : ℕ) → m.number n ≡ n) where
   line-is : (line : Line) → ms m line ≡ line
   line-is line = map-same _ (λ (s : Seat). (let p = to-is s.point in let q = to-is s.end in (λ i. let r : Seat = record { byte = s.byte; point = p i; end = q i } in r))) line
 
@@ -75,22 +75,22 @@ module _ (m : Shift) (t : ℕ) (bytes : List ℕ) (known : AreOk m (virtual t by
   first-ok [] h = tt
   first-ok (r ∷ rs) h = (record { seats = h.0.seats; some = h.0.some; room = h.0.room }, h.1)
 
-  whole-marks : sections_marks m.new (map (msection m) (sections on document)) ≡ mk m (sections_marks m.old (sections on document))
+  whole-marks : sections_marks m.places.new (map (msection m) (sections on document)) ≡ mk m (sections_marks m.places.old (sections on document))
   whole-marks = sections-marks-moved m (sections on document) (in-sections (IsRowOk m) on document document-ok)
 
-  first-moved : sections_marks m.new (map (msection m) (sections on (first_stays false document))) ≡ mk m (sections_marks m.old (sections on document))
+  first-moved : sections_marks m.places.new (map (msection m) (sections on (first_stays false document))) ≡ mk m (sections_marks m.places.old (sections on document))
   first-moved =
       let rs = first_stays false document in
-      sections-marks-moved m (sections on rs) (in-sections (IsRowOk m) on rs (first-ok document document-ok)) ∙ ap (mk m) (first-marks on false m.old document)
+      sections-marks-moved m (sections on rs) (in-sections (IsRowOk m) on rs (first-ok document document-ok)) ∙ ap (mk m) (first-marks on false m.places.old document)
 
-any-known : (m : Shift) → ((p : Point) → m.known p ≡ true) → (seats : List Seat) → AreOk m seats
+any-known : (m : Shift) → ((p : Point) → m.places.known p ≡ true) → (seats : List Seat) → AreOk m seats
 any-known m h [] = tt
 any-known m h (s ∷ ss) = ((h s.point, h s.end), any-known m h ss)
 
 -- ---- marks have no link
 module _ (b : List ℕ) where
   bare : Shift
-  bare = record { old = b; new = b; to = λ p. p; link = λ l. None; unlinked = refl; known = λ p. true; shows = λ p k. refl; number = λ n. n; same = λ i j. refl }
+  bare = record { places = record { old = b; new = b; to = λ p. p; link = λ l. None; unlinked = refl; known = λ p. true; shows = λ p k. refl }; number = λ n. n; same = λ i j. refl }
 
   no-link : (marks : List Mark) → AllByRecursion HasNoLink (map (λ (q : Mark). let e : Event = record q.0 { link = None } in let r : Mark = (e, q.1) in r) marks)
   no-link [] = tt
@@ -108,13 +108,15 @@ module _ (b : List ℕ) where
 module _ (a b : List ℕ) (h : begins_line b a ≡ true) where
   stays : Shift
   stays = record {
-    old = a;
-    new = a ++ b;
-    to = λ p. p;
-    link = λ l. l;
-    unlinked = refl;
-    known = λ p. nat_le p.index (length a);
-    shows = λ p k. shown-front a b h p (leb-true p.index (length a) k);
+    places = record {
+      old = a;
+      new = a ++ b;
+      to = λ p. p;
+      link = λ l. l;
+      unlinked = refl;
+      known = λ p. nat_le p.index (length a);
+      shows = λ p k. shown-front a b h p (leb-true p.index (length a) k);
+    };
     number = λ n. n;
     same = λ i j. refl;
   }
@@ -148,13 +150,15 @@ module _ (a b : List ℕ) (h : begins_line b a ≡ true) where
 
   goes : Shift
   goes = record {
-    old = b;
-    new = a ++ b;
-    to = moved_point (line_endings a) (length a);
-    link = λ l. l;
-    unlinked = refl;
-    known = λ p. true;
-    shows = λ p k. shown-behind a b h (line_endings a) p;
+    places = record {
+      old = b;
+      new = a ++ b;
+      to = moved_point (line_endings a) (length a);
+      link = λ l. l;
+      unlinked = refl;
+      known = λ p. true;
+      shows = λ p k. shown-behind a b h (line_endings a) p;
+    };
     number = λ n. n + line_endings a;
     same = same-number (line_endings a);
   }

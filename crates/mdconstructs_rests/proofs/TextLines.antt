@@ -10,52 +10,31 @@ use Rattle.mdconstructs_flow_read.proofs.Marks.Cuts.{leaf-blocks-lines}
 use Rattle.mdconstructs_flow_read.specs.BlockLines.{block_lines}
 use Rattle.mdconstructs_flow_read.specs.LeafBlocks.{LeafBlock, Line, leaf_blocks}
 use Rattle.mdconstructs_flow_read.specs.LeafEvents.{body}
+pub use Rattle.mdconstructs_document_laws.proofs.InnerTexts.{AnySeat, AreInner, AreTextLines, inner-text, texts-front}
+use Rattle.mdconstructs_document_laws.proofs.InnerTexts.{any-lines}
 use Rattle.mdconstructs_rests.specs.Moved.{begins_line}
 use Rattle.mdconstructs_rests.specs.ReadTexts.{StandsBefore}
 use Rattle.mdconstructs_rests.proofs.Virtual.{step}
 
 module _ (Inner : Seat → Type 0) where
-  abbrev pub AreInner : List Seat → Type 0
-  AreInner seats = AllByRecursion Inner seats
-
-  -- of each line but the last all virtual bytes are inner ones; of the last those of its text
-  abbrev pub AreTextLines : List Line → Type 0
-  AreTextLines [] = Unit {0}
-  AreTextLines (line ∷ []) = AreInner (line_text line)
-  AreTextLines (line ∷ next ∷ lines) = AreInner line × AreTextLines (next ∷ lines)
-
-  pub inner-text : (s : List Seat) → AreInner s → AreInner (line_text s)
-  inner-text [] h = tt
-  inner-text (x ∷ s) h = by (not (is_line_ending x)) (inner-text s h.1)
-    where
-      by : (c : Bool) → AreInner (line_text s) → AreInner (cond c (x ∷ line_text s) (line_text s))
-      by true k = (h.0, k)
-      by false k = k
-
-  pub texts-front : (xs ys : List Line) → AreTextLines (xs ++ ys) → AreTextLines xs
-  texts-front [] ys h = tt
-  texts-front (x ∷ []) [] h = h
-  texts-front (x ∷ []) (y ∷ ys) h = inner-text x h.0
-  texts-front (x ∷ next ∷ xs) ys h = (h.0, texts-front (next ∷ xs) ys h.1)
-
-  pub texts-back : (xs ys : List Line) → AreTextLines (xs ++ ys) → AreTextLines ys
+  pub texts-back : (xs ys : List Line) → AreTextLines Inner (xs ++ ys) → AreTextLines Inner ys
   texts-back [] ys h = h
   texts-back (x ∷ []) [] h = tt
   texts-back (x ∷ []) (y ∷ ys) h = h.1
   texts-back (x ∷ next ∷ xs) ys h = texts-back (next ∷ xs) ys h.1
 
-  pub inner-body : (lines : List Line) → AreTextLines lines → AreInner (body lines)
+  pub inner-body : (lines : List Line) → AreTextLines Inner lines → AreInner Inner (body lines)
   inner-body [] h = tt
   inner-body (line ∷ []) h = h
   inner-body (line ∷ next ∷ lines) h = every-append Inner line (body (next ∷ lines)) h.0 (inner-body (next ∷ lines) h.1)
 
-  of-blocks : (blocks : List LeafBlock) → AreTextLines (flat_map block_lines blocks) → AllByRecursion (λ b. AreTextLines (block_lines b)) blocks
+  of-blocks : (blocks : List LeafBlock) → AreTextLines Inner (flat_map block_lines blocks) → AllByRecursion (λ b. AreTextLines Inner (block_lines b)) blocks
   of-blocks [] h = tt
-  of-blocks (b ∷ blocks) h = (texts-front (block_lines b) (flat_map block_lines blocks) h, of-blocks blocks (texts-back (block_lines b) (flat_map block_lines blocks) h))
+  of-blocks (b ∷ blocks) h = (texts-front Inner (block_lines b) (flat_map block_lines blocks) h, of-blocks blocks (texts-back (block_lines b) (flat_map block_lines blocks) h))
 
   -- so it is in the lines of each leaf block
-  pub text-blocks : (on : Constructs) (lines : List Line) → AreTextLines lines → AllByRecursion (λ b. AreTextLines (block_lines b)) (leaf_blocks on lines)
-  text-blocks on lines h = of-blocks (leaf_blocks on lines) (subst AreTextLines (sym (leaf-blocks-lines on lines)) h)
+  pub text-blocks : (on : Constructs) (lines : List Line) → AreTextLines Inner lines → AllByRecursion (λ b. AreTextLines Inner (block_lines b)) (leaf_blocks on lines)
+  text-blocks on lines h = of-blocks (leaf_blocks on lines) (subst (AreTextLines Inner) (sym (leaf-blocks-lines on lines)) h)
 
   -- ---- of virtual bytes of which all are inner ones, but for a line ending at the end
   abbrev pub AreTextSeats : List Seat → Type 0
@@ -67,42 +46,31 @@ module _ (Inner : Seat → Type 0) where
   behind-inner s [] h k = λ e. h
   behind-inner s (next ∷ ss) h k = (h, k)
 
-  text-one : (s : Seat) → (is_line_ending s ≡ false → Inner s) → AreInner (line_text (s ∷ []))
-  text-one s h = elim (is_line_ending s) as (λ c. is_line_ending s ≡ c → AreInner (cond (not c) (s ∷ []) [])) [ true ↦ λ e. tt | false ↦ λ e. (h e, tt) ] refl
+  text-one : (s : Seat) → (is_line_ending s ≡ false → Inner s) → AreInner Inner (line_text (s ∷ []))
+  text-one s h = elim (is_line_ending s) as (λ c. is_line_ending s ≡ c → AreInner Inner (cond (not c) (s ∷ []) [])) [ true ↦ λ e. tt | false ↦ λ e. (h e, tt) ] refl
 
-  text-more : (s : Seat) (line : List Seat) → Inner s → AreInner (line_text line) → AreInner (line_text (s ∷ line))
-  text-more s line h k = elim (is_line_ending s) as (λ c. AreInner (cond (not c) (s ∷ line_text line) (line_text line))) [ true ↦ k | false ↦ (h, k) ]
+  text-more : (s : Seat) (line : List Seat) → Inner s → AreInner Inner (line_text line) → AreInner Inner (line_text (s ∷ line))
+  text-more s line h k = elim (is_line_ending s) as (λ c. AreInner Inner (cond (not c) (s ∷ line_text line) (line_text line))) [ true ↦ k | false ↦ (h, k) ]
 
-  line-more : (s : Seat) (lines : List Line) → Inner s → AreTextLines lines → AreTextLines ((s ∷ []) ∷ lines)
+  line-more : (s : Seat) (lines : List Line) → Inner s → AreTextLines Inner lines → AreTextLines Inner ((s ∷ []) ∷ lines)
   line-more s [] h k = text-more s [] h tt
   line-more s (line ∷ lines) h k = ((h, tt), k)
 
-  joined-more : (s : Seat) (lines : List Line) → Inner s → AreTextLines lines → AreTextLines (joined s lines)
+  joined-more : (s : Seat) (lines : List Line) → Inner s → AreTextLines Inner lines → AreTextLines Inner (joined s lines)
   joined-more s [] h k = text-more s [] h tt
   joined-more s (line ∷ []) h k = text-more s line h k
   joined-more s (line ∷ next ∷ lines) h k = ((h, k.0), k.1)
 
-  pub lines-of-texts : (seats : List Seat) → AreTextSeats seats → AreTextLines (lines_in seats)
+  pub lines-of-texts : (seats : List Seat) → AreTextSeats seats → AreTextLines Inner (lines_in seats)
   lines-of-texts [] h = tt
-  lines-of-texts (s ∷ []) h = elim (is_line_ending s) as (λ c. AreTextLines (cond c ((s ∷ []) ∷ []) ((s ∷ []) ∷ []))) [ true ↦ text-one s h | false ↦ text-one s h ]
+  lines-of-texts (s ∷ []) h = elim (is_line_ending s) as (λ c. AreTextLines Inner (cond c ((s ∷ []) ∷ []) ((s ∷ []) ∷ []))) [ true ↦ text-one s h | false ↦ text-one s h ]
   lines-of-texts (s ∷ next ∷ ss) h = by (is_line_ending s) (lines-of-texts (next ∷ ss) h.1)
     where
-      by : (c : Bool) → AreTextLines (lines_in (next ∷ ss)) → AreTextLines (cond c ((s ∷ []) ∷ lines_in (next ∷ ss)) (joined s (lines_in (next ∷ ss))))
+      by : (c : Bool) → AreTextLines Inner (lines_in (next ∷ ss)) → AreTextLines Inner (cond c ((s ∷ []) ∷ lines_in (next ∷ ss)) (joined s (lines_in (next ∷ ss))))
       by true k = line-more s (lines_in (next ∷ ss)) h.0 k
       by false k = joined-more s (lines_in (next ∷ ss)) h.0 k
 
 -- ---- where all virtual bytes are inner ones
-abbrev pub AnySeat : Seat → Type 0
-AnySeat s = Unit {0}
-
-any-seats : (seats : List Seat) → AreInner AnySeat seats
-any-seats seats = every-all AnySeat (λ s. tt) seats
-
-any-lines : (lines : List Line) → AreTextLines AnySeat lines
-any-lines [] = tt
-any-lines (line ∷ []) = any-seats (line_text line)
-any-lines (line ∷ next ∷ lines) = (any-seats line, any-lines (next ∷ lines))
-
 pub any-blocks : (blocks : List LeafBlock) → AllByRecursion (λ b. AreTextLines AnySeat (block_lines b)) blocks
 any-blocks blocks = every-all (λ b. AreTextLines AnySeat (block_lines b)) (λ b. any-lines (block_lines b)) blocks
 
