@@ -17,8 +17,9 @@ use Rattle.mdconstructs_flow_read.specs.BlockLines.{block_lines}
 use Rattle.mdconstructs_flow_read.specs.LeafBlocks.{Line, LeafBlock, atx_heading, blank_line, block_of_kind, blocks_in, break_line, ends_text, further_code, lines_through, lines_until, text_of, underlined, fenced_code, html_block, indented_code, leaf_blocks, paragraph, setext_heading}
 use Rattle.mdconstructs_flow_read.specs.LeafEvents.{Chunk, Mark, chunk_span, flow_events, leaf_block_marks, leaf_blocks_marks, linked_from}
 use Rattle.mdconstructs_flow_read.specs.LineKinds.{LineKind, blank, closes, fence, heading, html, indented, line_kind, text, thematic_break, underline_rank}
-use Rattle.mdconstructs_document_laws.proofs.BlockWalk.{BlockWalk, MayBlock, block-are}
+use Rattle.mdconstructs_document_laws.proofs.BlockWalk.{MayBlock, block-are}
 use Rattle.mdconstructs_document_laws.proofs.InnerTexts.{AnySeat, any-lines}
+use Rattle.mdconstructs_document_laws.proofs.MarksWalk.{Walk}
 use Rattle.mdconstructs_document_laws.specs.BlockPlaces.{BlocksStandInLines, LeafBlocksStandInTexts, StandsAtOne}
 
 -- names do not matter
@@ -64,19 +65,18 @@ module _ (bytes : List ℕ) (Q : Seat → Type 0) where
       let last = last-end s ss q.0 q.1 in
       record { all = ((s, q.0, inl refl), every-append (λ m. Stands m.0) inside _ h.all ((last.0, last.1, inr (ap (shown bytes) last.2)), tt)) }
 
-  walk : BlockWalk bytes Are AnyName Q AnySeat
+  walk : Walk bytes Are AnyName Q
   walk = record {
     none = none;
     both = λ xs ys h k. both h k;
     over = λ n seats marks m q h. around None n seats marks q h;
-    chunk = λ c seats q i. around (Some c) name.Data seats [] q none;
     space = tt;
     line_ending = tt;
     blank_ending = tt;
   }
 
   in-block : (block : LeafBlock) → AllByRecursion Of (block_lines block) → Are (leaf_block_marks bytes block)
-  in-block block q = block-are bytes Are AnyName Q AnySeat walk block (any-block block) q (any-lines (block_lines block))
+  in-block block q = block-are bytes Are AnyName Q AnySeat walk (λ c seats k i. around (Some c) name.Data seats [] k none) block (any-block block) q (any-lines (block_lines block))
 
 -- the virtual bytes of lines are those of each line
 each-line : (Q : Seat → Type 0) (lines : List Line) → AllByRecursion Q (all_of lines) → AllByRecursion (AllByRecursion Q) lines

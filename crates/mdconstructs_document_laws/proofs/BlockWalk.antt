@@ -10,9 +10,10 @@ use Rattle.mdconstructs_machines.specs.Breaks.{is_white}
 use Rattle.mdconstructs_machines.specs.LineEvents.{all_of, ending_of, is_line_ending, line_text}
 use Rattle.mdconstructs_flow_read.specs.BlockLines.{block_lines}
 use Rattle.mdconstructs_flow_read.specs.LeafBlocks.{Line, LeafBlock, atx_heading, blank_line, break_line, bytes_of, fenced_code, html_block, indented_code, paragraph, setext_heading}
-use Rattle.mdconstructs_flow_read.specs.LeafEvents.{Chunk, Mark, block_span, body, break_marks, chunk_span, code_fenced_around, code_marks, fence_around, fenced_marks, heading_around, html_marks, last_end, leaf_block_marks, leaf_marks, line_end, lines_marks, sequence_marks, span_marks, string_chunk, text_chunk, text_marks, underline_marks, white}
+use Rattle.mdconstructs_flow_read.specs.LeafEvents.{Chunk, Mark, block_span, body, break_marks, chunk_span, code_fenced_around, code_marks, fence_around, fenced_marks, heading_around, html_marks, last_end, leaf_block_marks, leaf_marks, line_end, lines_marks, sequence_marks, span_marks, string_chunk, text_chunk, text_marks, underline_marks}
 use Rattle.mdconstructs_flow_read.specs.LineKinds.{Fence, heading_text, indent, run, unindented}
 use Rattle.mdconstructs_document_laws.proofs.InnerTexts.{AreTextLines, inner-text, texts-front}
+use Rattle.mdconstructs_document_laws.proofs.MarksWalk.{Walk, leafs, whites}
 
 -- ---- the names that spans of a block have
 module _ (May : Name → Type 0) where
@@ -34,17 +35,9 @@ module _ (May : Name → Type 0) where
   MayBlock (fenced_code f is_closed lines) = MayFence
   MayBlock (html_block kind is_closed lines) = May name.HtmlFlow × May name.HtmlFlowData
 
--- Lists of marks, made of spans over such virtual bytes, and of chunks of virtual bytes of texts
-pub record BlockWalk (bytes : List ℕ) (Are : List Mark → Type 0) (May : Name → Type 0) (Q Inner : Seat → Type 0) : Type 0 where
-  pub none : Are []
-  pub both : (xs ys : List Mark) → Are xs → Are ys → Are (xs ++ ys)
-  pub over : (n : Name) (seats : List Seat) (marks : List Mark) → May n → AllByRecursion Q seats → Are marks → Are (span_marks bytes n seats marks)
-  pub chunk : (c : Chunk) (seats : List Seat) → AllByRecursion Q seats → AllByRecursion Inner seats → Are (chunk_span bytes (Some c) name.Data seats [])
-  pub space : May name.SpaceOrTab
-  pub line_ending : May name.LineEnding
-  pub blank_ending : May name.BlankLineEnding
-
-module _ (bytes : List ℕ) (Are : List Mark → Type 0) (May : Name → Type 0) (Q Inner : Seat → Type 0) (w : BlockWalk bytes Are May Q Inner) where
+-- Lists of marks, where chunks are of such virtual bytes of texts
+module _ (bytes : List ℕ) (Are : List Mark → Type 0) (May : Name → Type 0) (Q Inner : Seat → Type 0) (w : Walk bytes Are May Q)
+    (chunk : (c : Chunk) (seats : List Seat) → AllByRecursion Q seats → AllByRecursion Inner seats → Are (chunk_span bytes (Some c) name.Data seats [])) where
   abbrev Of : List Seat → Type 0
   Of seats = AllByRecursion Q seats
 
@@ -78,28 +71,22 @@ module _ (bytes : List ℕ) (Are : List Mark → Type 0) (May : Name → Type 0)
   inner : (n k : ℕ) (seats : List Seat) → Inside seats → Inside (take n (drop k seats))
   inner n k seats i = every-take Inner n (drop k seats) (every-drop Inner k seats i)
 
-  leafs : (n : Name) (seats : List Seat) → May n → Of seats → Are (leaf_marks bytes n seats)
-  leafs n seats m q = w.over n seats [] m q w.none
-
-  whites : (seats : List Seat) → Of seats → Are (white bytes seats)
-  whites seats q = leafs name.SpaceOrTab seats w.space q
-
   endings : (line : Line) → Of line → Are (line_end bytes line)
-  endings line q = leafs name.LineEnding (ending_of line) w.line_ending (ending-of line q)
+  endings line q = leafs w name.LineEnding (ending_of line) w.line_ending (ending-of line q)
 
   sequences : (n : Name) (size : ℕ) (seats : List Seat) → May n → Of seats → Are (sequence_marks bytes n size seats)
   sequences n size seats m q =
       let columns = indent (bytes_of seats) in
-      w.both _ _ (whites (take columns seats) (front columns seats q))
-      (w.both _ _ (leafs n (take size (drop columns seats)) m (front size (drop columns seats) (back columns seats q))) (whites (drop (columns + size) seats) (back (columns + size) seats q)))
+      w.both _ _ (whites w (take columns seats) (front columns seats q))
+      (w.both _ _ (leafs w n (take size (drop columns seats)) m (front size (drop columns seats) (back columns seats q))) (whites w (drop (columns + size) seats) (back (columns + size) seats q)))
 
   breaks : (bound : ℕ) (seats : List Seat) → May name.ThematicBreakSequence → Of seats → Are (break_marks bytes bound seats)
   breaks zero seats m q = w.none
   breaks (suc bound) seats m q =
       let columns = indent (bytes_of seats) in
       let end = columns + prefix_len (λ b. not (is_white b)) (drop columns (bytes_of seats)) in
-      w.both _ _ (whites (take columns seats) (front columns seats q))
-      (w.both _ _ (leafs name.ThematicBreakSequence (take (end - columns) (drop columns seats)) m (front (end - columns) (drop columns seats) (back columns seats q))) (breaks bound (drop end seats) m (back end seats q)))
+      w.both _ _ (whites w (take columns seats) (front columns seats q))
+      (w.both _ _ (leafs w name.ThematicBreakSequence (take (end - columns) (drop columns seats)) m (front (end - columns) (drop columns seats) (back columns seats q))) (breaks bound (drop end seats) m (back end seats q)))
 
   headings : (seats : List Seat) → MayBlock May (atx_heading seats) → Of seats → Inside seats → Are (heading_around bytes (text_chunk bytes) seats)
   headings seats m q i =
@@ -110,7 +97,7 @@ module _ (bytes : List ℕ) (Are : List Mark → Type 0) (May : Name → Type 0)
       let text = take (end - start) (drop start seats) in
       let is = front (end - start) (drop start seats) (back start seats q) in
       w.both _ _ (sequences name.HeadingAtxSequence (run 35 (unindented t)) (take start seats) m.1 (front start seats q))
-      (w.both _ _ (w.over name.HeadingAtxText text _ m.2 is (w.chunk _ text is (inner (end - start) start seats i))) (sequences name.HeadingAtxSequence (run 35 (unindented (drop end t))) (drop end seats) m.1 (back end seats q)))
+      (w.both _ _ (w.over name.HeadingAtxText text _ m.2 is (chunk _ text is (inner (end - start) start seats i))) (sequences name.HeadingAtxSequence (run 35 (unindented (drop end t))) (drop end seats) m.1 (back end seats q)))
 
   fences : (size : ℕ) (seats : List Seat) → MayFence May → Of seats → Inside seats → Are (fence_around bytes (string_chunk bytes) size seats)
   fences size seats m q i =
@@ -126,16 +113,16 @@ module _ (bytes : List ℕ) (Are : List Mark → Type 0) (May : Name → Type 0)
       let b = back rest seats q in
       w.over name.CodeFencedFence seats _ m.fence q
       (w.both _ _ (sequences name.CodeFencedFenceSequence size (take start seats) m.sequence (front start seats q))
-      (w.both _ _ (w.over name.CodeFencedFenceInfo info _ m.info a (w.chunk _ info a (inner (word - start) start seats i)))
-      (w.both _ _ (whites gap (front (rest - word) (drop word seats) (back word seats q))) (w.over name.CodeFencedFenceMeta meta _ m.meta b (w.chunk _ meta b (every-drop Inner rest seats i))))))
+      (w.both _ _ (w.over name.CodeFencedFenceInfo info _ m.info a (chunk _ info a (inner (word - start) start seats i)))
+      (w.both _ _ (whites w gap (front (rest - word) (drop word seats) (back word seats q))) (w.over name.CodeFencedFenceMeta meta _ m.meta b (chunk _ meta b (every-drop Inner rest seats i))))))
 
   codes : (most : ℕ) (seats : List Seat) → May name.CodeFlowChunk → Of seats → Are (code_marks bytes most seats)
-  codes most seats m q = let n = min most (indent (bytes_of seats)) in w.both _ _ (whites (take n seats) (front n seats q)) (leafs name.CodeFlowChunk (drop n seats) m (back n seats q))
+  codes most seats m q = let n = min most (indent (bytes_of seats)) in w.both _ _ (whites w (take n seats) (front n seats q)) (leafs w name.CodeFlowChunk (drop n seats) m (back n seats q))
 
   texts : (has_previous : Bool) (lines : List Line) → OfLines lines → AreTextLines Inner lines → Are (text_marks bytes has_previous lines)
   texts has_previous [] q i = w.none
-  texts has_previous (line ∷ []) q i = w.chunk _ (line_text line) (text-of line q.0) i
-  texts has_previous (line ∷ next ∷ lines) q i = w.both _ _ (w.chunk _ line q.0 i.0) (texts true (next ∷ lines) q.1 i.1)
+  texts has_previous (line ∷ []) q i = chunk _ (line_text line) (text-of line q.0) i
+  texts has_previous (line ∷ next ∷ lines) q i = w.both _ _ (chunk _ line q.0 i.0) (texts true (next ∷ lines) q.1 i.1)
 
   open-end : (is_open : Bool) (line : Line) → Of line → Are (cond is_open (line_end bytes line) [])
   open-end true line q = endings line q
@@ -176,15 +163,15 @@ module _ (bytes : List ℕ) (Are : List Mark → Type 0) (May : Name → Type 0)
   htmls is_open [] m q = w.none
   htmls is_open (line ∷ lines) m q =
       let columns = indent (bytes_of (line_text line)) in
-      w.both _ _ (leafs name.HtmlFlowData (take columns line) m (front columns line q.0))
-      (in-lines (leaf_marks bytes name.HtmlFlowData) (λ seats s. leafs name.HtmlFlowData seats m s) is_open (drop columns line ∷ lines) (back columns line q.0, q.1))
+      w.both _ _ (leafs w name.HtmlFlowData (take columns line) m (front columns line q.0))
+      (in-lines (leaf_marks bytes name.HtmlFlowData) (λ seats s. leafs w name.HtmlFlowData seats m s) is_open (drop columns line ∷ lines) (back columns line q.0, q.1))
 
   underlines : (seats : List Seat) → May name.HeadingSetextUnderline → May name.HeadingSetextUnderlineSequence → Of seats → Are (underline_marks bytes seats)
   underlines seats m n q = w.over name.HeadingSetextUnderline seats _ m q (sequences name.HeadingSetextUnderlineSequence _ seats n q)
 
   -- The marks of a block have it
   pub block-are : (block : LeafBlock) → MayBlock May block → OfLines (block_lines block) → AreTextLines Inner (block_lines block) → Are (leaf_block_marks bytes block)
-  block-are (blank_line line) m q i = w.both _ _ (whites (line_text line) (text-of line q.0)) (leafs name.BlankLineEnding (ending_of line) w.blank_ending (ending-of line q.0))
+  block-are (blank_line line) m q i = w.both _ _ (whites w (line_text line) (text-of line q.0)) (leafs w name.BlankLineEnding (ending_of line) w.blank_ending (ending-of line q.0))
   block-are (break_line line) m q i = over-block name.ThematicBreak false (line ∷ []) _ m.0 q (breaks (length line) (line_text line) m.1 (text-of line q.0))
   block-are (atx_heading line) m q i = over-block name.HeadingAtx false (line ∷ []) _ m.0 q (headings (line_text line) m (text-of line q.0) i)
   block-are (paragraph lines) m q i = over-block name.Paragraph false lines _ m q (texts false lines q i)

@@ -15,9 +15,9 @@ use Rattle.mdconstructs_flow_read.specs.LeafBlocks.{Line, LeafBlock, atx_heading
 use Rattle.mdconstructs_flow_read.specs.LeafEvents.{Mark, flow_events, leaf_block_marks}
 use Rattle.mdconstructs_flow_read.specs.LineKinds.{LineKind, blank, fence, heading, html, indent, indented, is_atx_heading, is_blank_line, is_far, is_fence_of, is_thematic_break, is_underline_of_marks, kind_of_rest, line_kind, run, text, thematic_break, underline_rank, unindented}
 use Rattle.mdconstructs_document_laws.specs.Names.{may_be_named}
-use Rattle.mdconstructs_document_laws.proofs.BlockWalk.{BlockWalk, MayBlock, block-are}
+use Rattle.mdconstructs_document_laws.proofs.BlockWalk.{MayBlock, block-are}
 use Rattle.mdconstructs_document_laws.proofs.InnerTexts.{AnySeat, any-each, any-lines}
-use Rattle.mdconstructs_document_laws.proofs.Named.{Marked, Named, around, both, linked-named, marked-flat-by, none}
+use Rattle.mdconstructs_document_laws.proofs.Named.{Marked, Named, around, linked-named, marked-flat-by, names-walk, none}
 
 -- ---- a block's construct is on
 module _ (on : Constructs) where
@@ -100,17 +100,6 @@ module _ (on : Constructs) (bytes : List ℕ) where
   abbrev Are : List Mark → Type 0
   Are marks = Marked May marks
 
-  walk : BlockWalk bytes Are May AnySeat AnySeat
-  walk = record {
-    none = none;
-    both = λ xs ys h k. both h k;
-    over = λ n seats marks m q h. around bytes None n seats m h;
-    chunk = λ c seats q i. around bytes (Some c) name.Data seats refl none;
-    space = refl;
-    line_ending = refl;
-    blank_ending = refl;
-  }
-
   may-block : (block : LeafBlock) → IsOn on block → MayBlock May block
   may-block (blank_line line) h = tt
   may-block (break_line line) h = (h, h)
@@ -122,7 +111,7 @@ module _ (on : Constructs) (bytes : List ℕ) where
   may-block (html_block kind is_closed lines) h = (h, h)
 
   pub block-names : (block : LeafBlock) → IsOn on block → Are (leaf_block_marks bytes block)
-  block-names block h = block-are bytes Are May AnySeat AnySeat walk block (may-block block h) (any-each (block_lines block)) (any-lines (block_lines block))
+  block-names block h = block-are bytes Are May AnySeat AnySeat (names-walk May refl refl refl bytes) (λ c seats q i. around bytes (Some c) name.Data seats refl none) block (may-block block h) (any-each (block_lines block)) (any-lines (block_lines block))
 
   pub flow-named : (seats : List Seat) → Named May (flow_events on bytes seats)
   flow-named seats = linked-named 0 _ (marked-flat-by (IsOn on) (leaf_block_marks bytes) (leaf_blocks on (lines_in seats)) block-names (blocks-are-on on _ _))

@@ -9,7 +9,9 @@ use Rattle.markdown_base.specs.Virtual.{Seat}
 use Rattle.mdconstructs_machines.specs.LineEvents.{ending_of, line_text}
 use Rattle.mdconstructs_machines.specs.Spans.{leaf, span}
 use Rattle.mdconstructs_flow_read.specs.LeafBlocks.{Line}
-use Rattle.mdconstructs_flow_read.specs.LeafEvents.{Chunk, Mark, chunk_span, last_end, leaf_marks, linked_from, sequence_marks, span_marks, text_marks, white}
+use Rattle.mdconstructs_flow_read.specs.LeafEvents.{Chunk, Mark, chunk_span, last_end, leaf_marks, linked_from, sequence_marks, text_marks}
+use Rattle.mdconstructs_document_laws.proofs.InnerTexts.{AnySeat}
+use Rattle.mdconstructs_document_laws.proofs.MarksWalk.{Walk}
 
 module _ (P : Name → Type 0) where
   -- each event has a name of P
@@ -87,19 +89,18 @@ module _ {P : Name → Type 0} where
     pub leafed : (n : Name) (seats : List Seat) → P n → Named P (leaf bytes n seats)
     leafed n seats p = spanned n seats p no-events
 
--- ---- marks whose names may be those of white space too, by lists that are given
-module _ (P : Name → Type 0) (space : P name.SpaceOrTab) (bytes : List ℕ) where
-  pub together : (xs ys : List Mark) → Marked P xs → Marked P ys → Marked P (xs ++ ys)
-  together xs ys h k = both h k
+-- white space around signs
+pub sequences : (P : Name → Type 0) (space : P name.SpaceOrTab) (bytes : List ℕ) (n : Name) (size : ℕ) (seats : List Seat) → P n → Marked P (sequence_marks bytes n size seats)
+sequences P space bytes n size seats p = both (alone bytes name.SpaceOrTab _ space) (both (alone bytes n _ p) (alone bytes name.SpaceOrTab _ space))
 
-  pub over : (n : Name) (seats : List Seat) (inside : List Mark) → P n → Marked P inside → Marked P (span_marks bytes n seats inside)
-  over n seats inside p h = around bytes None n seats p h
-
-  pub leafs : (n : Name) (seats : List Seat) → P n → Marked P (leaf_marks bytes n seats)
-  leafs n seats p = alone bytes n seats p
-
-  pub whites : (seats : List Seat) → Marked P (white bytes seats)
-  whites seats = alone bytes name.SpaceOrTab seats space
-
-  pub sequences : (n : Name) (size : ℕ) (seats : List Seat) → P n → Marked P (sequence_marks bytes n size seats)
-  sequences n size seats p = both (whites _) (both (alone bytes n _ p) (whites _))
+-- ---- a walk by names
+module _ (P : Name → Type 0) (space : P name.SpaceOrTab) (line_ending : P name.LineEnding) (blank_ending : P name.BlankLineEnding) (bytes : List ℕ) where
+  pub names-walk : Walk bytes (Marked P) P AnySeat
+  names-walk = record {
+    none = none;
+    both = λ xs ys h k. both h k;
+    over = λ n seats inside m q h. around bytes None n seats m h;
+    space = space;
+    line_ending = line_ending;
+    blank_ending = blank_ending;
+  }

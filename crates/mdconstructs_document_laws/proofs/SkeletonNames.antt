@@ -17,7 +17,7 @@ use Rattle.mdconstructs_definitions.specs.Sections.{Inside, Section, defined, li
 use Rattle.mdconstructs_definitions.specs.Skeleton.{all_rows, sections_in_seats, sections_marks, skeleton}
 use Rattle.mdconstructs_document_laws.proofs.InnerTexts.{AnySeat, any-seats}
 use Rattle.mdconstructs_document_laws.proofs.MarksWalk.{Walk}
-use Rattle.mdconstructs_document_laws.proofs.Named.{Marked, Named, alone, around, both, none}
+use Rattle.mdconstructs_document_laws.proofs.Named.{Marked, Named, around, names-walk, none}
 use Rattle.mdconstructs_document_laws.proofs.PlainNames.{stands_bare}
 use Rattle.mdconstructs_document_laws.proofs.RowNames.{InsideIsOn, IsOn, PartIsOn, PrefixesAreOn, RowIsOn, SectionIsOn, SectionsAreOn, list-on, rows-on, sections-on}
 use Rattle.mdconstructs_document_laws.proofs.SkeletonWalk.{AreOfDefinition, InsideMay, MayHold, PartMay, PrefixesMay, RowAt, SectionMay, sections-are}
@@ -29,16 +29,8 @@ module _ (on : Constructs) (bytes : List ℕ) where
   abbrev Are : List Mark → Type 0
   Are marks = Marked May marks
 
-  walk : Walk bytes Are May
-  walk = record {
-    none = none;
-    both = λ xs ys h k. both h k;
-    mark = λ k n place m. record { all = (m, tt) };
-    over = λ n seats inside m h. around bytes None n seats m h;
-    space = refl;
-    line_ending = refl;
-    blank_ending = refl;
-  }
+  walk : Walk bytes Are May AnySeat
+  walk = names-walk May refl refl refl bytes
 
   -- ---- what containers, lines and sections have names of
   holds : (c : Container) → IsOn on c → MayHold May c
@@ -88,5 +80,5 @@ module _ (on : Constructs) (bytes : List ℕ) where
   pub skeleton-named : (seats : List Seat) → Named May (skeleton on bytes seats)
   skeleton-named seats =
       let ss = sections_in_seats on seats in
-      let are = sections-are bytes Are May walk AnySeat (λ seats h. alone bytes name.Data seats refl) (λ c seats. around bytes (Some c) name.Data seats refl none) ss (sections-may ss (sections-on on (rows on (lines_in seats)) (rows-on on (lines_in seats)))) in
+      let are = sections-are bytes Are May walk (λ k n place m. record { all = (m, tt) }) AnySeat (λ seats h. around bytes None name.Data seats refl none) (λ c seats. around bytes (Some c) name.Data seats refl none) ss (sections-may ss (sections-on on (rows on (lines_in seats)) (rows-on on (lines_in seats)))) in
       record { all = chained 0 None (sections_marks bytes (sections_in_seats on seats)) are.all }

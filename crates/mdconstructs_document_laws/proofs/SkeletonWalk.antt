@@ -3,6 +3,7 @@ use Rattle.std.proofs.Common.{ℕ, ◌+◌, ◌-◌, ◌==◌, List, [], ◌∷�
 use Rattle.std.proofs.lemmas.Bool.{cond_both}
 use Rattle.std.specs.List.{AllByRecursion, flat_map, prefix_len}
 use Rattle.markdown_base.proofs.Common.{every-append, every-drop, every-reverse, every-take}
+use Rattle.markdown_base.specs.declared.event.Kind.{Kind}
 use Rattle.markdown_base.specs.declared.event.Kind.TheVariants.{Enter, Exit}
 use Rattle.markdown_base.specs.declared.event.Name.{Name}
 use Rattle.markdown_base.specs.declared.event.Name.TheVariants as name
@@ -25,6 +26,7 @@ use Rattle.mdconstructs_definitions.specs.Definitions.{Place, StringLine, byte_a
 use Rattle.mdconstructs_definitions.specs.Definitions as definitions
 use Rattle.mdconstructs_definitions.specs.Sections.{Inside, Section, defined, lines}
 use Rattle.mdconstructs_definitions.specs.Skeleton.{all_rows, behind_definitions, behind_marks, inside_marks, section_marks, sections_marks}
+use Rattle.mdconstructs_document_laws.proofs.InnerTexts.{AnySeat, any-seats}
 use Rattle.mdconstructs_document_laws.proofs.MarksWalk.{Walk, leafs, whites}
 
 -- ---- the names that spans of a skeleton have
@@ -78,7 +80,8 @@ module _ (May : Name → Type 0) (At : Seat → Type 0) where
     pub inside : InsideMay s.part s.inside
 
 -- Lists of marks, where data is at such virtual bytes, and chunks anywhere
-module _ (bytes : List ℕ) (Are : List Mark → Type 0) (May : Name → Type 0) (w : Walk bytes Are May) (At : Seat → Type 0) (some-data : (seats : List Seat) → AllByRecursion At seats → Are (leaf_marks bytes name.Data seats))
+module _ (bytes : List ℕ) (Are : List Mark → Type 0) (May : Name → Type 0) (w : Walk bytes Are May AnySeat)
+    (mark : (k : Kind) (n : Name) (place : Point) → May n → Are ((event bytes k n place, None) ∷ [])) (At : Seat → Type 0) (some-data : (seats : List Seat) → AllByRecursion At seats → Are (leaf_marks bytes name.Data seats))
     (chunk : (c : Chunk) (seats : List Seat) → Are (chunk_span bytes (Some c) name.Data seats [])) where
   abbrev AreAt : List Seat → Type 0
   AreAt seats = AllByRecursion At seats
@@ -87,25 +90,31 @@ module _ (bytes : List ℕ) (Are : List Mark → Type 0) (May : Name → Type 0)
   nothing = w.none
 
   over : (n : Name) (seats : List Seat) {inside : List Mark} → May n → Are inside → Are (span_marks bytes n seats inside)
-  over n seats {inside} m h = w.over n seats inside m h
+  over n seats {inside} m h = w.over n seats inside m (any-seats seats) h
+
+  bare : (n : Name) (seats : List Seat) → May n → Are (leaf_marks bytes n seats)
+  bare n seats m = leafs w n seats m (any-seats seats)
+
+  spaces : (seats : List Seat) → Are (white bytes seats)
+  spaces seats = whites w seats (any-seats seats)
 
   -- ---- prefixes
   goings : (c : Container) (seats : List Seat) → MayHold May c → Are (going_marks bytes c seats)
-  goings (quote line) seats m = w.both _ _ (whites w _) (over name.BlockQuotePrefix _ m.1 (w.both _ _ (leafs w name.BlockQuoteMarker _ m.2) (whites w _)))
-  goings (item i) seats m = whites w seats
+  goings (quote line) seats m = w.both _ _ (spaces _) (over name.BlockQuotePrefix _ m.1 (w.both _ _ (bare name.BlockQuoteMarker _ m.2) (spaces _)))
+  goings (item i) seats m = spaces seats
 
   begins : (c : Container) (seats : List Seat) → MayHold May c → Are (begun_marks bytes c seats)
   begins (quote line) seats m = goings (quote line) seats m
-  begins (item i) seats m = w.both _ _ (whites w _) (over name.ListItemPrefix _ m.2 (w.both _ _ (leafs w name.ListItemValue _ m.3) (w.both _ _ (leafs w name.ListItemMarker _ m.4) (whites w _))))
+  begins (item i) seats m = w.both _ _ (spaces _) (over name.ListItemPrefix _ m.2 (w.both _ _ (bare name.ListItemValue _ m.3) (w.both _ _ (bare name.ListItemMarker _ m.4) (spaces _))))
 
   prefixes : (ps : List Prefix) (seats : List Seat) → PrefixesMay May ps → Are (prefixes_marks bytes ps seats)
   prefixes [] seats m = nothing
   prefixes (p ∷ ps) seats m = w.both _ _ (goings p.container (take p.size seats) m.0) (prefixes ps (drop p.size seats) m.1)
 
   enters : (c : Container) (place : Point) → MayHold May c → Are (enters_of bytes c place)
-  enters (quote line) place m = w.mark Enter name.BlockQuote place m.0
+  enters (quote line) place m = mark Enter name.BlockQuote place m.0
   enters (item i) place m =
-      w.both _ _ (cond_both (i.list == i.line) ((event bytes Enter (list_name i) place, None) ∷ []) [] Are (λ e. w.mark Enter (list_name i) place m.0) (λ e. nothing)) (w.mark Enter name.ListItem place m.1)
+      w.both _ _ (cond_both (i.list == i.line) ((event bytes Enter (list_name i) place, None) ∷ []) [] Are (λ e. mark Enter (list_name i) place m.0) (λ e. nothing)) (mark Enter name.ListItem place m.1)
 
   all-begun : (ps : List Prefix) (seats : List Seat) → PrefixesMay May ps → Are (begun_all bytes ps seats)
   all-begun [] seats m = nothing
@@ -134,7 +143,7 @@ module _ (bytes : List ℕ) (Are : List Mark → Type 0) (May : Name → Type 0)
   chunks has_previous (p ∷ ps) h = w.both _ _ h.0 (w.both _ _ (chunk _ p.seats) (chunks true ps h.1))
 
   insides : (part : Part) → PartMay May part → Are (inside_of bytes part)
-  insides part m = cond_both part.first.is_blank _ _ Are (λ e. whites w _) (λ e. by (joined_pieces bytes (pieces_of bytes (is_held part) part.first part.more)) (joins _ (pieces (is_held part) part.first part.more m.rows)))
+  insides part m = cond_both part.first.is_blank _ _ Are (λ e. spaces _) (λ e. by (joined_pieces bytes (pieces_of bytes (is_held part) part.first part.more)) (joins _ (pieces (is_held part) part.first part.more m.rows)))
     where
       by : (ps : List (Piece bytes)) → AllByRecursion PieceIs ps → Are (elim ps [ [] ↦ [] | p ∷ ps ↦ chunks_of bytes false (record p { before = [] } ∷ ps) ])
       by [] k = nothing
@@ -146,7 +155,7 @@ module _ (bytes : List ℕ) (Are : List Mark → Type 0) (May : Name → Type 0)
       by : (ps : List (Piece bytes)) → AllByRecursion PieceIs ps
           → Are (elim ps [ [] ↦ [] | p ∷ ps ↦ white bytes (take (indent (rest_of part.first)) p.seats) ++ chunks_of bytes false (record p { before = []; seats = drop (indent (rest_of part.first)) p.seats } ∷ ps) ])
       by [] k = nothing
-      by (p ∷ ps) k = w.both _ _ (whites w (take (indent (rest_of part.first)) p.seats)) (chunks false (record p { before = []; seats = drop (indent (rest_of part.first)) p.seats } ∷ ps) (nothing, k.1))
+      by (p ∷ ps) k = w.both _ _ (spaces (take (indent (rest_of part.first)) p.seats)) (chunks false (record p { before = []; seats = drop (indent (rest_of part.first)) p.seats } ∷ ps) (nothing, k.1))
 
   -- ---- definitions
   abbrev PlaceIs : Place → Type 0
@@ -175,10 +184,10 @@ module _ (bytes : List ℕ) (Are : List Mark → Type 0) (May : Name → Type 0)
   endings : (ps : List Place) → PlacesAre ps → Are (flat_map (definitions.ending_marks bytes) ps)
   endings [] h = nothing
   endings (byte_at s ∷ ps) h = w.both _ _ nothing (endings ps h.1)
-  endings (ending_at ending further marks ∷ ps) h = w.both _ _ (w.both _ _ (leafs w name.LineEnding ending w.line_ending) h.0) (endings ps h.1)
+  endings (ending_at ending further marks ∷ ps) h = w.both _ _ (w.both _ _ (bare name.LineEnding ending w.line_ending) h.0) (endings ps h.1)
 
   gaps : (ps : List Place) → PlacesAre ps → Are (gap_marks bytes ps)
-  gaps ps h = let n = prefix_len is_byte ps in w.both _ _ (whites w (seats_of (take n ps))) (w.both _ _ (endings (take 1 (drop n ps)) (every-take PlaceIs 1 (drop n ps) (every-drop PlaceIs n ps h))) (whites w (seats_of (drop (n + 1) ps))))
+  gaps ps h = let n = prefix_len is_byte ps in w.both _ _ (spaces (seats_of (take n ps))) (w.both _ _ (endings (take 1 (drop n ps)) (every-take PlaceIs 1 (drop n ps) (every-drop PlaceIs n ps h))) (spaces (seats_of (drop (n + 1) ps))))
 
   record LineIs (line : StringLine) : Type 0 where
     seats : AreAt line.seats
@@ -194,7 +203,7 @@ module _ (bytes : List ℕ) (Are : List Mark → Type 0) (May : Name → Type 0)
       by (line ∷ ls) k = (record { seats = (h.0, k.0.seats); behind = k.0.behind }, k.1)
 
   further : (seats : List Seat) → AreAt seats → Are (further_line bytes seats)
-  further seats i = w.both _ _ (whites w (take (indent (bytes_of seats)) seats)) (some-data (drop (indent (bytes_of seats)) seats) (every-drop At (indent (bytes_of seats)) seats i))
+  further seats i = w.both _ _ (spaces (take (indent (bytes_of seats)) seats)) (some-data (drop (indent (bytes_of seats)) seats) (every-drop At (indent (bytes_of seats)) seats i))
 
   of-lines : (is_first : Bool) (ls : List StringLine) → AllByRecursion LineIs ls → Are (line_marks bytes is_first ls)
   of-lines is_first [] h = nothing
@@ -204,10 +213,10 @@ module _ (bytes : List ℕ) (Are : List Mark → Type 0) (May : Name → Type 0)
   strings : (n : Name) (ps : List Place) → May n → PlacesAre ps → Are (string bytes n ps)
   strings n ps other h = over n (seats_of ps) other (of-lines true (string_lines ps) (string-lines-are ps h))
 
-  marked-are : (mark inside : Name) (ps : List Place) → May mark → May inside → PlacesAre ps → Are (marked bytes mark inside ps)
-  marked-are mark inside ps m i h =
+  marked-are : (sign inside : Name) (ps : List Place) → May sign → May inside → PlacesAre ps → Are (marked bytes sign inside ps)
+  marked-are sign inside ps m i h =
       let last = length ps - 1 in
-      w.both _ _ (leafs w mark (seats_of (definitions.between 0 1 ps)) m) (w.both _ _ (strings inside (definitions.between 1 last ps) i (some-places 1 last ps h)) (leafs w mark (seats_of (drop last ps)) m))
+      w.both _ _ (bare sign (seats_of (definitions.between 0 1 ps)) m) (w.both _ _ (strings inside (definitions.between 1 last ps) i (some-places 1 last ps h)) (bare sign (seats_of (drop last ps)) m))
 
   -- where definitions may be
   module _ (d : AreOfDefinition May) where
@@ -237,7 +246,7 @@ module _ (bytes : List ℕ) (Are : List Mark → Type 0) (May : Name → Type 0)
         let label = places_of q.label ps in
         w.both _ _ (gaps (definitions.between 0 q.label.from ps) (some-places 0 q.label.from ps h))
         (w.both _ _ (over name.DefinitionLabel (seats_of label) d.label (marked-are name.DefinitionLabelMarker name.DefinitionLabelString label d.label_marker d.label_string (some-places q.label.from (end q.label) ps h)))
-        (w.both _ _ (leafs w name.DefinitionMarker (seats_of (definitions.between (end q.label) (end q.label + 1) ps)) d.marker)
+        (w.both _ _ (bare name.DefinitionMarker (seats_of (definitions.between (end q.label) (end q.label + 1) ps)) d.marker)
         (w.both _ _ (gaps (definitions.between (end q.label + 1) q.destination.from ps) (some-places (end q.label + 1) q.destination.from ps h))
         (w.both _ _ (destinations (places_of q.destination ps) (some-places q.destination.from (end q.destination) ps h))
         (w.both _ _ (titles q ps h q.title)
@@ -263,7 +272,7 @@ module _ (bytes : List ℕ) (Are : List Mark → Type 0) (May : Name → Type 0)
 
   exit-marks : (fs : List Frame) (place : Point) → FramesMay May fs → Are (map (λ (f : Frame). (event bytes Exit f.name place, None)) fs)
   exit-marks [] place m = nothing
-  exit-marks (f ∷ fs) place m = w.both _ _ (w.mark Exit f.name place m.0) (exit-marks fs place m.1)
+  exit-marks (f ∷ fs) place m = w.both _ _ (mark Exit f.name place m.0) (exit-marks fs place m.1)
 
   all-exit : (fs : List Frame) (place : Point) → FramesMay May fs → Are (exits bytes fs place)
   all-exit fs place m = exit-marks (reverse fs) place (every-reverse (λ (f : Frame). May f.name) fs m)
@@ -271,7 +280,7 @@ module _ (bytes : List ℕ) (Are : List Mark → Type 0) (May : Name → Type 0)
   ends : (part : Part) → Are (ending_marks bytes part)
   ends part =
       cond_both (is_held part) [] _ Are (λ e. nothing)
-      (λ e. leafs w (cond part.first.is_blank name.BlankLineEnding name.LineEnding) (ending_of (last_line bytes part)) (cond_both part.first.is_blank name.BlankLineEnding name.LineEnding May (λ b. w.blank_ending) (λ b. w.line_ending)))
+      (λ e. bare (cond part.first.is_blank name.BlankLineEnding name.LineEnding) (ending_of (last_line bytes part)) (cond_both part.first.is_blank name.BlankLineEnding name.LineEnding May (λ b. w.blank_ending) (λ b. w.line_ending)))
 
   behind : (part : Part) (ss : List Section) → FramesMay May part.frames → AllByRecursion (SectionMay May At) ss → Are (behind_marks bytes part ss)
   behind part [] fs m = w.both _ _ (all-exit part.frames (end_of bytes part) fs) (ends part)
