@@ -17,8 +17,9 @@ use Rattle.mdconstructs_flow_read.specs.BlockLines.{block_lines}
 use Rattle.mdconstructs_flow_read.specs.LeafBlocks.{LeafBlock, atx_heading, blank_line, break_line, fenced_code, html_block, indented_code, leaf_blocks, paragraph, setext_heading}
 use Rattle.mdconstructs_flow_read.specs.LeafEvents.{Chunk, Mark, chunk_span, flow_events, leaf_block_marks, linked_from, span_marks}
 use Rattle.mdconstructs_documents.proofs.InContainers.Places.{EndsAt, last-end}
-use Rattle.mdconstructs_document_laws.proofs.BlockWalk.{BlockWalk, MayBlock, block-are}
+use Rattle.mdconstructs_document_laws.proofs.BlockWalk.{MayBlock, block-are}
 use Rattle.mdconstructs_document_laws.proofs.InnerTexts.{AnySeat, any-each}
+use Rattle.mdconstructs_document_laws.proofs.MarksWalk.{Walk}
 use Rattle.mdconstructs_rests.proofs.EventsLeft.{AtData, StandsAt}
 use Rattle.mdconstructs_rests.proofs.TextLines.{AreInner, AreTextLines, AreTextSeats, lines-of-texts, text-blocks}
 
@@ -48,12 +49,11 @@ module _ (At : Point → Type 0) (bytes : List ℕ) where
     all : AllByRecursion IsPlaced marks
 
   -- data stands where its virtual bytes do, and other spans anywhere
-  walk : BlockWalk bytes Are IsOther AnySeat Ends
+  walk : Walk bytes Are IsOther AnySeat
   walk = record {
     none = record { all = tt };
     both = λ xs ys h k. record { all = every-append IsPlaced xs ys h.all k.all };
     over = over;
-    chunk = chunk;
     space = refl;
     line_ending = refl;
     blank_ending = refl;
@@ -64,13 +64,13 @@ module _ (At : Point → Type 0) (bytes : List ℕ) where
       over n (s ∷ ss) marks other q h =
           record { all = ((refl, λ e. absurd (false≢true (sym other ∙ e))), every-append IsPlaced marks _ h.all ((refl, λ e. absurd (false≢true (sym other ∙ e))), tt)) }
 
-      chunk : (c : Chunk) (seats : List Seat) → AllByRecursion AnySeat seats → AreInner Ends seats → Are (chunk_span bytes (Some c) name.Data seats [])
-      chunk c [] q i = record { all = tt }
-      chunk c (s ∷ ss) q i = record { all = ((refl, λ e. i.0.0), ((refl, λ e. last-end At bytes s ss i), tt)) }
+  chunk : (c : Chunk) (seats : List Seat) → AllByRecursion AnySeat seats → AreInner Ends seats → Are (chunk_span bytes (Some c) name.Data seats [])
+  chunk c [] q i = record { all = tt }
+  chunk c (s ∷ ss) q i = record { all = ((refl, λ e. i.0.0), ((refl, λ e. last-end At bytes s ss i), tt)) }
 
   -- ---- blocks
   block-placed : (block : LeafBlock) → AreTextLines Ends (block_lines block) → Are (leaf_block_marks bytes block)
-  block-placed block i = block-are bytes Are IsOther AnySeat Ends walk block (other-block block) (any-each (block_lines block)) i
+  block-placed block i = block-are bytes Are IsOther AnySeat Ends walk chunk block (other-block block) (any-each (block_lines block)) i
 
   blocks-placed : (blocks : List LeafBlock) → AllByRecursion (λ b. AreTextLines Ends (block_lines b)) blocks → Are (flat_map (leaf_block_marks bytes) blocks)
   blocks-placed [] h = walk.none

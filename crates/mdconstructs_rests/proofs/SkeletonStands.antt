@@ -31,6 +31,7 @@ use Rattle.mdconstructs_definitions.specs.Skeleton.{all_rows, sections_marks}
 use Rattle.mdconstructs_definitions.proofs.Covered.{rows_of}
 use Rattle.mdconstructs_definitions.proofs.SectionTurns.{AreCut, all-of-sections, document-cut}
 use Rattle.mdconstructs_documents.proofs.InContainers.Places.{EndsAt, last-end}
+use Rattle.mdconstructs_document_laws.proofs.InnerTexts.{AnySeat}
 use Rattle.mdconstructs_document_laws.proofs.MarksWalk.{Walk}
 use Rattle.mdconstructs_document_laws.proofs.SkeletonWalk.{AreOfDefinition, InsideMay, MayHold, PrefixesMay, RowAt, SectionMay, sections-are}
 use Rattle.mdconstructs_rests.proofs.EventsLeft.{AtData}
@@ -137,20 +138,19 @@ module _ (At : Point → Type 0) (bytes : List ℕ) where
   record Are (marks : List Mark) : Type 0 where
     all : Stand At marks
 
-  walk : Walk bytes Are IsOther
+  walk : Walk bytes Are IsOther AnySeat
   walk = record {
     none = record { all = tt };
     both = λ xs ys h k. record { all = stand-both At xs ys h.all k.all };
-    mark = λ k n place other. record { all = ((λ e. absurd (false≢true (sym other ∙ e))), tt) };
     over = over;
     space = refl;
     line_ending = refl;
     blank_ending = refl;
   }
     where
-      over : (n : Name) (seats : List Seat) (inside : List Mark) → IsOther n → Are inside → Are (span_marks bytes n seats inside)
-      over n [] inside other h = h
-      over n (s ∷ ss) inside other h = record { all = ((λ e. absurd (false≢true (sym other ∙ e))), stand-both At inside _ h.all ((λ e. absurd (false≢true (sym other ∙ e))), tt)) }
+      over : (n : Name) (seats : List Seat) (inside : List Mark) → IsOther n → AllByRecursion AnySeat seats → Are inside → Are (span_marks bytes n seats inside)
+      over n [] inside other q h = h
+      over n (s ∷ ss) inside other q h = record { all = ((λ e. absurd (false≢true (sym other ∙ e))), stand-both At inside _ h.all ((λ e. absurd (false≢true (sym other ∙ e))), tt)) }
 
   some-data : (seats : List Seat) → AllByRecursion Ends seats → Are (leaf_marks bytes name.Data seats)
   some-data [] i = record { all = tt }
@@ -188,4 +188,4 @@ module _ (At : Point → Type 0) (bytes : List ℕ) where
       let ls = lines_in (virtual t bytes) in
       let at = rows-at (rows_of (sections on (rows on ls))) (subst (AllByRecursion (λ (line : Line). AllByRecursion Ends (line_text line))) (sym (all-of-sections bytes on ls)) h) in
       let ss = sections on (rows on ls) in
-      (sections-are bytes Are IsOther walk Ends some-data chunk ss (sections-may [] ss tt (document-cut bytes on ls (document_lines t bytes)) at)).all
+      (sections-are bytes Are IsOther walk (λ k n place other. record { all = ((λ e. absurd (false≢true (sym other ∙ e))), tt) }) Ends some-data chunk ss (sections-may [] ss tt (document-cut bytes on ls (document_lines t bytes)) at)).all
