@@ -1,10 +1,15 @@
 -- Lists of marks, made of spans over such virtual bytes that have such names, one behind another and one in another.
-use Rattle.std.proofs.Common.{ℕ, List, [], ◌++◌}
+use Rattle.std.proofs.Common.{ℕ, List, [], ◌∷◌, ◌++◌, None}
 use Rattle.std.specs.List.{AllByRecursion}
+use Rattle.markdown_base.specs.declared.event.Kind.{Kind}
+use Rattle.markdown_base.specs.declared.event.Kind.TheVariants.{Enter, Exit}
 use Rattle.markdown_base.specs.declared.event.Name.{Name}
 use Rattle.markdown_base.specs.declared.event.Name.TheVariants.{BlankLineEnding, LineEnding, SpaceOrTab}
-use Rattle.markdown_base.specs.Virtual.{Seat}
+use Rattle.markdown_base.specs.declared.event.Point.{Point}
+use Rattle.markdown_base.specs.Virtual.{Seat, end_after}
+use Rattle.mdconstructs_machines.specs.Spans.{event}
 use Rattle.mdconstructs_flow_read.specs.LeafEvents.{Mark, leaf_marks, span_marks, white}
+use Rattle.mdconstructs_document_laws.proofs.InnerTexts.{AnySeat}
 
 pub record Walk (bytes : List ℕ) (Are : List Mark → Type 0) (May : Name → Type 0) (Q : Seat → Type 0) : Type 0 where
   pub none : Are []
@@ -20,3 +25,12 @@ module _ {bytes : List ℕ} {Are : List Mark → Type 0} {May : Name → Type 0}
 
   pub whites : (seats : List Seat) → AllByRecursion Q seats → Are (white bytes seats)
   whites seats q = leafs SpaceOrTab seats w.space q
+
+-- where virtual bytes do not matter, a span is of its marks
+pub walk-of-marks : (bytes : List ℕ) (Are : List Mark → Type 0) (May : Name → Type 0) → Are [] → ((xs ys : List Mark) → Are xs → Are ys → Are (xs ++ ys))
+    → ((k : Kind) (n : Name) (place : Point) → May n → Are ((event bytes k n place, None) ∷ [])) → May SpaceOrTab → May LineEnding → May BlankLineEnding → Walk bytes Are May AnySeat
+walk-of-marks bytes Are May none both mark space line_ending blank_ending = record { none = none; both = both; over = over; space = space; line_ending = line_ending; blank_ending = blank_ending }
+  where
+    over : (n : Name) (seats : List Seat) (inside : List Mark) → May n → AllByRecursion AnySeat seats → Are inside → Are (span_marks bytes n seats inside)
+    over n [] inside m q h = h
+    over n (s ∷ ss) inside m q h = both (_ ∷ []) (inside ++ _ ∷ []) (mark Enter n s.point m) (both inside (_ ∷ []) h (mark Exit n (end_after s.end ss) m))

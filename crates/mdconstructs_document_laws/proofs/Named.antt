@@ -11,7 +11,7 @@ use Rattle.mdconstructs_machines.specs.Spans.{leaf, span}
 use Rattle.mdconstructs_flow_read.specs.LeafBlocks.{Line}
 use Rattle.mdconstructs_flow_read.specs.LeafEvents.{Chunk, Mark, chunk_span, last_end, leaf_marks, linked_from, sequence_marks, text_marks}
 use Rattle.mdconstructs_document_laws.proofs.InnerTexts.{AnySeat}
-use Rattle.mdconstructs_document_laws.proofs.MarksWalk.{Walk}
+use Rattle.mdconstructs_document_laws.proofs.MarksWalk.{Walk, walk-of-marks}
 
 module _ (P : Name → Type 0) where
   -- each event has a name of P
@@ -96,11 +96,4 @@ sequences P space bytes n size seats p = both (alone bytes name.SpaceOrTab _ spa
 -- ---- a walk by names
 module _ (P : Name → Type 0) (space : P name.SpaceOrTab) (line_ending : P name.LineEnding) (blank_ending : P name.BlankLineEnding) (bytes : List ℕ) where
   pub names-walk : Walk bytes (Marked P) P AnySeat
-  names-walk = record {
-    none = none;
-    both = λ xs ys h k. both h k;
-    over = λ n seats inside m q h. around bytes None n seats m h;
-    space = space;
-    line_ending = line_ending;
-    blank_ending = blank_ending;
-  }
+  names-walk = walk-of-marks bytes (Marked P) P none (λ xs ys h k. both h k) (λ k n place m. record { all = (m, tt) }) space line_ending blank_ending
