@@ -15,11 +15,11 @@ use Rattle.markdown_base.specs.declared.event.Point.{Point}
 use Rattle.mdconstructs_machines.specs.LineEvents.{lines_in}
 use Rattle.mdconstructs_flow_read.specs.BlockLines.{block_lines}
 use Rattle.mdconstructs_flow_read.specs.LeafBlocks.{LeafBlock, atx_heading, blank_line, break_line, fenced_code, html_block, indented_code, leaf_blocks, paragraph, setext_heading}
-use Rattle.mdconstructs_flow_read.specs.LeafEvents.{Chunk, Mark, chunk_span, flow_events, leaf_block_marks, linked_from, span_marks}
+use Rattle.mdconstructs_flow_read.specs.LeafEvents.{Chunk, Mark, chunk_span, flow_events, leaf_block_marks, linked_from}
 use Rattle.mdconstructs_documents.proofs.InContainers.Places.{EndsAt, last-end}
 use Rattle.mdconstructs_document_laws.proofs.BlockWalk.{MayBlock, block-are}
 use Rattle.mdconstructs_document_laws.proofs.InnerTexts.{AnySeat, any-each}
-use Rattle.mdconstructs_document_laws.proofs.MarksWalk.{Walk}
+use Rattle.mdconstructs_document_laws.proofs.MarksWalk.{Walk, walk-of-marks}
 use Rattle.mdconstructs_rests.proofs.EventsLeft.{AtData, StandsAt}
 use Rattle.mdconstructs_rests.proofs.TextLines.{AreInner, AreTextLines, AreTextSeats, lines-of-texts, text-blocks}
 
@@ -50,19 +50,9 @@ module _ (At : Point → Type 0) (bytes : List ℕ) where
 
   -- data stands where its virtual bytes do, and other spans anywhere
   walk : Walk bytes Are IsOther AnySeat
-  walk = record {
-    none = record { all = tt };
-    both = λ xs ys h k. record { all = every-append IsPlaced xs ys h.all k.all };
-    over = over;
-    space = refl;
-    line_ending = refl;
-    blank_ending = refl;
-  }
-    where
-      over : (n : Name) (seats : List Seat) (marks : List Mark) → IsOther n → AllByRecursion AnySeat seats → Are marks → Are (span_marks bytes n seats marks)
-      over n [] marks other q h = h
-      over n (s ∷ ss) marks other q h =
-          record { all = ((refl, λ e. absurd (false≢true (sym other ∙ e))), every-append IsPlaced marks _ h.all ((refl, λ e. absurd (false≢true (sym other ∙ e))), tt)) }
+  walk =
+      walk-of-marks bytes Are IsOther (record { all = tt }) (λ xs ys h k. record { all = every-append IsPlaced xs ys h.all k.all })
+      (λ k n place other. record { all = ((refl, λ e. absurd (false≢true (sym other ∙ e))), tt) }) refl refl refl
 
   chunk : (c : Chunk) (seats : List Seat) → AllByRecursion AnySeat seats → AreInner Ends seats → Are (chunk_span bytes (Some c) name.Data seats [])
   chunk c [] q i = record { all = tt }

@@ -11,6 +11,7 @@ use Rattle.markdown_base.specs.Virtual.{Seat, virtual}
 use Rattle.markdown_base.specs.declared.configuration.Constructs.{Constructs}
 use Rattle.markdown_base.specs.declared.event.Content.{Content}
 use Rattle.markdown_base.specs.declared.event.Event.{Event}
+use Rattle.markdown_base.specs.declared.event.Kind.{Kind}
 use Rattle.markdown_base.specs.declared.event.Name.{Name}
 use Rattle.markdown_base.specs.declared.event.Name.TheVariants as name
 use Rattle.markdown_base.specs.declared.event.Point.{Point}
@@ -18,8 +19,9 @@ use Rattle.markdown_edits.specs.Links.{content_at, content_of}
 use Rattle.markdown_edits.specs.Woven.{Change, is_removed}
 use Rattle.markdown_tokenizer.proofs.Positions.Order.{every-all, every-back, every-front}
 use Rattle.mdconstructs_machines.specs.LineEvents.{line_text, lines_in}
+use Rattle.mdconstructs_machines.specs.Spans.{event}
 use Rattle.mdconstructs_flow_read.specs.LeafBlocks.{Line}
-use Rattle.mdconstructs_flow_read.specs.LeafEvents.{Chunk, Mark, chunk_span, leaf_marks, span_marks}
+use Rattle.mdconstructs_flow_read.specs.LeafEvents.{Chunk, Mark, chunk_span, leaf_marks}
 use Rattle.mdconstructs_lines.specs.Containers.{Container, Item, Prefix, item, quote}
 use Rattle.mdconstructs_containers.proofs.FrameFacts.{Turn, all_entered, entered}
 use Rattle.mdconstructs_containers.proofs.SeatFacts.{document_lines}
@@ -32,7 +34,7 @@ use Rattle.mdconstructs_definitions.proofs.Covered.{rows_of}
 use Rattle.mdconstructs_definitions.proofs.SectionTurns.{AreCut, all-of-sections, document-cut}
 use Rattle.mdconstructs_documents.proofs.InContainers.Places.{EndsAt, last-end}
 use Rattle.mdconstructs_document_laws.proofs.InnerTexts.{AnySeat}
-use Rattle.mdconstructs_document_laws.proofs.MarksWalk.{Walk}
+use Rattle.mdconstructs_document_laws.proofs.MarksWalk.{Walk, walk-of-marks}
 use Rattle.mdconstructs_document_laws.proofs.SkeletonWalk.{AreOfDefinition, InsideMay, MayHold, PrefixesMay, RowAt, SectionMay, sections-are}
 use Rattle.mdconstructs_rests.proofs.EventsLeft.{AtData}
 
@@ -138,19 +140,11 @@ module _ (At : Point → Type 0) (bytes : List ℕ) where
   record Are (marks : List Mark) : Type 0 where
     all : Stand At marks
 
+  mark : (k : Kind) (n : Name) (place : Point) → IsOther n → Are ((event bytes k n place, None) ∷ [])
+  mark k n place other = record { all = ((λ e. absurd (false≢true (sym other ∙ e))), tt) }
+
   walk : Walk bytes Are IsOther AnySeat
-  walk = record {
-    none = record { all = tt };
-    both = λ xs ys h k. record { all = stand-both At xs ys h.all k.all };
-    over = over;
-    space = refl;
-    line_ending = refl;
-    blank_ending = refl;
-  }
-    where
-      over : (n : Name) (seats : List Seat) (inside : List Mark) → IsOther n → AllByRecursion AnySeat seats → Are inside → Are (span_marks bytes n seats inside)
-      over n [] inside other q h = h
-      over n (s ∷ ss) inside other q h = record { all = ((λ e. absurd (false≢true (sym other ∙ e))), stand-both At inside _ h.all ((λ e. absurd (false≢true (sym other ∙ e))), tt)) }
+  walk = walk-of-marks bytes Are IsOther (record { all = tt }) (λ xs ys h k. record { all = stand-both At xs ys h.all k.all }) mark refl refl refl
 
   some-data : (seats : List Seat) → AllByRecursion Ends seats → Are (leaf_marks bytes name.Data seats)
   some-data [] i = record { all = tt }
@@ -188,4 +182,4 @@ module _ (At : Point → Type 0) (bytes : List ℕ) where
       let ls = lines_in (virtual t bytes) in
       let at = rows-at (rows_of (sections on (rows on ls))) (subst (AllByRecursion (λ (line : Line). AllByRecursion Ends (line_text line))) (sym (all-of-sections bytes on ls)) h) in
       let ss = sections on (rows on ls) in
-      (sections-are bytes Are IsOther walk (λ k n place other. record { all = ((λ e. absurd (false≢true (sym other ∙ e))), tt) }) Ends some-data chunk ss (sections-may [] ss tt (document-cut bytes on ls (document_lines t bytes)) at)).all
+      (sections-are bytes Are IsOther walk mark Ends some-data chunk ss (sections-may [] ss tt (document-cut bytes on ls (document_lines t bytes)) at)).all
