@@ -21,12 +21,12 @@ module _ (bytes : List ℕ) where
   abbrev pub lone_chunk : List Seat → List Mark
   lone_chunk seats = chunk_span bytes (alone content.Content) name.Data seats []
 
-  chunk-whole : (seats : List Seat) → AreWhole (lone_chunk seats)
+  pub chunk-whole : (seats : List Seat) → AreWhole (lone_chunk seats)
   chunk-whole [] = record { runs = tt; tight = tt }
   chunk-whole (s ∷ ss) = record { runs = (refl, refl, (refl, tt)); tight = data_tight bytes (record { content = content.Content; has_previous = false; has_next = false }) (s ∷ ss) }
 
   -- what stands before and behind it is whole, if all is
-  apart : (before : List Mark) (s : Seat) (ss : List Seat) (rest : List Mark) → AreWhole (before ++ (lone_chunk (s ∷ ss) ++ rest)) → AreWhole before × AreWhole rest
+  pub apart : (before : List Mark) (s : Seat) (ss : List Seat) (rest : List Mark) → AreWhole (before ++ (lone_chunk (s ∷ ss) ++ rest)) → AreWhole before × AreWhole rest
   apart before s ss rest h =
       let enter : Event = event bytes Enter name.Data s.point in
       let exit : Event = event bytes Exit name.Data (end_after s.end ss) in

@@ -7,6 +7,7 @@ use Rattle.std.specs.List.{AllByRecursion, flat_map}
 use Rattle.std.specs.Prelude.{map}
 use Rattle.markdown_base.proofs.Common.{and-right, every-map}
 use Rattle.markdown_base.proofs.Facts.Bools.{and-left}
+use Rattle.markdown_base.specs.declared.configuration.Constructs.{Constructs}
 use Rattle.markdown_base.specs.declared.event.Name.TheVariants as name
 use Rattle.markdown_base.specs.Virtual.{Seat, virtual}
 use Rattle.markdown_tokenizer.proofs.Positions.Order.{every-back, every-front}
@@ -21,13 +22,13 @@ use Rattle.mdconstructs_flow_read.specs.LineKinds.{indent}
 use Rattle.mdconstructs_containers.proofs.FrameFacts.{none_is}
 use Rattle.mdconstructs_containers.proofs.SeatFacts.{take_text}
 use Rattle.mdconstructs_containers.specs.Prefixes.{columns_of, containers_of}
-use Rattle.mdconstructs_containers.specs.Rows.{Before, Row, closed, rest_of}
+use Rattle.mdconstructs_containers.specs.Rows.{Before, Row, closed, has_none, rest_of}
 use Rattle.mdconstructs_containers.specs.Skeleton.{Part, ending_marks, is_held, last_of}
 use Rattle.mdconstructs_definitions.specs.Rows.{Known, known_after, row_of, rows, rows_from}
 use Rattle.mdconstructs_definitions.specs.Sections.{Section, sections}
 use Rattle.mdconstructs_definitions.specs.Skeleton.{sections_marks}
-use Rattle.mdconstructs_rests.specs.DocumentRests.{document_rows, first_at_document_rest, goes_on_behind, is_at_document_rest, is_closed, known_at_start, known_behind, moved_prefix, moved_row}
-use Rattle.mdconstructs_rests.specs.JoinedStretches.{AllStay, ChunkSeam, IsBlankPart, IsSame, MarksJoin, MarksOfStretch, SectionSeam, SectionsJoin, at_top, chunk_seam, firsts, joined_part, marks_apart, marks_between, section_seam, sections_apart, stretch_chunk}
+use Rattle.mdconstructs_rests.specs.DocumentRests.{begins_at_document_rest, document_rows, first_at_document_rest, goes_on_behind, is_at_document_rest, is_closed, known_at_start, known_behind, moved_prefix, moved_row}
+use Rattle.mdconstructs_rests.specs.JoinedStretches.{AllStay, ChunkSeam, IsBlankPart, IsSame, SectionSeam, SectionsJoin, at_top, firsts, joined_part, marks_between, stretch_chunk}
 use Rattle.mdconstructs_rests.specs.Moved.{begins_line, line_endings}
 use Rattle.mdconstructs_rests.specs.MovedSections.{moved_section}
 use Rattle.mdconstructs_rests.proofs.DocumentBytes.{counted}
@@ -58,7 +59,7 @@ indent-few r e =
 
 module _ (bytes : List ℕ) where
   -- it does not matter what comes behind
-  white-same : (is_behind : Bool) (p q : Part) → q.first ≡ p.first → IsPlainRow p.first → IsWhole p.first.line → part_white bytes is_behind q ≡ part_white bytes is_behind p
+  pub white-same : (is_behind : Bool) (p q : Part) → q.first ≡ p.first → IsPlainRow p.first → IsWhole p.first.line → part_white bytes is_behind q ≡ part_white bytes is_behind p
   white-same false p q e h w = refl
   white-same true p q e h w =
       let n = indent (rest_of p.first) in
@@ -67,14 +68,14 @@ module _ (bytes : List ℕ) where
       ∙ ap (white bytes) (front-seats n (is_held q) p.first.line (lines_of q.more) w few ∙ sym (front-seats n (is_held p) p.first.line (lines_of p.more) w few))
 
   -- ---- what stands between
-  ending-is : (r : Row) (rs : List Row) → leaf_marks bytes name.LineEnding (ending_of (last_of r rs).line) ≡ last_end bytes (lines_of (r ∷ rs))
+  pub ending-is : (r : Row) (rs : List Row) → leaf_marks bytes name.LineEnding (ending_of (last_of r rs).line) ≡ last_end bytes (lines_of (r ∷ rs))
   ending-is r [] = refl
   ending-is r (q ∷ qs) = ending-is q qs
 
-  part-ending : (p : Part) → p.first.is_blank ≡ false → is_held p ≡ false → ending_marks bytes p ≡ last_end bytes (lines_of (p.first ∷ p.more))
+  pub part-ending : (p : Part) → p.first.is_blank ≡ false → is_held p ≡ false → ending_marks bytes p ≡ last_end bytes (lines_of (p.first ∷ p.more))
   part-ending p full held = (λ i. cond (held i) [] (leaf_marks bytes (cond (full i) name.BlankLineEnding name.LineEnding) (ending_of (last_of p.first p.more).line))) ∙ ending-is p.first p.more
 
-  blanks-are : (rs : List Row) → flat_map (blank_marks bytes) rs ≡ leaf_blocks_marks bytes (map blank_line (lines_of rs))
+  pub blanks-are : (rs : List Row) → flat_map (blank_marks bytes) rs ≡ leaf_blocks_marks bytes (map blank_line (lines_of rs))
   blanks-are [] = refl
   blanks-are (r ∷ rs) = ap (λ l. blank_marks bytes r ++ l) (blanks-are rs)
 
@@ -101,30 +102,30 @@ module _ (around : Row) where
 module _ (bytes : List ℕ) (x : List Row) (r : Row) (rs : List Row) (whole first second : List Section) (h : SectionSeam (at_top r) x r rs whole first second)
     (read : AllByRecursion IsRead x) (bare : BareBehind x) (full : r.is_blank ≡ false) (plain : IsPlainRow r) (columns : AllByRecursion ColumnsAre rs) (ahead : (more left : List Row) → rs ≡ more ++ left → AllStay more → AllByRecursion IsBare more)
     (holds : is_held h.begin ≡ false) where
-  abbrev q : Row
+  abbrev pub q : Row
   q = h.begin.first
 
   abbrev inner : List Row
   inner = h.begin.more ++ firsts h.blanks
 
-  here : AllByRecursion IsRead (q ∷ inner)
+  pub here : AllByRecursion IsRead (q ∷ inner)
   here = every-back IsRead h.above (q ∷ inner) (subst (AllByRecursion IsRead) h.rows_are read)
 
-  all-plain : AllByRecursion IsPlainRow (q ∷ inner)
+  pub all-plain : AllByRecursion IsPlainRow (q ∷ inner)
   all-plain = plain-rows (q ∷ inner) (bare h.above q inner h.rows_are h.full h.stay) (every-map IsRead ColumnsAre (λ r k. k.columns) (q ∷ inner) here)
 
-  begin-plain : IsPlainPart h.begin
+  pub begin-plain : IsPlainPart h.begin
   begin-plain = plain-part r h.begin h.begin_same all-plain.0 (every-front IsPlainRow h.begin.more (firsts h.blanks) all-plain.1)
 
-  blanks-plain : AllByRecursion IsPlainPart h.blanks
+  pub blanks-plain : AllByRecursion IsPlainPart h.blanks
   blanks-plain = plain-blanks r h.blanks h.blanks_same h.are_blank (every-back IsPlainRow h.begin.more (firsts h.blanks) all-plain.1)
 
-  end-plain : IsPlainPart h.end
+  pub end-plain : IsPlainPart h.end
   end-plain =
       plain-part r h.end h.end_same (subst IsPlainRow (sym h.end_is) plain)
       (plain-rows h.end.more (ahead h.end.more h.end_rows.left h.end_rows.is h.end_stay) (every-front ColumnsAre h.end.more h.end_rows.left (subst (AllByRecursion ColumnsAre) h.end_rows.is columns)))
 
-  end-full : h.end.first.is_blank ≡ false
+  pub end-full : h.end.first.is_blank ≡ false
   end-full = ap (λ (r : Row). r.is_blank) h.end_is ∙ full
 
   abbrev pub chunk-at-seam : ChunkSeam bytes (sections_marks bytes whole) (sections_marks bytes first) (sections_marks bytes second)
@@ -165,62 +166,100 @@ module _ (bytes : List ℕ) (x : List Row) (r : Row) (rs : List Row) (whole firs
       }
 
 -- ---- in bytes
-pub marks-of-stretch : MarksOfStretch
-marks-of-stretch on t a b rest goes = by (lines_in (virtual t b)) refl
-  where
-    one : List Line
-    one = lines_in (virtual t a)
+module _ (on : Constructs) (t : ℕ) (a b : List ℕ) (rest : begins_at_document_rest on t a b ≡ true) (line : Line) (behind : List Line) (lines_are : lines_in (virtual t b) ≡ line ∷ behind)
+    (goes : goes_on_behind on (lines_in (virtual t a)) (lines_in (virtual t b)) ≡ true) where
+  abbrev one : List Line
+  one = lines_in (virtual t a)
 
-    n : ℕ
-    n = line_endings a
+  abbrev n : ℕ
+  n = line_endings a
 
-    start : Known
-    start = known_at_start on
+  abbrev start : Known
+  start = known_at_start on
 
-    mr : Row → Row
-    mr row = moved_row n (length a) row
+  abbrev first_row : Row
+  first_row = row_of on start 1 line
 
-    Goal : Type 0
-    Goal = MarksJoin (a ++ b) (sections_marks (a ++ b) (sections on (document_rows on t (a ++ b)))) (sections_marks (a ++ b) (sections on (document_rows on t a)))
-        (sections_marks (a ++ b) (map (moved_section n (length a)) (sections on (document_rows on t b))))
+  abbrev pub seam_row : Row
+  seam_row = moved_row n (length a) first_row
 
-    joined : (line : Line) (behind : List Line) → lines_in (virtual t b) ≡ line ∷ behind
-        → let first = row_of on start 1 line in let r = mr first in let rs = map mr (rows_from on (known_after on start first) 2 behind) in
-        SectionsJoin (at_top r) (document_rows on t a) r rs (sections on (document_rows on t (a ++ b))) (sections on (document_rows on t a)) (map (moved_section n (length a)) (sections on (document_rows on t b))) → Goal
-    joined line behind e (sections_apart k) =
-        let two = lines_in (virtual t b) in
-        let count = counted t a b (and-left (begins_line b a) (first_at_document_rest on one two) rest) in
-        marks_apart (ap (sections_marks (a ++ b)) k
-        ∙ apart (a ++ b) n (length a) (sections on (rows on one)) (sections on (rows on two)) (sections-are (λ m. m < suc n) on (rows on one) (rows-are (λ m. m < suc n) on start 1 one (λ m l u. omega (arith, u, count)) tt))
-        (sections-are (λ m. 1 ≤ m) on (rows on two) (rows-are (λ m. 1 ≤ m) on start 1 two (λ m l u. l) tt)))
-    joined line behind e (section_seam h) =
-        let first = row_of on start 1 line in
-        let known = known_behind on start 1 one in
-        let there : is_at_document_rest on one line ≡ true = sym (ap (first_at_document_rest on one) e) ∙ and-right (begins_line b a) (first_at_document_rest on one (lines_in (virtual t b))) rest in
-        let on_behind : goes_on_behind on one (line ∷ behind) ≡ true = sym (ap (goes_on_behind on one) e) ∙ goes in
-        let end = stretches-go-on-at-top on one line there on_behind in
-        let begun = none_is first.begun end.1 in
-        let full = (goes-on on (length a) one line behind there on_behind).full in
-        let shut = and-left (is_closed known.before.leaf) _ there in
-        let holds = last-holds-from on start 1 one h.above h.begin.first h.begin.more (firsts h.blanks) h.rows_are (omega arith) h.stay (lefts h.blanks h.are_blank) end.0 shut in
-        chunk_seam (chunk-at-seam (a ++ b) (rows on one) (mr first) (map mr (rows_from on (known_after on start first) 2 behind)) (sections on (document_rows on t (a ++ b))) (sections on (rows on one))
-        (map (moved_section n (length a)) (sections on (document_rows on t b))) h
-        (all-read on start 1 one (whole-lines (virtual t a))) (bare-from on start 1 one end.0) full
-        (record { bare = (refl, ap (map (moved_prefix n)) begun); columns = ap (λ ps. columns_of first.went_on + columns_of ps) begun })
-        (columns-read on n (length a) (known_after on start first) 2 behind)
-        (λ more left is stay. ahead-bare on n (length a) (known_after on start first) 2 behind more left (no-stack line begun) is stay)
-        (ap (λ b. not h.begin.first.is_blank && b) holds ∙ and-false (not h.begin.first.is_blank)))
-      where
-        no-stack : (line : Line) → (row_of on start 1 line).begun ≡ [] → (known_after on start (row_of on start 1 line)).before.stack ≡ []
-        no-stack line e = by2 (row_of on start 1 line).is_left_blank
-          where
-            by2 : (left : Bool) → let r = row_of on start 1 line in
-                (let b : Before = cond left (record start.before { depth = length r.went_on; leaf = closed }) (record { stack = containers_of r.went_on ++ containers_of r.begun; depth = length (containers_of r.went_on ++ containers_of r.begun); leaf = r.leaf }) in b).stack ≡ []
-            by2 true = refl
-            by2 false = ap containers_of e
+  abbrev pub seam_rows : List Row
+  seam_rows = map (moved_row n (length a)) (rows_from on (known_after on start first_row) 2 behind)
 
-    by : (two : List Line) → lines_in (virtual t b) ≡ two → Goal
-    by [] e = let none = sym goes ∙ ap (goes_on_behind on one) e in absurd (cc)
-    by (line ∷ behind) e =
-        let first = row_of on start 1 line in
-        joined line behind e (sections-of-stretch on t a b rest goes (mr first) (map mr (rows_from on (known_after on start first) 2 behind)) (λ i. map mr (rows on (e i))))
+  abbrev pub sections_of_both : List Section
+  sections_of_both = sections on (document_rows on t (a ++ b))
+
+  abbrev pub sections_before : List Section
+  sections_before = sections on (document_rows on t a)
+
+  abbrev pub sections_behind : List Section
+  sections_behind = map (moved_section n (length a)) (sections on (document_rows on t b))
+
+  pub at-rest : is_at_document_rest on one line ≡ true
+  at-rest = sym (ap (first_at_document_rest on one) lines_are) ∙ and-right (begins_line b a) (first_at_document_rest on one (lines_in (virtual t b))) rest
+
+  pub goes-behind : goes_on_behind on one (line ∷ behind) ≡ true
+  goes-behind = sym (ap (goes_on_behind on one) lines_are) ∙ goes
+
+  at-top : ((known_behind on start 1 one).before.stack ≡ []) × (has_none first_row.begun ≡ true)
+  at-top = stretches-go-on-at-top on one line at-rest goes-behind
+
+  begun : first_row.begun ≡ []
+  begun = none_is first_row.begun at-top.1
+
+  no-stack : (known_after on start first_row).before.stack ≡ []
+  no-stack = by first_row.is_left_blank
+    where
+      by : (left : Bool) →
+          (let b : Before = cond left (record start.before { depth = length first_row.went_on; leaf = closed }) (record { stack = containers_of first_row.went_on ++ containers_of first_row.begun; depth = length (containers_of first_row.went_on ++ containers_of first_row.begun); leaf = first_row.leaf }) in b).stack ≡ []
+      by true = refl
+      by false = ap containers_of begun
+
+  pub all-rows-read : AllByRecursion IsRead (document_rows on t a)
+  all-rows-read = all-read on start 1 one (whole-lines (virtual t a))
+
+  pub bare-behind : BareBehind (document_rows on t a)
+  bare-behind = bare-from on start 1 one at-top.0
+
+  pub full-row : seam_row.is_blank ≡ false
+  full-row = (goes-on on (length a) one line behind at-rest goes-behind).full
+
+  pub plain-seam : IsPlainRow seam_row
+  plain-seam = record { bare = (refl, ap (map (moved_prefix n)) begun); columns = ap (λ ps. columns_of first_row.went_on + columns_of ps) begun }
+
+  pub seam-columns : AllByRecursion ColumnsAre seam_rows
+  seam-columns = columns-read on n (length a) (known_after on start first_row) 2 behind
+
+  pub seam-ahead : (more left : List Row) → seam_rows ≡ more ++ left → AllStay more → AllByRecursion IsBare more
+  seam-ahead more left is stay = ahead-bare on n (length a) (known_after on start first_row) 2 behind more left no-stack is stay
+
+  module _ (h : SectionSeam (at_top seam_row) (document_rows on t a) seam_row seam_rows sections_of_both sections_before sections_behind) where
+    pub not-held : is_held h.begin ≡ false
+    not-held =
+        let shut = and-left (is_closed (known_behind on start 1 one).before.leaf) _ at-rest in
+        let holds = last-holds-from on start 1 one h.above h.begin.first h.begin.more (firsts h.blanks) h.rows_are (omega arith) h.stay (lefts h.blanks h.are_blank) at-top.0 shut in
+        ap (λ b. not h.begin.first.is_blank && b) holds ∙ and-false (not h.begin.first.is_blank)
+
+    -- the first row of the stretch
+    pub first-plain : IsPlainRow h.begin.first
+    first-plain = (all-plain (a ++ b) (document_rows on t a) seam_row seam_rows sections_of_both sections_before sections_behind h all-rows-read bare-behind full-row plain-seam seam-columns seam-ahead not-held).0
+
+    pub first-read : IsRead h.begin.first
+    first-read = (here (a ++ b) (document_rows on t a) seam_row seam_rows sections_of_both sections_before sections_behind h all-rows-read bare-behind full-row plain-seam seam-columns seam-ahead not-held).0
+
+    -- the marks of the document, and of its parts, by their sections
+    abbrev pub seam_chunk : ChunkSeam (a ++ b) (sections_marks (a ++ b) sections_of_both) (sections_marks (a ++ b) sections_before) (sections_marks (a ++ b) sections_behind)
+    seam_chunk = chunk-at-seam (a ++ b) (document_rows on t a) seam_row seam_rows sections_of_both sections_before sections_behind h all-rows-read bare-behind full-row plain-seam seam-columns seam-ahead not-held
+
+  -- where the sections are those of both parts, so are the marks
+  pub marks-apart : sections_of_both ≡ sections_before ++ sections_behind → sections_marks (a ++ b) sections_of_both ≡ sections_marks (a ++ b) sections_before ++ sections_marks (a ++ b) sections_behind
+  marks-apart k =
+      let two = lines_in (virtual t b) in
+      let count = counted t a b (and-left (begins_line b a) (first_at_document_rest on one two) rest) in
+      ap (sections_marks (a ++ b)) k
+      ∙ apart (a ++ b) n (length a) (sections on (rows on one)) (sections on (rows on two)) (sections-are (λ m. m < suc n) on (rows on one) (rows-are (λ m. m < suc n) on start 1 one (λ m l u. omega (arith, u, count)) tt))
+      (sections-are (λ m. 1 ≤ m) on (rows on two) (rows-are (λ m. 1 ≤ m) on start 1 two (λ m l u. l) tt))
+
+  -- the sections are those of both parts, but for the section at the seam
+  pub sections-join : SectionsJoin (at_top seam_row) (document_rows on t a) seam_row seam_rows sections_of_both sections_before sections_behind
+  sections-join = sections-of-stretch on t a b rest goes seam_row seam_rows (λ i. map (moved_row n (length a)) (rows on (lines_are i)))

@@ -28,6 +28,7 @@ use Rattle.mdconstructs_rests.proofs.WithoutContainers.PlainRows.{IsBare}
 pub record IsRead (r : Row) : Type 0 where
   pub columns : r.columns ≡ columns_of r.went_on + columns_of r.begun
   pub whole : IsWhole r.line
+  pub blank : r.is_blank ≡ is_blank_line (rest_of r)
 
 module _ (on : Constructs) where
   -- no more containers go on than are open
@@ -135,7 +136,7 @@ module _ (on : Constructs) where
   -- ---- what holds of each row
   pub all-read : (k : Known) (n : ℕ) (ls : List Line) → AllByRecursion IsWhole ls → AllByRecursion IsRead (rows_from on k n ls)
   all-read k n [] h = tt
-  all-read k n (line ∷ ls) h = (record { columns = refl; whole = h.0 }, all-read (known_after on k (row_of on k n line)) (suc n) ls h.1)
+  all-read k n (line ∷ ls) h = (record { columns = refl; whole = h.0; blank = refl }, all-read (known_after on k (row_of on k n line)) (suc n) ls h.1)
 
   module _ (m bytes : ℕ) where
     pub columns-read : (k : Known) (n : ℕ) (ls : List Line) → AllByRecursion (λ (r : Row). r.columns ≡ columns_of r.went_on + columns_of r.begun) (map (moved_row m bytes) (rows_from on k n ls))

@@ -3,6 +3,7 @@ use Rattle.mdconstructs_rests.proofs.Prelude.{Enter, Exit, None, inl, inr, lengt
 use Rattle.std.specs.List.{list_any}
 use Rattle.markdown_base.specs.declared.event.Name.TheVariants as name
 use Rattle.mdconstructs_flow_read.proofs.Lines.WholeLines.{IsWhole, text-and-ending, whole-behind}
+use Rattle.mdconstructs_flow_read.proofs.Marks.LeafSpans.{text-shorter}
 use Rattle.mdconstructs_flow_read.specs.BlocksRead.{block_seats}
 use Rattle.mdconstructs_containers.proofs.LetterPlaces.{places_kept}
 use Rattle.mdconstructs_containers.specs.Letters.{ArePlainFrom, is_plain, letter, lettered_seat, with_letters}
@@ -148,9 +149,6 @@ drop-more zero xs ys l = refl
 drop-more (suc n) [] ys l = absurd (omega (arith, l))
 drop-more (suc n) (x ∷ xs) ys l = drop-more n xs ys (omega (arith, l))
 
-pub text-few : (line : Line) → IsWhole line → length (line_text line) ≤ length line
-text-few line w = let size = ap (λ (l : Line). length l) (text-and-ending line w) in let both = length-append (line_text line) (ending_of line) in omega (arith, size, both)
-
 -- a line's text, and its ending, behind so many virtual bytes of the text
 pub text-behind : (n : ℕ) (line : Line) → IsWhole line → n ≤ length (line_text line) → (line_text (drop n line) ≡ drop n (line_text line)) × (ending_of (drop n line) ≡ ending_of line)
 text-behind zero line w l = (refl, refl)
@@ -167,9 +165,9 @@ text-behind (suc n) (s ∷ ss) (inr w) l =
     absurd (omega (arith, l, size))
 
 pub block-behind : (n : ℕ) (is_held : Bool) (line : Line) (ls : List Line) → IsWhole line → n ≤ length (line_text line) → drop n (block_seats is_held (line ∷ ls)) ≡ block_seats is_held (drop n line ∷ ls)
-block-behind n true line ls w l = let few = text-few line w in drop-more n line (all_of ls) (omega (arith, l, few))
+block-behind n true line ls w l = let few = text-shorter line w in drop-more n line (all_of ls) (omega (arith, l, few))
 block-behind n false line [] w l = sym (text-behind n line w l).0
-block-behind n false line (next ∷ ls) w l = let few = text-few line w in drop-more n line (body (next ∷ ls)) (omega (arith, l, few))
+block-behind n false line (next ∷ ls) w l = let few = text-shorter line w in drop-more n line (body (next ∷ ls)) (omega (arith, l, few))
 
 pub last-behind : (n : ℕ) (bytes : List ℕ) (line : Line) (ls : List Line) → IsWhole line → n ≤ length (line_text line) → last_end bytes (drop n line ∷ ls) ≡ last_end bytes (line ∷ ls)
 last-behind n bytes line [] w l = ap (leaf_marks bytes name.LineEnding) (text-behind n line w l).1

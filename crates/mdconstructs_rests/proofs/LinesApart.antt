@@ -7,18 +7,13 @@ use Rattle.markdown_base.proofs.Common.{every-append, every-map}
 use Rattle.markdown_base.specs.Places.{stands_before}
 use Rattle.markdown_tokenizer.proofs.Positions.Chains.{IsChain}
 use Rattle.markdown_tokenizer.proofs.Positions.Standing.{chain-split}
+use Rattle.markdown_tokenizer.proofs.Inside.Known.{not-before-index}
 use Rattle.markdown_tokenizer.proofs.Positions.Order.{every-back, every-front}
 use Rattle.markdown_tokenizer.specs.Cursor.{goes_on}
 use Rattle.mdconstructs_flow_read.proofs.Lines.WholeLines.{IsWhole}
 use Rattle.mdconstructs_containers.proofs.SeatFacts.{LinesEnd}
 use Rattle.mdconstructs_containers.specs.Letters.{letter, lettered_seat}
 use Rattle.mdconstructs_containers.specs.Rows.{has_none}
-
-not-later : (i j k m : ℕ) → (nat_lt i k || ((i == k) && nat_lt j m)) ≡ false → k ≤ i
-not-later i j k m h = grind (arith, nat_tests)
-
-is-later : (i j k m : ℕ) → (nat_lt i k || ((i == k) && nat_lt j m)) ≡ true → i ≤ k
-is-later i j k m h = grind (arith, nat_tests)
 
 -- a boundary between virtual bytes: the first begin before an index, and the others do not
 pub record Between (first second : List Seat) : Type 0 where
@@ -31,8 +26,9 @@ module _ (t : ℕ) (bytes : List ℕ) where
   not-below : (p : Point) (k : ℕ) (seats : List Seat) → k ≤ p.index → IsChain t bytes p seats → AllByRecursion (λ (s : Seat). k ≤ s.point.index) seats
   not-below p k [] l c = tt
   not-below p k (s ∷ ss) l c =
-      let here = not-later s.point.index s.point.vs p.index p.vs c.1.later in
-      let on = is-later s.point.index s.point.vs s.end.index s.end.vs c.1.ends in
+      let here = not-before-index s.point.index s.point.vs p.index p.vs c.1.later in
+      let ends : (nat_lt s.point.index s.end.index || ((s.point.index == s.end.index) && nat_lt s.point.vs s.end.vs)) ≡ true = c.1.ends in
+      let on : s.point.index ≤ s.end.index = grind (arith, nat_tests, ends) in
       (omega (arith, l, here), not-below s.end k ss (omega (arith, l, here, on)) c.2)
 
   -- behind a line ending
@@ -57,7 +53,8 @@ module _ (t : ℕ) (bytes : List ℕ) where
   line-apart p (s ∷ r ∷ ss) rest c (inl w) e =
       let ending : ending_of (s ∷ r ∷ ss) ≡ ending_of (r ∷ ss) = ap (λ b. cond b (s ∷ ending_of (r ∷ ss)) (ending_of (r ∷ ss))) w.0 in
       let more = line-apart s.end (r ∷ ss) rest c.2 w.1 (sym (ap has_none ending) ∙ e) in
-      let on = is-later s.point.index s.point.vs s.end.index s.end.vs c.1.ends in
+      let ends : (nat_lt s.point.index s.end.index || ((s.point.index == s.end.index) && nat_lt s.point.vs s.end.vs)) ≡ true = c.1.ends in
+      let on : s.point.index ≤ s.end.index = grind (arith, nat_tests, ends) in
       let next = (not-below s.end s.end.index ((r ∷ ss) ++ rest) (omega arith) c.2).0 in
       let less = more.below.0 in
       record { index = more.index; below = (omega (arith, on, next, less), more.below); above = more.above }

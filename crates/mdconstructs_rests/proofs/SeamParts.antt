@@ -1,5 +1,6 @@
 -- Parts of a stretch that goes on over a rest: it begins with text, its first line may have a letter in front, and what stands between both stretches has no chunk.
 use Rattle.std.proofs.Common.{Bool, List, None, Some, [], ap, append_assoc, arith, cond, drop, false, length, length-append, map, not, refl, subst, sym, take, true, zero, ℕ, suc, ◌==◌, ◌&&◌, ◌++◌, ◌+◌, ◌<◌, ◌∙◌, ◌∷◌, ◌≡◌, ◌≤◌, ◌||◌}
+use Rattle.std.proofs.Math.Bool.{or-true}
 use Rattle.std.proofs.lemmas.Bool.{eq-eqb, false≢true}
 use Rattle.std.proofs.lemmas.Grind.{flat_map-append}
 use Rattle.std.proofs.lemmas.List.{length-drop, map-append}
@@ -27,7 +28,7 @@ use Rattle.mdconstructs_definitions.specs.Skeleton.{all_rows, text_begin}
 use Rattle.mdconstructs_rests.proofs.BlocksJoin.{AreWhole}
 use Rattle.mdconstructs_rests.proofs.JoinedMarks.{lines_of}
 use Rattle.mdconstructs_rests.proofs.StretchEnds.{rows-lines}
-use Rattle.mdconstructs_rests.proofs.WithoutContainers.CutOff.{IsPlain}
+use Rattle.mdconstructs_rests.proofs.WithoutContainers.CutOff.{IsPlain, plain-blanks, plain-end}
 use Rattle.mdconstructs_rests.specs.DocumentRests.{known_at_start}
 use Rattle.mdconstructs_rests.specs.JoinedStretches.{firsts, joined_part, marks_between}
 use Rattle.mdconstructs_containers.specs.Skeleton.{Part}
@@ -57,10 +58,6 @@ has-one n xs ys zs =
     let test : ℕ → Bool = λ i. i == n in
     let here : list_any test (n ∷ ys) ≡ true = ap (λ b. b || list_any test ys) (eq-eqb n n refl) in
     list_any-append test (xs ++ (n ∷ ys)) zs ∙ ap (λ b. b || list_any test zs) (list_any-append test xs (n ∷ ys) ∙ ap (λ b. list_any test xs || b) here ∙ or-true (list_any test xs))
-  where
-    or-true : (b : Bool) → (b || true) ≡ true
-    or-true true = refl
-    or-true false = refl
 
 -- directly behind definitions the letter stands where the text begins
 pub letter-in-front : (q : Row) (before behind at : List ℕ) → q.columns ≡ 0 → at ≡ (before ++ text_begin q) ++ behind → indent (rest_of q) < length q.line
@@ -71,7 +68,9 @@ letter-in-front q before behind at columns is few = by (drop n q.line) refl
     n = indent (rest_of q)
 
     first : text_begin q ≡ map (λ (s : Seat). s.point.index) (take 1 (drop n q.line))
-    first = ap (λ m. map (λ (s : Seat). s.point.index) (take 1 (drop (m + n) q.line))) columns
+    first =
+        let none : q.columns + n ≡ n = omega (arith, columns) in
+        ap (λ m. map (λ (s : Seat). s.point.index) (take 1 (drop m q.line))) none
 
     by : (l : Line) → drop n q.line ≡ l → (rest : List ℕ) × (text_of (map (lettered_seat at) l) ≡ letter ∷ rest)
     by [] e = absurd (let size = length-drop n q.line in let none = ap (λ (l : Line). length l) e in omega (arith, size, none, few))
@@ -81,23 +80,8 @@ letter-in-front q before behind at columns is few = by (drop n q.line) refl
         (text_of (map (lettered_seat at) ss), letter-first at s ss listed)
 
 -- ---- what stands between
-leaf-plain : (bytes : List ℕ) (n : Name) (seats : List Seat) → AllByRecursion IsPlain (leaf_marks bytes n seats)
-leaf-plain bytes n [] = tt
-leaf-plain bytes n (s ∷ ss) = ((refl, refl), ((refl, refl), tt))
-
 pub between-plain : (bytes : List ℕ) (before blanks : List Line) → AllByRecursion IsPlain (marks_between bytes before blanks)
-between-plain bytes before blanks = every-append IsPlain (last_end bytes before) (leaf_blocks_marks bytes (map blank_line blanks)) (last before) (all blanks)
-  where
-    last : (ls : List Line) → AllByRecursion IsPlain (last_end bytes ls)
-    last [] = tt
-    last (l ∷ []) = leaf-plain bytes name.LineEnding (ending_of l)
-    last (l ∷ m ∷ ls) = last (m ∷ ls)
-
-    all : (ls : List Line) → AllByRecursion IsPlain (leaf_blocks_marks bytes (map blank_line ls))
-    all [] = tt
-    all (l ∷ ls) =
-        every-append IsPlain (leaf_block_marks bytes (blank_line l)) (leaf_blocks_marks bytes (map blank_line ls))
-        (every-append IsPlain (leaf_marks bytes name.SpaceOrTab (line_text l)) (leaf_marks bytes name.BlankLineEnding (ending_of l)) (leaf-plain bytes name.SpaceOrTab (line_text l)) (leaf-plain bytes name.BlankLineEnding (ending_of l))) (all ls)
+between-plain bytes before blanks = every-append IsPlain (last_end bytes before) (leaf_blocks_marks bytes (map blank_line blanks)) (plain-end bytes before) (plain-blanks bytes blanks)
 
 plain-runs : (ms : List Mark) → AllByRecursion IsPlain ms → Runs ms idle
 plain-runs [] h = tt
@@ -121,16 +105,18 @@ between-whole bytes before blanks = record {
         tight_more (leaf_block_marks bytes (blank_line l)) (leaf_blocks_marks bytes (map blank_line ls))
         (tight_more (leaf_marks bytes name.SpaceOrTab (line_text l)) (leaf_marks bytes name.BlankLineEnding (ending_of l)) (leaf_tight bytes name.SpaceOrTab (line_text l)) (leaf_tight bytes name.BlankLineEnding (ending_of l))) (all ls)
 
--- ---- the lines of a document around a joined section
-pub lines-around : (on : Constructs) (t : ℕ) (bytes : List ℕ) (front back : List Section) (begin : Part) (blanks : List Part) (end : Part) (is_behind : Bool)
-    → sections on (rows on (lines_in (virtual t bytes))) ≡ front ++ ((let s : Section = record { part = joined_part begin blanks end; inside = lines is_behind } in s) ∷ back)
-    → lines_in (virtual t bytes) ≡ lines_of (rows_of front) ++ ((((lines_of (begin.first ∷ begin.more)) ++ lines_of (firsts blanks)) ++ lines_of (end.first ∷ end.more)) ++ lines_of (rows_of back))
-lines-around on t bytes front back begin blanks end is_behind e =
+-- ---- the lines of a document around a section
+pub lines-around : (on : Constructs) (t : ℕ) (bytes : List ℕ) (front back : List Section) (section : Section)
+    → sections on (rows on (lines_in (virtual t bytes))) ≡ front ++ (section ∷ back)
+    → lines_in (virtual t bytes) ≡ lines_of (rows_of front) ++ (lines_of (all_rows section.part) ++ lines_of (rows_of back))
+lines-around on t bytes front back section e =
     let ls = lines_in (virtual t bytes) in
-    let both : List Row → List Line = lines_of in
-    let section : Section = record { part = joined_part begin blanks end; inside = lines is_behind } in
-    let inner : lines_of (all_rows (joined_part begin blanks end)) ≡ ((lines_of (begin.first ∷ begin.more)) ++ lines_of (firsts blanks)) ++ lines_of (end.first ∷ end.more) =
-    ap (λ l. begin.first.line ∷ l) (map-append (λ (r : Row). r.line) (begin.more ++ firsts blanks) (end.first ∷ end.more) ∙ ap (λ l. l ++ lines_of (end.first ∷ end.more)) (map-append (λ (r : Row). r.line) begin.more (firsts blanks))) in
     sym (rows-lines on (known_at_start on) 1 ls) ∙ ap lines_of (sym (sections-hold-lines on (rows on ls)) ∙ ap rows_of e ∙ flat_map-append (λ (s : Section). all_rows s.part) front (section ∷ back))
-    ∙ map-append (λ (r : Row). r.line) (rows_of front) (all_rows (joined_part begin blanks end) ++ rows_of back)
-    ∙ ap (λ l. lines_of (rows_of front) ++ l) (map-append (λ (r : Row). r.line) (all_rows (joined_part begin blanks end)) (rows_of back) ∙ ap (λ l. l ++ lines_of (rows_of back)) inner)
+    ∙ map-append (λ (r : Row). r.line) (rows_of front) (all_rows section.part ++ rows_of back)
+    ∙ ap (λ l. lines_of (rows_of front) ++ l) (map-append (λ (r : Row). r.line) (all_rows section.part) (rows_of back))
+
+-- a joined section has the lines of both stretches
+pub joined-lines : (begin : Part) (blanks : List Part) (end : Part)
+    → lines_of (all_rows (joined_part begin blanks end)) ≡ (lines_of (begin.first ∷ begin.more) ++ lines_of (firsts blanks)) ++ lines_of (end.first ∷ end.more)
+joined-lines begin blanks end =
+    ap (λ l. begin.first.line ∷ l) (map-append (λ (r : Row). r.line) (begin.more ++ firsts blanks) (end.first ∷ end.more) ∙ ap (λ l. l ++ lines_of (end.first ∷ end.more)) (map-append (λ (r : Row). r.line) begin.more (firsts blanks)))

@@ -1,6 +1,7 @@
 -- The virtual bytes of a stretch that goes on over a rest, with the document's letters: those of both stretches, with what stands between them. Its leaf blocks are those of both.
 use Rattle.std.proofs.Common.{Bool, List, [], ap, append-nil, append_assoc, arith, cond, drop, false, length, length-append, map, refl, subst, sym, take, true, zero, ℕ, suc, ◌++◌, ◌<◌, ◌∙◌, ◌∷◌, ◌≡◌, ◌≤◌}
-use Rattle.std.proofs.lemmas.List.{drop-append-le, drop-map, length-map, map-append, take-append-drop}
+use Rattle.std.proofs.lemmas.Bool.{false≢true}
+use Rattle.std.proofs.lemmas.List.{drop-append-le, length-drop, drop-map, length-map, map-append, take-append-drop}
 use Rattle.std.specs.List.{AllByRecursion}
 use Rattle.markdown_base.proofs.Common.{every-append, every-drop}
 use Rattle.markdown_base.specs.Virtual.{Seat, virtual}
@@ -10,14 +11,16 @@ use Rattle.mdconstructs_machines.specs.LineEvents.{all_of, ending_of, line_text,
 use Rattle.mdconstructs_machines.proofs.BlockReads.Accounts.{lines-are-all}
 use Rattle.mdconstructs_flow_read.proofs.Lines.Lines.{all-of-append}
 use Rattle.mdconstructs_flow_read.proofs.Lines.WholeLines.{IsWhole, body-and-last, whole-behind}
+use Rattle.mdconstructs_flow_read.proofs.Marks.LeafSpans.{text-shorter}
 use Rattle.mdconstructs_flow_read.specs.BlocksRead.{block_seats, last_ending}
 use Rattle.mdconstructs_flow_read.specs.LeafBlocks.{Line}
 use Rattle.mdconstructs_flow_read.specs.LeafEvents.{body}
 use Rattle.mdconstructs_containers.proofs.LetterPlaces.{places_kept}
+use Rattle.mdconstructs_containers.proofs.PartGoes.{lines_end_behind, lines_end_front}
 use Rattle.mdconstructs_containers.proofs.SeatFacts.{LineIs, LinesEnd, SeatEnds, document_lines, lines_end}
 use Rattle.mdconstructs_containers.specs.Letters.{ArePlainFrom, lettered_seat, with_letters}
 use Rattle.mdconstructs_containers.specs.Rows.{has_none}
-use Rattle.mdconstructs_rests.proofs.LetteredLines.{Keeps, all_lettered, block-behind, block-with-letters, blanks-with-letters, document-keeps, last-behind, last-with-letters, lettered, lines-with-letters, seats-keep, text-behind, text-few as text-length, text-with-letters}
+use Rattle.mdconstructs_rests.proofs.LetteredLines.{Keeps, all_lettered, block-behind, block-with-letters, blanks-with-letters, document-keeps, last-behind, last-with-letters, lettered, lines-with-letters, seats-keep, text-behind, text-with-letters}
 use Rattle.mdconstructs_rests.proofs.SplitBlocks.{EndsBefore, marks_in, split-blocks}
 use Rattle.mdconstructs_rests.proofs.WithoutContainers.CutOff.{lines-whole}
 use Rattle.mdconstructs_rests.proofs.WithoutContainers.Leaves.{HasText, last_line}
@@ -34,22 +37,21 @@ seats-and-ending : (is_held : Bool) (ls : List Line) → AllByRecursion IsWhole 
 seats-and-ending true ls w = sym (append-nil (all_of ls))
 seats-and-ending false ls w = sym (body-and-last ls w)
 
+line-some : (line : Line) → has_none line ≡ false → 0 < length line
+line-some [] h = absurd (false≢true (sym h))
+line-some (s ∷ line) h = omega arith
+
+text-some : (line : Line) → HasText line → 0 < length (line_text line)
+text-some line h = by (line_text line) refl
+  where
+    by : (l : Line) → line_text line ≡ l → 0 < length l
+    by [] e = absurd (h (ap (map (λ (s : Seat). s.byte)) e))
+    by (s ∷ l) e = omega arith
+
 some-behind : (n : ℕ) (line : Line) → n < length line → has_none (drop n line) ≡ false
 some-behind n [] l = absurd (omega (arith, l))
 some-behind zero (s ∷ ss) l = refl
 some-behind (suc n) (s ∷ ss) l = some-behind n ss (omega (arith, l))
-
--- lines behind others end as they did
-ends-back : (xs ys : List Line) → LinesEnd (xs ++ ys) → LinesEnd ys
-ends-back [] ys h = h
-ends-back (x ∷ []) [] h = tt
-ends-back (x ∷ []) (y ∷ ys) h = h.1
-ends-back (x ∷ next ∷ xs) ys h = ends-back (next ∷ xs) ys h.1
-
-ends-ahead : (xs ys : List Line) → LinesEnd (xs ++ ys) → LinesEnd xs
-ends-ahead [] ys h = tt
-ends-ahead (x ∷ []) ys h = tt
-ends-ahead (x ∷ next ∷ xs) ys h = (h.0, ends-ahead (next ∷ xs) ys h.1)
 
 first-ends : (x y : Line) (ls : List Line) → ending_of y ≡ ending_of x → LinesEnd (x ∷ ls) → LinesEnd (y ∷ ls)
 first-ends x y [] e h = tt
@@ -80,7 +82,7 @@ module _ (on : Constructs) (t : ℕ) (bytes at : List ℕ) (plain : ArePlainFrom
   are = every-front LineIs inner left (every-back LineIs above (inner ++ left) (subst (AllByRecursion LineIs) lines_are (document_lines t bytes)))
 
   ends : LinesEnd inner
-  ends = ends-ahead inner left (ends-back above (inner ++ left) (subst LinesEnd lines_are (lines_end (virtual t bytes))))
+  ends = lines_end_front t bytes on inner left (lines_end_behind t bytes on above (inner ++ left) (subst LinesEnd lines_are (lines_end (virtual t bytes))))
 
   keep : AllByRecursion (AllByRecursion (Keeps at)) inner
   keep = every-front (AllByRecursion (Keeps at)) inner left (every-back (AllByRecursion (Keeps at)) above (inner ++ left) (subst (AllByRecursion (AllByRecursion (Keeps at))) lines_are (document-keeps at t bytes plain)))
@@ -97,9 +99,24 @@ module _ (on : Constructs) (t : ℕ) (bytes at : List ℕ) (plain : ArePlainFrom
   whole-second : AllByRecursion IsWhole (r ∷ behind)
   whole-second = every-back IsWhole ((q ∷ more) ++ blanks) (r ∷ behind) (lines-whole inner are)
 
-  few-body : (ls : List Line) → n ≤ length (body (q ∷ ls))
-  few-body [] = few-text
-  few-body (l ∷ ls) = let size = text-length q whole-q in let both = length-append q (body (l ∷ ls)) in omega (arith, few, size, both)
+  few-body : (ls : List Line) → n < length (body (q ∷ ls))
+  few-body [] = few
+  few-body (l ∷ ls) = let size = text-shorter q whole-q in let both = length-append q (body (l ∷ ls)) in omega (arith, few, size, both)
+
+  -- both stretches have virtual bytes
+  pub first-some : 0 < length first_seats
+  first-some = let less = few-body more in let size = length-drop n (block_seats false (q ∷ more)) in omega (arith, less, size)
+
+  pub second-some : (is_held ≡ false → HasText (last_line (r ∷ behind))) → 0 < length second_seats
+  second-some = by is_held behind
+    where
+      line : 0 < length r
+      line = line-some r (every-back LineIs ((q ∷ more) ++ blanks) (r ∷ behind) are).0.some
+
+      by : (held : Bool) (ls : List Line) → (held ≡ false → HasText (last_line (r ∷ ls))) → 0 < length (block_seats held (r ∷ ls))
+      by true ls text = let both = length-append r (all_of ls) in omega (arith, line, both)
+      by false [] text = text-some r (text refl)
+      by false (l ∷ ls) text = let both = length-append r (body (l ∷ ls)) in omega (arith, line, both)
 
   front-of-all : all_of (((q ∷ more) ++ blanks)) ≡ block_seats false (q ∷ more) ++ middle_seats
   front-of-all =
@@ -110,7 +127,7 @@ module _ (on : Constructs) (t : ℕ) (bytes at : List ℕ) (plain : ArePlainFrom
   pub seats-are : drop n (block_seats is_held inner) ≡ first_seats ++ (middle_seats ++ second_seats)
   seats-are =
       ap (drop n) (seats-both is_held ((q ∷ more) ++ blanks) r behind ∙ ap (λ l. l ++ second_seats) front-of-all ∙ append_assoc (block_seats false (q ∷ more)) middle_seats second_seats)
-      ∙ drop-append-le n (block_seats false (q ∷ more)) (middle_seats ++ second_seats) (few-body more)
+      ∙ drop-append-le n (block_seats false (q ∷ more)) (middle_seats ++ second_seats) (let less = few-body more in omega (arith, less))
 
   pub whole-is : virtual t bytes ≡ seats_before ++ (first_seats ++ (middle_seats ++ (second_seats ++ seats_after)))
   whole-is =
@@ -127,7 +144,7 @@ module _ (on : Constructs) (t : ℕ) (bytes at : List ℕ) (plain : ArePlainFrom
   abbrev new : List ℕ
   new = with_letters at bytes
 
-  abbrev first_line : Line
+  abbrev pub first_line : Line
   first_line = lettered at (drop n q)
 
   abbrev rest_lines : List Line
@@ -145,7 +162,7 @@ module _ (on : Constructs) (t : ℕ) (bytes at : List ℕ) (plain : ArePlainFrom
   new-are = every-front LineIs (all_lettered at inner) (all_lettered at left) (every-back LineIs (all_lettered at above) (all_lettered at inner ++ all_lettered at left) (subst (AllByRecursion LineIs) new-lines (document_lines t new)))
 
   new-ends : LinesEnd (all_lettered at inner)
-  new-ends = ends-ahead (all_lettered at inner) (all_lettered at left) (ends-back (all_lettered at above) (all_lettered at inner ++ all_lettered at left) (subst LinesEnd new-lines (lines_end (virtual t new))))
+  new-ends = lines_end_front t bytes on (all_lettered at inner) (all_lettered at left) (lines_end_behind t bytes on (all_lettered at above) (all_lettered at inner ++ all_lettered at left) (subst LinesEnd new-lines (lines_end (virtual t new))))
 
   dropped : first_line ≡ drop n (lettered at q)
   dropped = sym (drop-map (lettered_seat at) n q)
@@ -156,7 +173,7 @@ module _ (on : Constructs) (t : ℕ) (bytes at : List ℕ) (plain : ArePlainFrom
   first-is : LineIs first_line
   first-is =
       let is = new-are.0 in
-      let size = text-length (lettered at q) is.whole in
+      let size = text-shorter (lettered at q) is.whole in
       let text = ap (λ (l : Line). length l) (text-with-letters at q keep.0) in
       let same = length-map (line_text q) (lettered_seat at) in
       subst LineIs (sym dropped) (record { whole = whole-behind n (lettered at q) is.whole; ends = every-drop SeatEnds n (lettered at q) is.ends; some = some-behind n (lettered at q) (omega (arith, few, size, text, same)) })

@@ -118,13 +118,3 @@ module _ (bytes : List ℕ) where
     pub whole_is : whole ≡ front ++ (stretch_chunk (drop white (block_seats is_held ((before ++ blanks) ++ behind))) ++ back)
     pub first_is : first ≡ front ++ (stretch_chunk (drop white (block_seats false before)) ++ marks_between before blanks)
     pub second_is : second ≡ stretch_chunk (block_seats is_held behind) ++ back
-
-  pub data MarksJoin (whole first second : List Mark) : Type 0 where
-    marks_apart : whole ≡ first ++ second → MarksJoin whole first second
-    chunk_seam : ChunkSeam whole first second → MarksJoin whole first second
-
--- So it is with the marks of its skeleton
-abbrev pub MarksOfStretch : Type 0
-MarksOfStretch = (on : Constructs) (t : ℕ) (a b : List ℕ) → begins_at_document_rest on t a b ≡ true → goes_on_behind on (lines_in (virtual t a)) (lines_in (virtual t b)) ≡ true
-    → MarksJoin (a ++ b) (sections_marks (a ++ b) (sections on (document_rows on t (a ++ b)))) (sections_marks (a ++ b) (sections on (document_rows on t a)))
-    (sections_marks (a ++ b) (map (moved_section (line_endings a) (length a)) (sections on (document_rows on t b))))

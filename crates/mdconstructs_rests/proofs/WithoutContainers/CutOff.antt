@@ -86,7 +86,7 @@ module _ (bytes : List ℕ) where
   plain-leaf n [] = tt
   plain-leaf n (s ∷ ss) = ((refl, refl), ((refl, refl), tt))
 
-  plain-end : (lines : List Line) → AllByRecursion IsPlain (last_end bytes lines)
+  pub plain-end : (lines : List Line) → AllByRecursion IsPlain (last_end bytes lines)
   plain-end [] = tt
   plain-end (line ∷ []) = plain-leaf name.LineEnding (ending_of line)
   plain-end (line ∷ next ∷ lines) = plain-end (next ∷ lines)
@@ -98,7 +98,7 @@ module _ (bytes : List ℕ) where
   plain-blank : (line : Line) → AllByRecursion IsPlain (leaf_block_marks bytes (blank_line line))
   plain-blank line = every-append IsPlain (leaf_marks bytes name.SpaceOrTab (line_text line)) (leaf_marks bytes name.BlankLineEnding (ending_of line)) (plain-leaf name.SpaceOrTab (line_text line)) (plain-leaf name.BlankLineEnding (ending_of line))
 
-  plain-blanks : (lines : List Line) → AllByRecursion IsPlain (leaf_blocks_marks bytes (map blank_line lines))
+  pub plain-blanks : (lines : List Line) → AllByRecursion IsPlain (leaf_blocks_marks bytes (map blank_line lines))
   plain-blanks [] = tt
   plain-blanks (line ∷ lines) = every-append IsPlain (leaf_block_marks bytes (blank_line line)) (leaf_blocks_marks bytes (map blank_line lines)) (plain-blank line) (plain-blanks lines)
 
