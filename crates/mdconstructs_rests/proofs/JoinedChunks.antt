@@ -28,7 +28,7 @@ use Rattle.mdconstructs_definitions.specs.Rows.{Known, known_after, row_of, rows
 use Rattle.mdconstructs_definitions.specs.Sections.{Section, sections}
 use Rattle.mdconstructs_definitions.specs.Skeleton.{sections_marks}
 use Rattle.mdconstructs_rests.specs.DocumentRests.{begins_at_document_rest, document_rows, first_at_document_rest, goes_on_behind, is_at_document_rest, is_closed, known_at_start, known_behind, moved_prefix, moved_row}
-use Rattle.mdconstructs_rests.specs.JoinedStretches.{AllStay, ChunkSeam, IsBlankPart, IsSame, SectionSeam, SectionsJoin, at_top, firsts, joined_part, marks_between, stretch_chunk}
+use Rattle.mdconstructs_rests.specs.JoinedStretches.{AllStay, ChunkSeam, IsBlankPart, IsSame, SectionSeam, SectionsJoin, at_top, firsts, joined_part, marks_between, stretch_chunk, MarksJoin, MarksOfStretch, any_place, chunk_seam, marks_apart, section_seam, sections_apart}
 use Rattle.mdconstructs_rests.specs.Moved.{begins_line, line_endings}
 use Rattle.mdconstructs_rests.specs.MovedSections.{moved_section}
 use Rattle.mdconstructs_rests.proofs.DocumentBytes.{counted}
@@ -99,7 +99,7 @@ module _ (around : Row) where
   plain-blanks (p ∷ ps) s b h = (plain-part p s.0 h.0 (subst (AllByRecursion IsPlainRow) (sym b.0.alone) tt), plain-blanks ps s.1 b.1 h.1)
 
 -- ---- at a seam
-module _ (bytes : List ℕ) (x : List Row) (r : Row) (rs : List Row) (whole first second : List Section) (h : SectionSeam (at_top r) x r rs whole first second)
+module _ (Place : Bool → List Row → Type 0) (bytes : List ℕ) (x : List Row) (r : Row) (rs : List Row) (whole first second : List Section) (h : SectionSeam Place (at_top r) x r rs whole first second)
     (read : AllByRecursion IsRead x) (bare : BareBehind x) (full : r.is_blank ≡ false) (plain : IsPlainRow r) (columns : AllByRecursion ColumnsAre rs) (ahead : (more left : List Row) → rs ≡ more ++ left → AllStay more → AllByRecursion IsBare more)
     (holds : is_held h.begin ≡ false) where
   abbrev pub q : Row

@@ -14,18 +14,20 @@ use Rattle.mdconstructs_flow_read.specs.LeafBlocks.{Line, text_of}
 use Rattle.mdconstructs_lines.specs.Containers.{Container, Prefix}
 use Rattle.mdconstructs_containers.proofs.FrameFacts.{none_is}
 use Rattle.mdconstructs_containers.specs.Prefixes.{containers_of, going_on}
+use Rattle.mdconstructs_containers.specs.Skeleton.{Part}
 use Rattle.mdconstructs_containers.specs.Rows.{Before, Row, closed, has_none, holds_ending, is_paragraph}
 use Rattle.mdconstructs_definitions.proofs.PlainLetters.{open-not-blank}
 use Rattle.mdconstructs_definitions.specs.Rows.{Known, known_after, row_of, rows, rows_from}
 use Rattle.mdconstructs_definitions.specs.Sections.{Section, begins_text, sections}
-use Rattle.mdconstructs_rests.specs.DocumentRests.{begins_anew, first_at_document_rest, first_stays, goes_on_behind, is_at_document_rest, is_closed, known_at_start, known_behind, moved_prefix, moved_row}
-use Rattle.mdconstructs_rests.specs.JoinedStretches.{AllStay, SectionsJoin, SectionsOfStretch, at_top}
+use Rattle.mdconstructs_rests.specs.DocumentRests.{begins_anew, begins_at_document_rest, document_rows, first_at_document_rest, first_stays, goes_on_behind, is_at_document_rest, is_closed, known_at_start, known_behind, moved_prefix, moved_row}
+use Rattle.mdconstructs_rests.specs.JoinedStretches.{AllStay, SectionsJoin, SectionsOfStretch, any_place, at_top}
 use Rattle.mdconstructs_rests.specs.Moved.{begins_line, line_endings, moved_line}
 use Rattle.mdconstructs_rests.specs.MovedSections.{moved_section}
 use Rattle.mdconstructs_rests.proofs.BothSections.{joined-known, rows-left, starts}
 use Rattle.mdconstructs_rests.proofs.DocumentBytes.{counted, document-rows-of-both}
 use Rattle.mdconstructs_rests.proofs.DocumentRests.{anew-same, begins-anew, closed-is, first-row, stretches-go-on-at-top}
-use Rattle.mdconstructs_rests.proofs.JoinedWhole.{BareBehind, GoesOn, sections-of-joined}
+use Rattle.mdconstructs_rests.proofs.JoinedSections.{Placing}
+use Rattle.mdconstructs_rests.proofs.JoinedWhole.{BareBehind, Begun, GoesOn, sections-of-joined}
 use Rattle.mdconstructs_rests.proofs.MovedBlocks.{text-moved}
 use Rattle.mdconstructs_rests.proofs.MovedSections.{sections-move}
 use Rattle.mdconstructs_rests.proofs.SectionRows.{joined}
@@ -162,39 +164,48 @@ module _ (on : Constructs) where
         joined-known on (open-not-blank on) start 1 before (moved ∷ others) false refl
         ∙ ap (λ leaf. is_paragraph leaf && begins_text (moved ∷ others)) (closed-is known.before.leaf (and-left (is_closed known.before.leaf) _ rest))
 
-    pub sections-at-seam : SectionsJoin (at_top moved) (rows on before) moved others (sections on (rows on before ++ (moved ∷ others))) (sections on (rows on before)) (map (moved_section n bytes) (sections on (rows on (line ∷ behind))))
-    sections-at-seam =
-        let moves : sections on (moved ∷ others) ≡ map (moved_section n bytes) (sections on (rows on (line ∷ behind))) =
-        sections-move on n bytes (record first { stays = true } ∷ rows_from on (known_after on start first) 2 behind)
-        ∙ ap (λ (r : Row). map (moved_section n bytes) (sections on (r ∷ rows_from on (known_after on start first) 2 behind))) first-is in
-        subst (λ ss. SectionsJoin (at_top moved) (rows on before) moved others (sections on (rows on before ++ (moved ∷ others))) (sections on (rows on before)) ss) moves
-        (sections-of-joined moved others goes-on on (rows on before) (rows-left on (open-not-blank on) start 1 before) (bare-from start 1 before at-end.0) apart)
+    -- by what is known of the rows before
+    module _ (Known Place : Bool → List Row → Type 0) (placing : Placing on (at_top moved) Known Place) (begun : Begun Known (rows on before)) where
+      pub sections-at-seam : SectionsJoin Place (at_top moved) (rows on before) moved others (sections on (rows on before ++ (moved ∷ others))) (sections on (rows on before)) (map (moved_section n bytes) (sections on (rows on (line ∷ behind))))
+      sections-at-seam =
+          let moves : sections on (moved ∷ others) ≡ map (moved_section n bytes) (sections on (rows on (line ∷ behind))) =
+          sections-move on n bytes (record first { stays = true } ∷ rows_from on (known_after on start first) 2 behind)
+          ∙ ap (λ (r : Row). map (moved_section n bytes) (sections on (r ∷ rows_from on (known_after on start first) 2 behind))) first-is in
+          subst (λ ss. SectionsJoin Place (at_top moved) (rows on before) moved others (sections on (rows on before ++ (moved ∷ others))) (sections on (rows on before)) ss) moves
+          (sections-of-joined moved others goes-on on Known Place placing (rows on before) begun (rows-left on (open-not-blank on) start 1 before) (bare-from start 1 before at-end.0) apart)
 
 -- ---- in bytes
-module _ (x : List Row) (whole first second : List Section) where
+module _ (Place : Bool → List Row → Type 0) (x : List Row) (whole first second : List Section) where
   abbrev JoinAt : List Row → Type 0
   JoinAt [] = Unit {0}
-  JoinAt (q ∷ qs) = SectionsJoin (at_top q) x q qs whole first second
+  JoinAt (q ∷ qs) = SectionsJoin Place (at_top q) x q qs whole first second
 
-module _ (on : Constructs) (bytes : ℕ) where
-  pub at-lines : (n : ℕ) (before behind : List Line) → n ≡ length before → first_at_document_rest on before behind ≡ true → goes_on_behind on before behind ≡ true
-      → JoinAt (rows on before) (sections on (rows on before ++ map (moved_row n bytes) (first_stays true (rows on behind)))) (sections on (rows on before)) (map (moved_section n bytes) (sections on (rows on behind))) (map (moved_row n bytes) (rows on behind))
-  at-lines n before [] e rest goes = tt
-  at-lines n before (line ∷ behind) e rest goes =
-      subst (λ m. JoinAt (rows on before) (sections on (rows on before ++ map (moved_row m bytes) (first_stays true (rows on (line ∷ behind))))) (sections on (rows on before)) (map (moved_section m bytes) (sections on (rows on (line ∷ behind)))) (map (moved_row m bytes) (rows on (line ∷ behind)))) (sym e)
-      (subst (JoinAt (rows on before) (sections on (rows on before ++ map (moved_row (length before) bytes) (first_stays true (rows on (line ∷ behind))))) (sections on (rows on before)) (map (moved_section (length before) bytes) (sections on (rows on (line ∷ behind)))))
+module _ (on : Constructs) (Known Place : Bool → List Row → Type 0) (placing : (around : Part) → Placing on around Known Place) where
+  pub at-lines : (bytes n : ℕ) (before behind : List Line) → n ≡ length before → Begun Known (rows on before) → first_at_document_rest on before behind ≡ true → goes_on_behind on before behind ≡ true
+      → JoinAt Place (rows on before) (sections on (rows on before ++ map (moved_row n bytes) (first_stays true (rows on behind)))) (sections on (rows on before)) (map (moved_section n bytes) (sections on (rows on behind))) (map (moved_row n bytes) (rows on behind))
+  at-lines bytes n before [] e begun rest goes = tt
+  at-lines bytes n before (line ∷ behind) e begun rest goes =
+      subst (λ m. JoinAt Place (rows on before) (sections on (rows on before ++ map (moved_row m bytes) (first_stays true (rows on (line ∷ behind))))) (sections on (rows on before)) (map (moved_section m bytes) (sections on (rows on (line ∷ behind)))) (map (moved_row m bytes) (rows on (line ∷ behind)))) (sym e)
+      (subst (JoinAt Place (rows on before) (sections on (rows on before ++ map (moved_row (length before) bytes) (first_stays true (rows on (line ∷ behind))))) (sections on (rows on before)) (map (moved_section (length before) bytes) (sections on (rows on (line ∷ behind)))))
       (λ i. moved_row (length before) bytes (first-is on bytes before line behind rest goes i) ∷ others on bytes before line behind rest goes)
-      (sections-at-seam on bytes before line behind rest goes))
+      (sections-at-seam on bytes before line behind rest goes Known Place (placing (at_top (moved on bytes before line behind rest goes))) begun))
+
+  -- with what is known of the rows before
+  pub sections-placed : (t : ℕ) (a b : List ℕ) → Begun Known (document_rows on t a) → begins_at_document_rest on t a b ≡ true → goes_on_behind on (lines_in (virtual t a)) (lines_in (virtual t b)) ≡ true
+      → (r : Row) (rs : List Row) → map (moved_row (line_endings a) (length a)) (document_rows on t b) ≡ r ∷ rs
+      → SectionsJoin Place (at_top r) (document_rows on t a) r rs (sections on (document_rows on t (a ++ b))) (sections on (document_rows on t a)) (map (moved_section (line_endings a) (length a)) (sections on (document_rows on t b)))
+  sections-placed t a b begun rest goes r rs is =
+      let one = lines_in (virtual t a) in
+      let two = lines_in (virtual t b) in
+      let n = line_endings a in
+      let begins = and-left (begins_line b a) (first_at_document_rest on one two) rest in
+      let whole : sections on (rows on (lines_in (virtual t (a ++ b)))) ≡ sections on (rows on one ++ map (moved_row n (length a)) (first_stays true (rows on two))) =
+      ap (sections on) (document-rows-of-both on t a b rest)
+      ∙ ap (λ stays. sections on (rows on one ++ map (moved_row n (length a)) (first_stays stays (rows on two)))) goes in
+      subst (JoinAt Place (rows on one) (sections on (rows on (lines_in (virtual t (a ++ b))))) (sections on (rows on one)) (map (moved_section n (length a)) (sections on (rows on two)))) is
+      (subst (λ ss. JoinAt Place (rows on one) ss (sections on (rows on one)) (map (moved_section n (length a)) (sections on (rows on two))) (map (moved_row n (length a)) (rows on two))) (sym whole)
+      (at-lines (length a) n one two (counted t a b begins) begun (and-right (begins_line b a) (first_at_document_rest on one two) rest) goes))
 
 pub sections-of-stretch : SectionsOfStretch
 sections-of-stretch on t a b rest goes r rs is =
-    let one = lines_in (virtual t a) in
-    let two = lines_in (virtual t b) in
-    let n = line_endings a in
-    let begins = and-left (begins_line b a) (first_at_document_rest on one two) rest in
-    let whole : sections on (rows on (lines_in (virtual t (a ++ b)))) ≡ sections on (rows on one ++ map (moved_row n (length a)) (first_stays true (rows on two))) =
-    ap (sections on) (document-rows-of-both on t a b rest)
-    ∙ ap (λ stays. sections on (rows on one ++ map (moved_row n (length a)) (first_stays stays (rows on two)))) goes in
-    subst (JoinAt (rows on one) (sections on (rows on (lines_in (virtual t (a ++ b))))) (sections on (rows on one)) (map (moved_section n (length a)) (sections on (rows on two)))) is
-    (subst (λ ss. JoinAt (rows on one) ss (sections on (rows on one)) (map (moved_section n (length a)) (sections on (rows on two))) (map (moved_row n (length a)) (rows on two))) (sym whole)
-    (at-lines on (length a) n one two (counted t a b begins) (and-right (begins_line b a) (first_at_document_rest on one two) rest) goes))
+    sections-placed on any_place any_place (λ around. record { step = λ p q x k less. tt; last = λ p q x k whole front begin blanks e f g h. tt }) t a b (λ front begin blanks e f g h. tt) rest goes r rs is

@@ -57,7 +57,7 @@ module _ (on : Constructs) where
         by false false = omega arith
 
     -- the leaf behind a line that is not left blank
-    leaf-next-is : row.is_left_blank ≡ false → (known_after on k row).before.leaf ≡ row.leaf
+    pub leaf-next-is : row.is_left_blank ≡ false → (known_after on k row).before.leaf ≡ row.leaf
     leaf-next-is e = by row.is_left_blank e row.is_lazy
       where
         by : (left : Bool) → left ≡ false → (lazy : Bool) → (next_before left lazy).leaf ≡ row.leaf

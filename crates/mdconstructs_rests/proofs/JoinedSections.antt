@@ -1,10 +1,10 @@
 -- Sections of rows behind others, of one part. Where the second go on with a stretch with which the first end, it is one section of the whole: in the parts it is
 -- two, and blank lines between them.
-use Rattle.std.proofs.Common.{Bool, List, [], ap, append_assoc, arith, cond, drop, false, inl, inr, length, length-append, nat_le, refl, subst, sym, take, true, zero, ℕ, suc, ◌+◌, ◌++◌, ◌≤◌, ◌&&◌, ◌∙◌, ◌∷◌, ◌≡◌}
+use Rattle.std.proofs.Common.{Bool, List, [], ap, append_assoc, arith, cond, drop, false, inl, inr, length, length-append, nat_le, refl, subst, sym, take, true, zero, ℕ, suc, ◌+◌, ◌++◌, ◌≤◌, ◌<◌, ◌&&◌, ◌∙◌, ◌∷◌, ◌≡◌}
 use Rattle.std.proofs.lemmas.List.{append-nil, drop-append-le, map-append, take-append-drop, take-append-le}
 use Rattle.std.proofs.lemmas.List.Sums.{prefix_len-le-length}
 use Rattle.std.proofs.Math.Seq.{drop-append-add, drop-length, take-append-add, take-length}
-use Rattle.std.specs.List.{AllByRecursion}
+use Rattle.std.specs.List.{AllByRecursion, flat_map}
 use Rattle.std.specs.Prelude.{map}
 use Rattle.markdown_base.specs.declared.configuration.Constructs.{Constructs}
 use Rattle.markdown_base.proofs.Common.{every-drop}
@@ -13,9 +13,10 @@ use Rattle.mdconstructs_containers.specs.Rows.{Row, is_paragraph}
 use Rattle.mdconstructs_containers.specs.Skeleton.{Frame, Part, further, parts, parts_in}
 use Rattle.mdconstructs_labels.specs.Definitions.{definitions}
 use Rattle.mdconstructs_definitions.specs.Sections.{Section, before_defined, begins_text, defined_in, defining, in_same, lines, paragraph_of, sections_in, sections_of, text_in, undefined}
+use Rattle.mdconstructs_definitions.specs.Skeleton.{all_rows}
 use Rattle.mdconstructs_definitions.proofs.Covered.{fewer-left}
-use Rattle.mdconstructs_rests.specs.JoinedStretches.{IsSame, SectionsJoin, firsts, joined_part, plain_section, plain_sections, section_seam, sections_apart}
-use Rattle.mdconstructs_rests.proofs.JoinedParts.{Joins, apart, parts-join, parts_by, seam}
+use Rattle.mdconstructs_rests.specs.JoinedStretches.{IsSame, SectionsJoin, firsts, joined_part, plain_section, plain_sections, section_seam, sections_apart, AllStay}
+use Rattle.mdconstructs_rests.proofs.JoinedParts.{Joins, apart, parts-join, parts_by, seam, Seam}
 use Rattle.mdconstructs_rests.proofs.SectionRows.{AllLeft, Apart, Follows, LeftIsBlank, before-apart, cut_off, defined-apart, defined-within, going, joined, joined-behind, joined-drop, paragraph-apart, text-taken}
 
 -- ---- rows that are left blank, or that go on with a stretch
@@ -40,8 +41,8 @@ front-behind : (n : ℕ) (r : Row) (rs : List Row) → Behind r rs → Behind r 
 front-behind n r rs (left h) = left (front-left (suc n) (r ∷ rs) h)
 front-behind n r rs (stays full h s) = stays full h s
 
-module _ (around : Part) (r : Row) (rs : List Row) where
-  pub joins-front : (ss : List Section) (xs x : List Row) (w f s : List Section) → SectionsJoin around x r rs w f s → SectionsJoin around (xs ++ x) r rs (ss ++ w) (ss ++ f) s
+module _ (Place : Bool → List Row → Type 0) (around : Part) (r : Row) (rs : List Row) where
+  pub joins-front : (ss : List Section) (xs x : List Row) (w f s : List Section) → SectionsJoin Place around x r rs w f s → SectionsJoin Place around (xs ++ x) r rs (ss ++ w) (ss ++ f) s
   joins-front ss xs x w f s (sections_apart e) = sections_apart (ap (λ l. ss ++ l) e ∙ sym (append_assoc ss f s))
   joins-front ss xs x w f s (section_seam h) =
       section_seam (record {
@@ -67,9 +68,10 @@ module _ (around : Part) (r : Row) (rs : List Row) where
         whole_is = ap (λ l. ss ++ l) h.whole_is ∙ sym (append_assoc ss h.front (record { part = joined_part h.begin h.blanks h.end; inside = lines h.is_behind } ∷ h.back));
         first_is = ap (λ l. ss ++ l) h.first_is ∙ sym (append_assoc ss h.front (record { part = h.begin; inside = lines h.is_behind } ∷ plain_sections h.blanks));
         second_is = h.second_is;
+        place = h.place;
       })
 
-  pub joins-back : (x : List Row) (w f s ss : List Section) → SectionsJoin around x r rs w f s → SectionsJoin around x r rs (w ++ ss) f (s ++ ss)
+  pub joins-back : (x : List Row) (w f s ss : List Section) → SectionsJoin Place around x r rs w f s → SectionsJoin Place around x r rs (w ++ ss) f (s ++ ss)
   joins-back x w f s ss (sections_apart e) = sections_apart (ap (λ l. l ++ ss) e ∙ append_assoc f s ss)
   joins-back x w f s ss (section_seam h) =
       section_seam (record {
@@ -95,9 +97,10 @@ module _ (around : Part) (r : Row) (rs : List Row) where
         whole_is = ap (λ l. l ++ ss) h.whole_is ∙ append_assoc h.front (record { part = joined_part h.begin h.blanks h.end; inside = lines h.is_behind } ∷ h.back) ss;
         first_is = h.first_is;
         second_is = ap (λ l. l ++ ss) h.second_is;
+        place = h.place;
       })
 
-  pub joins-same : (x x2 : List Row) (w w2 f f2 s s2 : List Section) → x ≡ x2 → w ≡ w2 → f ≡ f2 → s ≡ s2 → SectionsJoin around x r rs w f s → SectionsJoin around x2 r rs w2 f2 s2
+  pub joins-same : (x x2 : List Row) (w w2 f f2 s s2 : List Section) → x ≡ x2 → w ≡ w2 → f ≡ f2 → s ≡ s2 → SectionsJoin Place around x r rs w f s → SectionsJoin Place around x2 r rs w2 f2 s2
   joins-same x x2 w w2 f f2 s s2 ex ew ef es (sections_apart e) = sections_apart (sym ew ∙ e ∙ (λ i. ef i ++ es i))
   joins-same x x2 w w2 f f2 s s2 ex ew ef es (section_seam h) =
       section_seam (record {
@@ -123,12 +126,13 @@ module _ (around : Part) (r : Row) (rs : List Row) where
         whole_is = sym ew ∙ h.whole_is;
         first_is = sym ef ∙ h.first_is;
         second_is = sym es ∙ h.second_is;
+        place = h.place;
       })
 
 -- rows with more behind them
-pub joins-longer : (around : Part) (r : Row) (z rs later : List Row) → rs ≡ z ++ later → (x : List Row) (w f s : List Section) → SectionsJoin around x r z w f s → SectionsJoin around x r rs w f s
-joins-longer around r z rs later e x w f s (sections_apart k) = sections_apart k
-joins-longer around r z rs later e x w f s (section_seam h) =
+pub joins-longer : (Place : Bool → List Row → Type 0) (around : Part) (r : Row) (z rs later : List Row) → rs ≡ z ++ later → (x : List Row) (w f s : List Section) → SectionsJoin Place around x r z w f s → SectionsJoin Place around x r rs w f s
+joins-longer Place around r z rs later e x w f s (sections_apart k) = sections_apart k
+joins-longer Place around r z rs later e x w f s (section_seam h) =
     section_seam (record {
       front = h.front;
       is_behind = h.is_behind;
@@ -152,6 +156,7 @@ joins-longer around r z rs later e x w f s (section_seam h) =
       whole_is = h.whole_is;
       first_is = h.first_is;
       second_is = h.second_is;
+      place = h.place;
     })
 
 -- ---- parts in the spans of another
@@ -187,7 +192,7 @@ module _ (around : Part) where
   plain-flag (p ∷ ps) = refl
 
   -- the last of parts before others, flagged if it is the first
-  abbrev last_flag : Bool → List Part → Bool
+  abbrev pub last_flag : Bool → List Part → Bool
   last_flag b [] = b
   last_flag b (p ∷ ps) = false
 
@@ -195,12 +200,18 @@ module _ (around : Part) where
   flag-at b [] p bs = refl
   flag-at b (f ∷ fs) p bs = ap (λ l. (let s : Section = record { part = f; inside = lines b } in s) ∷ l) (map-append plain_section fs (p ∷ bs))
 
+  -- what is said of the last stretch in rows, if it is not blank
+  abbrev pub Placed : (Place : Bool → List Row → Type 0) → (b : Bool) → Row → List Row → Type 0
+  Placed Place b q x =
+      (front : List Part) (begin : Part) (blanks : List Part) → its_parts (length (q ∷ x)) (q ∷ x) ≡ front ++ (begin ∷ blanks) → q ∷ x ≡ flat_map all_rows front ++ (begin.first ∷ (begin.more ++ firsts blanks))
+      → begin.first.is_blank ≡ false → AllStay (begin.more ++ firsts blanks) → Place (last_flag (b && is_paragraph q.leaf) front) (begin.first ∷ (begin.more ++ firsts blanks))
+
   -- parts of rows that are not empty
   some-parts : (b : ℕ) (q : Row) (x : List Row) → length (q ∷ x) ≤ b → its_parts b (q ∷ x) ≡ [] → ⊥
   some-parts zero q x l e = omega (arith, l)
   some-parts (suc b) q x l e = absurd (cc)
 
-  module _ (r : Row) (rs : List Row) (tail : Behind r rs) where
+  module _ (Place : Bool → List Row → Type 0) (r : Row) (rs : List Row) (tail : Behind r rs) where
     some-behind : 1 ≤ further (r ∷ rs) → r.is_left_blank ≡ false
     some-behind h = by tail
       where
@@ -208,12 +219,13 @@ module _ (around : Part) where
         by (left k) = let none = left-further (r ∷ rs) k in absurd (omega (arith, none, h))
         by (stays full k s) = k
 
-    of-parts : (b : Bool) (x : List Row) (w f s : List Part) → AllByRecursion (IsSame around) f → AllByRecursion (IsSame around) s → (f ≡ [] → ⊥) → Joins its_frames its_stands x r rs w f s
-        → SectionsJoin around x r rs (sections_of b w) (sections_of b f) (sections_of false s)
-    of-parts b x w [] s hf hs full j = absurd (full refl)
-    of-parts b x w (f ∷ fs) s hf hs full (apart e) =
+    of-parts : (b : Bool) (x : List Row) (w f s : List Part) → AllByRecursion (IsSame around) f → AllByRecursion (IsSame around) s → (f ≡ [] → ⊥)
+        → ((h : Seam its_frames its_stands x r rs w f s) → Place (last_flag b h.front) (h.begin.first ∷ (h.begin.more ++ firsts h.blanks))) → Joins its_frames its_stands x r rs w f s
+        → SectionsJoin Place around x r rs (sections_of b w) (sections_of b f) (sections_of false s)
+    of-parts b x w [] s hf hs full place j = absurd (full refl)
+    of-parts b x w (f ∷ fs) s hf hs full place (apart e) =
         sections_apart (ap (sections_of b) e ∙ flagged-append b f fs s ∙ ap (λ l. sections_of b (f ∷ fs) ++ l) (sym (plain-flag s)))
-    of-parts b x w (f ∷ fs) s hf hs full (seam h) =
+    of-parts b x w (f ∷ fs) s hf hs full place (seam h) =
         let first = part-of h.front h.begin h.blanks (subst (AllByRecursion (IsSame around)) h.first_is hf) in
         let last : AllByRecursion (IsSame around) (h.end ∷ h.back) = subst (AllByRecursion (IsSame around)) h.second_is hs in
         section_seam (record {
@@ -239,24 +251,26 @@ module _ (around : Part) where
           whole_is = ap (sections_of b) h.whole_is ∙ flag-at b h.front (joined_part h.begin h.blanks h.end) h.back;
           first_is = ap (sections_of b) h.first_is ∙ flag-at b h.front h.begin h.blanks;
           second_is = ap (sections_of false) h.second_is;
+          place = place h;
         })
 
   -- lines without definitions, and so many of lines behind them
-  module _ (r : Row) (rs : List Row) (tail : Behind r rs) where
-    undefined-join : (b : Bool) (q : Row) (x : List Row) (m : ℕ) → AllByRecursion LeftIsBlank (q ∷ x)
-        → SectionsJoin around (q ∷ x) r rs (undefined b around (q ∷ x ++ take m (r ∷ rs))) (undefined b around (q ∷ x)) (undefined false around (take m (r ∷ rs)))
-    undefined-join b q x zero blank = sections_apart (ap (undefined b around) (append-nil (q ∷ x)) ∙ sym (append-nil (undefined b around (q ∷ x))))
-    undefined-join b q x (suc m) blank =
+  module _ (Place : Bool → List Row → Type 0) (r : Row) (rs : List Row) (tail : Behind r rs) where
+    undefined-join : (b : Bool) (q : Row) (x : List Row) (m : ℕ) → AllByRecursion LeftIsBlank (q ∷ x) → Placed Place b q x
+        → SectionsJoin Place around (q ∷ x) r rs (undefined b around (q ∷ x ++ take m (r ∷ rs))) (undefined b around (q ∷ x)) (undefined false around (take m (r ∷ rs)))
+    undefined-join b q x zero blank place = sections_apart (ap (undefined b around) (append-nil (q ∷ x)) ∙ sym (append-nil (undefined b around (q ∷ x))))
+    undefined-join b q x (suc m) blank place =
         let z = take m rs in
         let all = q ∷ x in
         let y = r ∷ z in
         let flag = b && is_paragraph q.leaf in
         let behind = front-behind m r rs tail in
         let c = length (all ++ y) in
-        joins-same around r rs all all (sections_of flag (its_parts c (all ++ y))) (undefined b around (all ++ y)) (sections_of flag (its_parts (length all) all)) (undefined b around all) (sections_of false (its_parts (length y) y)) (undefined false around y)
+        joins-same Place around r rs all all (sections_of flag (its_parts c (all ++ y))) (undefined b around (all ++ y)) (sections_of flag (its_parts (length all) all)) (undefined b around all) (sections_of false (its_parts (length y) y)) (undefined false around y)
         refl (ap (sections_of flag) (sym (same-parts c (all ++ y)))) (ap (sections_of flag) (sym (same-parts (length all) all))) (ap (sections_of false) (sym (same-parts (length y) y)))
-        (joins-longer around r z rs (drop m rs) (sym (take-append-drop m rs)) all (sections_of flag (its_parts c (all ++ y))) (sections_of flag (its_parts (length all) all)) (sections_of false (its_parts (length y) y))
-        (of-parts r z behind flag all (its_parts c (all ++ y)) (its_parts (length all) all) (its_parts (length y) y) (all-same (length all) all) (all-same (length y) y) (some-parts (length all) q x (omega arith))
+        (joins-longer Place around r z rs (drop m rs) (sym (take-append-drop m rs)) all (sections_of flag (its_parts c (all ++ y))) (sections_of flag (its_parts (length all) all)) (sections_of false (its_parts (length y) y))
+        (of-parts Place r z behind flag all (its_parts c (all ++ y)) (its_parts (length all) all) (its_parts (length y) y) (all-same (length all) all) (all-same (length y) y) (some-parts (length all) q x (omega arith))
+        (λ h. place h.front h.begin h.blanks h.first_is (h.rows_are ∙ ap (λ l. l ++ (h.begin.first ∷ (h.begin.more ++ firsts h.blanks))) h.above_is) h.full h.stay)
         (parts-join its_frames its_stands r z (λ row x. refl) (λ row x. refl) c (length all) (length y) all (omega arith) (omega arith) (omega arith) blank (follows r z behind))))
 
 -- ---- lines of a part, cut before and behind definitions
@@ -316,15 +330,20 @@ module _ (on : Constructs) (around : Part) where
       ∙ ap (λ l. undefined p around all ++ l) (from-none b)
       ∙ append-nil (undefined p around all)
 
-  module _ (r : Row) (rs : List Row) (tail : Behind r rs) where
+  -- what is known of rows before lines, and what it says of the last stretch
+  pub record Placing (Known Place : Bool → List Row → Type 0) : Type 0 where
+    pub step : (p : Bool) (q : Row) (x : List Row) → Known p (q ∷ x) → let n = before_defined on false (q ∷ x) in n < length (q ∷ x) → Known true (drop (defined_in on (drop n (q ∷ x))) (drop n (q ∷ x)))
+    pub last : (p : Bool) (q : Row) (x : List Row) → Known p (q ∷ x) → before_defined on false (q ∷ x) ≡ length (q ∷ x) → Placed around Place p q x
+
+  module _ (Known Place : Bool → List Row → Type 0) (placing : Placing Known Place) (r : Row) (rs : List Row) (tail : Behind r rs) where
     abbrev y : List Row
     y = r ∷ rs
 
     -- lines behind lines in which no definitions begin
     sections-last : (c b b2 : ℕ) (p : Bool) (q : Row) (x : List Row) → length (q ∷ (x ++ y)) ≤ suc c → length y ≤ suc b2
-        → before_defined on false (q ∷ x) ≡ length (q ∷ x) → before_defined on false (q ∷ (x ++ y)) ≡ length (q ∷ x) + before_defined on false y → AllByRecursion LeftIsBlank (q ∷ x)
-        → SectionsJoin around (q ∷ x) r rs (sections_in on (suc c) p around (q ∷ (x ++ y))) (sections_in on (suc b) p around (q ∷ x)) (sections_in on (suc b2) false around y)
-    sections-last c b b2 p q x l m2 whole both blank =
+        → before_defined on false (q ∷ x) ≡ length (q ∷ x) → before_defined on false (q ∷ (x ++ y)) ≡ length (q ∷ x) + before_defined on false y → AllByRecursion LeftIsBlank (q ∷ x) → Known p (q ∷ x)
+        → SectionsJoin Place around (q ∷ x) r rs (sections_in on (suc c) p around (q ∷ (x ++ y))) (sections_in on (suc b) p around (q ∷ x)) (sections_in on (suc b2) false around y)
+    sections-last c b b2 p q x l m2 whole both blank known =
         let all = q ∷ x in
         let n = before_defined on false y in
         let behind = drop n y in
@@ -338,19 +357,19 @@ module _ (on : Constructs) (around : Part) where
         ap (λ n. cut_at c p n (all ++ y)) both
         ∙ (λ i. undefined p around (take-append-add all y n i) ++ from_cut c (drop-append-add all y n i))
         ∙ ap (λ l. undefined p around (all ++ take n y) ++ l) fuel in
-        joins-same around r rs all all (undefined p around (all ++ take n y) ++ from_cut b2 behind) (sections_in on (suc c) p around (all ++ y)) (undefined p around all) (sections_in on (suc b) p around all)
+        joins-same Place around r rs all all (undefined p around (all ++ take n y) ++ from_cut b2 behind) (sections_in on (suc c) p around (all ++ y)) (undefined p around all) (sections_in on (suc b) p around all)
         (undefined false around (take n y) ++ from_cut b2 behind) (sections_in on (suc b2) false around y)
         refl (sym first) (sym (sections-plain b p q x whole)) refl
-        (joins-back around r rs all (undefined p around (all ++ take n y)) (undefined p around all) (undefined false around (take n y)) (from_cut b2 behind) (undefined-join around r rs tail p q x n blank))
+        (joins-back Place around r rs all (undefined p around (all ++ take n y)) (undefined p around all) (undefined false around (take n y)) (from_cut b2 behind) (undefined-join around Place r rs tail p q x n blank (placing.last p q x known whole)))
 
     -- lines behind others, if no paragraph goes on from the first to the second
-    pub sections-join : (c b b2 : ℕ) (p : Bool) (x : List Row) → length (x ++ y) ≤ c → length x ≤ b → length y ≤ b2 → joined p x y ≡ false → AllByRecursion LeftIsBlank x
-        → SectionsJoin around x r rs (sections_in on c p around (x ++ y)) (sections_in on b p around x) (sections_in on b2 false around y)
-    sections-join c b b2 p [] l m m2 e blank = sections_apart (sections-any c p y e ∙ sections-fuel c b2 false y l m2 ∙ ap (λ l. l ++ sections_in on b2 false around y) (sym (sections-none b p)))
-    sections-join zero b b2 p (q ∷ x) l m m2 e blank = absurd (omega (arith, l))
-    sections-join (suc c) zero b2 p (q ∷ x) l m m2 e blank = absurd (omega (arith, m))
-    sections-join (suc c) (suc b) zero p (q ∷ x) l m m2 e blank = absurd (omega (arith, m2))
-    sections-join (suc c) (suc b) (suc b2) p (q ∷ x) l m m2 e blank =
+    pub sections-join : (c b b2 : ℕ) (p : Bool) (x : List Row) → length (x ++ y) ≤ c → length x ≤ b → length y ≤ b2 → joined p x y ≡ false → AllByRecursion LeftIsBlank x → Known p x
+        → SectionsJoin Place around x r rs (sections_in on c p around (x ++ y)) (sections_in on b p around x) (sections_in on b2 false around y)
+    sections-join c b b2 p [] l m m2 e blank known = sections_apart (sections-any c p y e ∙ sections-fuel c b2 false y l m2 ∙ ap (λ l. l ++ sections_in on b2 false around y) (sym (sections-none b p)))
+    sections-join zero b b2 p (q ∷ x) l m m2 e blank known = absurd (omega (arith, l))
+    sections-join (suc c) zero b2 p (q ∷ x) l m m2 e blank known = absurd (omega (arith, m))
+    sections-join (suc c) (suc b) zero p (q ∷ x) l m m2 e blank known = absurd (omega (arith, m2))
+    sections-join (suc c) (suc b) (suc b2) p (q ∷ x) l m m2 e blank known =
         let all = q ∷ x in
         let n = before_defined on false all in
         let z = drop n all in
@@ -360,16 +379,16 @@ module _ (on : Constructs) (around : Part) where
         let size = length-append x y in
         let size2 = length-append left y in
         let back2 = fewer-left on q x (length x) (omega arith) in
-        by (before-apart on false all y e) (λ h. sections-join c b (suc b2) true left (omega (arith, l, size, size2, back2)) back m2 h (every-drop LeftIsBlank k z (every-drop LeftIsBlank n all blank)))
+        by (before-apart on false all y e) (λ less h. sections-join c b (suc b2) true left (omega (arith, l, size, size2, back2)) back m2 h (every-drop LeftIsBlank k z (every-drop LeftIsBlank n all blank)) (placing.step p q x known less))
       where
         Goal : Type 0
-        Goal = SectionsJoin around (q ∷ x) r rs (sections_in on (suc c) p around (q ∷ (x ++ y))) (sections_in on (suc b) p around (q ∷ x)) (sections_in on (suc b2) false around y)
+        Goal = SectionsJoin Place around (q ∷ x) r rs (sections_in on (suc c) p around (q ∷ (x ++ y))) (sections_in on (suc b) p around (q ∷ x)) (sections_in on (suc b2) false around y)
 
         by : Apart on false (q ∷ x) y
             → (let left = drop (defined_in on (drop (before_defined on false (q ∷ x)) (q ∷ x))) (drop (before_defined on false (q ∷ x)) (q ∷ x)) in
-            joined true left y ≡ false → SectionsJoin around left r rs (sections_in on c true around (left ++ y)) (sections_in on b true around left) (sections_in on (suc b2) false around y))
+            before_defined on false (q ∷ x) < suc (length x) → joined true left y ≡ false → SectionsJoin Place around left r rs (sections_in on c true around (left ++ y)) (sections_in on b true around left) (sections_in on (suc b2) false around y))
             → Goal
-        by (inr h) more = sections-last c b b2 p q x l m2 h.0 h.1 blank
+        by (inr h) more = sections-last c b b2 p q x l m2 h.0 h.1 blank known
         by (inl h) more =
             let all = q ∷ x in
             let n = before_defined on false all in
@@ -393,8 +412,8 @@ module _ (on : Constructs) (around : Part) where
             ∙ (λ i. undefined p around (take-append-le n all y few i) ++ from_cut c (drop-append-le n all y few i))
             ∙ ap (λ l. front ++ l) rest in
             let rows : take n all ++ (take k z ++ left) ≡ all = ap (λ l. take n all ++ l) (take-append-drop k z) ∙ take-append-drop n all in
-            joins-same around r rs (take n all ++ (take k z ++ left)) all (front ++ (mid ++ sections_in on c true around (left ++ y))) (sections_in on (suc c) p around (all ++ y)) (front ++ (mid ++ sections_in on b true around left)) (sections_in on (suc b) p around all)
+            joins-same Place around r rs (take n all ++ (take k z ++ left)) all (front ++ (mid ++ sections_in on c true around (left ++ y))) (sections_in on (suc c) p around (all ++ y)) (front ++ (mid ++ sections_in on b true around left)) (sections_in on (suc b) p around all)
             (sections_in on (suc b2) false around y) (sections_in on (suc b2) false around y)
             rows (sym whole) refl refl
-            (joins-front around r rs front (take n all) (take k z ++ left) (mid ++ sections_in on c true around (left ++ y)) (mid ++ sections_in on b true around left) (sections_in on (suc b2) false around y)
-            (joins-front around r rs mid (take k z) left (sections_in on c true around (left ++ y)) (sections_in on b true around left) (sections_in on (suc b2) false around y) (more (sym (joined-behind k z y within) ∙ apart))))
+            (joins-front Place around r rs front (take n all) (take k z ++ left) (mid ++ sections_in on c true around (left ++ y)) (mid ++ sections_in on b true around left) (sections_in on (suc b2) false around y)
+            (joins-front Place around r rs mid (take k z) left (sections_in on c true around (left ++ y)) (sections_in on b true around left) (sections_in on (suc b2) false around y) (more h.0 (sym (joined-behind k z y within) ∙ apart))))

@@ -16,10 +16,11 @@ use Rattle.mdconstructs_containers.specs.Rows.{Row, is_paragraph}
 use Rattle.mdconstructs_containers.specs.Skeleton.{Frame, Part, frames_at, frames_of, further, going_on_at, left_in, list_at, list_begun, parts, parts_in, standing}
 use Rattle.mdconstructs_labels.specs.declared.definitions.Definition.{Definition}
 use Rattle.mdconstructs_labels.specs.Definitions.{definitions}
-use Rattle.mdconstructs_definitions.specs.Sections.{Section, before_defined, begins_text, cut, defined, defined_in, defining, paragraph_of, sections, sections_in, sections_of, text_in}
-use Rattle.mdconstructs_rests.specs.JoinedStretches.{AllStay, IsBlankPart, IsSame, SectionsJoin, at_top, firsts, joined_part, plain_section, plain_sections, section_seam, sections_apart}
-use Rattle.mdconstructs_rests.proofs.JoinedParts.{Joins, Seam, apart, joins-as, left-parts-by, parts-join, parts_by, seam}
-use Rattle.mdconstructs_rests.proofs.JoinedSections.{Behind, all-same, follows, its_frames, its_parts, its_stands, joins-back, joins-front, joins-longer, joins-same, left, same-parts, sections-fuel, sections-join, sections-none, sections-plain, stays}
+use Rattle.mdconstructs_definitions.specs.Sections.{Section, before_defined, begins_text, cut, defined, defined_in, defining, paragraph_of, sections, sections_in, sections_of, text_in, lines_defined}
+use Rattle.mdconstructs_rests.specs.JoinedStretches.{AllStay, IsBlankPart, IsSame, SectionsJoin, at_top, firsts, joined_part, plain_section, plain_sections, section_seam, sections_apart, any_place}
+use Rattle.mdconstructs_rests.proofs.JoinedParts.{Joins, Seam, apart, joins-as, left-parts-by, parts-join, parts_by, seam, real-parts}
+use Rattle.mdconstructs_rests.proofs.JoinedSections.{Behind, all-same, follows, its_frames, its_parts, its_stands, joins-back, joins-front, joins-longer, joins-same, left, same-parts, sections-fuel, sections-join, sections-none, sections-plain, stays, Placing}
+use Rattle.mdconstructs_definitions.specs.Skeleton.{all_rows}
 use Rattle.mdconstructs_rests.proofs.SectionRows.{AllLeft, LeftIsBlank, joined, joined-first, joined-none, left-no-text}
 use Rattle.mdconstructs_rests.proofs.SectionsApart.{GoesOnWithNone, frames-apart, standing-apart}
 use Rattle.mdconstructs_rests.proofs.WithoutContainers.PlainParts.{IsAlone, parts-alone}
@@ -91,10 +92,13 @@ module _ (around : Part) where
     with-blanks c b q x (p ∷ ps) l m h g k same =
         let y = firsts (p ∷ ps) in
         let all = lefts (p ∷ ps) k in
-        by (sections-join on around p.first (firsts ps) (left all) c b (length y) false (q ∷ x) l m (omega arith) (joined-none on no_row no_rows false (q ∷ x) y (left-no-text on no_row no_rows y all g)) h)
+        by (sections-join on around any_place any_place any_placing p.first (firsts ps) (left all) c b (length y) false (q ∷ x) l m (omega arith) (joined-none on no_row no_rows false (q ∷ x) y (left-no-text on no_row no_rows y all g)) h tt)
         ∙ ap (λ l. sections_in on b false around (q ∷ x) ++ l) (left-sections (length y) y (omega arith) all g ∙ ap plain_sections (sym (blanks-are (p ∷ ps) k same)))
       where
-        by : {w f s : List Section} → SectionsJoin around (q ∷ x) p.first (firsts ps) w f s → w ≡ f ++ s
+        any_placing : Placing on around any_place any_place
+        any_placing = record { step = λ p q x k less. tt; last = λ p q x k whole front begin blanks e f g h. tt }
+
+        by : {w f s : List Section} → SectionsJoin any_place around (q ∷ x) p.first (firsts ps) w f s → w ≡ f ++ s
         by (sections_apart e) = e
         by (section_seam t) = let both : true ≡ false = sym k.0.left ∙ t.going_on in absurd (cc)
 
@@ -109,6 +113,12 @@ pub record GoesOn (r : Row) : Type 0 where
 -- where rows from one that is not blank to the end may all be in a stretch, they have no containers
 abbrev pub BareBehind : List Row → Type 0
 BareBehind x = (above : List Row) (q : Row) (more : List Row) → x ≡ above ++ (q ∷ more) → q.is_blank ≡ false → AllStay more → AllByRecursion IsBare (q ∷ more)
+
+-- what is known of the rows from a part on to the end, if they may all be in a stretch
+abbrev pub Begun : (Known : Bool → List Row → Type 0) → List Row → Type 0
+Begun Known x =
+    (front : List Part) (begin : Part) (blanks : List Part) → parts x ≡ front ++ (begin ∷ blanks) → x ≡ flat_map all_rows front ++ (begin.first ∷ (begin.more ++ firsts blanks))
+    → begin.first.is_blank ≡ false → AllStay (begin.more ++ firsts blanks) → Known false (begin.first ∷ (begin.more ++ firsts blanks))
 
 module _ (r : Row) (rs : List Row) (goes : GoesOn r) where
   abbrev y : List Row
@@ -152,17 +162,9 @@ module _ (r : Row) (rs : List Row) (goes : GoesOn r) where
     alone-same [] h = tt
     alone-same (p ∷ ps) h = (record { frames = h.0.frames; stands = h.0.stands }, alone-same ps h.1)
 
-    module _ (x : List Row) (blank : AllByRecursion LeftIsBlank x) (bare : BareBehind x) (ends : joined false x y ≡ false) where
+    module _ (Known Place : Bool → List Row → Type 0) (placing : Placing on top Known Place) (x : List Row) (begun : Begun Known x) (blank : AllByRecursion LeftIsBlank x) (bare : BareBehind x) (ends : joined false x y ≡ false) where
       abbrev Goal : Type 0
-      Goal = SectionsJoin top x r rs (sections on (x ++ y)) (sections on x) (sections on y)
-
-      real : (b : ℕ) (rows : List Row) → parts_in b rows ≡ parts_by frames_at standing b rows
-      real zero rows = refl
-      real (suc b) [] = refl
-      real (suc b) (q ∷ rows) =
-          let n = cond q.is_blank 0 (further rows) in
-          let p : Part = record { first = q; more = take n rows; frames = frames_at q rows; stands = standing q rows } in
-          ap (λ ps. p ∷ ps) (real b (drop n rows))
+      Goal = SectionsJoin Place top x r rs (sections on (x ++ y)) (sections on x) (sections on y)
 
       at-seam : Seam frames_at standing x r rs (parts (x ++ y)) (parts x) (parts y) → Goal
       at-seam h =
@@ -170,7 +172,7 @@ module _ (r : Row) (rs : List Row) (goes : GoesOn r) where
           let inner = h.begin.more ++ firsts h.blanks in
           let all = q ∷ inner in
           let bares = bare h.above q inner h.rows_are h.full h.stay in
-          let alone : AllByRecursion IsAlone (h.begin ∷ h.blanks) = subst (AllByRecursion IsAlone) (real h.bound all ∙ h.parts_are) (parts-alone h.bound all bares) in
+          let alone : AllByRecursion IsAlone (h.begin ∷ h.blanks) = subst (AllByRecursion IsAlone) (real-parts h.bound all ∙ h.parts_are) (parts-alone h.bound all bares) in
           let same = alone-same (h.begin ∷ h.blanks) alone in
           let few = every-back LeftIsBlank h.above all (subst (AllByRecursion LeftIsBlank) h.rows_are blank) in
           let z = h.end.more in
@@ -202,17 +204,17 @@ module _ (r : Row) (rs : List Row) (goes : GoesOn r) where
           let apart : joined false all last ≡ false =
           ap (λ (q2 : Row). joined false all (q2 ∷ z)) h.end_is ∙ sym (joined-back false h.above q inner rs z) ∙ sym (ap (λ l. joined false l y) h.rows_are) ∙ ends in
           let size : long ≡ length (all ++ last) = refl in
-          let inside = sections-join on top h.end.first z tail long (length all) (suc (length z)) false all (omega arith) (omega arith) (omega arith) apart few in
-          joins-same top r rs (h.above ++ all) x (front ++ (whole-cut ++ back)) (sections on (x ++ y)) (front ++ all-cut) (sections on x) (end-cut ++ back) (sections on y)
+          let inside = sections-join on top Known Place placing h.end.first z tail long (length all) (suc (length z)) false all (omega arith) (omega arith) (omega arith) apart few (begun h.front h.begin h.blanks h.first_is (h.rows_are ∙ ap (λ l. l ++ all) h.above_is) h.full h.stay) in
+          joins-same Place top r rs (h.above ++ all) x (front ++ (whole-cut ++ back)) (sections on (x ++ y)) (front ++ all-cut) (sections on x) (end-cut ++ back) (sections on y)
           (sym h.rows_are) (sym whole) (sym first) (sym second)
-          (joins-front top r rs front h.above all (whole-cut ++ back) all-cut (end-cut ++ back)
-          (joins-back top r rs all whole-cut all-cut end-cut back (joins-longer top r z rs h.end_rows.left h.end_rows.is all whole-cut all-cut end-cut (subst (λ (q : Row). SectionsJoin top all q z whole-cut all-cut end-cut) h.end_is inside))))
+          (joins-front Place top r rs front h.above all (whole-cut ++ back) all-cut (end-cut ++ back)
+          (joins-back Place top r rs all whole-cut all-cut end-cut back (joins-longer Place top r z rs h.end_rows.left h.end_rows.is all whole-cut all-cut end-cut (subst (λ (q : Row). SectionsJoin Place top all q z whole-cut all-cut end-cut) h.end_is inside))))
 
       pub sections-of-joined : Goal
       sections-of-joined =
           let n = length (x ++ y) in
           by (joins-as frames_at standing r rs x x (parts_by frames_at standing n (x ++ y)) (parts (x ++ y)) (parts_by frames_at standing (length x) x) (parts x) (parts_by frames_at standing (length y) y) (parts y)
-          refl (sym (real n (x ++ y))) (sym (real (length x) x)) (sym (real (length y) y))
+          refl (sym (real-parts n (x ++ y))) (sym (real-parts (length x) x)) (sym (real-parts (length y) y))
           (parts-join frames_at standing r rs (frames-apart r rs outside) (standing-apart r rs outside) n (length x) (length y) x (omega arith) (omega arith) (omega arith) blank (follows r rs (stays goes.full goes.left goes.stays_on))))
         where
           by : Joins frames_at standing x r rs (parts (x ++ y)) (parts x) (parts y) → Goal

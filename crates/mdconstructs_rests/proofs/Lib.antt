@@ -69,6 +69,7 @@ pub mod RowNumbers
 pub mod RowPlaces
 pub mod SeamLetters
 pub mod SeamParts
+pub mod SeamPlaces
 pub mod SeamRows
 pub mod SeamSeats
 pub mod SeamText
@@ -88,6 +89,7 @@ pub mod StretchStarts
 pub mod StringsJoin
 pub mod TextLines
 pub mod TextsOfBoth
+pub mod UsedUp
 pub mod Virtual
 pub mod WithoutContainers
 pub mod WovenBoth

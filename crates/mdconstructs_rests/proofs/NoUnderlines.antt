@@ -47,13 +47,13 @@ behind_text ps = cond (has_none ps) [] (10 ∷ text_in ps)
 more-text : (text : List ℕ) (r : Row) (ps : List Row) → text ++ behind_text (r ∷ ps) ≡ (text ++ 10 ∷ rest_of r) ++ behind_text ps
 more-text text r ps = sym (append_assoc text (10 ∷ rest_of r) (behind_text ps))
 
-paragraph-more : (r : Row) (rs : List Row) → is_paragraph r.leaf ≡ true → paragraph_of (r ∷ rs) ≡ r ∷ paragraph_of rs
+pub paragraph-more : (r : Row) (rs : List Row) → is_paragraph r.leaf ≡ true → paragraph_of (r ∷ rs) ≡ r ∷ paragraph_of rs
 paragraph-more r rs e =
     let n = prefix_len (λ (row : Row). is_paragraph row.leaf) rs in
     let one : 1 + n ≡ suc n = omega arith in
     ap (λ b. take (cond b (1 + n) 0) (r ∷ rs)) e ∙ ap (λ k. take k (r ∷ rs)) one
 
-not-blank-some : (t : List ℕ) → is_blank_line t ≡ false → has_none t ≡ false
+pub not-blank-some : (t : List ℕ) → is_blank_line t ≡ false → has_none t ≡ false
 not-blank-some [] h = h
 not-blank-some (x ∷ t) h = refl
 
@@ -61,7 +61,7 @@ some-full : (text : List ℕ) → 0 < lines_of text → has_none text ≡ false
 some-full [] h = absurd (omega (arith, h))
 some-full (x ∷ text) h = refl
 
-some-long : (text : List ℕ) → has_none text ≡ false → 0 < length text
+pub some-long : (text : List ℕ) → has_none text ≡ false → 0 < length text
 some-long [] h = absurd (cc)
 some-long (x ∷ text) h = omega arith
 

@@ -12,16 +12,21 @@ use Rattle.mdconstructs_flow_read.specs.LineKinds.{is_blank_line, is_far, kind_o
 use Rattle.mdconstructs_containers.specs.Prefixes.{columns_of, containers_of}
 use Rattle.mdconstructs_containers.specs.Rows.{Before, Leaf, Row, closed, has_none, holds_ending, is_paragraph, leaf_after, open_paragraph, opened_by, rest_of}
 use Rattle.mdconstructs_containers.specs.Rows as without
-use Rattle.mdconstructs_containers.specs.Skeleton.{Part, frames_at, further, parts_in, standing}
+use Rattle.mdconstructs_containers.specs.Skeleton.{Frame, Part, further}
 use Rattle.mdconstructs_definitions.specs.Rows.{Known, is_behind_text, is_used_up, known_after, row_of, rows_from, underlines_nothing}
+use Rattle.mdconstructs_lines.specs.Containers.{Container}
+use Rattle.mdconstructs_definitions.proofs.PlainLetters.{open-not-blank}
+use Rattle.mdconstructs_definitions.specs.Sections.{before_defined, defined_in}
 use Rattle.mdconstructs_definitions.specs.Skeleton.{all_rows}
+use Rattle.mdconstructs_rests.proofs.BothSections.{leaf-behind}
+use Rattle.mdconstructs_rests.proofs.JoinedParts.{parts_by}
 use Rattle.mdconstructs_rests.specs.DocumentRests.{known_behind}
 use Rattle.mdconstructs_rests.proofs.JoinedKnown.{IsDeep, deep-next}
 use Rattle.mdconstructs_rests.proofs.WithoutContainers.Leaves.{leaf_next}
 use Rattle.mdconstructs_rests.proofs.WithoutContainers.PlainRows.{IsBare, plain_before}
 
 -- behind a stretch no line goes on with it
-further-none : (rs : List Row) → further (drop (further rs) rs) ≡ 0
+pub further-none : (rs : List Row) → further (drop (further rs) rs) ≡ 0
 further-none [] = refl
 further-none (r ∷ rs) = by r.is_left_blank refl r.stays refl (nat_le 1 (further rs)) refl (further-none rs)
   where
@@ -126,18 +131,18 @@ module _ (on : Constructs) where
   state_on (suc m) k n [] = record { known = k; number = n; lines = [] }
   state_on (suc m) k n (line ∷ ls) = state_on m (known_after on k (row_of on k n line)) (suc n) ls
 
-  rows-on : (m : ℕ) (k : Known) (n : ℕ) (ls : List Line) → drop m (rows_from on k n ls) ≡ rows_at (state_on m k n ls)
+  pub rows-on : (m : ℕ) (k : Known) (n : ℕ) (ls : List Line) → drop m (rows_from on k n ls) ≡ rows_at (state_on m k n ls)
   rows-on zero k n ls = refl
   rows-on (suc m) k n [] = refl
   rows-on (suc m) k n (line ∷ ls) = rows-on m (known_after on k (row_of on k n line)) (suc n) ls
 
-  behind-on : (m : ℕ) (k : Known) (n : ℕ) (ls : List Line) → let s = state_on m k n ls in known_behind on k n ls ≡ known_behind on s.known s.number s.lines
+  pub behind-on : (m : ℕ) (k : Known) (n : ℕ) (ls : List Line) → let s = state_on m k n ls in known_behind on k n ls ≡ known_behind on s.known s.number s.lines
   behind-on zero k n ls = refl
   behind-on (suc m) k n [] = refl
   behind-on (suc m) k n (line ∷ ls) = behind-on m (known_after on k (row_of on k n line)) (suc n) ls
 
   -- no stretch goes on with them
-  none-starts : (s : State) → further (rows_at s) ≡ 0 → StartsAt s
+  pub none-starts : (s : State) → further (rows_at s) ≡ 0 → StartsAt s
   none-starts s e = by s.lines refl e
     where
       by : (ls : List Line) → s.lines ≡ ls → further (rows_from on s.known s.number ls) ≡ 0 → StartsClosed s.known s.number ls
@@ -147,11 +152,11 @@ module _ (on : Constructs) where
           let some : further (rows_from on s.known s.number (line ∷ ls)) ≡ suc n = (λ i. cond (kept i) (cond (nat_le 1 n) (suc n) 0) (cond (stays i) (suc n) 0)) in
           absurd (omega (arith, e, some))
 
-  closed-starts : (k : Known) (n : ℕ) (ls : List Line) → k.before.leaf ≡ closed → StartsClosed k n ls
+  pub closed-starts : (k : Known) (n : ℕ) (ls : List Line) → k.before.leaf ≡ closed → StartsClosed k n ls
   closed-starts k n [] e = tt
   closed-starts k n (line ∷ ls) e = λ kept stays. e
 
-  left-leaf : (k : Known) (n : ℕ) (line : Line) → (row_of on k n line).is_left_blank ≡ true → (known_after on k (row_of on k n line)).before.leaf ≡ closed
+  pub left-leaf : (k : Known) (n : ℕ) (line : Line) → (row_of on k n line).is_left_blank ≡ true → (known_after on k (row_of on k n line)).before.leaf ≡ closed
   left-leaf k n line e =
       let row = row_of on k n line in
       let all = containers_of row.went_on ++ containers_of row.begun in
@@ -179,8 +184,20 @@ module _ (on : Constructs) where
       by true e = closed-starts next (suc n) ls (leaf e row.is_left_blank refl)
       by false e = none-starts (state_on m next (suc n) ls) (ap further (sym (rows-on m next (suc n) ls)) ∙ further-none (rows_from on next (suc n) ls))
 
-  -- where a part begins
-  pub record Begins (k : Known) (n : ℕ) (ls : List Line) (front : List Part) (p : Part) : Type 0 where
+  -- behind the part that begins with the first of lines
+  abbrev pub NextStarts : Known → (number : ℕ) → List Line → Type 0
+  NextStarts k n [] = Unit {0}
+  NextStarts k n (line ∷ ls) =
+      let row = row_of on k n line in
+      let next = known_after on k row in
+      StartsAt (state_on (cond row.is_blank 0 (further (rows_from on next (suc n) ls))) next (suc n) ls)
+
+  pub all-next : (k : Known) (n : ℕ) (ls : List Line) → StartsClosed k n ls → NextStarts k n ls
+  all-next k n [] h = tt
+  all-next k n (line ∷ ls) h = next-starts k n line ls h
+
+  -- where a part begins, by any spans
+  pub record Begins (k : Known) (n : ℕ) (ls : List Line) (front : List Part) : Type 0 where
     pub above : List Row
     pub state : State
     pub rows_are : rows_from on k n ls ≡ above ++ rows_at state
@@ -188,39 +205,69 @@ module _ (on : Constructs) where
     pub starts : StartsAt state
     pub known : known_behind on k n ls ≡ known_behind on state.known state.number state.lines
     pub deep : IsDeep on k → IsDeep on state.known
+    pub whole : (b : Bool) → (front ≡ [] → is_paragraph k.before.leaf ≡ b) → before_defined on b (rows_from on k n ls) ≡ length (rows_from on k n ls) → before_defined on (is_paragraph state.known.before.leaf) (rows_at state) ≡ length (rows_at state)
 
-  deep-on : (m : ℕ) (k : Known) (n : ℕ) (ls : List Line) → IsDeep on k → IsDeep on (state_on m k n ls).known
+  pub deep-on : (m : ℕ) (k : Known) (n : ℕ) (ls : List Line) → IsDeep on k → IsDeep on (state_on m k n ls).known
   deep-on zero k n ls h = h
   deep-on (suc m) k n [] h = h
   deep-on (suc m) k n (line ∷ ls) h = deep-on m (known_after on k (row_of on k n line)) (suc n) ls (deep-next on k n line h)
 
-  pub part-begins : (bound : ℕ) (k : Known) (n : ℕ) (ls : List Line) → StartsClosed k n ls → (front : List Part) (p : Part) (ps : List Part) → parts_in bound (rows_from on k n ls) ≡ front ++ (p ∷ ps) → Begins k n ls front p
-  part-begins bound k n ls starts [] p ps e = record { above = []; state = record { known = k; number = n; lines = ls }; rows_are = refl; size = refl; starts = starts; known = refl; deep = λ h. h }
-  part-begins zero k n ls starts (f ∷ front) p ps e = absurd (cc)
-  part-begins (suc bound) k n [] starts (f ∷ front) p ps e = absurd (cc)
-  part-begins (suc bound) k n (line ∷ ls) starts (f ∷ front) p ps e =
-      let row = row_of on k n line in
-      let next = known_after on k row in
-      let rows = rows_from on next (suc n) ls in
-      let m = cond row.is_blank 0 (further rows) in
-      let s = state_on m next (suc n) ls in
-      let part : Part = record { first = row; more = take m rows; frames = frames_at row rows; stands = standing row rows } in
-      let both = heads-of part f (parts_in bound (drop m rows)) (front ++ (p ∷ ps)) e in
-      let rest = part-begins bound s.known s.number s.lines (next-starts k n line ls starts) front p ps (ap (parts_in bound) (sym (rows-on m next (suc n) ls)) ∙ both.1) in
-      let size = rest.size in
-      let whole : rows ≡ take m rows ++ rows_at s = sym (take-append-drop m rows) ∙ ap (λ l. take m rows ++ l) (rows-on m next (suc n) ls) in
-      let long : length (all_rows f ++ flat_map all_rows front) ≡ length (all_rows part ++ flat_map all_rows front) = ap (λ (q : Part). length (all_rows q ++ flat_map all_rows front)) (sym both.0) in
-      let one = length-append (all_rows part) (flat_map all_rows front) in
-      let two = length-append (all_rows part) rest.above in
-      record {
-        above = all_rows part ++ rest.above;
-        state = rest.state;
-        rows_are = ap (λ l. row ∷ l) (whole ∙ ap (λ l. take m rows ++ l) rest.rows_are ∙ sym (append_assoc (take m rows) rest.above (rows_at rest.state)));
-        size = omega (arith, size, long, one, two);
-        starts = rest.starts;
-        known = behind-on m next (suc n) ls ∙ rest.known;
-        deep = λ h. rest.deep (deep-on m next (suc n) ls (deep-next on k n line h));
-      }
+  -- no definitions begin in lines: nor behind the first
+  pub whole-next : (p : Bool) (r : Row) (rs : List Row) → before_defined on p (r ∷ rs) ≡ length (r ∷ rs) → ((not p && nat_le 1 (defined_in on (r ∷ rs))) ≡ false) × (before_defined on (is_paragraph r.leaf) rs ≡ length rs)
+  whole-next p r rs h = by (not p && nat_le 1 (defined_in on (r ∷ rs))) refl h
     where
-      heads-of : (a b : Part) (xs ys : List Part) → a ∷ xs ≡ b ∷ ys → (a ≡ b) × (xs ≡ ys)
-      heads-of a b xs ys e = (cc, cc)
+      by : (b : Bool) → (not p && nat_le 1 (defined_in on (r ∷ rs))) ≡ b → cond b 0 (suc (before_defined on (is_paragraph r.leaf) rs)) ≡ suc (length rs) → ((not p && nat_le 1 (defined_in on (r ∷ rs))) ≡ false) × (before_defined on (is_paragraph r.leaf) rs ≡ length rs)
+      by true e h = absurd (omega (arith, h))
+      by false e h = (e, omega (arith, h))
+
+  whole-on : (m : ℕ) (k : Known) (n : ℕ) (ls : List Line) → before_defined on (is_paragraph k.before.leaf) (rows_from on k n ls) ≡ length (rows_from on k n ls)
+      → let s = state_on m k n ls in before_defined on (is_paragraph s.known.before.leaf) (rows_at s) ≡ length (rows_at s)
+  whole-on zero k n ls h = h
+  whole-on (suc m) k n [] h = refl
+  whole-on (suc m) k n (line ∷ ls) h =
+      let r = row_of on k n line in
+      let rs = rows_from on (known_after on k r) (suc n) ls in
+      whole-on m (known_after on k r) (suc n) ls (ap (λ b. before_defined on b rs) (leaf-behind on (open-not-blank on) k n line) ∙ (whole-next (is_paragraph k.before.leaf) r rs h).1)
+
+  module _ (F : Row → List Row → List Frame) (S : Row → List Row → List Container) where
+    pub part-begins : (bound : ℕ) (k : Known) (n : ℕ) (ls : List Line) → NextStarts k n ls → (front : List Part) → (front ≡ [] → StartsClosed k n ls) → (p : Part) (ps : List Part) → parts_by F S bound (rows_from on k n ls) ≡ front ++ (p ∷ ps) → Begins k n ls front
+    part-begins bound k n ls next [] starts p ps e = record { above = []; state = record { known = k; number = n; lines = ls }; rows_are = refl; size = refl; starts = starts refl; known = refl; deep = λ h. h; whole = λ b e h. ap (λ c. before_defined on c (rows_from on k n ls)) (e refl) ∙ h }
+    part-begins zero k n ls after (f ∷ front) starts p ps e = absurd (cc)
+    part-begins (suc bound) k n [] after (f ∷ front) starts p ps e = absurd (cc)
+    part-begins (suc bound) k n (line ∷ ls) after (f ∷ front) starts p ps e =
+        let row = row_of on k n line in
+        let next = known_after on k row in
+        let rows = rows_from on next (suc n) ls in
+        let m = cond row.is_blank 0 (further rows) in
+        let s = state_on m next (suc n) ls in
+        let part : Part = record { first = row; more = take m rows; frames = F row rows; stands = S row rows } in
+        let both = heads-of part f (parts_by F S bound (drop m rows)) (front ++ (p ∷ ps)) e in
+        let rest = part-begins bound s.known s.number s.lines (all-next s.known s.number s.lines after) front (λ none. after) p ps (ap (parts_by F S bound) (sym (rows-on m next (suc n) ls)) ∙ both.1) in
+        let size = rest.size in
+        let whole : rows ≡ take m rows ++ rows_at s = sym (take-append-drop m rows) ∙ ap (λ l. take m rows ++ l) (rows-on m next (suc n) ls) in
+        let long : length (all_rows f ++ flat_map all_rows front) ≡ length (all_rows part ++ flat_map all_rows front) = ap (λ (q : Part). length (all_rows q ++ flat_map all_rows front)) (sym both.0) in
+        let one = length-append (all_rows part) (flat_map all_rows front) in
+        let two = length-append (all_rows part) rest.above in
+        record {
+          above = all_rows part ++ rest.above;
+          state = rest.state;
+          rows_are = ap (λ l. row ∷ l) (whole ∙ ap (λ l. take m rows ++ l) rest.rows_are ∙ sym (append_assoc (take m rows) rest.above (rows_at rest.state)));
+          size = omega (arith, size, long, one, two);
+          starts = rest.starts;
+          known = behind-on m next (suc n) ls ∙ rest.known;
+          deep = λ h. rest.deep (deep-on m next (suc n) ls (deep-next on k n line h));
+          whole = λ b none h. rest.whole (is_paragraph s.known.before.leaf) (λ none. refl) (whole-at b h);
+        }
+      where
+        heads-of : (a b : Part) (xs ys : List Part) → a ∷ xs ≡ b ∷ ys → (a ≡ b) × (xs ≡ ys)
+        heads-of a b xs ys e = (cc, cc)
+
+        whole-at : (b : Bool) → before_defined on b (rows_from on k n (line ∷ ls)) ≡ length (rows_from on k n (line ∷ ls))
+            → let row = row_of on k n line in
+            let s = state_on (cond row.is_blank 0 (further (rows_from on (known_after on k row) (suc n) ls))) (known_after on k row) (suc n) ls in
+            before_defined on (is_paragraph s.known.before.leaf) (rows_at s) ≡ length (rows_at s)
+        whole-at b h =
+            let row = row_of on k n line in
+            let next = known_after on k row in
+            let rows = rows_from on next (suc n) ls in
+            whole-on (cond row.is_blank 0 (further rows)) next (suc n) ls (ap (λ b. before_defined on b rows) (leaf-behind on (open-not-blank on) k n line) ∙ (whole-next b row rows h).1)

@@ -59,8 +59,12 @@ pub record IsSame (around p : Part) : Type 0 where
 abbrev pub at_top : Row → Part
 at_top r = record { first = r; more = []; frames = []; stands = [] }
 
--- The last stretch of the first rows, and the first of the second, are one section of the whole
-pub record SectionSeam (around : Part) (x : List Row) (r : Row) (rs : List Row) (whole first second : List Section) : Type 0 where
+-- nothing is said of lines
+abbrev pub any_place : Bool → List Row → Type 0
+any_place is_behind rows = Unit {0}
+
+-- The last stretch of the first rows, and the first of the second, are one section of the whole. `Place` is said of the first stretch and the blank lines behind it
+pub record SectionSeam (Place : (is_behind : Bool) → List Row → Type 0) (around : Part) (x : List Row) (r : Row) (rs : List Row) (whole first second : List Section) : Type 0 where
   pub front : List Section
   pub is_behind : Bool
   pub begin : Part
@@ -83,17 +87,18 @@ pub record SectionSeam (around : Part) (x : List Row) (r : Row) (rs : List Row) 
   pub whole_is : whole ≡ front ++ (record { part = joined_part begin blanks end; inside = lines is_behind } ∷ back)
   pub first_is : first ≡ front ++ (record { part = begin; inside = lines is_behind } ∷ plain_sections blanks)
   pub second_is : second ≡ plain_section end ∷ back
+  pub place : Place is_behind (begin.first ∷ (begin.more ++ firsts blanks))
 
 -- Sections of rows behind others: those of both, but for such a section
-pub data SectionsJoin (around : Part) (x : List Row) (r : Row) (rs : List Row) (whole first second : List Section) : Type 0 where
-  sections_apart : whole ≡ first ++ second → SectionsJoin around x r rs whole first second
-  section_seam : SectionSeam around x r rs whole first second → SectionsJoin around x r rs whole first second
+pub data SectionsJoin (Place : (is_behind : Bool) → List Row → Type 0) (around : Part) (x : List Row) (r : Row) (rs : List Row) (whole first second : List Section) : Type 0 where
+  sections_apart : whole ≡ first ++ second → SectionsJoin Place around x r rs whole first second
+  section_seam : SectionSeam Place around x r rs whole first second → SectionsJoin Place around x r rs whole first second
 
 -- At a rest whose line goes on with a stretch of lines the sections of a document are those of its parts, but for the section at the seam. No container is open there
 abbrev pub SectionsOfStretch : Type 0
 SectionsOfStretch = (on : Constructs) (t : ℕ) (a b : List ℕ) → begins_at_document_rest on t a b ≡ true → goes_on_behind on (lines_in (virtual t a)) (lines_in (virtual t b)) ≡ true
     → (r : Row) (rs : List Row) → map (moved_row (line_endings a) (length a)) (document_rows on t b) ≡ r ∷ rs
-    → SectionsJoin (at_top r) (document_rows on t a) r rs (sections on (document_rows on t (a ++ b))) (sections on (document_rows on t a)) (map (moved_section (line_endings a) (length a)) (sections on (document_rows on t b)))
+    → SectionsJoin any_place (at_top r) (document_rows on t a) r rs (sections on (document_rows on t (a ++ b))) (sections on (document_rows on t a)) (map (moved_section (line_endings a) (length a)) (sections on (document_rows on t b)))
 
 -- ---- marks
 module _ (bytes : List ℕ) where
