@@ -33,12 +33,14 @@ use Rattle.mdconstructs_rests.specs.Moved.{begins_line, line_endings}
 use Rattle.mdconstructs_rests.specs.MovedSections.{moved_section}
 use Rattle.mdconstructs_rests.proofs.DocumentBytes.{counted}
 use Rattle.mdconstructs_rests.proofs.DocumentRests.{stretches-go-on-at-top}
-use Rattle.mdconstructs_rests.proofs.JoinedDocument.{bare-from, goes-on, sections-of-stretch}
+use Rattle.mdconstructs_rests.proofs.JoinedDocument.{bare-from, goes-on}
 use Rattle.mdconstructs_rests.proofs.JoinedKnown.{IsRead, ahead-bare, all-read, columns-read, last-holds-from}
 use Rattle.mdconstructs_rests.proofs.JoinedMarks.{IsPlainPart, IsPlainRow, after_marks, blank_marks, first-marks, lines_of, part_white, same-held, second-marks, white_columns, whole-marks}
-use Rattle.mdconstructs_rests.proofs.JoinedWhole.{BareBehind, lefts}
+use Rattle.mdconstructs_rests.proofs.JoinedWhole.{BareBehind}
+use Rattle.mdconstructs_rests.proofs.JoinedParts.{lefts}
 use Rattle.mdconstructs_rests.proofs.MarksOfBoth.{apart}
 use Rattle.mdconstructs_rests.proofs.RowNumbers.{rows-are, sections-are}
+use Rattle.mdconstructs_rests.proofs.SeamPlaces.{DocumentPlace, sections-with-places}
 use Rattle.mdconstructs_rests.proofs.WithoutContainers.PlainRows.{IsBare}
 
 -- ---- the white space in front
@@ -233,7 +235,7 @@ module _ (on : Constructs) (t : ℕ) (a b : List ℕ) (rest : begins_at_document
   pub seam-ahead : (more left : List Row) → seam_rows ≡ more ++ left → AllStay more → AllByRecursion IsBare more
   seam-ahead more left is stay = ahead-bare on n (length a) (known_after on start first_row) 2 behind more left no-stack is stay
 
-  module _ (h : SectionSeam (at_top seam_row) (document_rows on t a) seam_row seam_rows sections_of_both sections_before sections_behind) where
+  module _ (h : SectionSeam (DocumentPlace on t a) (at_top seam_row) (document_rows on t a) seam_row seam_rows sections_of_both sections_before sections_behind) where
     pub not-held : is_held h.begin ≡ false
     not-held =
         let shut = and-left (is_closed (known_behind on start 1 one).before.leaf) _ at-rest in
@@ -242,14 +244,14 @@ module _ (on : Constructs) (t : ℕ) (a b : List ℕ) (rest : begins_at_document
 
     -- the first row of the stretch
     pub first-plain : IsPlainRow h.begin.first
-    first-plain = (all-plain (a ++ b) (document_rows on t a) seam_row seam_rows sections_of_both sections_before sections_behind h all-rows-read bare-behind full-row plain-seam seam-columns seam-ahead not-held).0
+    first-plain = (all-plain (DocumentPlace on t a) (a ++ b) (document_rows on t a) seam_row seam_rows sections_of_both sections_before sections_behind h all-rows-read bare-behind full-row plain-seam seam-columns seam-ahead not-held).0
 
     pub first-read : IsRead h.begin.first
-    first-read = (here (a ++ b) (document_rows on t a) seam_row seam_rows sections_of_both sections_before sections_behind h all-rows-read bare-behind full-row plain-seam seam-columns seam-ahead not-held).0
+    first-read = (here (DocumentPlace on t a) (a ++ b) (document_rows on t a) seam_row seam_rows sections_of_both sections_before sections_behind h all-rows-read bare-behind full-row plain-seam seam-columns seam-ahead not-held).0
 
     -- the marks of the document, and of its parts, by their sections
     abbrev pub seam_chunk : ChunkSeam (a ++ b) (sections_marks (a ++ b) sections_of_both) (sections_marks (a ++ b) sections_before) (sections_marks (a ++ b) sections_behind)
-    seam_chunk = chunk-at-seam (a ++ b) (document_rows on t a) seam_row seam_rows sections_of_both sections_before sections_behind h all-rows-read bare-behind full-row plain-seam seam-columns seam-ahead not-held
+    seam_chunk = chunk-at-seam (DocumentPlace on t a) (a ++ b) (document_rows on t a) seam_row seam_rows sections_of_both sections_before sections_behind h all-rows-read bare-behind full-row plain-seam seam-columns seam-ahead not-held
 
   -- where the sections are those of both parts, so are the marks
   pub marks-apart : sections_of_both ≡ sections_before ++ sections_behind → sections_marks (a ++ b) sections_of_both ≡ sections_marks (a ++ b) sections_before ++ sections_marks (a ++ b) sections_behind
@@ -261,5 +263,5 @@ module _ (on : Constructs) (t : ℕ) (a b : List ℕ) (rest : begins_at_document
       (sections-are (λ m. 1 ≤ m) on (rows on two) (rows-are (λ m. 1 ≤ m) on start 1 two (λ m l u. l) tt))
 
   -- the sections are those of both parts, but for the section at the seam
-  pub sections-join : SectionsJoin (at_top seam_row) (document_rows on t a) seam_row seam_rows sections_of_both sections_before sections_behind
-  sections-join = sections-of-stretch on t a b rest goes seam_row seam_rows (λ i. map (moved_row n (length a)) (rows on (lines_are i)))
+  pub sections-join : SectionsJoin (DocumentPlace on t a) (at_top seam_row) (document_rows on t a) seam_row seam_rows sections_of_both sections_before sections_behind
+  sections-join = sections-with-places on t a b rest goes seam_row seam_rows (λ i. map (moved_row n (length a)) (rows on (lines_are i)))

@@ -32,6 +32,11 @@ module _ (F : Row → List Row → List Frame) (S : Row → List Row → List Co
       let n = cond row.is_blank 0 (further behind) in
       record { first = row; more = take n behind; frames = F row behind; stands = S row behind } ∷ parts_by bound (drop n behind)
 
+-- parts of one blank line
+pub lefts : (ps : List Part) → AllByRecursion IsBlankPart ps → AllLeft (firsts ps)
+lefts [] h = tt
+lefts (p ∷ ps) h = (h.0.left, lefts ps h.1)
+
 -- those of a document
 pub real-parts : (b : ℕ) (rows : List Row) → parts_in b rows ≡ parts_by frames_at standing b rows
 real-parts zero rows = refl

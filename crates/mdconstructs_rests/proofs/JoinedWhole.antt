@@ -13,14 +13,17 @@ use Rattle.mdconstructs_definitions.proofs.SectionCosts.{defined-text}
 use Rattle.mdconstructs_lines.specs.Containers.{Container}
 use Rattle.mdconstructs_containers.specs.Prefixes.{containers_of}
 use Rattle.mdconstructs_containers.specs.Rows.{Row, is_paragraph}
-use Rattle.mdconstructs_containers.specs.Skeleton.{Frame, Part, frames_at, frames_of, further, going_on_at, left_in, list_at, list_begun, parts, parts_in, standing}
+use Rattle.mdconstructs_containers.specs.Skeleton.{Frame, Part, frames_at, frames_of, going_on_at, left_in, list_at, list_begun, parts, standing}
 use Rattle.mdconstructs_labels.specs.declared.definitions.Definition.{Definition}
 use Rattle.mdconstructs_labels.specs.Definitions.{definitions}
 use Rattle.mdconstructs_definitions.specs.Sections.{Section, before_defined, begins_text, cut, defined, defined_in, defining, paragraph_of, sections, sections_in, sections_of, text_in, lines_defined}
 use Rattle.mdconstructs_rests.specs.JoinedStretches.{AllStay, IsBlankPart, IsSame, SectionsJoin, at_top, firsts, joined_part, plain_section, plain_sections, section_seam, sections_apart, any_place}
-use Rattle.mdconstructs_rests.proofs.JoinedParts.{Joins, Seam, apart, joins-as, left-parts-by, parts-join, parts_by, seam, real-parts}
+use Rattle.mdconstructs_rests.proofs.JoinedParts.{Joins, Seam, apart, joins-as, left-parts-by, lefts, parts-join, parts_by, seam, real-parts}
 use Rattle.mdconstructs_rests.proofs.JoinedSections.{Behind, all-same, follows, its_frames, its_parts, its_stands, joins-back, joins-front, joins-longer, joins-same, left, same-parts, sections-fuel, sections-join, sections-none, sections-plain, stays, Placing}
 use Rattle.mdconstructs_definitions.specs.Skeleton.{all_rows}
+use Rattle.mdconstructs_rests.specs.JoinedStretches.{AllStay, IsBlankPart, IsSame, SectionsJoin, any_place, at_top, firsts, joined_part, plain_section, plain_sections, section_seam, sections_apart}
+use Rattle.mdconstructs_rests.proofs.JoinedParts.{Joins, Seam, apart, joins-as, left-parts-by, lefts, lefts, parts-join, parts_by, real-parts, seam}
+use Rattle.mdconstructs_rests.proofs.JoinedSections.{Behind, Placing, all-same, follows, its_frames, its_parts, its_stands, joins-back, joins-front, joins-longer, joins-same, left, same-parts, sections-fuel, sections-join, sections-none, sections-plain, stays}
 use Rattle.mdconstructs_rests.proofs.SectionRows.{AllLeft, LeftIsBlank, joined, joined-first, joined-none, left-no-text}
 use Rattle.mdconstructs_rests.proofs.SectionsApart.{GoesOnWithNone, frames-apart, standing-apart}
 use Rattle.mdconstructs_rests.proofs.WithoutContainers.PlainParts.{IsAlone, parts-alone}
@@ -51,10 +54,6 @@ around-any on (suc bound) p a b (r ∷ rs) f s =
     defining-any ds (q ∷ qs) = (λ i. (let o : Section = record { part = record { first = q; more = qs; frames = f i; stands = s i }; inside = defined ds } in o) ∷ [])
 
 -- ---- rows that are left blank are sections of their own
-pub lefts : (ps : List Part) → AllByRecursion IsBlankPart ps → AllLeft (firsts ps)
-lefts [] k = tt
-lefts (p ∷ ps) k = (k.0.left, lefts ps k.1)
-
 -- no number that is none at least
 zero-if : (n : ℕ) → (1 ≤ n → ⊥) → n ≡ 0
 zero-if zero h = refl

@@ -67,6 +67,7 @@ pub mod ReadsOfBoth
 pub mod Rests
 pub mod RowNumbers
 pub mod RowPlaces
+pub mod SeamEnds
 pub mod SeamLetters
 pub mod SeamParts
 pub mod SeamPlaces
@@ -83,6 +84,7 @@ pub mod SkeletonLinks
 pub mod SkeletonOfBoth
 pub mod SkeletonStands
 pub mod SplitBlocks
+pub mod StretchBlocks
 pub mod StretchEnds
 pub mod StretchLeaves
 pub mod StretchStarts

@@ -1,7 +1,7 @@
 -- What is known of the lines before the last stretch of a document, if a line at a rest goes on with it: no leaf block is open there, or definitions come directly
 -- before it.
-use Rattle.std.proofs.Common.{Bool, List, [], ap, arith, cond, drop, false, length, refl, subst, sym, true, zero, ℕ, suc, ◌+◌, ◌++◌, ◌<◌, ◌≤◌, ◌==◌, ◌&&◌, ◌||◌, not, ◌∙◌, ◌∷◌, ◌≡◌}
-use Rattle.std.specs.List.{AllByRecursion, flat_map}
+use Rattle.std.proofs.Common.{Bool, List, [], ap, arith, cond, drop, false, length, refl, subst, sym, true, zero, ℕ, suc, ◌++◌, ◌<◌, ◌≤◌, ◌==◌, ◌&&◌, ◌||◌, not, ◌∙◌, ◌∷◌, ◌≡◌}
+use Rattle.std.specs.List.{flat_map}
 use Rattle.std.specs.Prelude.{map}
 use Rattle.markdown_base.proofs.Facts.Bools.{and-left}
 use Rattle.markdown_base.specs.declared.configuration.Constructs.{Constructs}
@@ -9,8 +9,8 @@ use Rattle.markdown_base.specs.Virtual.{virtual}
 use Rattle.markdown_tokenizer.proofs.Positions.Order.{every-back}
 use Rattle.mdconstructs_machines.specs.LineEvents.{lines_in}
 use Rattle.mdconstructs_flow_read.specs.LeafBlocks.{Line}
-use Rattle.mdconstructs_containers.specs.Rows.{Leaf, Row, closed, has_none, holds_ending, is_paragraph}
-use Rattle.mdconstructs_containers.specs.Skeleton.{Part, frames_at, further, parts, standing}
+use Rattle.mdconstructs_containers.specs.Rows.{Row, has_none, holds_ending, is_paragraph}
+use Rattle.mdconstructs_containers.specs.Skeleton.{Part, frames_at, further, standing}
 use Rattle.mdconstructs_definitions.proofs.KnownLemmas.{paragraph-is}
 use Rattle.mdconstructs_definitions.specs.Rows.{Known, known_after, row_of, rows, rows_from}
 use Rattle.mdconstructs_definitions.specs.Sections.{before_defined, begins_text, defined_in, sections}
@@ -21,8 +21,8 @@ use Rattle.mdconstructs_rests.specs.Moved.{line_endings}
 use Rattle.mdconstructs_rests.specs.MovedSections.{moved_section}
 use Rattle.mdconstructs_rests.proofs.JoinedDocument.{sections-placed}
 use Rattle.mdconstructs_rests.proofs.JoinedKnown.{IsDeep}
-use Rattle.mdconstructs_rests.proofs.JoinedParts.{parts_by, real-parts}
-use Rattle.mdconstructs_rests.proofs.JoinedSections.{Placed, Placing, its_frames, its_parts, its_stands, last_flag}
+use Rattle.mdconstructs_rests.proofs.JoinedParts.{real-parts}
+use Rattle.mdconstructs_rests.proofs.JoinedSections.{Placed, Placing, its_frames, its_parts, its_stands}
 use Rattle.mdconstructs_rests.proofs.JoinedWhole.{Begun}
 use Rattle.mdconstructs_rests.proofs.SectionRows.{every-drop}
 use Rattle.mdconstructs_rests.proofs.StretchStarts.{Begins, NextStarts, State, StartsAt, StartsClosed, all-next, behind-on, closed-starts, deep-on, further-none, left-leaf, none-starts, part-begins, rows-on, rows_at, state_on}

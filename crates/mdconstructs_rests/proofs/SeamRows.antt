@@ -131,8 +131,8 @@ module _ (on : Constructs) where
     pub seam-none : next.before.stack ≡ []
     seam-none = next-none start 1 line refl (none_is first_row.begun at-end.1)
 
-    pub seam-not-lazy : (whole first second : List Section) (h : SectionSeam (at_top r) (rows on one) r rs whole first second) → AllByRecursion NotLazy (h.begin.first ∷ ((h.begin.more ++ firsts h.blanks) ++ (h.end.first ∷ h.end.more)))
-    seam-not-lazy whole first second h =
+    pub seam-not-lazy : (Place : Bool → List Row → Type 0) (whole first second : List Section) (h : SectionSeam Place (at_top r) (rows on one) r rs whole first second) → AllByRecursion NotLazy (h.begin.first ∷ ((h.begin.more ++ firsts h.blanks) ++ (h.end.first ∷ h.end.more)))
+    seam-not-lazy Place whole first second h =
         let inner = h.begin.more ++ firsts h.blanks in
         let above = behind-not-lazy start 1 one (omega arith) at-end.0 h.above h.begin.first inner h.rows_are h.full h.stay in
         let end = subst NotLazy (sym h.end_is) (top-not-lazy start 1 line (omega arith) refl) in

@@ -240,9 +240,9 @@ module _ (on : Constructs) (m bytes : ℕ) (one : List Line) (line : Line) (behi
   rs = map (moved_row m bytes) (rows_from on next 2 behind)
 
   -- the last line of the second stretch
-  pub seam-text : (whole first second : List Section) → second ≡ map (moved_section m bytes) (sections on (rows on (line ∷ behind))) → (h : SectionSeam (at_top r) (rows on one) r rs whole first second)
+  pub seam-text : (Place : Bool → List Row → Type 0) (whole first second : List Section) → second ≡ map (moved_section m bytes) (sections on (rows on (line ∷ behind))) → (h : SectionSeam Place (at_top r) (rows on one) r rs whole first second)
       → is_held h.end ≡ false → HasText (last_line (lines_of (h.end.first ∷ h.end.more)))
-  seam-text whole first second second_is h held =
+  seam-text Place whole first second second_is h held =
       let at = goes-on on bytes one line behind there goes in
       let end = h.end in
       let kept = subst FirstKept (sym second_is ∙ h.second_is) (moved-kept m bytes (sections on (rows on (line ∷ behind))) (sections-kept on first_row (rows_from on next 2 behind) at.left)) refl in

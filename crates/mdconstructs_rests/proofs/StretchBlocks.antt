@@ -19,6 +19,7 @@ use Rattle.mdconstructs_containers.specs.Letters.{ArePlainFrom, letter, lettered
 use Rattle.mdconstructs_containers.specs.Rows.{Row, rest_of}
 use Rattle.mdconstructs_containers.specs.Skeleton.{chained_from, is_held}
 use Rattle.mdconstructs_definitions.proofs.Covered.{rows_of}
+use Rattle.mdconstructs_definitions.proofs.LeftLines.{underline-is-left}
 use Rattle.mdconstructs_definitions.proofs.PlainLetters.{letters-are-plain}
 use Rattle.mdconstructs_definitions.proofs.SectionTight.{all-sections-tight}
 use Rattle.mdconstructs_definitions.proofs.SectionsReady.{document-goes}
@@ -35,9 +36,13 @@ use Rattle.mdconstructs_rests.proofs.JoinedKnown.{IsRead}
 use Rattle.mdconstructs_rests.proofs.JoinedMarks.{IsPlainRow, lines_of, white_columns}
 use Rattle.mdconstructs_rests.proofs.LetteredLines.{all_lettered, lettered}
 use Rattle.mdconstructs_rests.proofs.ReadsOfBoth.{with_chains_read}
+use Rattle.mdconstructs_rests.proofs.SeamEnds.{near-at-seam, stretch-at-seam}
 use Rattle.mdconstructs_rests.proofs.SeamLetters.{IsNotLazy, first-stays, letters-are, others-stay}
 use Rattle.mdconstructs_rests.proofs.SeamParts.{between-plain, between-whole, joined-lines, letter-in-front, lines-around, some-text}
+use Rattle.mdconstructs_rests.proofs.SeamPlaces.{DocumentPlace}
+use Rattle.mdconstructs_rests.proofs.SeamRows.{seam-not-lazy}
 use Rattle.mdconstructs_rests.proofs.SeamSeats.{first-some, first_line, first_seats, middle_seats, seats-are, seats-split, seats_after, seats_before, second-some, second_seats, whole-is}
+use Rattle.mdconstructs_rests.proofs.SeamText.{seam-text}
 use Rattle.mdconstructs_rests.proofs.SkeletonOfBoth.{all-behind, chained-of-both}
 use Rattle.mdconstructs_rests.proofs.SplitBlocks.{EndsBefore}
 use Rattle.mdconstructs_rests.proofs.WithoutContainers.Leaves.{HasText, last_line}
@@ -72,7 +77,7 @@ module _ (options : ParseOptions) (a b : List ℕ) (is : IsDocument (document op
   torn : begins_line b a ≡ true
   torn = and-left (begins_line b a) (first_at_document_rest on (lines_in (virtual t a)) (lines_in (virtual t b))) rest
 
-  abbrev leaf_blocks_of : List Mark → List Event
+  abbrev pub leaf_blocks_of : List Mark → List Event
   leaf_blocks_of ms = leaves options bytes is ms
 
   abbrev marks_before : List Mark
@@ -85,7 +90,7 @@ module _ (options : ParseOptions) (a b : List ℕ) (is : IsDocument (document op
   marks_of_both = sections_marks bytes (sections on (document_rows on t bytes))
 
   -- it is enough to see to the marks
-  from-marks : leaf_blocks_of marks_of_both ≡ leaf_blocks_of (marks_before ++ marks_behind) → IsOfBoth (blocks_of options) a b
+  pub from-marks : leaf_blocks_of marks_of_both ≡ leaf_blocks_of (marks_before ++ marks_behind) → IsOfBoth (blocks_of options) a b
   from-marks e =
       let g = whole options a b is rest in
       e ∙ ap (λ ms. leaf_blocks_of (marks_before ++ ms)) (all-behind a b torn on t)
@@ -103,7 +108,7 @@ module _ (options : ParseOptions) (a b : List ℕ) (is : IsDocument (document op
     rs = seam_rows on t a b rest line behind lines_are goes
 
     abbrev Seam : Type 0
-    Seam = SectionSeam (at_top r) (document_rows on t a) r rs (sections on (document_rows on t bytes)) (sections on (document_rows on t a)) (map (moved_section (line_endings a) (length a)) (sections on (document_rows on t b)))
+    Seam = SectionSeam (DocumentPlace on t a) (at_top r) (document_rows on t a) r rs (sections on (document_rows on t bytes)) (sections on (document_rows on t a)) (map (moved_section (line_endings a) (length a)) (sections on (document_rows on t b)))
 
     module _ (h : Seam) where
       abbrev q : Row
@@ -276,3 +281,37 @@ module _ (options : ParseOptions) (a b : List ℕ) (is : IsDocument (document op
                 let none = ap (λ (l : List Seat). length l) f in
                 absurd (omega (arith, some, none))
             by (s ∷ ss) e (u ∷ us) f = blocks-by-seats s ss u us e f
+
+-- At a rest at which a stretch of lines goes on, the blocks of a document are those of its parts
+pub blocks-with-stretch : (options : ParseOptions) (a b : List ℕ) → IsDocument (document options (a ++ b)) → is_rest options a b ≡ true
+    → goes_on_behind options.constructs (lines_in (virtual options.tab_size a)) (lines_in (virtual options.tab_size b)) ≡ true → IsOfBoth (blocks_of options) a b
+blocks-with-stretch options a b is rest goes = by (lines_in (virtual options.tab_size b)) refl
+  where
+    on : Constructs
+    on = options.constructs
+
+    t : ℕ
+    t = options.tab_size
+
+    joined : (line : Line) (behind : List Line) (e : lines_in (virtual t b) ≡ line ∷ behind) → let r = seam_row on t a b rest line behind e goes in let rs = seam_rows on t a b rest line behind e goes in
+        SectionsJoin (DocumentPlace on t a) (at_top r) (document_rows on t a) r rs (sections on (document_rows on t (a ++ b))) (sections on (document_rows on t a)) (map (moved_section (line_endings a) (length a)) (sections on (document_rows on t b)))
+        → IsOfBoth (blocks_of options) a b
+    joined line behind e (sections_apart k) = from-marks options a b is rest (ap (leaf_blocks_of options a b is rest) (marks-apart on t a b rest line behind e goes k))
+    joined line behind e (section_seam h) =
+        let one = lines_in (virtual t a) in
+        let n = line_endings a in
+        let there = at-rest on t a b rest line behind e goes in
+        let on_behind = goes-behind on t a b rest line behind e goes in
+        let Place = DocumentPlace on t a in
+        let rs = seam_rows on t a b rest line behind e goes in
+        let whole = sections on (document_rows on t (a ++ b)) in
+        let first = sections on (document_rows on t a) in
+        let second = map (moved_section n (length a)) (sections on (document_rows on t b)) in
+        blocks-at-seam options a b is rest line behind e goes h
+        (λ x is. stretch-at-seam underline-is-left on t a b rest goes line behind e rs whole first second h x is.same is.letter_first h.end.first.line (near-at-seam underline-is-left on t a b rest goes line behind e rs whole first second h))
+        (seam-text on n (length a) one line behind there on_behind Place whole first second (ap (λ l. map (moved_section n (length a)) (sections on (rows on l))) e) h)
+        (seam-not-lazy on n (length a) one line behind there on_behind Place whole first second h)
+
+    by : (two : List Line) → lines_in (virtual t b) ≡ two → IsOfBoth (blocks_of options) a b
+    by [] e = let none = sym goes ∙ ap (goes_on_behind on (lines_in (virtual t a))) e in absurd (cc)
+    by (line ∷ behind) e = joined line behind e (sections-join on t a b rest line behind e goes)

@@ -3,7 +3,7 @@ use Rattle.std.proofs.Common.{Bool, List, [], ap, append_assoc, arith, cond, dro
 use Rattle.std.proofs.Math.Bool.{and-false}
 use Rattle.std.proofs.lemmas.Bool.{leb-true}
 use Rattle.std.proofs.lemmas.List.{append-nil, take_all}
-use Rattle.std.specs.List.{AllByRecursion, prefix_len}
+use Rattle.std.specs.List.{prefix_len}
 use Rattle.markdown_base.proofs.Common.{and-right}
 use Rattle.markdown_base.proofs.Facts.Bools.{and-left}
 use Rattle.markdown_base.specs.declared.configuration.Constructs.{Constructs}
@@ -22,7 +22,7 @@ use Rattle.mdconstructs_rests.specs.JoinedStretches.{AllStay, may_stay}
 use Rattle.mdconstructs_rests.proofs.BothSections.{leaf-behind, rows-left}
 use Rattle.mdconstructs_rests.proofs.NoUnderlines.{behind_text, not-blank-some, paragraph-more, some-long}
 use Rattle.mdconstructs_rests.proofs.SectionRows.{LeftIsBlank}
-use Rattle.mdconstructs_rests.proofs.StretchStarts.{State, StartsClosed, no-text, rows_at, state_on}
+use Rattle.mdconstructs_rests.proofs.StretchStarts.{StartsClosed, no-text, rows_at, state_on}
 
 -- ---- texts
 -- a text up to a line ending is that of its first lines
