@@ -16,6 +16,7 @@ use Rattle.mdconstructs_rests.proofs.DocumentParts.{behind-document}
 use Rattle.mdconstructs_rests.proofs.ReadsOfBoth.{with_chains_read}
 use Rattle.mdconstructs_rests.proofs.Sections.{give}
 use Rattle.mdconstructs_rests.proofs.SkeletonOfBoth.{skeleton-of-both}
+use Rattle.mdconstructs_rests.proofs.StretchBlocks.{blocks-with-stretch}
 use Rattle.mdconstructs_rests.specs.BothDocuments.{DocumentBlocksOfBoth, DocumentEventsOfBoth, DocumentSectionsGiveEvents, IsOfBoth, blocks_of, events_by, is_rest}
 use Rattle.mdconstructs_rests.specs.DocumentRests.{first_at_document_rest, goes_on_behind}
 use Rattle.mdconstructs_rests.specs.Moved.{begins_line}
@@ -38,19 +39,18 @@ blocks-without-stretch options a b is rest off =
     let g = whole options a b is rest in
     ap (with_chains_read (Some content.Content) g (flow_events options.constructs g.bytes)) (skeleton-of-both options.constructs options.tab_size a b rest off) ∙ blocks-apart options a b is rest
 
-module _ (joined : (options : ParseOptions) (a b : List ℕ) → IsDocument (document options (a ++ b)) → is_rest options a b ≡ true → GoesOn options a b true → IsOfBoth (blocks_of options) a b) where
-  pub document-blocks-of-both : DocumentBlocksOfBoth
-  document-blocks-of-both options a b is rest = by (goes_on_behind options.constructs (lines_in (virtual options.tab_size a)) (lines_in (virtual options.tab_size b))) refl
-    where
-      by : (c : Bool) → GoesOn options a b c → IsOfBoth (blocks_of options) a b
-      by true e = joined options a b is rest e
-      by false e = blocks-without-stretch options a b is rest e
+pub document-blocks-of-both : DocumentBlocksOfBoth
+document-blocks-of-both options a b is rest = by (goes_on_behind options.constructs (lines_in (virtual options.tab_size a)) (lines_in (virtual options.tab_size b))) refl
+  where
+    by : (c : Bool) → GoesOn options a b c → IsOfBoth (blocks_of options) a b
+    by true e = blocks-with-stretch options a b is rest e
+    by false e = blocks-without-stretch options a b is rest e
 
-  pub document-events-of-both : DocumentEventsOfBoth
-  document-events-of-both defined options a b is rest = events-both defined options a b is (rest-begins options a b rest) (document-blocks-of-both options a b is rest)
+pub document-events-of-both : DocumentEventsOfBoth
+document-events-of-both defined options a b is rest = events-both defined options a b is (rest-begins options a b rest) (document-blocks-of-both options a b is rest)
 
-  pub document-sections-give-events : DocumentSectionsGiveEvents
-  document-sections-give-events options sections is h =
-      let defined = is_defined_in (document options (document_of sections)) in
-      sym (give (is_rest options) (rest-begins options) (document-first-line-tells options.constructs options.tab_size) (λ bytes. IsDocument (document options bytes)) (λ a b ok. behind-document options a b ok)
-      (events_by options defined) refl (document-events-of-both defined options) sections is h)
+pub document-sections-give-events : DocumentSectionsGiveEvents
+document-sections-give-events options sections is h =
+    let defined = is_defined_in (document options (document_of sections)) in
+    sym (give (is_rest options) (rest-begins options) (document-first-line-tells options.constructs options.tab_size) (λ bytes. IsDocument (document options bytes)) (λ a b ok. behind-document options a b ok)
+    (events_by options defined) refl (document-events-of-both defined options) sections is h)

@@ -28,7 +28,7 @@ use Rattle.mdconstructs_definitions.specs.Rows.{Known, known_after, row_of, rows
 use Rattle.mdconstructs_definitions.specs.Sections.{Section, sections}
 use Rattle.mdconstructs_definitions.specs.Skeleton.{sections_marks}
 use Rattle.mdconstructs_rests.specs.DocumentRests.{begins_at_document_rest, document_rows, first_at_document_rest, goes_on_behind, is_at_document_rest, is_closed, known_at_start, known_behind, moved_prefix, moved_row}
-use Rattle.mdconstructs_rests.specs.JoinedStretches.{AllStay, ChunkSeam, IsBlankPart, IsSame, SectionSeam, SectionsJoin, at_top, firsts, joined_part, marks_between, stretch_chunk, MarksJoin, MarksOfStretch, any_place, chunk_seam, marks_apart, section_seam, sections_apart}
+use Rattle.mdconstructs_rests.specs.JoinedStretches.{AllStay, ChunkSeam, IsBlankPart, IsSame, SectionSeam, SectionsJoin, at_top, firsts, joined_part, marks_between, stretch_chunk}
 use Rattle.mdconstructs_rests.specs.Moved.{begins_line, line_endings}
 use Rattle.mdconstructs_rests.specs.MovedSections.{moved_section}
 use Rattle.mdconstructs_rests.proofs.DocumentBytes.{counted}

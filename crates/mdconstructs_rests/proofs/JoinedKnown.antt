@@ -8,6 +8,7 @@ use Rattle.markdown_base.proofs.Facts.Bools.{and-left}
 use Rattle.markdown_base.specs.declared.configuration.Constructs.{Constructs}
 use Rattle.mdconstructs_flow_read.proofs.Lines.WholeLines.{IsWhole}
 use Rattle.mdconstructs_flow_read.specs.LeafBlocks.{Line, text_of}
+use Rattle.mdconstructs_flow_read.specs.LineKinds.{is_blank_line}
 use Rattle.mdconstructs_lines.specs.Containers.{Container, Prefix}
 use Rattle.mdconstructs_containers.proofs.DocumentRows.{going_few}
 use Rattle.mdconstructs_containers.proofs.FrameFacts.{none_is}

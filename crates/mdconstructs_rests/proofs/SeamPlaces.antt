@@ -4,6 +4,7 @@ use Rattle.std.proofs.Common.{Bool, List, [], ap, arith, cond, drop, false, leng
 use Rattle.std.specs.List.{flat_map}
 use Rattle.std.specs.Prelude.{map}
 use Rattle.markdown_base.proofs.Facts.Bools.{and-left}
+use Rattle.markdown_base.proofs.Common.{every-drop}
 use Rattle.markdown_base.specs.declared.configuration.Constructs.{Constructs}
 use Rattle.markdown_base.specs.Virtual.{virtual}
 use Rattle.markdown_tokenizer.proofs.Positions.Order.{every-back}
@@ -24,7 +25,6 @@ use Rattle.mdconstructs_rests.proofs.JoinedKnown.{IsDeep}
 use Rattle.mdconstructs_rests.proofs.JoinedParts.{real-parts}
 use Rattle.mdconstructs_rests.proofs.JoinedSections.{Placed, Placing, its_frames, its_parts, its_stands}
 use Rattle.mdconstructs_rests.proofs.JoinedWhole.{Begun}
-use Rattle.mdconstructs_rests.proofs.SectionRows.{every-drop}
 use Rattle.mdconstructs_rests.proofs.StretchStarts.{Begins, NextStarts, State, StartsAt, StartsClosed, all-next, behind-on, closed-starts, deep-on, further-none, left-leaf, none-starts, part-begins, rows-on, rows_at, state_on}
 use Rattle.mdconstructs_rests.proofs.UsedUp.{Found, Used, found-closed, found-used, used-behind}
 

@@ -133,7 +133,7 @@ module _ (options : ParseOptions) (a b : List ℕ) (is : IsDocument (document op
       n = white_columns bytes h.is_behind q
 
       -- the line of which leaf blocks are read first
-      record IsFirst (x : Line) : Type 0 where
+      pub record IsFirst (x : Line) : Type 0 where
         pub same : h.is_behind ≡ false → x ≡ q.line
         pub letter_first : h.is_behind ≡ true → (others : List ℕ) × (text_of x ≡ letter ∷ others)
 

@@ -1,6 +1,7 @@
 //! Laws about leaf blocks and documents at rests. Each is a function that does nothing; its contract is the law.
 
 ghost use Rattle.mdconstructs_rests.specs.Asked.{AskedLabelsMove, LabelsDecide};
+ghost use Rattle.mdconstructs_rests.specs.BothDocuments.{DocumentBlocksOfBoth, DocumentEventsOfBoth, DocumentSectionsGiveEvents};
 ghost use Rattle.mdconstructs_rests.specs.DocumentLabels.{LabelsOfBoth, LettersOfBoth};
 ghost use Rattle.mdconstructs_rests.specs.DocumentRests.{DocumentFirstLineTells, DocumentRestsForget, DocumentRestsOfBoth, DocumentRowsOfBoth, RowsMove, RowsOfBoth, StretchesGoOnAtTop};
 ghost use Rattle.mdconstructs_rests.specs.Moved.{BlocksMove, BlocksOfBoth, EventsOfBoth, LinesAreCounted, LinesOfBoth, VirtualOfBoth};
@@ -176,4 +177,19 @@ pub fn skeleton_of_both()
 /// A line at a rest of a document goes on with a stretch of lines before it only where no container is open.
 pub fn stretches_go_on_at_top()
     ensures { StretchesGoOnAtTop }
+{}
+
+/// Blocks stand alone: those of a document are those of its parts, moved, if the second begins at a rest of the document.
+pub fn document_blocks_of_both()
+    ensures { DocumentBlocksOfBoth }
+{}
+
+/// The events of a document are those of its parts, moved, if the second begins at a rest of the document; whatever labels are defined.
+pub fn document_events_of_both()
+    ensures { DocumentEventsOfBoth }
+{}
+
+/// The events of a document's sections, each read by itself with the document's labels, and moved, are those of the document.
+pub fn document_sections_give_events()
+    ensures { DocumentSectionsGiveEvents }
 {}
