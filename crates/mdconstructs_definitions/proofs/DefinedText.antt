@@ -44,7 +44,7 @@ two-cuts (a ∷ u) v (b ∷ x) w none e =
     by false k = k
 
 -- a text up to a line ending is that of its first lines
-front-lines : (rs : List Row) (x w : List ℕ) → text_in rs ≡ x ++ 10 ∷ w → (x ≡ text_in (take (tens x + 1) rs))
+pub front-lines : (rs : List Row) (x w : List ℕ) → text_in rs ≡ x ++ 10 ∷ w → (x ≡ text_in (take (tens x + 1) rs))
 front-lines [] x w e = absurd (omega (arith, ap (λ (l : List ℕ). length l) e, length-append x (10 ∷ w)))
 front-lines (r ∷ []) x w e = absurd (omega (arith, ap tens e, tens-both x (10 ∷ w), ap tens (append-nil (rest_of r)), tens-rest r))
 front-lines (r ∷ q ∷ qs) x w e =
@@ -62,7 +62,7 @@ lines-some [] h = absurd (omega (arith, h))
 lines-some (b ∷ bs) h = refl
 
 -- all lines, if nothing is left
-all-lines : (rs : List Row) → 1 ≤ lines_of (text_in rs) → take (lines_of (text_in rs)) rs ≡ rs
+pub all-lines : (rs : List Row) → 1 ≤ lines_of (text_in rs) → take (lines_of (text_in rs)) rs ≡ rs
 all-lines [] h = absurd (omega (arith, h))
 all-lines (r ∷ rs) h = by (text_in (r ∷ rs)) (tens-in r rs) h
   where

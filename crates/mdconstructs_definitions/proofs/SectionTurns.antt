@@ -43,12 +43,12 @@ rows-fit rs h = every-map RowIs RowFits (λ r k. k.fits) rs h
 not-blank : (r : Row) → RowIs r → is_paragraph r.leaf ≡ true → r.is_blank ≡ false
 not-blank r h e = h.fits.blank ∙ h.open_behind e
 
+pub not-blank-some : (t : List ℕ) → is_blank_line t ≡ false → has_none t ≡ false
+not-blank-some [] k = absurd (false≢true (sym k))
+not-blank-some (b ∷ bs) k = refl
+
 is-filled : (r : Row) → RowIs r → is_paragraph r.leaf ≡ true → IsFilled r
-is-filled r h e = by (rest_of r) (h.open_behind e)
-  where
-    by : (t : List ℕ) → is_blank_line t ≡ false → has_none t ≡ false
-    by [] k = absurd (false≢true (sym k))
-    by (b ∷ bs) k = refl
+is-filled r h e = not-blank-some (rest_of r) (h.open_behind e)
 
 -- the same spans stay open where nothing begins
 same-turn : (fs gs : List Frame) (ps : List Prefix) → gs ≡ fs → has_none ps ≡ true → Turn fs gs ps

@@ -29,7 +29,7 @@ use Rattle.mdconstructs_rests.proofs.SectionRows.{Follows, LeftIsBlank, cut_off,
 
 module _ (on : Constructs) (not-blank : (k : Known) (n : ℕ) (line : Line) → is_paragraph (row_of on k n line).leaf ≡ true → is_blank_line (rest_of (row_of on k n line)) ≡ false) where
   -- ---- rows that are left blank
-  left-is-blank : (k : Known) (n : ℕ) (line : Line) → LeftIsBlank (row_of on k n line)
+  pub left-is-blank : (k : Known) (n : ℕ) (line : Line) → LeftIsBlank (row_of on k n line)
   left-is-blank k n line left =
       let row = row_of on k n line in
       let blank : row.is_blank ≡ true = and-left row.is_blank (has_none row.begun && not (row.stays && holds_ending k.before.leaf)) left in

@@ -18,6 +18,7 @@ use Rattle.mdconstructs_definitions.proofs.DefinedText.{lines-some, tens-both, t
 use Rattle.mdconstructs_definitions.proofs.PlainLetters.{open-not-blank}
 use Rattle.mdconstructs_definitions.proofs.SectionLemmas.{tens}
 use Rattle.mdconstructs_definitions.proofs.LeftLines.{EndsFull}
+use Rattle.mdconstructs_definitions.proofs.SectionTurns.{not-blank-some}
 use Rattle.mdconstructs_definitions.specs.Rows.{Known, is_behind_text, is_used_up, known_after, row_of, rows_from, underlines_nothing}
 use Rattle.mdconstructs_definitions.specs.Sections.{before_defined, defined_in, lines_defined, lines_of, paragraph_of, text_in}
 use Rattle.mdconstructs_rests.specs.JoinedStretches.{AllStay, may_stay}
@@ -52,10 +53,6 @@ paragraph-more r rs e =
     let n = prefix_len (λ (row : Row). is_paragraph row.leaf) rs in
     let one : 1 + n ≡ suc n = omega arith in
     ap (λ b. take (cond b (1 + n) 0) (r ∷ rs)) e ∙ ap (λ k. take k (r ∷ rs)) one
-
-pub not-blank-some : (t : List ℕ) → is_blank_line t ≡ false → has_none t ≡ false
-not-blank-some [] h = h
-not-blank-some (x ∷ t) h = refl
 
 some-full : (text : List ℕ) → 0 < lines_of text → has_none text ≡ false
 some-full [] h = absurd (omega (arith, h))

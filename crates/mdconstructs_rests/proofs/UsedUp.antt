@@ -11,55 +11,21 @@ use Rattle.mdconstructs_flow_read.specs.LeafBlocks.{Line}
 use Rattle.mdconstructs_containers.proofs.DocumentRows.{take_of_take}
 use Rattle.mdconstructs_containers.specs.Rows.{Row, has_none, is_paragraph, rest_of}
 use Rattle.mdconstructs_labels.specs.Definitions.{rest}
-use Rattle.mdconstructs_definitions.proofs.DefinedText.{lines-some, tens-both, tens-rest, two-cuts}
+use Rattle.mdconstructs_definitions.proofs.DefinedText.{all-lines, front-lines, lines-some, tens-both, tens-rest, two-cuts}
 use Rattle.mdconstructs_definitions.proofs.PlainLetters.{open-not-blank}
 use Rattle.mdconstructs_definitions.proofs.SectionCosts.{defined-paragraph, defined-text, nothing-behind}
 use Rattle.mdconstructs_definitions.proofs.SectionLemmas.{few-lines, tens, tens-in}
 use Rattle.mdconstructs_definitions.proofs.Shorter.{definitions-shorter, left-begins}
+use Rattle.mdconstructs_definitions.proofs.SectionTurns.{not-blank-some}
 use Rattle.mdconstructs_definitions.specs.Rows.{Known, is_behind_text, is_used_up, known_after, row_of, rows_from}
 use Rattle.mdconstructs_definitions.specs.Sections.{before_defined, defined_in, lines_defined, lines_of, paragraph_of, text_in}
 use Rattle.mdconstructs_rests.specs.JoinedStretches.{AllStay, may_stay}
-use Rattle.mdconstructs_rests.proofs.BothSections.{leaf-behind, rows-left}
-use Rattle.mdconstructs_rests.proofs.NoUnderlines.{behind_text, not-blank-some, paragraph-more, some-long}
+use Rattle.mdconstructs_rests.proofs.BothSections.{leaf-behind, left-is-blank, rows-left}
+use Rattle.mdconstructs_rests.proofs.NoUnderlines.{behind_text, paragraph-more, some-long}
 use Rattle.mdconstructs_rests.proofs.SectionRows.{LeftIsBlank}
 use Rattle.mdconstructs_rests.proofs.StretchStarts.{StartsClosed, no-text, rows_at, state_on}
 
 -- ---- texts
--- a text up to a line ending is that of its first lines
-front-lines : (rs : List Row) (x w : List ℕ) → text_in rs ≡ x ++ 10 ∷ w → x ≡ text_in (take (tens x + 1) rs)
-front-lines [] x w e = let size = ap (λ (l : List ℕ). length l) e in let both = length-append x (10 ∷ w) in absurd (omega (arith, size, both))
-front-lines (r ∷ []) x w e =
-    let many = ap tens e in
-    let both = tens-both x (10 ∷ w) in
-    let one = ap tens (append-nil (rest_of r)) in
-    let none = tens-rest r in
-    absurd (omega (arith, many, both, one, none))
-front-lines (r ∷ q ∷ qs) x w e =
-    elim (two-cuts (rest_of r) (text_in (q ∷ qs)) x w (tens-rest r) e) [
-      | inl same ↦
-          let size = ap tens same.0 in
-          let none = tens-rest r in
-          let one : tens x + 1 ≡ 1 = omega (arith, size, none) in
-          same.0 ∙ sym (append-nil (rest_of r)) ∙ ap (λ n. text_in (take n (r ∷ q ∷ qs))) (sym one)
-      | inr later ↦
-          let next = front-lines (q ∷ qs) later.more w later.back in
-          let size = ap tens later.front in
-          let both = tens-both (rest_of r) (10 ∷ later.more) in
-          let none = tens-rest r in
-          let on : tens x + 1 ≡ suc (suc (tens later.more)) = omega (arith, size, both, none) in
-          let one : tens later.more + 1 ≡ suc (tens later.more) = omega arith in
-          later.front ∙ ap (λ l. rest_of r ++ 10 ∷ l) (next ∙ ap (λ n. text_in (take n (q ∷ qs))) one) ∙ ap (λ n. text_in (take n (r ∷ q ∷ qs))) (sym on)
-    ]
-
--- a text has no more lines than there are, and as many if it is not empty
-all-lines : (rs : List Row) → 1 ≤ lines_of (text_in rs) → take (lines_of (text_in rs)) rs ≡ rs
-all-lines [] h = absurd (omega (arith, h))
-all-lines (r ∷ rs) h = by (text_in (r ∷ rs)) (tens-in r rs) h
-  where
-    by : (text : List ℕ) → tens text ≡ length rs → 1 ≤ lines_of text → take (lines_of text) (r ∷ rs) ≡ r ∷ rs
-    by [] e k = absurd (omega (arith, k))
-    by (b ∷ bs) e k = take_all (lines_of (b ∷ bs)) (r ∷ rs) (omega (arith, e))
-
 -- nothing is left of the lines of definitions
 lines-used : (rs : List Row) → 1 ≤ lines_defined (text_in rs) → rest (text_in (take (lines_defined (text_in rs)) rs)) ≡ []
 lines-used rs h = by (rest (text_in rs)) refl
@@ -132,9 +98,6 @@ module _ (on : Constructs) where
       by true e = let both : true ≡ false = sym text ∙ (blank e).1 in absurd (cc)
       by false e = sym (ap (λ b. b || r.stays) e) ∙ stay
 
-  left-blank : (k : Known) (n : ℕ) (line : Line) → LeftIsBlank (row_of on k n line)
-  left-blank k n line = (rows-left on (open-not-blank on) k n (line ∷ [])).0
-
   grown : (m : ℕ) (k : Known) (n : ℕ) (ls : List Line) → is_paragraph k.before.leaf ≡ true → AllStay (rows_from on k n ls) → m ≤ prefix_len is_open (rows_from on k n ls) → Grown m k n ls
   grown zero k n ls e stay few = record { is_open = e; text = none-more k.text }
   grown (suc m) k n [] e stay few = absurd (omega (arith, few))
@@ -152,7 +115,7 @@ module _ (on : Constructs) where
       by : (is_paragraph next.before.leaf ≡ true → AllStay rows → m ≤ prefix_len is_open rows → Grown m next (suc n) ls) → (b : Bool) → is_open row ≡ b → suc m ≤ cond b (1 + prefix_len is_open rows) 0 → Grown (suc m) k n (line ∷ ls)
       by later false f few = absurd (omega (arith, few))
       by later true f few =
-          let stays = stays-open row (left-blank k n line) stay.0 f in
+          let stays = stays-open row (left-is-blank on (open-not-blank on) k n line) stay.0 f in
           let text : next.text ≡ k.text ++ 10 ∷ rest_of row = (λ i. cond (f i) (cond (stays i && e i) (k.text ++ 10 ∷ rest_of row) (rest_of row)) []) in
           let more = later (leaf-behind on (open-not-blank on) k n line ∙ f) stay.1 (omega (arith, few)) in
           record {
@@ -308,7 +271,7 @@ module _ (on : Constructs) where
   pub found-closed : (k : Known) (n : ℕ) (line : Line) (ls : List Line) → StartsClosed on k n (line ∷ ls) → before_defined on false (rows_from on k n (line ∷ ls)) < length (rows_from on k n (line ∷ ls))
       → Found (before_defined on false (rows_from on k n (line ∷ ls))) k n (line ∷ ls)
   found-closed k n line ls starts less =
-      found-first k n line ls (λ some. no-text on k n line starts (kept (row_of on k n line) (left-blank k n line) (defined-text on (row_of on k n line) (rows_from on (known_after on k (row_of on k n line)) (suc n) ls) some))) less
+      found-first k n line ls (λ some. no-text on k n line starts (kept (row_of on k n line) (left-is-blank on (open-not-blank on) k n line) (defined-text on (row_of on k n line) (rows_from on (known_after on k (row_of on k n line)) (suc n) ls) some))) less
     where
       kept : (r : Row) → LeftIsBlank r → is_paragraph r.leaf ≡ true → r.is_left_blank ≡ false
       kept r blank text = by r.is_left_blank refl
