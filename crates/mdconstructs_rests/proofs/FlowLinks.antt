@@ -1,5 +1,5 @@
 -- Links of the events of leaf blocks lead inside them.
-use Rattle.mdconstructs_rests.proofs.Prelude.{◌≡◌, refl, ℕ, zero, suc, ◌+◌, ◌-◌, ◌<◌, ◌≤◌, List, [], ◌∷◌, ◌++◌, Bool, true, false, cond, length, length-append, subst, sym, arith, Option, None, Some, AllByRecursion, Constructs, Event, Name, Line, Mark, Chunk, chunk_span, flow_events, leaf_blocks, leaf_blocks_marks, line_text, linked-length, linked_from, lines_in, text_marks, Seat}
+use Rattle.mdconstructs_rests.proofs.Prelude.{◌≡◌, refl, ℕ, suc, ◌+◌, ◌-◌, ◌<◌, ◌≤◌, List, [], ◌∷◌, ◌++◌, Bool, true, false, cond, length, length-append, subst, sym, arith, None, Some, AllByRecursion, Constructs, Line, Mark, Chunk, chunk_span, flow_events, leaf_blocks, leaf_blocks_marks, line_text, linked-length, linked_from, lines_in, text_marks, Seat}
 use Rattle.std.proofs.lemmas.List.Elements.{All-from_recursion}
 use Rattle.std.specs.Prelude.{All, IfSome}
 use Rattle.markdown_base.specs.declared.event.Content.TheVariants as content

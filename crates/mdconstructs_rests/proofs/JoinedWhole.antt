@@ -16,7 +16,7 @@ use Rattle.mdconstructs_containers.specs.Rows.{Row, is_paragraph}
 use Rattle.mdconstructs_containers.specs.Skeleton.{Frame, Part, frames_at, frames_of, going_on_at, left_in, list_at, list_begun, parts, standing}
 use Rattle.mdconstructs_labels.specs.declared.definitions.Definition.{Definition}
 use Rattle.mdconstructs_labels.specs.Definitions.{definitions}
-use Rattle.mdconstructs_definitions.specs.Sections.{Section, before_defined, begins_text, cut, defined, defined_in, defining, paragraph_of, sections, sections_in, sections_of, text_in, lines_defined}
+use Rattle.mdconstructs_definitions.specs.Sections.{Section, before_defined, begins_text, cut, defined, defined_in, defining, paragraph_of, sections, sections_in, sections_of, text_in}
 use Rattle.mdconstructs_rests.specs.JoinedStretches.{AllStay, IsBlankPart, IsSame, SectionsJoin, at_top, firsts, joined_part, plain_section, plain_sections, section_seam, sections_apart, any_place}
 use Rattle.mdconstructs_rests.proofs.JoinedParts.{Joins, Seam, apart, joins-as, left-parts-by, lefts, parts-join, parts_by, seam, real-parts}
 use Rattle.mdconstructs_rests.proofs.JoinedSections.{Behind, all-same, follows, its_frames, its_parts, its_stands, joins-back, joins-front, joins-longer, joins-same, left, same-parts, sections-fuel, sections-join, sections-none, sections-plain, stays, Placing}

@@ -1,8 +1,8 @@
 -- Lines of a document with letters: they end where its lines do, and are shown at the same places.
-use Rattle.mdconstructs_rests.proofs.Prelude.{Enter, Exit, None, inl, inr, length-append, ◌≡◌, ◌==◌, ◌&&◌, ◌<◌, ◌≤◌, ℕ, zero, suc, ◌+◌, ◌-◌, Bool, true, false, cond, not, List, [], ◌∷◌, ◌++◌, drop, length, map, map-append, drop-map, refl, subst, sym, ap, ◌∙◌, arith, AllByRecursion, Line, LeafBlock, blank_line, Mark, Name, body, last_end, leaf_block_marks, leaf_blocks_marks, leaf_marks, Seat, all_of, begins_with_lf, end_after, ending_of, in_tab, is_line_ending, joined, line_text, lines_in, shown, tab_width, virtual, virtual_from}
+use Rattle.mdconstructs_rests.proofs.Prelude.{Enter, Exit, None, inl, inr, ◌≡◌, ◌==◌, ◌&&◌, ◌≤◌, ℕ, zero, suc, ◌+◌, Bool, true, false, cond, not, List, [], ◌∷◌, ◌++◌, drop, length, map, map-append, refl, subst, sym, ap, ◌∙◌, arith, AllByRecursion, Line, blank_line, Name, body, last_end, leaf_block_marks, leaf_blocks_marks, leaf_marks, Seat, all_of, begins_with_lf, end_after, ending_of, in_tab, is_line_ending, joined, line_text, lines_in, shown, tab_width, virtual, virtual_from}
 use Rattle.std.specs.List.{list_any}
 use Rattle.markdown_base.specs.declared.event.Name.TheVariants as name
-use Rattle.mdconstructs_flow_read.proofs.Lines.WholeLines.{IsWhole, text-and-ending, whole-behind}
+use Rattle.mdconstructs_flow_read.proofs.Lines.WholeLines.{IsWhole}
 use Rattle.mdconstructs_flow_read.proofs.Marks.LeafSpans.{text-shorter}
 use Rattle.mdconstructs_flow_read.specs.BlocksRead.{block_seats}
 use Rattle.mdconstructs_containers.proofs.LetterPlaces.{places_kept}

@@ -1,14 +1,13 @@
 -- Virtual bytes of later lines have later indices, so letters in other lines leave a line as it is.
-use Rattle.mdconstructs_rests.proofs.Prelude.{inl, inr, ◌≡◌, ◌==◌, ◌&&◌, ◌||◌, ◌<◌, ◌≤◌, ℕ, zero, suc, ◌+◌, Bool, true, false, cond, not, nat_lt, List, [], ◌∷◌, ◌++◌, length, map, refl, subst, sym, ap, append_assoc, ◌∙◌, arith, AllByRecursion, Line, Point, Seat, all_of, end_after, ending_of, is_line_ending, point}
+use Rattle.mdconstructs_rests.proofs.Prelude.{inl, inr, ◌≡◌, ◌==◌, ◌&&◌, ◌||◌, ◌<◌, ◌≤◌, ℕ, suc, Bool, true, false, cond, nat_lt, List, [], ◌∷◌, ◌++◌, map, refl, sym, ap, ◌∙◌, arith, AllByRecursion, Line, Point, Seat, all_of, end_after, ending_of, is_line_ending, point}
 use Rattle.std.proofs.lemmas.Bool.Decides.{nat_tests}
 use Rattle.std.proofs.lemmas.List.Folds.{list_any-append}
 use Rattle.std.specs.List.{list_any}
 use Rattle.markdown_base.proofs.Common.{every-append, every-map}
-use Rattle.markdown_base.specs.Places.{stands_before}
 use Rattle.markdown_tokenizer.proofs.Positions.Chains.{IsChain}
 use Rattle.markdown_tokenizer.proofs.Positions.Standing.{chain-split}
 use Rattle.markdown_tokenizer.proofs.Inside.Known.{not-before-index}
-use Rattle.markdown_tokenizer.proofs.Positions.Order.{every-back, every-front}
+use Rattle.markdown_tokenizer.proofs.Positions.Order.{every-front}
 use Rattle.markdown_tokenizer.specs.Cursor.{goes_on}
 use Rattle.mdconstructs_flow_read.proofs.Lines.WholeLines.{IsWhole}
 use Rattle.mdconstructs_containers.proofs.SeatFacts.{LinesEnd}

@@ -1,7 +1,7 @@
 -- The last stretch of a document, if a line at a rest goes on with it: its lines, of which the first is read with the letter in front if it is text directly behind
 -- definitions, end where no leaf block may go on.
 use Rattle.std.proofs.Common.{Bool, List, [], ap, arith, cond, drop, false, length, refl, subst, sym, true, ℕ, suc, ◌+◌, ◌++◌, ◌≤◌, ◌&&◌, ◌||◌, not, ◌∙◌, ◌∷◌, ◌≡◌}
-use Rattle.std.proofs.lemmas.Bool.{false≢true, not-true}
+use Rattle.std.proofs.lemmas.Bool.{false≢true, false_from_ne_true}
 use Rattle.std.specs.List.{AllByRecursion}
 use Rattle.std.specs.Prelude.{is_some}
 use Rattle.markdown_base.proofs.Common.{and-right}
@@ -81,7 +81,7 @@ module _ (on : Constructs) where
       under = is_some (underline_rank on rest)
 
       no-nothing : underlines_nothing on k plain ≡ false
-      no-nothing = not-true (underlines_nothing on k plain) (λ e. false≢true (sym none ∙ ap (λ b. is_paragraph (cond b open_paragraph plain.leaf)) e))
+      no-nothing = false_from_ne_true (underlines_nothing on k plain) (λ e. false≢true (sym none ∙ ap (λ b. is_paragraph (cond b open_paragraph plain.leaf)) e))
 
       no-underline : under ≡ false
       no-underline = by under refl
@@ -100,7 +100,7 @@ module _ (on : Constructs) where
       leaf-lazy = ap (λ u. cond u open_paragraph plain.leaf) no-nothing ∙ ap (λ b. cond b closed (leaf_by plain.is_lazy)) (kept full)
 
       not-lazy : plain.is_lazy ≡ false
-      not-lazy = not-true plain.is_lazy (λ e. false≢true (sym none ∙ ap is_paragraph leaf-lazy ∙ ap (λ b. is_paragraph (leaf_by b)) e))
+      not-lazy = false_from_ne_true plain.is_lazy (λ e. false≢true (sym none ∙ ap is_paragraph leaf-lazy ∙ ap (λ b. is_paragraph (leaf_by b)) e))
 
       abbrev broken : Bool
       broken = interrupts (line_kind on rest)

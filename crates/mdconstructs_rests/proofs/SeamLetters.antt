@@ -1,10 +1,9 @@
 -- Letters in a stretch without containers: one at most, where its text begins directly behind definitions. Its other lines have none.
 use Rattle.std.proofs.Common.{Bool, List, [], ap, append-nil, append_assoc, arith, cond, false, length, map, refl, subst, sym, true, ℕ, ◌&&◌, ◌++◌, ◌+◌, ◌<◌, ◌∙◌, ◌∷◌, ◌≡◌, ◌≤◌}
 use Rattle.std.proofs.lemmas.Grind.{flat_map-append}
-use Rattle.std.proofs.lemmas.List.{map-append}
 use Rattle.std.specs.List.{AllByRecursion, flat_map}
 use Rattle.std.specs.Prelude.{drop, is_some, take}
-use Rattle.markdown_base.proofs.Common.{every-append, every-map}
+use Rattle.markdown_base.proofs.Common.{every-append}
 use Rattle.markdown_base.specs.Virtual.{Seat, point, virtual}
 use Rattle.markdown_base.specs.declared.configuration.Constructs.{Constructs}
 use Rattle.markdown_tokenizer.proofs.Positions.Chains.{IsChain, whole-chain}
@@ -20,7 +19,7 @@ use Rattle.mdconstructs_containers.specs.Letters.{lazy_underline, lettered_seat}
 use Rattle.mdconstructs_containers.specs.Rows.{Row, rest_of}
 use Rattle.mdconstructs_definitions.proofs.Covered.{rows_of}
 use Rattle.mdconstructs_definitions.specs.Sections.{Section, defined, lines}
-use Rattle.mdconstructs_definitions.specs.Skeleton.{all_rows, letters_of_section, text_begin}
+use Rattle.mdconstructs_definitions.specs.Skeleton.{letters_of_section, text_begin}
 use Rattle.mdconstructs_rests.proofs.JoinedMarks.{lines_of}
 use Rattle.mdconstructs_rests.proofs.LetteredBoth.{IsRowIn, begin-before, letters-in, one-in}
 use Rattle.mdconstructs_rests.proofs.LinesApart.{Between, line-stays, lines-apart}

@@ -1,19 +1,17 @@
 -- Parts of a stretch that goes on over a rest: it begins with text, its first line may have a letter in front, and what stands between both stretches has no chunk.
-use Rattle.std.proofs.Common.{Bool, List, None, Some, [], ap, append_assoc, arith, cond, drop, false, length, length-append, map, not, refl, subst, sym, take, true, zero, ℕ, suc, ◌==◌, ◌&&◌, ◌++◌, ◌+◌, ◌<◌, ◌∙◌, ◌∷◌, ◌≡◌, ◌≤◌, ◌||◌}
+use Rattle.std.proofs.Common.{Bool, List, None, Some, [], ap, arith, cond, drop, false, length, map, refl, sym, take, true, ℕ, suc, ◌==◌, ◌&&◌, ◌++◌, ◌+◌, ◌<◌, ◌∙◌, ◌∷◌, ◌≡◌, ◌||◌}
 use Rattle.std.proofs.Math.Bool.{or-true}
 use Rattle.std.proofs.lemmas.Bool.{eq-eqb, false≢true}
 use Rattle.std.proofs.lemmas.Grind.{flat_map-append}
 use Rattle.std.proofs.lemmas.List.{length-drop, map-append}
 use Rattle.std.proofs.lemmas.List.Folds.{list_any-append}
-use Rattle.std.specs.List.{AllByRecursion, flat_map, list_any}
+use Rattle.std.specs.List.{AllByRecursion, list_any}
 use Rattle.markdown_base.proofs.Common.{every-append}
 use Rattle.markdown_base.specs.Virtual.{Seat, virtual}
 use Rattle.markdown_base.specs.declared.configuration.Constructs.{Constructs}
-use Rattle.markdown_base.specs.declared.event.Name.{Name}
 use Rattle.markdown_base.specs.declared.event.Name.TheVariants as name
 use Rattle.mdconstructs_machines.specs.Breaks.{is_white}
-use Rattle.mdconstructs_machines.specs.LineEvents.{ending_of, is_line_ending, line_text, lines_in}
-use Rattle.mdconstructs_flow_read.proofs.Lines.WholeLines.{IsWhole}
+use Rattle.mdconstructs_machines.specs.LineEvents.{ending_of, line_text, lines_in}
 use Rattle.mdconstructs_flow_read.specs.LeafBlocks.{Line, blank_line, text_of}
 use Rattle.mdconstructs_flow_read.specs.LeafEvents.{Mark, last_end, leaf_block_marks, leaf_blocks_marks, leaf_marks}
 use Rattle.mdconstructs_flow_read.specs.LineKinds.{indent, is_blank_line}
@@ -23,7 +21,7 @@ use Rattle.mdconstructs_containers.specs.Letters.{letter, lettered_seat}
 use Rattle.mdconstructs_containers.specs.Rows.{Row, rest_of}
 use Rattle.mdconstructs_definitions.proofs.Covered.{rows_of, sections-hold-lines}
 use Rattle.mdconstructs_definitions.specs.Rows.{rows}
-use Rattle.mdconstructs_definitions.specs.Sections.{Section, lines, sections}
+use Rattle.mdconstructs_definitions.specs.Sections.{Section, sections}
 use Rattle.mdconstructs_definitions.specs.Skeleton.{all_rows, text_begin}
 use Rattle.mdconstructs_rests.proofs.BlocksJoin.{AreWhole}
 use Rattle.mdconstructs_rests.proofs.JoinedMarks.{lines_of}

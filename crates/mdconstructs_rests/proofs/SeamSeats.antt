@@ -3,7 +3,7 @@ use Rattle.std.proofs.Common.{Bool, List, [], ap, append-nil, append_assoc, arit
 use Rattle.std.proofs.lemmas.Bool.{false≢true}
 use Rattle.std.proofs.lemmas.List.{drop-append-le, length-drop, drop-map, length-map, map-append, take-append-drop}
 use Rattle.std.specs.List.{AllByRecursion}
-use Rattle.markdown_base.proofs.Common.{every-append, every-drop}
+use Rattle.markdown_base.proofs.Common.{every-drop}
 use Rattle.markdown_base.specs.Virtual.{Seat, virtual}
 use Rattle.markdown_base.specs.declared.configuration.Constructs.{Constructs}
 use Rattle.markdown_tokenizer.proofs.Positions.Order.{every-back, every-front}

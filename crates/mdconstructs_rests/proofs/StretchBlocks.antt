@@ -1,5 +1,5 @@
 -- The blocks of a document at a rest where a stretch of lines goes on: they are those of its parts.
-use Rattle.std.proofs.Common.{Bool, List, None, Some, [], ap, append_assoc, arith, cond, drop, false, length, map, refl, subst, sym, take, true, zero, ℕ, suc, ◌+◌, ◌++◌, ◌<◌, ◌∙◌, ◌∷◌, ◌≡◌}
+use Rattle.std.proofs.Common.{Bool, List, Some, [], ap, arith, cond, drop, false, length, map, refl, subst, sym, true, ℕ, ◌++◌, ◌<◌, ◌∙◌, ◌∷◌, ◌≡◌}
 use Rattle.std.proofs.lemmas.List.{length-map}
 use Rattle.std.specs.List.{AllByRecursion, flat_map}
 use Rattle.markdown_base.proofs.Facts.Bools.{and-left}
@@ -8,16 +8,16 @@ use Rattle.markdown_base.specs.declared.configuration.Constructs.{Constructs}
 use Rattle.markdown_base.specs.declared.configuration.ParseOptions.{ParseOptions}
 use Rattle.markdown_base.specs.declared.event.Content.TheVariants as content
 use Rattle.markdown_base.specs.declared.event.Event.{Event}
-use Rattle.markdown_tokenizer.specs.Text.{Given, IsDocument}
+use Rattle.markdown_tokenizer.specs.Text.{IsDocument}
 use Rattle.mdconstructs_machines.specs.LineEvents.{line_text, lines_in}
 use Rattle.mdconstructs_flow_read.proofs.Marks.LeafSpans.{text-shorter}
 use Rattle.mdconstructs_flow_read.specs.BlocksRead.{block_seats}
 use Rattle.mdconstructs_flow_read.specs.LeafBlocks.{Line, text_of}
 use Rattle.mdconstructs_flow_read.specs.LeafEvents.{Mark, flow_events}
-use Rattle.mdconstructs_flow_read.specs.LineKinds.{indent, is_blank_line}
+use Rattle.mdconstructs_flow_read.specs.LineKinds.{indent}
 use Rattle.mdconstructs_containers.specs.Letters.{ArePlainFrom, letter, lettered_seat}
 use Rattle.mdconstructs_containers.specs.Rows.{Row, rest_of}
-use Rattle.mdconstructs_containers.specs.Skeleton.{chained_from, is_held}
+use Rattle.mdconstructs_containers.specs.Skeleton.{is_held}
 use Rattle.mdconstructs_definitions.proofs.Covered.{rows_of}
 use Rattle.mdconstructs_definitions.proofs.LeftLines.{underline-is-left}
 use Rattle.mdconstructs_definitions.proofs.PlainLetters.{letters-are-plain}
@@ -33,22 +33,22 @@ use Rattle.mdconstructs_rests.proofs.JoinedAtRest.{joined-leaves, leaves, marks_
 use Rattle.mdconstructs_rests.proofs.JoinedBlocks.{apart, chunk-whole, lone_chunk, whole-both}
 use Rattle.mdconstructs_rests.proofs.JoinedChunks.{at-rest, first-plain, first-read, goes-behind, marks-apart, seam_chunk, seam_row, seam_rows, sections-join}
 use Rattle.mdconstructs_rests.proofs.JoinedKnown.{IsRead}
-use Rattle.mdconstructs_rests.proofs.JoinedMarks.{IsPlainRow, lines_of, white_columns}
-use Rattle.mdconstructs_rests.proofs.LetteredLines.{all_lettered, lettered}
+use Rattle.mdconstructs_rests.proofs.JoinedMarks.{lines_of, white_columns}
+use Rattle.mdconstructs_rests.proofs.LetteredLines.{lettered}
 use Rattle.mdconstructs_rests.proofs.ReadsOfBoth.{with_chains_read}
 use Rattle.mdconstructs_rests.proofs.SeamEnds.{near-at-seam, stretch-at-seam}
 use Rattle.mdconstructs_rests.proofs.SeamLetters.{IsNotLazy, first-stays, letters-are, others-stay}
 use Rattle.mdconstructs_rests.proofs.SeamParts.{between-plain, between-whole, joined-lines, letter-in-front, lines-around, some-text}
 use Rattle.mdconstructs_rests.proofs.SeamPlaces.{DocumentPlace}
 use Rattle.mdconstructs_rests.proofs.SeamRows.{seam-not-lazy}
-use Rattle.mdconstructs_rests.proofs.SeamSeats.{first-some, first_line, first_seats, middle_seats, seats-are, seats-split, seats_after, seats_before, second-some, second_seats, whole-is}
+use Rattle.mdconstructs_rests.proofs.SeamSeats.{first-some, first_seats, middle_seats, seats-are, seats-split, seats_after, seats_before, second-some, second_seats, whole-is}
 use Rattle.mdconstructs_rests.proofs.SeamText.{seam-text}
 use Rattle.mdconstructs_rests.proofs.SkeletonOfBoth.{all-behind, chained-of-both}
 use Rattle.mdconstructs_rests.proofs.SplitBlocks.{EndsBefore}
 use Rattle.mdconstructs_rests.proofs.WithoutContainers.Leaves.{HasText, last_line}
 use Rattle.mdconstructs_rests.specs.BothDocuments.{IsOfBoth, blocks_of, is_rest}
 use Rattle.mdconstructs_rests.specs.DocumentRests.{document_rows, first_at_document_rest, goes_on_behind}
-use Rattle.mdconstructs_rests.specs.JoinedStretches.{ChunkSeam, SectionSeam, SectionsJoin, at_top, firsts, joined_part, marks_between, section_seam, sections_apart, stretch_chunk}
+use Rattle.mdconstructs_rests.specs.JoinedStretches.{ChunkSeam, SectionSeam, SectionsJoin, at_top, firsts, joined_part, marks_between, section_seam, sections_apart}
 use Rattle.mdconstructs_rests.specs.Moved.{begins_line, line_endings}
 use Rattle.mdconstructs_rests.specs.MovedSections.{moved_section}
 

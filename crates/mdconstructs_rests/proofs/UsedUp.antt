@@ -2,7 +2,6 @@
 use Rattle.std.proofs.Common.{Bool, List, [], ap, append_assoc, arith, cond, drop, false, inl, inr, length, length-append, length-take, refl, subst, sym, take, true, zero, ℕ, suc, ◌+◌, ◌++◌, ◌<◌, ◌≤◌, ◌&&◌, ◌||◌, nat_le, not, ◌∙◌, ◌∷◌, ◌≡◌}
 use Rattle.std.proofs.Math.Bool.{and-false}
 use Rattle.std.proofs.lemmas.Bool.{leb-true}
-use Rattle.std.proofs.lemmas.List.{append-nil, take_all}
 use Rattle.std.specs.List.{prefix_len}
 use Rattle.markdown_base.proofs.Common.{and-right}
 use Rattle.markdown_base.proofs.Facts.Bools.{and-left}
@@ -11,7 +10,7 @@ use Rattle.mdconstructs_flow_read.specs.LeafBlocks.{Line}
 use Rattle.mdconstructs_containers.proofs.DocumentRows.{take_of_take}
 use Rattle.mdconstructs_containers.specs.Rows.{Row, has_none, is_paragraph, rest_of}
 use Rattle.mdconstructs_labels.specs.Definitions.{rest}
-use Rattle.mdconstructs_definitions.proofs.DefinedText.{all-lines, front-lines, lines-some, tens-both, tens-rest, two-cuts}
+use Rattle.mdconstructs_definitions.proofs.DefinedText.{all-lines, front-lines, lines-some, tens-both}
 use Rattle.mdconstructs_definitions.proofs.PlainLetters.{open-not-blank}
 use Rattle.mdconstructs_definitions.proofs.SectionCosts.{defined-paragraph, defined-text, nothing-behind}
 use Rattle.mdconstructs_definitions.proofs.SectionLemmas.{few-lines, tens, tens-in}
@@ -20,7 +19,7 @@ use Rattle.mdconstructs_definitions.proofs.SectionTurns.{not-blank-some}
 use Rattle.mdconstructs_definitions.specs.Rows.{Known, is_behind_text, is_used_up, known_after, row_of, rows_from}
 use Rattle.mdconstructs_definitions.specs.Sections.{before_defined, defined_in, lines_defined, lines_of, paragraph_of, text_in}
 use Rattle.mdconstructs_rests.specs.JoinedStretches.{AllStay, may_stay}
-use Rattle.mdconstructs_rests.proofs.BothSections.{leaf-behind, left-is-blank, rows-left}
+use Rattle.mdconstructs_rests.proofs.BothSections.{leaf-behind, left-is-blank}
 use Rattle.mdconstructs_rests.proofs.NoUnderlines.{behind_text, paragraph-more, some-long}
 use Rattle.mdconstructs_rests.proofs.SectionRows.{LeftIsBlank}
 use Rattle.mdconstructs_rests.proofs.StretchStarts.{StartsClosed, no-text, rows_at, state_on}

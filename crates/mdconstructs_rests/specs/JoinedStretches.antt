@@ -12,7 +12,6 @@ use Rattle.mdconstructs_flow_read.specs.LeafEvents.{Mark, alone, chunk_span, las
 use Rattle.mdconstructs_containers.specs.Rows.{Row}
 use Rattle.mdconstructs_containers.specs.Skeleton.{Part, further}
 use Rattle.mdconstructs_definitions.specs.Sections.{Section, lines, sections}
-use Rattle.mdconstructs_definitions.specs.Skeleton.{sections_marks}
 use Rattle.mdconstructs_rests.specs.DocumentRests.{begins_at_document_rest, document_rows, goes_on_behind, moved_row}
 use Rattle.mdconstructs_rests.specs.Moved.{line_endings}
 use Rattle.mdconstructs_rests.specs.MovedSections.{moved_section}
