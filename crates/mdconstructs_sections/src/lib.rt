@@ -4,5 +4,3 @@
 pub mod laws;
 pub mod packed;
 pub mod positions;
-#[cfg(test)]
-mod tests;

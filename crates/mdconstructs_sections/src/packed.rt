@@ -44,7 +44,7 @@ enum Chain {
 
 /// An event in 24 bytes.
 #[derive(Clone, Copy, Debug, PartialEq, Eq)]
-pub(crate) struct PackedEvent {
+pub struct PackedEvent {
     kind: Kind,
     name: Name,
     vs: u8,

@@ -16,6 +16,8 @@ mod linter;
 #[cfg(test)]
 mod lists;
 #[cfg(test)]
+mod sections;
+#[cfg(test)]
 mod shown;
 #[cfg(test)]
 mod surface;

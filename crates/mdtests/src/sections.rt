@@ -1,8 +1,8 @@
 //! Places as the Language Server Protocol tells them, and events at the limits of what is packed.
 
-use crate::packed::{PackError, Packed, PackedEvent};
-use crate::positions::{Encoding, Position, line_endings, offset_of, position_of};
-use markdown_base::event::{Content, Event, Kind, Link, Name, Point};
+use markdown::event::{Content, Event, Kind, Link, Name, Point};
+use mdconstructs::packed::{PackError, Packed, PackedEvent};
+use mdconstructs::positions::{Encoding, Position, line_endings, offset_of, position_of};
 use std::alloc::Global;
 use std::mem::size_of;
 
