@@ -151,22 +151,33 @@ def names(page, text, source):
             failed.append(f"{page}: dead link {link}")
 
 
+def is_in(file, room):
+    """Whether a file is in a room of the map."""
+    front, star, back = room.partition("*")
+    name = file.rsplit(".", 1)[0]
+    parts = [name[: len(name) if i < 0 else i] for i in [name.find("/", len(front))]]
+    return name.startswith(front) and parts[0].endswith(back) if star else name == room or name.startswith(room + "/")
+
+
 def rooms():
-    """Holds the map: each name is there, and each file of src, specs and proofs is in a room."""
+    """Holds the map: each name is there, and each file of src, specs and proofs is in a room. `proofs/Moved*` is all whose names begin so, and `proofs/*Names` all that end so."""
     covered, crate = set(), None
     for line in read(MAP).split("\n"):
         crate = m[1] if (m := re.fullmatch(r"## `(\w+)`.*", line)) else crate if not line.startswith("## ") else None
         if crate and line.startswith("- "):
-            for word in re.findall(r"`(src|specs|proofs)/([\w/]+)`", line.split(": ")[0]):
+            for word in re.findall(r"`(src|specs|proofs)/([\w/]*\*?\w*)`", line.split(": ")[0]):
                 room = f"crates/{crate}/{word[0]}/{word[1]}"
                 covered.add(room)
-                if not {room, room + ".rt", room + ".antt"} & PATHS:
+                if "*" in room:
+                    if sum(is_in(f, room) and f.count("/") == room.count("/") for f in FILES) < 2:
+                        failed.append(f"{MAP}: no two files {room}")
+                elif not {room, room + ".rt", room + ".antt"} & PATHS:
                     failed.append(f"{MAP}: no {room}")
     for file in FILES:
         if m := re.fullmatch(r"crates/(\w+)/(src|specs|proofs)/([\w/+]+)\.(rt|antt)", file):
-            room, folder = file.rsplit(".", 1)[0], m[3].split("/")[0]
+            folder = m[3].split("/")[0]
             of_code = m[2] == "proofs" and (folder[0].islower() or folder[0] == "+")
-            if m[3] not in ("lib", "main", "Lib", "Prelude", "util") and not of_code and not any(room == c or room.startswith(c + "/") for c in covered):
+            if m[3] not in ("lib", "main", "Lib", "Prelude", "util") and not of_code and not any(is_in(file, c) for c in covered):
                 failed.append(f"{MAP}: no room for {file}")
 
 
