@@ -180,14 +180,6 @@ reference-there text raw a h = by (has_byte_at text 0 is_ampersand) refl h
         same-found _ _ _ _ _ _ (same-test is_ampersand text raw f) (λ t. more) (λ t. absurd (false≢true (sym t ∙ e)))
     by false e k = absurd (false≢true k)
 
--- and its first byte is dark
-pub reference-dark : (s : Seat) (ss : List Seat) → is_some (reference_at (bytes_of (s ∷ ss))) ≡ true → is_dark s.byte ≡ true
-reference-dark s ss h = by (is_ampersand s.byte) refl h
-  where
-    by : (x : Bool) → is_ampersand s.byte ≡ x → is_some (cond x (body_at (bytes_of ss)) None) ≡ true → is_dark s.byte ≡ true
-    by true e k = ampersand-dark s.byte e
-    by false e k = absurd (false≢true k)
-
 -- bytes up to the first that is not dark are the same
 front-agrees : (bs : List ℕ) → Agrees bs (take (prefix_len is_dark bs) bs)
 front-agrees [] = tt

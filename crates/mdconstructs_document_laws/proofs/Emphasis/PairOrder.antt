@@ -268,9 +268,6 @@ takes k d stack = by-pairs
     })
     k d stack
 
-pub takes-within : (k : ℕ) (d : Delimiter) (stack : List Delimiter) → HaveMarkers stack → markers_in (close_pairs k d stack).1 ≤ d.run.left
-takes-within k d stack h = (takes k d stack h).within
-
 pub markers-still : (k : ℕ) (d : Delimiter) (stack : List Delimiter) → HaveMarkers stack → HaveMarkers (close_pairs k d stack).0
 markers-still k d stack h = (takes k d stack h).have
 
