@@ -26,7 +26,7 @@ use Rattle.markdown_children.specs.Chains.{begins, chain_from, chain_of, fits, f
 use Rattle.markdown_children.specs.Children.{chain_changes, child_changes, part_changes, tagged_child, with_children}
 use Rattle.markdown_children.specs.Parts.{Divided, IsForward, divided, divided_over, front_until, parts}
 use Rattle.markdown_children.proofs.ChainOrder.Following.{by_option}
-use Rattle.markdown_children.proofs.ChainOrder.Forward.{ends-inside, forward-chain}
+use Rattle.markdown_children.proofs.ChainOrder.Forward.{forward-chain}
 use Rattle.markdown_children.specs.Ready.{IsReady, place_at}
 use Rattle.mdconstructs_rests.specs.Moved.{moved_event, moved_index, moved_link, moved_point}
 use Rattle.mdconstructs_rests.proofs.Chained.{further_on}
@@ -319,13 +319,6 @@ children-of-both wanted x y cs ds lines bytes k l ends e =
     ∙ ap (λ ws. child_changes wanted x cs ++ ws) (second-changes x y lines bytes wanted l (length first) (fitting_starts wanted y) ds (all-begin wanted y)) in
     ap (λ ws. changed ws all) changes
     ∙ changed-both lines bytes x y (child_changes wanted x cs) (child_changes wanted y ds) ends (all-changes-of wanted x k (fitting_starts wanted x) cs (all-begin wanted x))
-
--- so it is for lists whose chains can be read
-pub children-of-ready : (wanted : Option Content) (t u : ℕ) (a b : List ℕ) (x y : List Event) (cs ds : List (List Event)) (lines bytes : ℕ) → IsReady t a wanted x → IsReady u b wanted y → length cs ≡ length (fitting_starts wanted x)
-    → let first = with_children wanted x cs in
-    with_children wanted (x ++ map (moved_event lines bytes (length x)) y) (cs ++ map (map (moved_event lines bytes 0)) ds) ≡ first ++ map (moved_event lines bytes (length first)) (with_children wanted y ds)
-children-of-ready wanted t u a b x y cs ds lines bytes h k e =
-    children-of-both wanted x y cs ds lines bytes (ready-forward t a wanted x h) (ready-forward u b wanted y k) (ends-inside t a wanted x h) e
 
 -- ---- behind others in one document: links alone lead further on
 

@@ -9,7 +9,7 @@ use Rattle.markdown_base.specs.declared.event.Content.{Content}
 use Rattle.markdown_base.specs.declared.event.Event.{Event}
 use Rattle.markdown_base.specs.declared.event.Link.{Link}
 use Rattle.markdown_base.specs.Events.{EndsBelow}
-use Rattle.markdown_edits.proofs.Edits.Splices.{edited-none, relinked-agree, relinked-same}
+use Rattle.markdown_edits.proofs.Edits.Splices.{relinked-agree, relinked-same}
 use Rattle.markdown_edits.specs.Links.{content_of}
 use Rattle.markdown_edits.specs.Woven.{Change, Tagged, changed, of_child, place_in, placed, placed_in}
 use Rattle.markdown_children.specs.Chains.{chain_from, chain_of, fitting_starts, lets_through, some_fits}
@@ -19,18 +19,6 @@ use Rattle.markdown_children.specs.Ready.{place_at}
 use Rattle.markdown_children.proofs.Parts.Placed.{place_in-child_in}
 
 -- ---- no child
-
-divided-none : (events : List Event) (cs : List ℕ) → divided_over events cs [] ≡ []
-divided-none events [] = refl
-divided-none events (c ∷ cs) = refl
-
--- without children a list stays as it is
-pub without-children : (wanted : Option Content) (events : List Event) → All (EndsBelow (length events)) events → with_children wanted events [] ≡ events
-without-children wanted events h = ap (λ ds. changed (flat_map chain_changes ds) events) (divided-none events (fitting_starts wanted events)) ∙ edited-none events h
-
--- so does a list with no chain that fits
-pub without-chains : (wanted : Option Content) (events : List Event) (children : List (List Event)) → fitting_starts wanted events ≡ [] → All (EndsBelow (length events)) events → with_children wanted events children ≡ events
-without-chains wanted events children none h = ap (λ cs. changed (flat_map chain_changes (divided_over events cs children)) events) none ∙ edited-none events h
 
 -- ---- one child
 

@@ -49,7 +49,7 @@ use Rattle.mdconstructs_documents.proofs.InContainers.Skeletons.{SkeletonLaws, s
 use Rattle.mdconstructs_documents.proofs.InContainers.TextsFormed.{content-ready as ready-for, strings-ready, texts-orderly}
 use Rattle.mdconstructs_rests.specs.Moved.{begins_line}
 use Rattle.mdconstructs_rests.specs.ReadTexts.{StandsBefore}
-use Rattle.mdconstructs_rests.proofs.EndsBefore.{Before, IsInside, before-down, course-texts, document-lines, ends-stands, lettered-line, shown-inside, virtual-inside}
+use Rattle.mdconstructs_rests.proofs.EndsBefore.{Before, IsInside, before-down, course-texts, document-lines, lettered-line, shown-inside, virtual-inside}
 use Rattle.mdconstructs_rests.proofs.EventsLeft.{AtData, Each, StandsAt, all-left, each-all, exit-removed, none-stand, stands-moved}
 use Rattle.mdconstructs_rests.proofs.FlowStands.{flow-stands}
 use Rattle.mdconstructs_rests.proofs.SkeletonStands.{chained-left, skeleton-stands}
@@ -186,11 +186,6 @@ module _ (laws : SkeletonLaws) (g : Given) (is : IsDocument g) (b : List ℕ) (e
       (each-leaf sk_starts (all-begin s sk (shown-is laws g is) content.Content sk-ready))
 
   -- ---- their texts and strings
-  before-all : (cs : List ℕ) (events : List Event) → AllByRecursion (λ c. AllByRecursion (EndsAt At g.bytes) (chain_text g events c).seats) cs
-      → AllByRecursion (λ c. AllByRecursion (StandsBefore n) (chain_text g events c).seats) cs
-  before-all cs events h =
-      every-map (λ c. AllByRecursion (EndsAt At g.bytes) (chain_text g events c).seats) (λ c. AllByRecursion (StandsBefore n) (chain_text g events c).seats)
-      (λ c k. every-map (EndsAt At g.bytes) (StandsBefore n) (ends-stands g.bytes) (chain_text g events c).seats k) cs h
 
   module _ (defined : List ℕ → Bool) where
     abbrev blocks : List Event
@@ -240,38 +235,19 @@ data-between g is e f x y h =
 
 -- A document whose bytes end a line: those of others that begin with `b` may come behind it
 module _ (g : Given) (is : IsDocument g) (b : List ℕ) (ends : begins_line b g.bytes ≡ true) where
-  -- data of its blocks stands before the end
-  pub block-data-before-end : Each (AtData (Before (length g.bytes))) (document_blocks g)
-  block-data-before-end k e at = (blocks-stand skeleton-laws g is b ends k e at).at
-
   -- its texts end before the end, and so do their virtual bytes
   pub text-chunks-before-end : (k : ℕ) → fits (Some content.Text) (document_blocks g) k ≡ true → (place_at (document_blocks g) (k + 1)).index < length g.bytes
   text-chunks-before-end =
       exit-at (Before (length g.bytes)) (before-down (length g.bytes)) g is content.Text (document_blocks g) (ready-for skeleton-laws g is content.Text) (blocks-stand skeleton-laws g is b ends)
 
-  pub texts-before-end : AllByRecursion (λ c. AllByRecursion (StandsBefore (length g.bytes)) (chain_text g (document_blocks g) c).seats) (fitting_starts (Some content.Text) (document_blocks g))
-  texts-before-end =
-      let blocks = document_blocks g in
-      before-all skeleton-laws g is b ends (fitting_starts (Some content.Text) blocks) blocks
-      (all-seats (Before (length g.bytes)) (before-down (length g.bytes)) g is content.Text blocks (ready-for skeleton-laws g is content.Text) (blocks-stand skeleton-laws g is b ends))
-
   module _ (defined : List ℕ → Bool) where
     abbrev with_texts : List Event
     with_texts = with_inlines defined g (document_blocks g)
-
-    -- and with texts as inline text
-    pub inline-data-before-end : Each (AtData (Before (length g.bytes))) with_texts
-    inline-data-before-end k e at = (inlines-stand skeleton-laws g is b ends defined k e at).at
 
     -- its strings, too
     pub string-chunks-before-end : (k : ℕ) → fits (Some content.String) with_texts k ≡ true → (place_at with_texts (k + 1)).index < length g.bytes
     string-chunks-before-end =
         exit-at (Before (length g.bytes)) (before-down (length g.bytes)) g is content.String with_texts (strings-ready skeleton-laws g is defined) (inlines-stand skeleton-laws g is b ends defined)
-
-    pub strings-before-end : AllByRecursion (λ c. AllByRecursion (StandsBefore (length g.bytes)) (chain_text g with_texts c).seats) (fitting_starts (Some content.String) with_texts)
-    strings-before-end =
-        before-all skeleton-laws g is b ends (fitting_starts (Some content.String) with_texts) with_texts
-        (all-seats (Before (length g.bytes)) (before-down (length g.bytes)) g is content.String with_texts (strings-ready skeleton-laws g is defined) (inlines-stand skeleton-laws g is b ends defined))
 
     pub text-data-before-end : Each (AtData (Before (length g.bytes))) (with_string_chunks g with_texts)
     text-data-before-end k e at = (texts-stand skeleton-laws g is b ends defined k e at).at
@@ -287,10 +263,3 @@ module _ (g : Given) (is : IsDocument g) (b : List ℕ) (ends : begins_line b g.
           is_shown = of-all (λ (y : Event). IsShown g.bytes y.point) events orderly.in_order.1 k e at;
           before = text-data-before-end k e at;
         })
-
-    -- so what is between the two events of data stands before the end
-    pub data-lines-before-end : (i j : ℕ) (e f : Event) → slice_get (with_string_chunks g with_texts) i ≡ Some e → slice_get (with_string_chunks g with_texts) j ≡ Some f → is_data e f ≡ true
-        → AllByRecursion (StandsBefore (length g.bytes)) (seats_between g.tab g.bytes e.point f.point)
-    data-lines-before-end i j e f here there h =
-        let events = with_string_chunks g with_texts in
-        data-between g is e f (every-get (IsKnownData g) events i e texts-known here) (every-get (IsKnownData g) events j f texts-known there) h

@@ -57,9 +57,6 @@ module _ (bytes : List ℕ) where
   pub stands-ends : (s : Seat) → StandsBefore (length bytes) s → Ends s
   stands-ends s h = (show s.point h.0, show s.end h.1)
 
-  pub ends-stands : (s : Seat) → Ends s → StandsBefore (length bytes) s
-  ends-stands s h = (shown-inside bytes s.point h.0, shown-inside bytes s.end h.1)
-
   -- ---- a document
   chain-inside : (t : ℕ) (p : Point) (seats : List Seat) → IsChain t bytes p seats → AllByRecursion (λ (s : Seat). Before (length bytes) s.point) seats
   chain-inside t p [] c = tt

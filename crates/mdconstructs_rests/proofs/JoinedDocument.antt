@@ -20,7 +20,7 @@ use Rattle.mdconstructs_definitions.proofs.PlainLetters.{open-not-blank}
 use Rattle.mdconstructs_definitions.specs.Rows.{Known, known_after, row_of, rows, rows_from}
 use Rattle.mdconstructs_definitions.specs.Sections.{Section, begins_text, sections}
 use Rattle.mdconstructs_rests.specs.DocumentRests.{begins_anew, begins_at_document_rest, document_rows, first_at_document_rest, first_stays, goes_on_behind, is_at_document_rest, is_closed, known_at_start, known_behind, moved_prefix, moved_row}
-use Rattle.mdconstructs_rests.specs.JoinedStretches.{AllStay, SectionsJoin, SectionsOfStretch, any_place, at_top}
+use Rattle.mdconstructs_rests.specs.JoinedStretches.{AllStay, SectionsJoin, at_top}
 use Rattle.mdconstructs_rests.specs.Moved.{begins_line, line_endings, moved_line}
 use Rattle.mdconstructs_rests.specs.MovedSections.{moved_section}
 use Rattle.mdconstructs_rests.proofs.BothSections.{joined-known, rows-left, starts}
@@ -205,7 +205,3 @@ module _ (on : Constructs) (Known Place : Bool → List Row → Type 0) (placing
       subst (JoinAt Place (rows on one) (sections on (rows on (lines_in (virtual t (a ++ b))))) (sections on (rows on one)) (map (moved_section n (length a)) (sections on (rows on two)))) is
       (subst (λ ss. JoinAt Place (rows on one) ss (sections on (rows on one)) (map (moved_section n (length a)) (sections on (rows on two))) (map (moved_row n (length a)) (rows on two))) (sym whole)
       (at-lines (length a) n one two (counted t a b begins) begun (and-right (begins_line b a) (first_at_document_rest on one two) rest) goes))
-
-pub sections-of-stretch : SectionsOfStretch
-sections-of-stretch on t a b rest goes r rs is =
-    sections-placed on any_place any_place (λ around. record { step = λ p q x k less. tt; last = λ p q x k whole front begin blanks e f g h. tt }) t a b (λ front begin blanks e f g h. tt) rest goes r rs is

@@ -175,10 +175,6 @@ module _ (bytes : List ℕ) where
     shares-no (s ∷ ss) p e = ap (shared (last_part s.part ss).frames) e ∙ shared_none (last_part s.part ss).frames
 
     module _ (front back : List Section) where
-      -- the white space before the chunk, if the stretch comes directly behind definitions
-      abbrev pub ahead_marks : List Mark
-      ahead_marks = sections_marks bytes front ++ part_white is_behind begin
-
       -- the line ending, and blank lines
       abbrev pub between_marks : List Mark
       between_marks = ending_marks bytes begin ++ flat_map blank_marks (firsts blanks)

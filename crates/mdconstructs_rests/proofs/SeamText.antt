@@ -5,10 +5,8 @@ use Rattle.std.proofs.Math.Seq.{drop-nil}
 use Rattle.std.specs.List.{AllByRecursion, flat_map}
 use Rattle.std.specs.Prelude.{is_some, map}
 use Rattle.markdown_base.specs.declared.configuration.Constructs.{Constructs}
-use Rattle.markdown_base.specs.Virtual.{Seat}
-use Rattle.mdconstructs_machines.specs.LineEvents.{line_text}
 use Rattle.mdconstructs_flow_read.specs.HtmlLines.{ends, waits_for_blank}
-use Rattle.mdconstructs_flow_read.specs.LeafBlocks.{Line, bytes_of, interrupts, text_of}
+use Rattle.mdconstructs_flow_read.specs.LeafBlocks.{Line, interrupts, text_of}
 use Rattle.mdconstructs_flow_read.specs.LineKinds.{Fence, LineKind, blank, closes, fence, heading, html, indented, is_blank_line, line_kind, text, thematic_break, underline_rank}
 use Rattle.mdconstructs_containers.specs.Prefixes.{containers_of}
 use Rattle.mdconstructs_containers.specs.Rows.{Before, Leaf, Row, closed, has_none, holds_ending, is_paragraph, leaf_after, open_fence, open_html, open_paragraph, opened_by, rest_of}
@@ -24,7 +22,6 @@ use Rattle.mdconstructs_rests.specs.MovedSections.{moved_section}
 use Rattle.mdconstructs_rests.proofs.JoinedDocument.{goes-on}
 use Rattle.mdconstructs_rests.proofs.JoinedKnown.{IsDeep, stays-at-top}
 use Rattle.mdconstructs_rests.proofs.JoinedMarks.{lines_of}
-use Rattle.mdconstructs_rests.proofs.LetteredLines.{Keeps, all_lettered, lettered, text-with-letters}
 use Rattle.mdconstructs_rests.proofs.MovedBlocks.{text-moved}
 use Rattle.mdconstructs_rests.proofs.SeamRows.{ahead-all, seam-deep, seam-none, top-not-lazy}
 use Rattle.mdconstructs_rests.proofs.WithoutContainers.Leaves.{HasText, closing-text, ends-none, fence-long, last_line}
@@ -253,14 +250,3 @@ module _ (on : Constructs) (m bytes : ℕ) (one : List Line) (line : Line) (behi
       (λ k n line deep none long begun left holds. moved-text m bytes line (row-text on k n line deep none long begun left holds))
       next 2 behind end.more h.end_rows.left (seam-deep on m bytes one line behind there goes) (seam-none on m bytes one line behind there goes) (next-long on start 1 line tt) h.end_rows.is h.end_stay in
       subst HasText (sym (last-line-is end.first end.more)) (of-last Ends end.first end.more (subst Ends (sym h.end_is) first_ends) more kept holds)
-
--- ---- with the document's letters
-module _ (at : List ℕ) where
-  no-bytes : (ss : List Seat) → bytes_of (lettered at ss) ≡ [] → bytes_of ss ≡ []
-  no-bytes [] e = refl
-  no-bytes (s ∷ ss) e = absurd (cc)
-
-  pub text-of-lettered : (ls : List Line) → AllByRecursion (AllByRecursion (Keeps at)) ls → HasText (last_line ls) → HasText (last_line (all_lettered at ls))
-  text-of-lettered [] h has = has
-  text-of-lettered (line ∷ []) h has = λ e. has (no-bytes (line_text line) (sym (ap bytes_of (text-with-letters at line h.0)) ∙ e))
-  text-of-lettered (line ∷ other ∷ ls) h has = text-of-lettered (other ∷ ls) h.1 has

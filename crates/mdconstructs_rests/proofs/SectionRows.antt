@@ -84,14 +84,6 @@ module _ (on : Constructs) where
       by true = few
       by false = omega arith
 
-  before-within : (p : Bool) (x : List Row) → before_defined on p x ≤ length x
-  before-within p [] = omega arith
-  before-within p (r ∷ x) = by (not p && nat_le 1 (defined_in on (r ∷ x))) (before-within (is_paragraph r.leaf) x)
-    where
-      by : (b : Bool) → before_defined on (is_paragraph r.leaf) x ≤ length x → cond b 0 (suc (before_defined on (is_paragraph r.leaf) x)) ≤ suc (length x)
-      by true h = omega arith
-      by false h = omega (arith, h)
-
   -- whether a paragraph is open before rows that do not begin with text does not matter
   before-any : (p : Bool) (y : List Row) → (p && begins_text y) ≡ false → before_defined on p y ≡ before_defined on false y
   before-any false y h = refl

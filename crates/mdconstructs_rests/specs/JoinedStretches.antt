@@ -1,20 +1,15 @@
 -- Where a stretch of lines goes on over a rest: it is one section of the document, with one chunk. In the parts it is two, with blank lines between them.
 use Rattle.std.specs.Prelude.{◌≡◌, ℕ, ◌||◌, Bool, true, false, List, [], ◌∷◌, ◌++◌, drop, length, map}
 use Rattle.std.specs.List.{AllByRecursion}
-use Rattle.markdown_base.specs.declared.configuration.Constructs.{Constructs}
 use Rattle.markdown_base.specs.declared.event.Content.TheVariants as content
 use Rattle.markdown_base.specs.declared.event.Name.TheVariants as name
-use Rattle.markdown_base.specs.Virtual.{Seat, virtual}
-use Rattle.mdconstructs_machines.specs.LineEvents.{lines_in}
+use Rattle.markdown_base.specs.Virtual.{Seat}
 use Rattle.mdconstructs_flow_read.specs.BlocksRead.{block_seats}
 use Rattle.mdconstructs_flow_read.specs.LeafBlocks.{Line, blank_line}
 use Rattle.mdconstructs_flow_read.specs.LeafEvents.{Mark, alone, chunk_span, last_end, leaf_blocks_marks}
 use Rattle.mdconstructs_containers.specs.Rows.{Row}
 use Rattle.mdconstructs_containers.specs.Skeleton.{Part, further}
-use Rattle.mdconstructs_definitions.specs.Sections.{Section, lines, sections}
-use Rattle.mdconstructs_rests.specs.DocumentRests.{begins_at_document_rest, document_rows, goes_on_behind, moved_row}
-use Rattle.mdconstructs_rests.specs.Moved.{line_endings}
-use Rattle.mdconstructs_rests.specs.MovedSections.{moved_section}
+use Rattle.mdconstructs_definitions.specs.Sections.{Section, lines}
 
 -- ---- parts
 abbrev pub firsts : List Part → List Row
@@ -92,12 +87,6 @@ pub record SectionSeam (Place : (is_behind : Bool) → List Row → Type 0) (aro
 pub data SectionsJoin (Place : (is_behind : Bool) → List Row → Type 0) (around : Part) (x : List Row) (r : Row) (rs : List Row) (whole first second : List Section) : Type 0 where
   sections_apart : whole ≡ first ++ second → SectionsJoin Place around x r rs whole first second
   section_seam : SectionSeam Place around x r rs whole first second → SectionsJoin Place around x r rs whole first second
-
--- At a rest whose line goes on with a stretch of lines the sections of a document are those of its parts, but for the section at the seam. No container is open there
-abbrev pub SectionsOfStretch : Type 0
-SectionsOfStretch = (on : Constructs) (t : ℕ) (a b : List ℕ) → begins_at_document_rest on t a b ≡ true → goes_on_behind on (lines_in (virtual t a)) (lines_in (virtual t b)) ≡ true
-    → (r : Row) (rs : List Row) → map (moved_row (line_endings a) (length a)) (document_rows on t b) ≡ r ∷ rs
-    → SectionsJoin any_place (at_top r) (document_rows on t a) r rs (sections on (document_rows on t (a ++ b))) (sections on (document_rows on t a)) (map (moved_section (line_endings a) (length a)) (sections on (document_rows on t b)))
 
 -- ---- marks
 module _ (bytes : List ℕ) where
