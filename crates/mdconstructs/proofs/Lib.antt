@@ -315,6 +315,7 @@ pub use Rattle.mdconstructs_sections.proofs.CharSizes
 pub use Rattle.mdconstructs_sections.proofs.CharsBack
 pub use Rattle.mdconstructs_sections.proofs.ComeBack
 pub use Rattle.mdconstructs_sections.proofs.CountedEndings
+pub use Rattle.mdconstructs_sections.proofs.CutLines
 pub use Rattle.mdconstructs_sections.proofs.LinesBack
 pub use Rattle.mdconstructs_sections.proofs.PartStarts
 pub use Rattle.mdconstructs_sections.proofs.PartsMove

@@ -232,6 +232,7 @@ pub use Rattle.mdconstructs_targets.specs.Examples as TargetExamples
 pub use Rattle.mdconstructs_targets.specs.Spans as SpansInside
 pub use Rattle.mdconstructs_targets.specs.Strings as StringTexts
 pub use Rattle.mdconstructs_targets.specs.Targets
+pub use Rattle.mdconstructs_sections.specs.Cuts
 pub use Rattle.mdconstructs_sections.specs.Packed
 pub use Rattle.mdconstructs_sections.specs.PackedEvents
 pub use Rattle.mdconstructs_sections.specs.PositionParts

@@ -3,6 +3,7 @@ pub mod CharSizes
 pub mod CharsBack
 pub mod ComeBack
 pub mod CountedEndings
+pub mod CutLines
 pub mod LinesBack
 pub mod PartStarts
 pub mod PartsMove

@@ -1,3 +1,4 @@
+pub mod Cuts
 pub mod Packed
 pub mod PackedEvents
 pub mod PositionParts

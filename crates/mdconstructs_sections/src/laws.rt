@@ -1,5 +1,6 @@
 //! Laws about the definitions of this crate. Each is a function that does nothing; its contract is the law.
 
+ghost use Rattle.mdconstructs_sections.specs.Cuts.{EndingsAreCounted, PartsStartLines};
 ghost use Rattle.mdconstructs_sections.specs.PositionParts.{EndingsAdd, OffsetsMove, OffsetsStay, PositionsMove, PositionsStay};
 ghost use Rattle.mdconstructs_sections.specs.Positions.{CharactersAreAllBytes, CharactersAreUtf8, OffsetsComeBack, PositionsComeBack, UnitsAreWritten};
 
@@ -36,4 +37,11 @@ pub fn positions_move()
 pub fn positions_stay()
     ensures positions { PositionsStay }
     ensures offsets { OffsetsStay }
+{}
+
+/// At a rest the second of two parts starts a line, and the first has the line endings by which its places are moved: so positions move with
+/// events.
+pub fn cuts_start_lines()
+    ensures counted { EndingsAreCounted }
+    ensures starts { PartsStartLines }
 {}
