@@ -3,8 +3,8 @@
 and so on, up to a given number (default 20). Prints a row for each: how many tests passed, and how many ended as memory ran out.
 
 Some tests must pass whichever allocation fails: the modules no_memory, and the test that memory is no fault of the reader. The other
-tests of the program may fail, as they compare without showing. Any other test passes, ends in AllocError, or shows "out of memory" in
-what it compares. The status is 1 if anything else is seen. Needs rt.
+tests of the program may fail, as they compare without showing. Any other test passes, ends in AllocError or Memory, or shows "out of
+memory" in what it compares. The status is 1 if anything else is seen. Needs rt.
 """
 
 import glob
@@ -17,7 +17,7 @@ CRATES = os.path.join(os.path.dirname(os.path.abspath(__file__)), "../crates")
 # What the names of the tests begin with that have to pass, and of those that compare without showing.
 PASSES = ("mdtests_engine::no_memory::", "mdtests_machines::no_memory::", "mdtests::calls::memory_is_no_fault_of_the_reader")
 SILENT = ("mdtests::calls::", "mdtests::written::")
-REFUSED = re.compile(r"Error: AllocError|left: .*out of memory|\bmemory\b")
+REFUSED = re.compile(r"Error: AllocError|Error: Memory$|left: .*out of memory|\bmemory\b", re.M)
 
 
 def crates():
