@@ -222,6 +222,7 @@ pub use Rattle.mdconstructs_rests.proofs.Chained
 pub use Rattle.mdconstructs_rests.proofs.ChildrenOfBoth
 pub use Rattle.mdconstructs_rests.proofs.ChunkAlone
 pub use Rattle.mdconstructs_rests.proofs.DataBeforeEnd
+pub use Rattle.mdconstructs_rests.proofs.DocumentAsked
 pub use Rattle.mdconstructs_rests.proofs.DocumentBytes
 pub use Rattle.mdconstructs_rests.proofs.DocumentLabels
 pub use Rattle.mdconstructs_rests.proofs.DocumentParts

@@ -66,6 +66,7 @@ pub use mdconstructs_rests::laws::blocks_of_both;
 pub use mdconstructs_rests::laws::document_blocks_of_both;
 pub use mdconstructs_rests::laws::document_events_of_both;
 pub use mdconstructs_rests::laws::document_first_line_tells;
+pub use mdconstructs_rests::laws::document_labels_decide;
 pub use mdconstructs_rests::laws::document_rests_forget;
 pub use mdconstructs_rests::laws::document_rests_of_both;
 pub use mdconstructs_rests::laws::document_rows_of_both;

@@ -9,6 +9,7 @@ pub mod Chained
 pub mod ChildrenOfBoth
 pub mod ChunkAlone
 pub mod DataBeforeEnd
+pub mod DocumentAsked
 pub mod DocumentBytes
 mod DocumentExamples
 pub mod DocumentLabels

@@ -1,12 +1,17 @@
--- Whole documents: at a rest the events of a document are those of its parts, of which the second is moved.
-use Rattle.std.specs.Prelude.{◌≡◌, ℕ, Bool, true, List, ◌++◌, length, map}
+-- Documents at a rest: their events are those of their parts, of which the second is moved; and which labels they ask for.
+use Rattle.std.specs.Prelude.{◌≡◌, ℕ, Bool, true, List, ◌++◌, length, map, Some}
+use Rattle.std.specs.List.{flat_map}
 use Rattle.markdown_base.specs.declared.configuration.ParseOptions.{ParseOptions}
+use Rattle.markdown_base.specs.declared.event.Content.TheVariants.{Text}
 use Rattle.markdown_base.specs.declared.event.Event.{Event}
 use Rattle.markdown_tokenizer.specs.Text.{IsDocument}
+use Rattle.markdown_children.specs.Chains.{fitting_starts}
+use Rattle.mdconstructs_text.specs.ReadChains.{chain_text}
 use Rattle.mdconstructs_definitions.specs.Blocks.{document_blocks}
 use Rattle.mdconstructs_documents.specs.DocumentEvents.{is_defined_in}
 use Rattle.mdconstructs_documents.specs.Documents.{AreDocumentEvents, document}
 use Rattle.mdconstructs_inlines.specs.InlineChains.{with_inlines, with_strings as with_string_chunks}
+use Rattle.mdconstructs_rests.specs.Asked.{Agree, asked_labels}
 use Rattle.mdconstructs_rests.specs.DocumentRests.{begins_at_document_rest}
 use Rattle.mdconstructs_rests.specs.Moved.{line_endings, moved_event}
 use Rattle.mdconstructs_rests.specs.Sections.{are_sections_by, document_of, events_of_sections}
@@ -22,6 +27,13 @@ module _ (options : ParseOptions) where
   events_by defined bytes =
       let g = document options bytes in
       with_strings options.constructs options.tab_size bytes (with_string_chunks g (with_inlines defined g (blocks_of bytes)))
+
+  -- The labels that are looked up in its texts
+  abbrev pub asked_in : (defined : List ℕ → Bool) → (bytes : List ℕ) → List (List ℕ)
+  asked_in defined bytes =
+      let g = document options bytes in
+      let blocks = blocks_of bytes in
+      flat_map (λ c. asked_labels bytes options.constructs defined (chain_text g blocks c).seats) (fitting_starts (Some Text) blocks)
 
   -- The second bytes begin at a rest of the document behind the first
   abbrev pub is_rest : (a b : List ℕ) → Bool
@@ -43,3 +55,8 @@ DocumentEventsOfBoth = (defined : List ℕ → Bool) (options : ParseOptions) (a
 abbrev pub DocumentSectionsGiveEvents : Type 0
 DocumentSectionsGiveEvents = (options : ParseOptions) (sections : List (List ℕ)) → let bytes = document_of sections in IsDocument (document options bytes) → are_sections_by (is_rest options) sections ≡ true
     → AreDocumentEvents options bytes (events_of_sections (events_by options (is_defined_in (document options bytes))) sections)
+
+-- If two sets of labels agree on those that are looked up in it, a document's events are the same by both, and the same labels are looked up
+abbrev pub DocumentLabelsDecide : Type 0
+DocumentLabelsDecide = (defined others : List ℕ → Bool) (options : ParseOptions) (bytes : List ℕ) → Agree defined others (asked_in options defined bytes)
+    → (events_by options others bytes ≡ events_by options defined bytes) × (asked_in options others bytes ≡ asked_in options defined bytes)

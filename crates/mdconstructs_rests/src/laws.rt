@@ -1,7 +1,7 @@
 //! Laws about leaf blocks and documents at rests. Each is a function that does nothing; its contract is the law.
 
 ghost use Rattle.mdconstructs_rests.specs.Asked.{AskedLabelsMove, LabelsDecide};
-ghost use Rattle.mdconstructs_rests.specs.BothDocuments.{DocumentBlocksOfBoth, DocumentEventsOfBoth, DocumentSectionsGiveEvents};
+ghost use Rattle.mdconstructs_rests.specs.BothDocuments.{DocumentBlocksOfBoth, DocumentEventsOfBoth, DocumentLabelsDecide, DocumentSectionsGiveEvents};
 ghost use Rattle.mdconstructs_rests.specs.DocumentLabels.{LabelsOfBoth, LettersOfBoth};
 ghost use Rattle.mdconstructs_rests.specs.DocumentRests.{DocumentFirstLineTells, DocumentRestsForget, DocumentRestsOfBoth, DocumentRowsOfBoth, RowsMove, RowsOfBoth, StretchesGoOnAtTop};
 ghost use Rattle.mdconstructs_rests.specs.Moved.{BlocksMove, BlocksOfBoth, EventsOfBoth, LinesAreCounted, LinesOfBoth, VirtualOfBoth};
@@ -192,4 +192,10 @@ pub fn document_events_of_both()
 /// The events of a document's sections, each read by itself with the document's labels, and moved, are those of the document.
 pub fn document_sections_give_events()
     ensures { DocumentSectionsGiveEvents }
+{}
+
+/// If two sets of labels agree on those that are looked up in a document's texts, its events are the same by both. So if a label comes or goes, only
+/// sections that ask for it are to be read again.
+pub fn document_labels_decide()
+    ensures { DocumentLabelsDecide }
 {}
