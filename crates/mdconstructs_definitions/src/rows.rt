@@ -29,16 +29,16 @@ use std::sync::ledger::Ledger;
 
 /// What is known before a line.
 #[derive(Drop)]
-pub(crate) struct Known {
+pub struct Known {
     /// What is known without definitions.
-    pub(crate) before: Before,
+    pub before: Before,
     /// What is held of the text of the paragraph that is open, if one is: all of it, if it begins with `[` behind white space, and else nothing.
-    pub(crate) text: Vec<u8>,
+    pub text: Vec<u8>,
 }
 
 impl Known {
     /// Nothing is known before the first line.
-    fn new(alloc: Global) -> Known
+    pub fn new(alloc: Global) -> Known
         ensures stack { result.before.stack.items ≡ [] }
         ensures depth { result.before.depth ≡ 0 }
         ensures over { result.before.over ≡ 0 }
@@ -133,9 +133,9 @@ fn hold_row<L: Ledger>(
     hold_defining(text, goes_on, behind(t, row.columns), turns)
 }
 
-/// The line with this number and this beginning, with its containers. What is known before it becomes what is known behind it. `line` is room for
-/// its bytes.
-fn next_row<L: Ledger>(
+/// The line with this number and this beginning, with its containers. What is known before it becomes what is known behind it. `line` becomes its
+/// virtual bytes, without its line ending.
+pub fn next_row<L: Ledger>(
     alloc: Global,
     bytes: &[u8],
     tab: TabSize,
@@ -151,6 +151,7 @@ fn next_row<L: Ledger>(
     requires over { AreOver number known.old.before.over known.old.before.depth known.old.before.stack.items }
     requires began { AreBefore number known.old.before.stack.items }
     requires sizes { HaveSizes (map open_of known.old.before.stack.items) }
+    ensures text { IfOk result (λ _. line.new.items ≡ line_bytes tab number 1 start (drop start bytes.now)) }
     ensures number { IfOk result (λ at. at.span.number ≡ number) }
     ensures placed { IfOk result (λ at. IsPlaced tab bytes.now number start at) }
     ensures row { IfOk result (λ at. (seen : KnownOf) → IsKnown known.old seen → IsRow number at.row (row_of on.now seen number (line_at tab number start (drop start bytes.now)))) }

@@ -18,6 +18,7 @@ returns g c =
     let here : length c.as_slice.result.now ≡ length c.read_text.new.line.items = ap (λ (l : List ℕ). length l) c.as_slice.ensures.value in
     let long : length c.read_text.new.line.items ≡ length (line_bytes c.args.tab c.args.number 1 c.args.start rest) = ap (λ (l : List ℕ). length l) (c.in_ok-end.ensures.seats c.args.number) in
     record {
+      text = c.in_ok-end.ensures.seats c.args.number;
       number = refl;
       placed = record {
         number_is = refl;
