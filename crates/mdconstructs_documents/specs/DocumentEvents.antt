@@ -14,14 +14,22 @@ use Rattle.mdconstructs_strings.specs.Strings.{with_strings}
 abbrev pub is_defined_in : Given → List ℕ → Bool
 is_defined_in g label = is_one_of (written_labels g.options.constructs (virtual g.tab g.bytes)) label
 
--- The blocks of a document, with the inline text of each chain of text in place of its chunks, by the labels that are defined in the document, and then
--- the events of each chunk of a string
-abbrev pub document_texts : Given → List Event
-document_texts g = with_string_chunks g (with_inlines (is_defined_in g) g (document_blocks g))
+-- The blocks of a document, with the inline text of each chain of text in place of its chunks, by which labels are defined, and then the events of each
+-- chunk of a string
+abbrev pub document_texts_by : (defined : List ℕ → Bool) → Given → List Event
+document_texts_by defined g = with_string_chunks g (with_inlines defined g (document_blocks g))
 
--- The events of a document: these, with the strings read in which destinations, titles and labels stand
+-- and then with the strings read in which destinations, titles and labels stand
+abbrev pub document_events_by : (defined : List ℕ → Bool) → Given → List Event
+document_events_by defined g = with_strings g.options.constructs g.tab g.bytes (document_texts_by defined g)
+
+-- The same by the labels that are defined in the document
+abbrev pub document_texts : Given → List Event
+document_texts g = document_texts_by (is_defined_in g) g
+
+-- The events of a document
 abbrev pub document_events : Given → List Event
-document_events g = with_strings g.options.constructs g.tab g.bytes (document_texts g)
+document_events g = document_events_by (is_defined_in g) g
 
 -- Void spans of the events of each document are empty: no chunks of a paragraph's lines tear one
 abbrev pub DocumentEventsAreTight : Type 0

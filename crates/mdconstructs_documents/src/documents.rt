@@ -6,12 +6,14 @@ ghost use Rattle.markdown_base.specs.Virtual.{IsWithinLimit};
 ghost use Rattle.markdown_tokenizer.specs.Engine.{AreCuts, IsWellFormed, given_by, whole_text};
 ghost use Rattle.markdown_tokenizer.specs.Text.{IsDocument};
 ghost use Rattle.mdconstructs_text.specs.TextEvents.{text_events};
+ghost use Rattle.mdconstructs_labels.specs.Defined.{defines};
 ghost use Rattle.mdconstructs_documents.specs.Choices.{CanCut};
+ghost use Rattle.mdconstructs_documents.specs.DocumentEvents.{document_events_by};
 ghost use Rattle.mdconstructs_documents.specs.Documents.{document, options_with, cut_places, AreEventsOf, AreDocumentEvents, AreFlowEvents, AreFlowInlines};
 
 use crate::choice::{Choice, Which};
 use crate::making::{Unmade, read_by, read_deep_by, read_resolved_by, with_ready_children};
-use crate::nested::{read_blocks, read_nested_events};
+use crate::nested::{read_blocks, read_nested_events, read_nested_events_by};
 use markdown_base::configuration::{Constructs, ParseOptions, TabSize};
 use markdown_base::event::Event;
 use markdown_base::state::Name;
@@ -73,6 +75,24 @@ pub fn read_document(
     ensures formed { IfOk result (λ events. IsWellFormed (document options.now bytes.now) events.items) }
 {
     match read_nested_events(alloc, bytes, options) {
+        Ok(events) => Ok(events),
+        Err(Unmade::Fault(Fault::Memory)) => Err(AllocError),
+        Err(_) => unreachable!(),
+    }
+}
+
+/// The events of a document by the labels that this machine knows, and not by those that the document defines. By these they are those of
+/// [`read_document`]. It fails only if it runs out of memory.
+pub fn read_document_by(
+    alloc: Global,
+    bytes: &[u8],
+    options: &ParseOptions,
+    machine: &Inlines,
+) -> Result<Vec<Event>, AllocError>
+    requires limit { IsWithinLimit options.now.tab_size bytes.now }
+    ensures { IfOk result (λ events. events.items ≡ document_events_by (defines machine.now.labels) (document options.now bytes.now)) }
+{
+    match read_nested_events_by(alloc, bytes, options, machine) {
         Ok(events) => Ok(events),
         Err(Unmade::Fault(Fault::Memory)) => Err(AllocError),
         Err(_) => unreachable!(),

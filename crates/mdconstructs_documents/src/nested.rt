@@ -12,6 +12,7 @@ ghost use Rattle.mdconstructs_definitions.specs.Skeleton.{letters as letters_of,
 ghost use Rattle.mdconstructs_flow.specs.FlowKnows.{flow_rules};
 ghost use Rattle.mdconstructs_inlines.specs.InlineRules.{inlines_rules};
 ghost use Rattle.mdconstructs_labels.specs.Defined.{defines};
+ghost use Rattle.mdconstructs_documents.specs.DocumentEvents.{document_events_by};
 ghost use Rattle.mdconstructs_documents.specs.Documents.{document, AreDocumentBlocks, AreDocumentEvents};
 ghost use Rattle.mdconstructs_documents.specs.Runs.{HasChildren, HasOnlyContent, HasOnlyTexts};
 
@@ -137,25 +138,59 @@ pub(crate) fn read_nested_events(
     ensures document { IsDocument (document options.now bytes.now) }
 {
     let blocks = read_blocks_and_labels(alloc, bytes, options)?;
-    let texts = with_inline_text(alloc, bytes, options, blocks.events, blocks.labels)?;
+    let machine = Inlines {
+        labels: blocks.labels,
+    };
+    with_texts(alloc, bytes, options, blocks.events, &machine)
+}
+
+/// The events of a document from its blocks, by the labels that this machine knows.
+fn with_texts(
+    alloc: Global,
+    bytes: &[u8],
+    options: &ParseOptions,
+    blocks: Vec<Event>,
+    machine: &Inlines,
+) -> Result<Vec<Event>, Unmade>
+    requires limit { IsWithinLimit options.now.tab_size bytes.now }
+    requires blocks { AreDocumentBlocks options.now bytes.now blocks.items }
+    ensures events { IfOk result (λ events. events.items ≡ document_events_by (defines machine.now.labels) (document options.now bytes.now)) }
+    ensures err { IfErr result (λ unmade. unmade ≡ Unmade.Fault Memory) }
+{
+    is_document(bytes, options);
+    let texts = with_inline_text(alloc, bytes, options, blocks, machine)?;
     Ok(with_strings(alloc, &options.constructs, bytes, options.tab_size, texts)?)
 }
 
-/// The events with the inline text of each chain of text, and the events of each string, in place of their chunks, where
-/// these labels are defined. All chains are texts or strings, so all are read at once.
+/// The events with the inline text of each chain of text, and the events of each string, in place of their chunks, by the labels that this machine
+/// knows. All chains are texts or strings, so all are read at once.
 fn with_inline_text(
     alloc: Global,
     bytes: &[u8],
     options: &ParseOptions,
     events: Vec<Event>,
-    labels: Labels,
+    machine: &Inlines,
 ) -> Result<Vec<Event>, Unmade>
     requires limit { IsWithinLimit options.now.tab_size bytes.now }
     requires texts { HasOnlyTexts events.items }
     requires ready { IsReady options.now.tab_size bytes.now None events.items }
-    ensures events { IfOk result (λ new. HasChildren (inlines_rules (defines labels)) options.now bytes.now None events.items new.items) }
+    ensures events { IfOk result (λ new. HasChildren (inlines_rules (defines machine.now.labels)) options.now bytes.now None events.items new.items) }
     ensures err { IfErr result (λ unmade. unmade ≡ Unmade.Fault Memory) }
 {
-    let machine = Inlines { labels };
-    with_ready_children(alloc, &machine, bytes, options, events, None)
+    with_ready_children(alloc, machine, bytes, options, events, None)
+}
+
+/// The events of a document by the labels that this machine knows, and not by those that the document defines.
+pub(crate) fn read_nested_events_by(
+    alloc: Global,
+    bytes: &[u8],
+    options: &ParseOptions,
+    machine: &Inlines,
+) -> Result<Vec<Event>, Unmade>
+    requires limit { IsWithinLimit options.now.tab_size bytes.now }
+    ensures events { IfOk result (λ events. events.items ≡ document_events_by (defines machine.now.labels) (document options.now bytes.now)) }
+    ensures err { IfErr result (λ unmade. unmade ≡ Unmade.Fault Memory) }
+{
+    let blocks = read_blocks_and_labels(alloc, bytes, options)?;
+    with_texts(alloc, bytes, options, blocks.events, machine)
 }

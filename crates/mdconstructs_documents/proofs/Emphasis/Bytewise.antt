@@ -9,7 +9,6 @@ use Rattle.mdconstructs_documents.proofs.Emphasis.Runs.{sequence-kinds}
 use Rattle.mdconstructs_documents.proofs.InContainers.Places.{EndsAt}
 use Rattle.mdconstructs_links.proofs.RunOrder.{later-later, later-none}
 use Rattle.mdconstructs_links.proofs.Spans.{spans-between}
-use Rattle.mdconstructs_links.specs.Linked.{outermost_spans}
 use Rattle.mdconstructs_links.specs.Places.{AreBytewise, AreSteps, GoesByBytes, IsBytewise}
 
 module _ (At : Point → Type 0) (bytes : List ℕ) where

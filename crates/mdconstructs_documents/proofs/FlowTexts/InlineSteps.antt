@@ -1,13 +1,11 @@
 -- Delimiters of a document stand byte by byte; and the events of other items are of neither runs nor brackets.
-use Rattle.mdconstructs_documents.proofs.Prelude.{◌≡◌, inl, ℕ, zero, suc, ◌+◌, ◌==◌, true, false, cond, List, [], ◌∷◌, ◌++◌, Option, Some, None, length, take, drop, refl, sym, ◌∙◌, subst, arith, nat_tests, is_ascii_punctuation, ◌&&◌, nat_le, nat_lt, option_map, slice_get, AllByRecursion, between, flat_map, prefix_len, eqb-true, every-append, Event, Exit, Autolink, AutolinkEmail, AutolinkMarker, AutolinkProtocol, CharacterEscape, CharacterEscapeMarker, CharacterEscapeValue, CharacterReference, CharacterReferenceMarker, CharacterReferenceMarkerHexadecimal, CharacterReferenceMarkerNumeric, CharacterReferenceMarkerSemi, CharacterReferenceValue, CodeText, CodeTextData, CodeTextSequence, HardBreakEscape, HardBreakTrailing, HtmlText, HtmlTextData, LineEnding, SpaceOrTab, shown, Seat, begins_with_lf, end_after, in_tab, point, tab_width, virtual, virtual_from, shown-other, drop-first, later, is_white, event, leaf, span, EachThere, OfOption, when-there, autolink, autolink_at, autolink_to, uri, backticks, has_byte_at, is_backslash, is_backtick, is_greater_than, is_less_than, is_line_feed, is_space, before_backtick_string, code_span, code_span_at, pieces, Found, escape, escape_at, Part, line_ending, plain_run, bytes_of, cut, part_events, reference-holds, decimal, hexadecimal, mark_events, marks, named, reference_at, email, email_at, email_with, is_at_sign, is_atext, is_domain, is_domain_byte, html-there, marked, tag_length, html_of, piece_at, piece_events, piece_length, break_escape_at, hard_break_escape, hard_break_trailing, trailing_break_at, is_white_left, white_space, white_space_at, data_run, inline_grammars, line_break, run_length, is_delimiter, IsWhole}
+use Rattle.mdconstructs_documents.proofs.Prelude.{◌≡◌, inl, ℕ, zero, suc, ◌+◌, ◌==◌, true, false, cond, List, [], ◌∷◌, ◌++◌, Option, Some, None, length, take, drop, refl, sym, ◌∙◌, subst, arith, nat_tests, is_ascii_punctuation, ◌&&◌, nat_le, nat_lt, option_map, slice_get, AllByRecursion, between, flat_map, prefix_len, eqb-true, every-append, Event, Exit, Autolink, AutolinkEmail, AutolinkMarker, AutolinkProtocol, CharacterEscape, CharacterEscapeMarker, CharacterEscapeValue, CharacterReference, CharacterReferenceMarker, CharacterReferenceMarkerHexadecimal, CharacterReferenceMarkerNumeric, CharacterReferenceMarkerSemi, CharacterReferenceValue, CodeText, CodeTextData, CodeTextSequence, HardBreakEscape, HardBreakTrailing, HtmlText, HtmlTextData, LineEnding, SpaceOrTab, shown, Seat, begins_with_lf, end_after, in_tab, point, tab_width, virtual, virtual_from, shown-other, drop-first, later, is_white, event, leaf, span, EachThere, OfOption, when-there, autolink, autolink_at, autolink_to, uri, backticks, has_byte_at, is_backslash, is_backtick, is_greater_than, is_less_than, is_line_feed, is_space, before_backtick_string, code_span, code_span_at, pieces, Found, escape, escape_at, Part, line_ending, plain_run, bytes_of, cut, part_events, reference-holds, decimal, hexadecimal, mark_events, marks, named, reference_at, email, email_at, email_with, is_at_sign, is_atext, is_domain, is_domain_byte, html-there, marked, tag_length, html_of, piece_at, piece_events, piece_length, break_escape_at, hard_break_escape, hard_break_trailing, trailing_break_at, is_white_left, white_space, white_space_at, inline_grammars, line_break, run_length, is_delimiter, IsWhole}
 use Rattle.markdown_base.specs.declared.event.Name.{Name}
 use Rattle.mdconstructs_tables.proofs.Looks.Left.{at-front}
-use Rattle.mdconstructs_text.proofs.Texts.Built.{IsKeptBySpans}
 use Rattle.mdconstructs_inline_constructs.specs.Reference.{Kind}
 use Rattle.mdconstructs_inline_constructs.specs.HtmlText as html
 use Rattle.mdconstructs_inline_constructs.specs.HtmlText.{Piece}
 use Rattle.mdconstructs_documents.proofs.Emphasis.RunAtoms.{AreDelimiters, IsOther, is_special}
-use Rattle.mdconstructs_links.proofs.RunOrder.{later-later, later-none}
 
 -- ---- delimiters among virtual bytes
 -- behind a delimiter is the place one byte later; it is shown at itself; and it is the byte there

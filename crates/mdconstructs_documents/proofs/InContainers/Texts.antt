@@ -11,7 +11,7 @@ use Rattle.markdown_edits.proofs.Edits.Survivors.{stays_unless_removed}
 use Rattle.markdown_edits.specs.Woven.{of_list, place_in}
 use Rattle.mdconstructs_definitions.specs.Blocks.{document_blocks}
 use Rattle.mdconstructs_inlines.specs.LawStatements.{with_inlines, with_strings as with_string_chunks}
-use Rattle.mdconstructs_documents.specs.DocumentEvents.{document_texts, is_defined_in}
+use Rattle.mdconstructs_documents.specs.DocumentEvents.{document_texts_by}
 use Rattle.mdconstructs_documents.specs.Documents.{AreDocumentBlocks}
 use Rattle.mdconstructs_documents.specs.Runs.{HasOnlyTexts}
 use Rattle.mdconstructs_documents.proofs.FlowTexts.AllChildren.{read-at-once, read-string, read-text, read_at}
@@ -85,11 +85,6 @@ module _ (laws : SkeletonLaws) (options : ParseOptions) (bytes : List ℕ) (is :
   pub blocks-have-texts : HasOnlyTexts blocks
   blocks-have-texts = subst HasOnlyTexts (sym are) (blocks-textual laws (document options bytes) is)
 
-  -- by labels that are those of the document
-  pub texts-of-document : (defined : List ℕ → Bool) → ((label : List ℕ) → defined label ≡ is_defined_in (document options bytes) label) → (new : List Event) → HasChildren (inlines_rules defined) options bytes None blocks new
-      → new ≡ document_texts (document options bytes)
-  texts-of-document defined same new h =
-      let g = document options bytes in
-      let labels : defined ≡ is_defined_in g = λ i label. same label i in
-      texts-at-once laws g is defined new h.1.0 (subst (λ (es : List Event). IsSubtokenized g (inlines_rules defined) None es new h.1.0) are h.1.1)
-      ∙ ap (λ d. with_string_chunks g (with_inlines d g (document_blocks g))) labels
+  -- by any labels
+  pub texts-by : (defined : List ℕ → Bool) (new : List Event) → HasChildren (inlines_rules defined) options bytes None blocks new → new ≡ document_texts_by defined (document options bytes)
+  texts-by defined new h = texts-at-once laws (document options bytes) is defined new h.1.0 (subst (λ (es : List Event). IsSubtokenized (document options bytes) (inlines_rules defined) None es new h.1.0) are h.1.1)

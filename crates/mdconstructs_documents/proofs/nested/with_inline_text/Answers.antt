@@ -5,9 +5,9 @@ use Rattle.mdconstructs_documents.proofs.FlowTexts.Textual.{may-start-each}
 use Rattle.mdconstructs_documents.proofs.nested.with_inline_text.Goals as goal
 
 pub with_ready_children-requires-clause-start : goal.with_ready_children-requires-clause-start
-with_ready_children-requires-clause-start c = may-start-each (inlines_rules (defines c.args.labels) (document c.args.options.now c.args.bytes.now)).starts (0, omega arith, (cc)) (1, omega arith, (cc)) c.args.events.items c.requires.texts
+with_ready_children-requires-clause-start c = may-start-each (inlines_rules (defines c.args.machine.now.labels) (document c.args.options.now c.args.bytes.now)).starts (0, omega arith, (cc)) (1, omega arith, (cc)) c.args.events.items c.requires.texts
 
 pub returns-clause-err : goal.returns-clause-err
 returns-clause-err c =
-    only-memory c.with_ready_children.result (λ m e. no-inline-refused _ _ (defines c.args.labels) _ _ m (c.with_ready_children.ensures.message m e))
+    only-memory c.with_ready_children.result (λ m e. no-inline-refused _ _ (defines c.args.machine.now.labels) _ _ m (c.with_ready_children.ensures.message m e))
     c.with_ready_children.ensures.ready c.with_ready_children.ensures.cause
