@@ -1,5 +1,17 @@
+pub mod Asking
 pub mod Cuts
+pub mod Divided
+pub mod Edits
+pub mod Finds
+pub mod FirstRest
+pub mod Fronts
+pub mod Kept
+pub mod Lookups
 pub mod Packed
 pub mod PackedEvents
 pub mod PositionParts
 pub mod Positions
+pub mod Put
+pub mod Seams
+pub mod Seen
+pub mod Settled

@@ -1,5 +1,6 @@
 //! Laws about the definitions of this crate. Each is a function that does nothing; its contract is the law.
 
+ghost use Rattle.mdconstructs_sections.specs.Asking.{BytesWithoutEndAskNothing};
 ghost use Rattle.mdconstructs_sections.specs.Cuts.{EndingsAreCounted, PartsStartLines};
 ghost use Rattle.mdconstructs_sections.specs.PositionParts.{EndingsAdd, OffsetsMove, OffsetsStay, PositionsMove, PositionsStay};
 ghost use Rattle.mdconstructs_sections.specs.Positions.{CharactersAreAllBytes, CharactersAreUtf8, OffsetsComeBack, PositionsComeBack, UnitsAreWritten};
@@ -44,4 +45,9 @@ pub fn positions_stay()
 pub fn cuts_start_lines()
     ensures counted { EndingsAreCounted }
     ensures starts { PartsStartLines }
+{}
+
+/// In texts of bytes without `]` no label is looked up, whatever labels are defined.
+pub fn bytes_without_end_ask_nothing()
+    ensures { BytesWithoutEndAskNothing }
 {}

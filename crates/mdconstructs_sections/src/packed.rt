@@ -7,7 +7,7 @@ ghost use Rattle.mdconstructs_sections.specs.PackedEvents.{content_of, end_of, l
 ghost use Rattle.mdconstructs_sections.specs.declared.packed.PackError.TheVariants.{Memory};
 
 use markdown_base::event::{Content, Event, Kind, Link, Name, Point};
-use std::alloc::{AllocError, Global};
+use std::alloc::{AllocError, AllocFailed, Global};
 use std::marker::Model;
 
 /// In place of an index: there is no such event.
@@ -28,6 +28,15 @@ impl From<AllocError> for PackError {
 
     /// A failed allocation is `Memory`.
     fn from(_error: AllocError) -> PackError {
+        PackError::Memory
+    }
+}
+
+impl<T: Drop> From<AllocFailed<T>> for PackError {
+    ghost from_gives = { λ _ error. error ≡ Memory };
+
+    /// So is one that gives back what it was to keep.
+    fn from(_failed: AllocFailed<T>) -> PackError {
         PackError::Memory
     }
 }
@@ -93,7 +102,8 @@ impl Packed {
     /// The event at an index.
     pub fn event(&self, index: usize) -> Event
         requires { index < length self.now }
-        ensures { slice_get self.now index ≡ Some result }
+        ensures event { slice_get self.now index ≡ Some result }
+        ensures fits { event_fits result ≡ true }
     {
         unpack(&self.events[index])
     }
@@ -215,7 +225,8 @@ fn pack_all(alloc: Global, events: &[Event]) -> Result<Vec<PackedEvent>, AllocEr
 
 /// The index that a number stands for.
 fn unpack_end(number: u32) -> Option<usize>
-    ensures { result ≡ end_of number }
+    ensures index { result ≡ end_of number }
+    ensures fits { end_fits result ≡ true }
 {
     if number == NO_EVENT {
         None
@@ -239,7 +250,8 @@ fn unpack_content(chain: Chain) -> Option<Content>
 
 /// The link of a packed event.
 fn unpack_link(packed: &PackedEvent) -> Option<Link>
-    ensures { result ≡ link_of packed.now.chain packed.now.previous packed.now.next }
+    ensures link { result ≡ link_of packed.now.chain packed.now.previous packed.now.next }
+    ensures fits { link_fits result ≡ true }
 {
     let content = unpack_content(packed.chain)?;
     Some(Link {
@@ -251,7 +263,8 @@ fn unpack_link(packed: &PackedEvent) -> Option<Link>
 
 /// The event that a packed one stands for.
 fn unpack(packed: &PackedEvent) -> Event
-    ensures { result ≡ unpacked packed.now }
+    ensures event { result ≡ unpacked packed.now }
+    ensures fits { event_fits result ≡ true }
 {
     Event {
         kind: packed.kind,

@@ -125,7 +125,8 @@ fn line_size(bytes: &[u8]) -> usize
 /// The text of the line that starts at a byte index, without its line ending.
 fn text_at(bytes: &[u8], start: usize) -> &[u8]
     requires { start ≤ length bytes.now }
-    ensures { result.now ≡ text_at bytes.now start }
+    ensures text { result.now ≡ text_at bytes.now start }
+    ensures within { start + length result.now ≤ length bytes.now }
 {
     let rest = &bytes[start..];
     &rest[..line_size(rest)]
@@ -157,6 +158,7 @@ fn line_at(bytes: &[u8], offset: usize) -> (usize, usize)
     ensures line { result.0 ≡ line_of bytes.now offset }
     ensures start { result.1 ≡ start_of bytes.now offset }
     ensures within { result.1 ≤ offset }
+    ensures few { result.0 ≤ offset }
 {
     let mut line = 0;
     let mut start = 0;
@@ -181,7 +183,8 @@ pub fn line_endings(bytes: &[u8]) -> usize
 /// `None` for a line that the document does not have, and in a character: between the two units of UTF-16 of one, or at a byte that does not
 /// begin one. A position behind a line's end is the line's end, in front of its line ending.
 pub fn offset_of(bytes: &[u8], position: Position, encoding: Encoding) -> Option<usize>
-    ensures { result ≡ offset_of encoding bytes.now position }
+    ensures offset { result ≡ offset_of encoding bytes.now position }
+    ensures within { IfSome result (λ offset. offset ≤ length bytes.now) }
 {
     let start = line_start(bytes, position.line)?;
     let index = index_in(text_at(bytes, start), position.character, encoding)?;
@@ -192,7 +195,8 @@ pub fn offset_of(bytes: &[u8], position: Position, encoding: Encoding) -> Option
 ///
 /// `None` behind the document's end, and in a character. Between a carriage return and its line feed it is the line's end.
 pub fn position_of(bytes: &[u8], offset: usize, encoding: Encoding) -> Option<Position>
-    ensures { result ≡ position_of encoding bytes.now offset }
+    ensures position { result ≡ position_of encoding bytes.now offset }
+    ensures few { IfSome result (λ position. position.line ≤ offset) }
 {
     if offset > bytes.len() {
         return None;

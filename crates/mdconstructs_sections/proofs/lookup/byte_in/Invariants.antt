@@ -1,0 +1,18 @@
+use Rattle.std.proofs.Common.{◌-◌, ◌≡◌, ◌≤◌}
+use Rattle.mdconstructs_sections.specs.Kept.{bytes_of_sections}
+use Rattle.mdconstructs_sections.specs.Lookups.{line_at, start_of}
+use Rattle.mdconstructs_sections.proofs.lookup.byte_in.Given as goal
+
+abbrev pub invariant-loop-index : goal.invariant-loop-index
+invariant-loop-index l =
+    let sections = bytes_of_sections l.kept.sections.items in
+    record {
+      within : l.index ≤ l.last;
+      bytes : l.bytes ≡ start_of sections l.index;
+      lines : l.lines ≡ line_at sections l.index;
+      start : l.bytes ≤ l.byte;
+      few : l.lines ≤ l.bytes;
+    }
+
+abbrev pub decreases-loop-index : goal.decreases-loop-index
+decreases-loop-index l = l.last - l.index

@@ -1,0 +1,28 @@
+-- Inner: sections that are read again, and their events put in, for private functions.
+use Rattle.std.specs.Prelude.{ℕ, zero, suc, ◌+◌, Bool, cond, List, [], ◌∷◌, ◌++◌}
+use Rattle.std.specs.List.{fold}
+use Rattle.markdown_base.specs.declared.configuration.ParseOptions.{ParseOptions}
+use Rattle.markdown_base.specs.declared.event.Event.{Event}
+use Rattle.mdconstructs_rests.specs.BothDocuments.{events_by}
+use Rattle.mdconstructs_sections.specs.declared.put.Reread.{Reread}
+use Rattle.mdconstructs_sections.specs.declared.section.Section.{Section}
+
+-- those of the sections that may look up a label, read again by these labels; the first of the sections has this number
+abbrev pub rereads : ParseOptions → (defined : List ℕ → Bool) → (first : ℕ) → List Section → List Reread
+rereads options defined first [] = []
+rereads options defined first (s ∷ more) =
+    cond s.asks (record { section = first; events = events_by options defined s.part.bytes.items } ∷ []) [] ++ rereads options defined (first + 1) more
+
+-- a section with other events
+abbrev pub with_events : List Event → Section → Section
+with_events events s = record { part = s.part; lines = s.lines; asks = s.asks; events = events }
+
+-- sections, of which the one with this number has other events
+abbrev pub put_at : (number : ℕ) → List Event → List Section → List Section
+put_at number events [] = []
+put_at zero events (s ∷ more) = with_events events s ∷ more
+put_at (suc number) events (s ∷ more) = s ∷ put_at number events more
+
+-- sections with the events of those that were read again
+abbrev pub put_all : List Section → List Reread → List Section
+put_all sections others = fold (λ sections other. put_at other.section other.events sections) sections others

@@ -1,0 +1,96 @@
+//! What is kept of a document that can be edited.
+
+ghost use Rattle.std.specs.Prelude.{◌≡◌, ◌≤◌, ◌<◌, ◌^◌, ◌+◌, ◌||◌, ◌++◌, ◌↔◌, IfOk, IfSome, IfNone, IsErrOf, List, OnOk, ℕ, drop, length, map, slice_index, take};
+ghost use Rattle.std.specs.List.{AllByRecursion, flat_map};
+ghost use Rattle.markdown_base.specs.Virtual.{IsWithinLimit};
+ghost use Rattle.mdconstructs_definitions.specs.Labelled.{is_one_of};
+ghost use Rattle.mdconstructs_labels.specs.Defined.{defines};
+ghost use Rattle.mdconstructs_rests.specs.Sections.{document_of};
+ghost use Rattle.mdconstructs_sections.specs.Divided.{bytes_of};
+ghost use Rattle.mdconstructs_sections.specs.Kept.{IsKept, IsLabelled, IsRead, bytes_of_parts, bytes_of_sections, divided_of, labels_written};
+
+use crate::cut::cut;
+use crate::packed::PackError;
+use crate::section::{Part, Section, parts_of, sections_of};
+use markdown_base::configuration::ParseOptions;
+use mdconstructs_documents::limit::limit_of;
+use mdconstructs_inlines::inlines::Inlines;
+use mdconstructs_labels::labels::Labels;
+use std::alloc::{AllocError, Global};
+
+/// A document that can be edited: its sections, each read by the labels of the whole document.
+#[derive(Drop)]
+pub(crate) struct Kept {
+    /// How it is read.
+    pub(crate) options: ParseOptions,
+    /// The machine that reads its texts. It knows the labels that the document defines.
+    pub(crate) machine: Inlines,
+    /// Its sections.
+    pub(crate) sections: Vec<Section>,
+}
+
+/// How many bytes are in sections.
+pub(crate) fn bytes_in(sections: &[Section]) -> usize
+    requires { length (document_of (bytes_of_sections sections.now)) < 2 ^ 64 }
+    ensures { result ≡ length (document_of (bytes_of_sections sections.now)) }
+{
+    let mut count = 0;
+    for section in sections {
+        count += section.part.bytes.len();
+    }
+    count
+}
+
+/// Defines the labels that parts define.
+pub(crate) fn define_parts(
+    alloc: Global,
+    labels: &mut Labels,
+    options: &ParseOptions,
+    parts: &[Part],
+) -> Result<(), AllocError>
+    requires { AllByRecursion (IsLabelled options.now) parts.now }
+    ensures { OnOk result ((label : List ℕ) → defines labels.new label ≡ (is_one_of (flat_map (labels_written options.now) (bytes_of_parts parts.now)) label || defines labels.old label)) }
+{
+    for part in parts {
+        labels.define_all(alloc, &part.labels)?;
+    }
+    Ok(())
+}
+
+/// Defines the labels that sections define.
+pub(crate) fn define_sections(
+    alloc: Global,
+    labels: &mut Labels,
+    options: &ParseOptions,
+    sections: &[Section],
+) -> Result<(), AllocError>
+    requires { AllByRecursion (λ section. IsLabelled options.now section.part) sections.now }
+    ensures { OnOk result ((label : List ℕ) → defines labels.new label ≡ (is_one_of (flat_map (labels_written options.now) (bytes_of_sections sections.now)) label || defines labels.old label)) }
+{
+    for section in sections {
+        labels.define_all(alloc, &section.part.labels)?;
+    }
+    Ok(())
+}
+
+/// A document, read section by section. If the document is longer than the limit, or a number of an event does not fit, it is `TooLong`.
+pub(crate) fn read(alloc: Global, bytes: &[u8], options: &ParseOptions) -> Result<Kept, PackError>
+    ensures kept { IfOk result IsKept }
+    ensures options { IfOk result (λ kept. kept.options ≡ options.now) }
+    ensures bytes { IfOk result (λ kept. bytes_of (divided_of kept) ≡ bytes.now) }
+    ensures too_long { ¬ IsWithinLimit options.now.tab_size bytes.now → IsErrOf result PackError.TooLong }
+{
+    if bytes.len() > limit_of(options.tab_size) {
+        return Err(PackError::TooLong);
+    }
+    let parts = parts_of(alloc, options, cut(alloc, bytes, options)?)?;
+    let mut labels = Labels::new(alloc);
+    define_parts(alloc, &mut labels, options, parts.as_slice())?;
+    let machine = Inlines { labels };
+    let sections = sections_of(alloc, options, &machine, parts)?;
+    Ok(Kept {
+        options: *options,
+        machine,
+        sections,
+    })
+}
