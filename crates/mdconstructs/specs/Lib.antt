@@ -232,8 +232,20 @@ pub use Rattle.mdconstructs_targets.specs.Examples as TargetExamples
 pub use Rattle.mdconstructs_targets.specs.Spans as SpansInside
 pub use Rattle.mdconstructs_targets.specs.Strings as StringTexts
 pub use Rattle.mdconstructs_targets.specs.Targets
+pub use Rattle.mdconstructs_sections.specs.Asking
 pub use Rattle.mdconstructs_sections.specs.Cuts
+pub use Rattle.mdconstructs_sections.specs.Divided
+pub use Rattle.mdconstructs_sections.specs.Edits
+pub use Rattle.mdconstructs_sections.specs.Finds
+pub use Rattle.mdconstructs_sections.specs.FirstRest
+pub use Rattle.mdconstructs_sections.specs.Fronts
+pub use Rattle.mdconstructs_sections.specs.Kept
+pub use Rattle.mdconstructs_sections.specs.Lookups
 pub use Rattle.mdconstructs_sections.specs.Packed
 pub use Rattle.mdconstructs_sections.specs.PackedEvents
 pub use Rattle.mdconstructs_sections.specs.PositionParts
 pub use Rattle.mdconstructs_sections.specs.Positions
+pub use Rattle.mdconstructs_sections.specs.Put
+pub use Rattle.mdconstructs_sections.specs.Seams
+pub use Rattle.mdconstructs_sections.specs.Seen
+pub use Rattle.mdconstructs_sections.specs.Settled

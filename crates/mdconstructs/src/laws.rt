@@ -98,6 +98,7 @@ pub use mdconstructs_rests::laws::strings_move;
 pub use mdconstructs_rests::laws::virtual_of_both;
 pub use mdconstructs_rests::laws::wide_rests_cut_blocks;
 pub use mdconstructs_sections::laws::bytes_are_cut_into_characters;
+pub use mdconstructs_sections::laws::bytes_without_end_ask_nothing;
 pub use mdconstructs_sections::laws::cuts_start_lines;
 pub use mdconstructs_sections::laws::offsets_come_back;
 pub use mdconstructs_sections::laws::positions_come_back;

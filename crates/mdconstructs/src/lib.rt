@@ -9,7 +9,7 @@
 //! on), `mdconstructs_containers` (block quotes and lists around leaf blocks), `mdconstructs_documents` (how a document is read, and its
 //! events), `mdconstructs_costs` (how many calls of states that takes), `mdconstructs_document_laws` (laws of whole documents),
 //! `mdconstructs_rests` (where a document can be cut, so that its parts are read apart), `mdconstructs_targets` (what links and images
-//! lead to, and where labels are defined) and `mdconstructs_sections` (places as editors ask for them, and events in little memory).
+//! lead to, and where labels are defined) and `mdconstructs_sections` (a document that can be edited).
 #![tactic(auto)]
 
 pub mod emphasis;
@@ -41,7 +41,7 @@ pub use mdconstructs_machines::wrap::Wrap;
 pub use mdconstructs_machines::{
     back, begin, deep, fail, lines, paragraphs, peek, save, words, wrap,
 };
-pub use mdconstructs_sections::{packed, positions};
+pub use mdconstructs_sections::{edit, packed, positions, sections};
 pub use mdconstructs_tables::{chunks, marker};
 pub use mdconstructs_targets::{definitions, targets};
 pub use mdconstructs_text::read::read_text;
