@@ -333,7 +333,7 @@ pub further-all : (n : ℕ) (es : List Event) → map (moved_event 0 0 n) es ≡
 further-all n [] = refl
 further-all n (e ∷ es) = let a = moved-further n e in let r = further-all n es in (λ d. a d ∷ r d)
 
-no-further : (es : List Event) → map (moved_event 0 0 0) es ≡ es
+pub no-further : (es : List Event) → map (moved_event 0 0 0) es ≡ es
 no-further [] = refl
 no-further (e ∷ es) = let a = moved-further 0 e ∙ ap (λ (l : Option Link). record e { link = l }) (same e.link) in let r = no-further es in (λ d. a d ∷ r d)
   where

@@ -1,21 +1,18 @@
 -- The laws that this crate cites from below.
-use Rattle.std.specs.Prelude.{◌≡◌, ℕ, true, List, []}
+use Rattle.std.specs.Prelude.{◌≡◌, ℕ, []}
 use Rattle.std.proofs.Common.{refl}
-use Rattle.markdown_base.proofs.Facts.Bools.{and-left}
 use Rattle.markdown_base.specs.Virtual.{virtual}
 use Rattle.markdown_base.specs.declared.configuration.Constructs.{Constructs}
-use Rattle.markdown_base.specs.declared.configuration.ParseOptions.{ParseOptions}
 use Rattle.mdconstructs_definitions.specs.Skeleton.{written_labels}
 use Rattle.mdconstructs_definitions.proofs.PlainLetters.{open-not-blank}
-use Rattle.mdconstructs_machines.specs.LineEvents.{lines_in}
 use Rattle.mdconstructs_rests.proofs.BothDocuments.{document-sections-give-events}
+pub use Rattle.mdconstructs_rests.proofs.BothDocuments.{rest-begins}
 use Rattle.mdconstructs_rests.proofs.DocumentAsked.{document-labels-decide}
 use Rattle.mdconstructs_rests.proofs.DocumentBytes.{document-first-line-tells}
 use Rattle.mdconstructs_rests.proofs.DocumentLabels.{labels-of-both}
-use Rattle.mdconstructs_rests.specs.BothDocuments.{DocumentLabelsDecide, DocumentSectionsGiveEvents, is_rest}
+use Rattle.mdconstructs_rests.specs.BothDocuments.{DocumentLabelsDecide, DocumentSectionsGiveEvents}
 use Rattle.mdconstructs_rests.specs.DocumentLabels.{LabelsOfBoth}
-use Rattle.mdconstructs_rests.specs.DocumentRests.{DocumentFirstLineTells, first_at_document_rest}
-use Rattle.mdconstructs_rests.specs.Moved.{begins_line}
+use Rattle.mdconstructs_rests.specs.DocumentRests.{DocumentFirstLineTells}
 
 pub first-tells : DocumentFirstLineTells
 first-tells = document-first-line-tells
@@ -32,6 +29,3 @@ labels-decide = document-labels-decide
 
 pub sections-give : DocumentSectionsGiveEvents
 sections-give = document-sections-give-events
-
-pub rest-begins : (options : ParseOptions) (a b : List ℕ) → is_rest options a b ≡ true → begins_line b a ≡ true
-rest-begins options a b h = and-left (begins_line b a) (first_at_document_rest options.constructs (lines_in (virtual options.tab_size a)) (lines_in (virtual options.tab_size b))) h

@@ -8,16 +8,10 @@ use Rattle.markdown_base.specs.declared.configuration.ParseOptions.{ParseOptions
 use Rattle.mdconstructs_rests.specs.BothDocuments.{is_rest}
 use Rattle.mdconstructs_rests.specs.Moved.{begins_line}
 use Rattle.mdconstructs_rests.specs.Sections.{are_sections_by, document_of}
+use Rattle.mdconstructs_rests.proofs.LineFronts.{line-behind}
 use Rattle.mdconstructs_sections.specs.FirstRest.{AreSectionsOf, IsFirstRest, IsWhole}
 use Rattle.mdconstructs_sections.proofs.Below.{first-tells, rest-begins}
 use Rattle.mdconstructs_sections.proofs.Joined.{document-last, joins, sections-one, tells-all}
-
--- bytes end a line by the last of them
-begins-back : (p b c : List ℕ) → 1 ≤ length b → begins_line c (p ++ b) ≡ begins_line c b
-begins-back [] b c some = refl
-begins-back (x ∷ []) [] c some = absurd (omega arith)
-begins-back (x ∷ []) (y ∷ b) c some = refl
-begins-back (x ∷ y ∷ p) b c some = begins-back (y ∷ p) b c some
 
 module _ (options : ParseOptions) where
   -- some bytes are cut, and the others are left
@@ -40,7 +34,7 @@ module _ (options : ParseOptions) where
   module _ (left : List ℕ) (size : ℕ) (first : IsFirstRest options left size) where
     -- a line begins behind the part, or nothing does
     line : (b : List ℕ) (p : List ℕ) → p ++ b ≡ take size left → 1 ≤ length b → size < length left → begins_line (drop size left) b ≡ true
-    line b p e some lt = sym (begins-back p b (drop size left) some) ∙ ap (begins_line (drop size left)) e ∙ rest-begins options (take size left) (drop size left) (first.rest lt)
+    line b p e some lt = sym (line-behind p b (drop size left) some) ∙ ap (begins_line (drop size left)) e ∙ rest-begins options (take size left) (drop size left) (first.rest lt)
 
     -- so a rest is one by the part alone
     same : (a b p : List ℕ) → p ++ b ≡ take size left → 1 ≤ length b → is_rest options a (b ++ drop size left) ≡ is_rest options a b

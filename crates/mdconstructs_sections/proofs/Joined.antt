@@ -2,6 +2,7 @@
 use Rattle.std.proofs.Common.{◌≡◌, ℕ, ◌<◌, ◌≤◌, Bool, true, false, List, [], ◌∷◌, ◌++◌, length, take, drop, refl, sym, ap, ◌∙◌, subst, arith, inl, inr}
 use Rattle.std.proofs.lemmas.Bool.{and_from, and_parts, cases_Bool, leb-true, le-leb}
 use Rattle.std.proofs.lemmas.List.{append-nil, append_assoc, length-append, take-append-drop}
+use Rattle.mdconstructs_rests.proofs.LineFronts.{line-ahead}
 use Rattle.mdconstructs_rests.specs.Moved.{begins_line}
 use Rattle.mdconstructs_rests.specs.Sections.{are_sections_by, document_of}
 
@@ -16,13 +17,6 @@ document-last xs x = document-append xs (x ∷ []) ∙ ap (λ bs. document_of xs
 
 pub document-cut : (n : ℕ) (xs : List (List ℕ)) → document_of (take n xs) ++ document_of (drop n xs) ≡ document_of xs
 document-cut n xs = sym (document-append (take n xs) (drop n xs)) ∙ ap document_of (take-append-drop n xs)
-
--- bytes end a line by what is first behind them
-pub begins-front : (a b c : List ℕ) → 1 ≤ length b → begins_line (b ++ c) a ≡ begins_line b a
-begins-front [] b c some = refl
-begins-front (x ∷ []) [] c some = absurd (omega arith)
-begins-front (x ∷ []) (y ∷ b) c some = refl
-begins-front (x ∷ y ∷ a) b c some = begins-front (y ∷ a) b c some
 
 -- ---- sections
 
@@ -79,7 +73,7 @@ module _ (rest : (a b : List ℕ) → Bool) where
     pub tells-all : (a b c : List ℕ) → 1 ≤ length b → begins_line c b ≡ true → rest a (b ++ c) ≡ rest a b
     tells-all a b c some line = elim (cases_Bool (begins_line b a)) [
       | inl starts ↦ tells a b c some line starts
-      | inr not ↦ never (rest a (b ++ c)) (λ h. sym (begins-front a b c some) ∙ begins a (b ++ c) h) not ∙ sym (never (rest a b) (begins a b) not)
+      | inr not ↦ never (rest a (b ++ c)) (λ h. sym (line-ahead a b c some) ∙ begins a (b ++ c) h) not ∙ sym (never (rest a b) (begins a b) not)
     ]
       where
         never : (r : Bool) → (r ≡ true → begins_line b a ≡ true) → begins_line b a ≡ false → r ≡ false
@@ -93,7 +87,7 @@ module _ (rest : (a b : List ℕ) → Bool) where
         let q = and_parts _ _ p.1 in
         let some = leb-true 1 (length s) p.0 in
         let next = (sections-tail t xs q.1).0 in
-        let line : begins_line (t ++ document_of xs) s ≡ true = begins-front s t (document_of xs) next ∙ begins s t q.0 in
+        let line : begins_line (t ++ document_of xs) s ≡ true = line-ahead s t (document_of xs) next ∙ begins s t q.0 in
         tells-all a s (t ++ document_of xs) some line
 
     -- sections are put behind others, if their bytes are one

@@ -6,6 +6,7 @@ use Rattle.markdown_base.proofs.Common.{every-take}
 use Rattle.markdown_base.specs.declared.configuration.ParseOptions.{ParseOptions}
 use Rattle.markdown_base.specs.declared.event.Event.{Event}
 use Rattle.mdconstructs_labels.specs.Defined.{defines}
+use Rattle.mdconstructs_rests.proofs.ChildrenOfBoth.{no-further}
 use Rattle.mdconstructs_rests.specs.BothDocuments.{events_by, is_rest}
 use Rattle.mdconstructs_rests.specs.Moved.{line_endings, moved_event}
 use Rattle.mdconstructs_rests.specs.Sections.{document_of, events_of_sections}
@@ -17,7 +18,7 @@ use Rattle.mdconstructs_sections.specs.Fronts.{IsFrontOf, IsSmall, moved_by}
 use Rattle.mdconstructs_sections.specs.Kept.{IsKept, IsRead, bytes_of_sections, divided_of}
 use Rattle.mdconstructs_sections.proofs.CutLines.{endings-are-counted}
 use Rattle.mdconstructs_sections.proofs.Joined.{sections-take}
-use Rattle.mdconstructs_sections.proofs.SectionFronts.{events-append, events-one, events-twice, events-unmoved, length-one, lines_in, sum-cons, sum-one}
+use Rattle.mdconstructs_sections.proofs.SectionFronts.{events-append, events-one, events-twice, length-one, lines_in, sum-cons, sum-one}
 use Rattle.mdconstructs_sections.proofs.SectionLines.{lines-all}
 
 -- what sections are behind, if this is in front of others, and these sections are read
@@ -130,4 +131,4 @@ between-events k from to kept order within before is =
 
 -- those between the first section and the end are all
 pub all-between : (d : Divided) (n : ℕ) → length d.sections ≤ n → events_between d 0 n ≡ events_of d d.sections
-all-between d n most = events-unmoved (events_of d (take n d.sections)) ∙ ap (events_of d) (take_all n d.sections most)
+all-between d n most = no-further (events_of d (take n d.sections)) ∙ ap (events_of d) (take_all n d.sections most)

@@ -7,6 +7,7 @@ use Rattle.std.specs.List.{sum_by}
 use Rattle.std.proofs.lemmas.Option.{get_or_from_slice_get, slice_get_within}
 use Rattle.markdown_base.specs.declared.event.Event.{Event}
 use Rattle.markdown_base.specs.declared.event.Link.{Link}
+use Rattle.mdconstructs_rests.proofs.ChildrenOfBoth.{no-further}
 use Rattle.mdconstructs_rests.specs.Moved.{line_endings, moved_event, moved_index, moved_link}
 use Rattle.mdconstructs_rests.specs.Sections.{document_of, events_of_sections}
 use Rattle.mdconstructs_sections.specs.declared.moved.Front.{Front}
@@ -73,34 +74,11 @@ pub events-twice : (a b c i j k : ℕ) (es : List Event) → map (moved_event a 
 events-twice a b c i j k [] = refl
 events-twice a b c i j k (e ∷ es) = ap (λ x. x ∷ map (moved_event a b c) (map (moved_event i j k) es)) (event-twice a b c i j k e) ∙ ap (λ xs. moved_event (i + a) (j + b) (k + c) e ∷ xs) (events-twice a b c i j k es)
 
-unmoved-index : (o : Option ℕ) → moved_index 0 o ≡ o
-unmoved-index None = refl
-unmoved-index (Some i) = ap Some (omega arith)
-
-unmoved-link : (o : Option Link) → moved_link 0 o ≡ o
-unmoved-link None = refl
-unmoved-link (Some l) =
-    ap (λ i. Some (record { previous = i; next = moved_index 0 l.next; content = l.content })) (unmoved-index l.previous)
-    ∙ ap (λ i. Some (record { previous = l.previous; next = i; content = l.content })) (unmoved-index l.next)
-
-unmoved-event : (e : Event) → moved_event 0 0 0 e ≡ e
-unmoved-event e =
-    let line : e.point.line + 0 ≡ e.point.line = omega arith in
-    let index : e.point.index + 0 ≡ e.point.index = omega arith in
-    ap (λ n. record { kind = e.kind; name = e.name; point = record { line = n; column = e.point.column; index = e.point.index + 0; vs = e.point.vs }; link = moved_link 0 e.link }) line
-    ∙ ap (λ n. record { kind = e.kind; name = e.name; point = record { line = e.point.line; column = e.point.column; index = n; vs = e.point.vs }; link = moved_link 0 e.link }) index
-    ∙ ap (λ l. record { kind = e.kind; name = e.name; point = e.point; link = l }) (unmoved-link e.link)
-
--- nothing is in front
-pub events-unmoved : (es : List Event) → map (moved_event 0 0 0) es ≡ es
-events-unmoved [] = refl
-events-unmoved (e ∷ es) = ap (λ x. x ∷ map (moved_event 0 0 0) es) (unmoved-event e) ∙ ap (λ xs. e ∷ xs) (events-unmoved es)
-
 -- the events of sections, of which some are in front
 module _ (read : List ℕ → List Event) where
   pub events-append : (xs ys : List (List ℕ)) → events_of_sections read (xs ++ ys)
       ≡ events_of_sections read xs ++ map (moved_event (lines_in xs) (length (document_of xs)) (length (events_of_sections read xs))) (events_of_sections read ys)
-  events-append [] ys = sym (events-unmoved (events_of_sections read ys))
+  events-append [] ys = sym (no-further (events_of_sections read ys))
   events-append (s ∷ xs) ys =
       let first = read s in
       let move = moved_event (line_endings s) (length s) (length first) in

@@ -1,23 +1,17 @@
 -- Lines of sections: each section starts one, and their line endings add.
-use Rattle.std.proofs.Common.{◌≡◌, ℕ, ◌+◌, ◌≤◌, true, List, ◌∷◌, [], ◌++◌, length, refl, ap, ◌∙◌, arith}
+use Rattle.std.proofs.Common.{◌≡◌, ℕ, ◌+◌, true, List, ◌∷◌, [], ◌++◌, refl, ap, ◌∙◌, arith}
 use Rattle.std.proofs.lemmas.Bool.{and_parts}
 use Rattle.std.proofs.lemmas.List.{append-nil, length-append}
 use Rattle.markdown_base.specs.declared.configuration.ParseOptions.{ParseOptions}
 use Rattle.mdconstructs_rests.specs.BothDocuments.{is_rest}
 use Rattle.mdconstructs_rests.specs.Moved.{begins_line, line_endings}
 use Rattle.mdconstructs_rests.specs.Sections.{are_sections_by, document_of}
+use Rattle.mdconstructs_rests.proofs.LineFronts.{line-ahead, line-behind}
 use Rattle.mdconstructs_sections.proofs.Below.{rest-begins}
 use Rattle.mdconstructs_sections.proofs.CutLines.{endings-are-counted, parts-start-lines}
-use Rattle.mdconstructs_sections.proofs.Joined.{begins-front, document-append, sections-back, sections-tail}
+use Rattle.mdconstructs_sections.proofs.Joined.{document-append, sections-back, sections-tail}
 use Rattle.mdconstructs_sections.proofs.PartsMove.{endings-add}
 use Rattle.mdconstructs_sections.proofs.SectionFronts.{lines_in, sum-cons}
-
--- bytes end a line by the last of them
-begins-last : (a b c : List ℕ) → 1 ≤ length b → begins_line c (a ++ b) ≡ begins_line c b
-begins-last [] b c some = refl
-begins-last (x ∷ []) [] c some = absurd (omega arith)
-begins-last (x ∷ []) (y ∷ b) c some = refl
-begins-last (x ∷ y ∷ a) b c some = begins-last (y ∷ a) b c some
 
 -- the line endings of two parts add, if a line begins with the second
 pub line-endings-add : (a b : List ℕ) → begins_line b a ≡ true → line_endings (a ++ b) ≡ line_endings a + line_endings b
@@ -35,11 +29,11 @@ module _ (options : ParseOptions) where
   seam-begins (x ∷ []) s ys cut =
       let rest = (and_parts _ _ (and_parts _ _ cut).1).0 in
       let some = (sections-tail (is_rest options) s ys (sections-back (is_rest options) (x ∷ []) (s ∷ ys) cut)).0 in
-      ap (begins_line (document_of (s ∷ ys))) (append-nil x) ∙ begins-front x s (document_of ys) some ∙ rest-begins options x s rest
+      ap (begins_line (document_of (s ∷ ys))) (append-nil x) ∙ line-ahead x s (document_of ys) some ∙ rest-begins options x s rest
   seam-begins (x ∷ y ∷ xs) s ys cut =
       let tail = (sections-tail (is_rest options) x (y ∷ xs ++ s ∷ ys) cut).1 in
       let some = (sections-tail (is_rest options) y (xs ++ s ∷ ys) tail).0 in
-      begins-last x (document_of (y ∷ xs)) (document_of (s ∷ ys)) (omega (arith, length-append y (document_of xs), some)) ∙ seam-begins (y ∷ xs) s ys tail
+      line-behind x (document_of (y ∷ xs)) (document_of (s ∷ ys)) (omega (arith, length-append y (document_of xs), some)) ∙ seam-begins (y ∷ xs) s ys tail
 
   -- their line endings add
   pub lines-add : (xs ys : List (List ℕ)) → AreCut (xs ++ ys) → line_endings (document_of (xs ++ ys)) ≡ line_endings (document_of xs) + line_endings (document_of ys)

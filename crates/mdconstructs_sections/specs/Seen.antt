@@ -1,4 +1,4 @@
--- What is seen of containers, where a rest is looked for.
+-- Inner: what is seen of containers, where a rest is looked for.
 use Rattle.std.specs.Prelude.{ℕ, List, [], ◌∷◌, Option, Some, None}
 use Rattle.mdconstructs_lines.specs.Containers.{Container, item, quote}
 

@@ -1,4 +1,4 @@
--- Lines that end whatever comes behind.
+-- Inner: lines that end whatever comes behind.
 use Rattle.std.specs.Prelude.{ℕ, ◌==◌, ◌&&◌, ◌||◌, Bool, false, List, [], ◌∷◌, nat_le, length}
 
 -- A line ends in bytes, whatever comes behind them: they have a line feed, or a carriage return that is not their last byte. (Behind that one a line feed may
