@@ -29,19 +29,19 @@ Kept = kept.the_row
 
 module _ {M : Type 1} {𝓤 : Ura M} {𝓛 : Logic 𝓤} {K : Type 0} {Γ : List (Item 𝓤)} {G : Goal 𝓤 𝓛.H} where
   pub kept_in : K → (p : Ptr) (list : Option (Vec Event Global))
-      → Step K 𝓛 (‵ (Kept.own_val (record { at = p; list = list }) (only_of (ptr_val p) ∷ [])) ∷ Γ) G (‵ (kept_owns p list) ∷ Γ) G
+      → Step K 𝓛 (‵ (Kept.own_val (record { at = p; list = list }) (only_of (ptr_val p) ∷ [])) ∷ Γ) G (‵ (kept_owns list_row p list) ∷ Γ) G
   kept_in t p list = step (λ s. let v : Val = ptr_val p in
       nothing t $ feq_i t (List Val) (v ∷ []) (v ∷ []) refl $ fjoin t $ feq_i t (List Val) (only_of v ∷ []) (only_of v ∷ []) refl $ fjoin t $
       fpack t (Valss (RawPtr ∷ [])) (within (shape kept.the_type) (p, tt) (only_of v ∷ [])) (v ∷ [], tt) $ fjoin t $ s)
 
-  pub kept_out : K → (d : Kept.Denot) (vs : List Val) → (vs ≡ only_of (ptr_val d.at) ∷ [] → Seq K 𝓛 (‵ (kept_owns d.at d.list) ∷ Γ) G)
+  pub kept_out : K → (d : Kept.Denot) (vs : List Val) → (vs ≡ only_of (ptr_val d.at) ∷ [] → Seq K 𝓛 (‵ (kept_owns list_row d.at d.list) ∷ Γ) G)
       → Seq K 𝓛 (‵ (Kept.own_val d vs) ∷ Γ) G
   kept_out t d vs k = fsplit t $ fpick t (λ vss. fsplit t $ feq_l t (λ ev. fsplit t $ feq_l t (λ ep. drop t $
       k (subst (λ (ps : List Val). vs ≡ vstruct (of_list (ps ++ [])) ∷ []) ep ev))))
 
-  pub kept_some : K → (p : Ptr) (list : Option (Vec Event Global)) → IsSome list
-      → ((b o : ℕ) (x : Vec Event Global) → p ≡ block_ptr b o → list ≡ Some x → Seq K 𝓛 (‵ (box_owns (ghosts.dealloc_token global) list_row (block_ptr b o) x) ∷ Γ) G)
-      → Seq K 𝓛 (‵ (kept_owns p list) ∷ Γ) G
-  kept_some t p None is k = absurd (subst (λ (y : Bool). T (not y)) is tt)
-  kept_some t p (Some x) is k =
-      in_a_block t p (λ q. box_owns (ghosts.dealloc_token global) list_row q x) (fst∗ 𝓤 (never 𝓤) (sem 𝓛 (ghosts.dealloc_token global (bare (lone list_row.mir)) null_ptr))) (λ b o e. k b o x e refl)
+  pub kept_some : K → (R : RattleType) (p : Ptr) (kept : Option R.Denot) → IsSome kept
+      → ((b o : ℕ) (x : R.Denot) → p ≡ block_ptr b o → kept ≡ Some x → Seq K 𝓛 (‵ (box_owns (ghosts.dealloc_token global) R (block_ptr b o) x) ∷ Γ) G)
+      → Seq K 𝓛 (‵ (kept_owns R p kept) ∷ Γ) G
+  kept_some t R p None is k = absurd (subst (λ (y : Bool). T (not y)) is tt)
+  kept_some t R p (Some x) is k =
+      in_a_block t p (λ q. box_owns (ghosts.dealloc_token global) R q x) (fst∗ 𝓤 (never 𝓤) (sem 𝓛 (ghosts.dealloc_token global (bare (lone R.mir)) null_ptr))) (λ b o e. k b o x e refl)

@@ -25,6 +25,6 @@ abbrev pub global : Global
 global = record { memory = record { seal = tt } }
 
 -- the value of a box and its block at a pointer, or nothing
-abbrev pub kept_owns : Ptr → Option (Vec Event Global) → Fml
-kept_owns p None = ftrue
-kept_owns p (Some x) = box_owns (ghosts.dealloc_token global) list_row p x
+abbrev pub kept_owns : (R : RattleType) → Ptr → Option R.Denot → Fml
+kept_owns R p None = ftrue
+kept_owns R p (Some x) = box_owns (ghosts.dealloc_token global) R p x

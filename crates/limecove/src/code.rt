@@ -20,5 +20,9 @@ pub const NO_SUCH_CONSTRUCT: u32 = 5;
 pub const NO_SUCH_MACHINE: u32 = 6;
 /// `deep` is on for a machine that links no text.
 pub const LINKS_NO_TEXT: u32 = 7;
-/// The ranges cannot be read as one text.
+/// The ranges cannot be read as one text, or the document has no such sections.
 pub const NO_SUCH_RANGES: u32 = 8;
+/// The document has no such bytes: a range is not in it, or a place is at none of its characters.
+pub const NO_SUCH_BYTES: u32 = 9;
+/// The document is not open.
+pub const NOT_OPEN: u32 = 10;

@@ -5,7 +5,7 @@ ghost use Rattle.std.specs.Coded.{coded_option};
 ghost use Rattle.std.specs.Global.{Global};
 ghost use Rattle.std.specs.declared.vec.Vec.{Vec};
 ghost use Rattle.markdown.specs.declared.event.Event.{Event};
-ghost use Rattle.limecove.specs.Kept.{kept_owns, list_code};
+ghost use Rattle.limecove.specs.Kept.{kept_owns, list_code, list_row};
 
 use crate::loose::Loose;
 use markdown::event::Event;
@@ -22,7 +22,7 @@ pub struct Kept {
 }
 
 impl Model for Kept {
-    ghost also_owns = { λ kept. kept_owns kept.at kept.list };
+    ghost also_owns = { λ kept. kept_owns list_row kept.at kept.list };
 }
 
 impl fmt::Debug for Kept {

@@ -11,8 +11,8 @@ use crate::choose::{
     LABEL_START_LINK, LIST_ITEM, OPTIONS_SIZE, TEXT_OPTIONS_SIZE, THEMATIC_BREAK,
 };
 use crate::code::{
-    LINKS_NO_TEXT, NO_SUCH_CONSTRUCT, NO_SUCH_MACHINE, NO_SUCH_RANGES, NO_SUCH_TAB_SIZE,
-    OTHER_SIZE, OUT_OF_MEMORY, READ, TOO_LONG, VERSION,
+    LINKS_NO_TEXT, NO_SUCH_BYTES, NO_SUCH_CONSTRUCT, NO_SUCH_MACHINE, NO_SUCH_RANGES,
+    NO_SUCH_TAB_SIZE, NOT_OPEN, OTHER_SIZE, OUT_OF_MEMORY, READ, TOO_LONG, VERSION,
 };
 
 /// The value of each number; and with all bits the constructs are CommonMark's.
@@ -27,6 +27,8 @@ pub fn numbers_are_stated()
     ensures no_such_machine { NO_SUCH_MACHINE ≡ 6 }
     ensures links_no_text { LINKS_NO_TEXT ≡ 7 }
     ensures no_such_ranges { NO_SUCH_RANGES ≡ 8 }
+    ensures no_such_bytes { NO_SUCH_BYTES ≡ 9 }
+    ensures not_open { NOT_OPEN ≡ 10 }
     ensures text_constructs { (CODE_TEXT ≡ 1) × (AUTOLINK ≡ 2) × (CHARACTER_ESCAPE ≡ 4) × (ATTENTION ≡ 8) × (CHARACTER_REFERENCE ≡ 16) × (HARD_BREAK_ESCAPE ≡ 32) × (HARD_BREAK_TRAILING ≡ 64) × (HTML_TEXT ≡ 128) }
     ensures flow_constructs { (CODE_FENCED ≡ 256) × (CODE_INDENTED ≡ 512) × (HEADING_ATX ≡ 1024) × (HEADING_SETEXT ≡ 2048) × (HTML_FLOW ≡ 4096) × (THEMATIC_BREAK ≡ 8192) }
     ensures container_constructs { (BLOCK_QUOTE ≡ 16384) × (LIST_ITEM ≡ 32768) }

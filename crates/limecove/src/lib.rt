@@ -6,7 +6,14 @@
 
 mod choose;
 pub mod code;
+pub mod document;
 mod echo;
+pub mod editing;
+#[cfg(test)]
+mod editing_tests;
+pub mod edits;
+pub mod held;
+mod keeping;
 pub mod kept;
 pub mod laws;
 mod loose;

@@ -37,7 +37,7 @@ into_loose_spec 𝓤 𝓛 𝓜 𝓡 wired =
     proved_at 𝓛 ended hs c 𝓜 𝓡 (Goes-dropped 𝓛 0 (plain (λ _. Kept)) yes (λ κs x f. refl), (Goes-dropped 𝓛 0 (plain (λ _. Z)) yes (λ κs x f. refl), tt)) #self fn (code.unfolded 𝓤 H 𝓜 𝓡 wired) (λ z are.
     let κs = z.0.0 in let d = z.0.3.0 in let a = z.0.3.1.0 in let Post : Val → SProp 𝓤 = (walk_of 𝓛 ended hs c).post z in let Run : List Val → SProp 𝓤 = λ ws. WpFn 𝓤 H 𝓣.C 𝓣.Λ fn ws Post in
     qed 𝓛 ((‵ ftrue ⊛ ‵ (owns (types_at ended.signature.params κs) z.0.3 z.0.4)) ∷ raw (fact 𝓤 (IsSome d.list)) ∷ []) ∵ move ! (1 ∷ []) $ heard ! (IsSome d.list) (λ some. split ! $ move ! (1 ∷ []) $ fsplit ! $
-    kept_out ! d z.0.4.0 (λ ws. kept_some ! d.at d.list some (λ b o x e is. move ! (1 ∷ []) $ fsplit ! $ handle_tells (al list_row Z LZ ghosts) ! a z.0.4.1.0 (λ h ea fits.
+    kept_out ! d z.0.4.0 (λ ws. kept_some ! list_row d.at d.list some (λ b o x e is. move ! (1 ∷ []) $ fsplit ! $ handle_tells (al list_row Z LZ ghosts) ! a z.0.4.1.0 (λ h ea fits.
     let v : Val = only_of (vptr b o) in let w : Val = both (vptr b o) h in let made = loose_good list_row Z LZ ghosts b o h fits in
     let words : z.0.4.0 ≡ v ∷ [] = ws ∙ ap (λ (p : Ptr). only_of (ptr_val p) ∷ []) e in
     suffices ! (Run (v ∷ h ∷ [])) (subst (λ (us : List Val). ent 𝓤 (Run (v ∷ h ∷ [])) (Run us)) (sym (λ i. words i ++ (ea i ++ []))) (id⊢ 𝓤 (Run (v ∷ h ∷ [])))) $
