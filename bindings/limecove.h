@@ -54,7 +54,9 @@ enum limecove_code {
     LIMECOVE_NO_SUCH_CONSTRUCT = 5, /* a bit is set that is no construct's */
     LIMECOVE_NO_SUCH_MACHINE = 6,   /* there is no machine of this number */
     LIMECOVE_LINKS_NO_TEXT = 7,     /* deep is on for a machine that links no text */
-    LIMECOVE_NO_SUCH_RANGES = 8     /* the ranges cannot be read as one text */
+    LIMECOVE_NO_SUCH_RANGES = 8,    /* the ranges cannot be read as one text, or the document has no such sections */
+    LIMECOVE_NO_SUCH_BYTES = 9,     /* a range is not in the document, or a place is at none of its characters */
+    LIMECOVE_NOT_OPEN = 10          /* the document is not open */
 };
 
 /* The constructs, as bits. */
@@ -463,6 +465,32 @@ struct limecove_reading {
 /* A reading that is not open: struct limecove_reading reading = LIMECOVE_NO_READING; */
 #define LIMECOVE_NO_READING {0, NULL}
 
+/* A document that can be edited, in the library's memory. It begins as LIMECOVE_NO_DOCUMENT, and only the library changes it. One thread at
+ * a time uses it, and no copy of it is used beside it. It is cut into sections, which are numbered from 0, and an edit reads only some. */
+struct limecove_document {
+    size_t is_open; /* 1 if it is open, 0 if it is not */
+    void *held;     /* the document, if it is open */
+};
+
+/* A document that is not open: struct limecove_document document = LIMECOVE_NO_DOCUMENT; */
+#define LIMECOVE_NO_DOCUMENT {0, NULL}
+
+/* What an edit changed. Sections in front of the replaced ones and behind them have the bytes that they had. */
+struct limecove_changed {
+    size_t from;   /* the first section that was replaced, and the first new one */
+    size_t old_to; /* the section behind the last that was replaced, as sections were numbered before */
+    size_t new_to; /* the section behind the last new one, as they are numbered now */
+    size_t start;  /* where the new sections start: a byte index into the document as it is now */
+    size_t end;    /* where they end: the index of the byte behind them */
+    size_t others; /* how many other sections were read again, since a label came or went */
+};
+
+/* A place in a document as editors ask for it. */
+struct limecove_place {
+    size_t line;      /* from 0 */
+    size_t character; /* the units of the line in front of the place: bytes of UTF-8, or units of UTF-16 */
+};
+
 /* CommonMark's text, and tab stops at every 4 columns. */
 LIMECOVE_INLINE struct limecove_text_options limecove_default_text_options(void) {
     struct limecove_text_options options;
@@ -504,7 +532,7 @@ LIMECOVE_INLINE int limecove_name_is_void(uint32_t name) {
 LIMECOVE_INLINE const char *limecove_code_text(uint32_t code) {
     static const char *const texts[] = {"read", "out of memory", "document too long", "options of another size",
                                         "no such tab size", "no such construct", "no such machine", "the machine links no text",
-                                        "the ranges are no text"};
+                                        "the ranges are no text", "no such bytes", "the document is not open"};
     return code < sizeof texts / sizeof *texts ? texts[code] : NULL;
 }
 
@@ -547,6 +575,42 @@ LIMECOVE_API size_t limecove_copy(struct limecove_reading *reading, size_t from,
 
 /* Gives back the memory of a reading, which is then not open. If it is not open, nothing changes. */
 LIMECOVE_API void limecove_close(struct limecove_reading *reading);
+
+/* Reads a whole document with these constructs and tab stops, and keeps it for edits. If the code is LIMECOVE_READ, it is open, and the
+ * count is that of its sections; else it is not open. It is not open before, as its memory would be lost. */
+LIMECOVE_API struct limecove_answer limecove_document_new(const uint8_t *bytes, size_t bytes_len, const struct limecove_text_options *options,
+                                                          struct limecove_document *document);
+
+/* Puts bytes in the place of those from one up to another, and writes what changed. The count is that of the sections now. If the code is
+ * not LIMECOVE_READ, the document is as it was, and nothing is written. */
+LIMECOVE_API struct limecove_answer limecove_document_replace(struct limecove_document *document, size_t from, size_t to, const uint8_t *with,
+                                                              size_t with_len, struct limecove_changed *change);
+
+/* Writes the events of the sections from one up to another over the first records, as many as fit. Their places and links are those in the
+ * whole document. The count is that of these events, and 0 if the code is not LIMECOVE_READ. */
+LIMECOVE_API struct limecove_answer limecove_document_events(struct limecove_document *document, size_t from, size_t to,
+                                                             struct limecove_record *records, size_t records_len);
+
+/* Writes the numbers of the sections that the last edit read again and did not replace, from this one of them on, over the first numbers, as
+ * many as fit. Returns how many were written. */
+LIMECOVE_API size_t limecove_document_others(struct limecove_document *document, size_t from, size_t *numbers, size_t numbers_len);
+
+/* Writes the place of a byte index, in units of UTF-8 if utf16 is 0, else of UTF-16. Returns LIMECOVE_READ, LIMECOVE_NO_SUCH_BYTES behind the
+ * document's end and in a character, or LIMECOVE_NOT_OPEN. Only for LIMECOVE_READ it writes. */
+LIMECOVE_API uint32_t limecove_document_place(struct limecove_document *document, size_t byte, uint32_t utf16, struct limecove_place *place);
+
+/* Writes the byte index of a place, in units of UTF-8 if utf16 is 0, else of UTF-16. Behind a line's end it is the line's end. Returns codes
+ * and writes as limecove_document_place does: LIMECOVE_NO_SUCH_BYTES for a line that there is not, and in a character. */
+LIMECOVE_API uint32_t limecove_document_index(struct limecove_document *document, size_t line, size_t character, uint32_t utf16, size_t *index);
+
+/* The section that a byte is in. At the document's end or behind it, the number of sections. 0 if it is not open. */
+LIMECOVE_API size_t limecove_document_section_at(struct limecove_document *document, size_t byte);
+
+/* Where a section starts: the index of its first byte. Behind the last section, how many bytes the document has. 0 if it is not open. */
+LIMECOVE_API size_t limecove_document_start_of(struct limecove_document *document, size_t section);
+
+/* Gives back the memory of a document, which is then not open. If it is not open, nothing changes. */
+LIMECOVE_API void limecove_document_close(struct limecove_document *document);
 
 /* Writes back what it sees, so that a caller can compare its layout with the library's, field by field. `numbers` gets 1 to 9, a number
  * for each field in order. The other two records get the numbers of the options: the machine as the name, the size as the line, the tab

@@ -160,13 +160,17 @@ def rust(names, machines):
 
 # What crosses the border: the name of each struct in both Rattle and Rust, and where Rattle declares it.
 RANGES = CRATES / "mdconstructs_documents/src/ranges.rt"
-STRUCTS = {"Record": "record.rt", "TextOptions": "choose.rt", "Options": "choose.rt", "Answer": "lib.rt", "ByteRange": RANGES}
+STRUCTS = {"Record": "record.rt", "TextOptions": "choose.rt", "Options": "choose.rt", "Answer": "lib.rt", "ByteRange": RANGES, "Changed": "edits.rt", "Place": "edits.rt"}
 # The same type in Rattle and Rust, and in C.
 TYPES = {"u16": "uint16_t", "u32": "uint32_t", "u64": "uint64_t", "usize": "size_t"}
 # The fields of a reading, as the three declare them. `kept` is a struct of one pointer.
 READING = r"""pub struct Kept \{\s*at: \*mut u8,\s*pub\(crate\) ghost [^\n]*\s*\}.*?pub struct Reading \{\s*pub is_open: usize,\s*pub kept: Kept,\s*ghost"""
 READING_IN_RUST = r"pub struct Reading \{\s*pub is_open: usize,\s*pub list: \*mut c_void,\s*\}"
 READING_IN_C = r"struct limecove_reading \{\s*size_t is_open;\s*void \*list;\s*\}"
+# Those of a document that can be edited.
+DOCUMENT = READING.replace("Kept", "KeptDocument").replace("Reading", "Document")
+DOCUMENT_IN_RUST = r"pub struct Document \{\s*pub is_open: usize,\s*pub held: \*mut c_void,\s*\}"
+DOCUMENT_IN_C = r"struct limecove_document \{\s*size_t is_open;\s*void \*held;\s*\}"
 
 
 def uncommented(path):
@@ -218,13 +222,16 @@ def differences():
     for path, wanted in [(LIMECOVE / "src/kept.rt", READING), (FOREIGN, READING_IN_RUST), (HEADER, READING_IN_C)]:
         if not re.search(wanted, uncommented(path), re.S):
             lines.append(f"{path}: a reading has other fields")
+    for path, wanted in [(LIMECOVE / "src/document.rt", DOCUMENT), (FOREIGN, DOCUMENT_IN_RUST), (HEADER, DOCUMENT_IN_C)]:
+        if not re.search(wanted, uncommented(path), re.S):
+            lines.append(f"{path}: a document has other fields")
     root = numbers(LIMECOVE / "src/code.rt", r"pub const (\w+): u32 = (\d+);")
     bits = numbers(LIMECOVE / "src/choose.rt", r"pub const (\w+): u64 = (\d+);")
     rust = numbers(FOREIGN, r"pub const (\w+): u(?:32|64) = (\d+);")
     c = numbers(HEADER, r"#define LIMECOVE_(VERSION) (\d+)")
     c |= enum_numbers("code") | enum_numbers("construct")
     for other, theirs in [(FOREIGN, rust), (HEADER, c)]:
-        if len(root) != 10 or len(bits) != 21 or theirs != root | bits:
+        if len(root) != 12 or len(bits) != 21 or theirs != root | bits:
             lines.append(f"{other}: the numbers are {theirs}, and {root | bits} in code.rt and choose.rt")
     contents = numbers(LIMECOVE / "specs/Records.antt", r"(?m)^content_number (\w+) = (\d+)$")
     contents["CONTENT"] = contents.pop("CONTENTOFCONTENT", None)

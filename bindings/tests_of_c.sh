@@ -1,5 +1,6 @@
 #!/bin/sh
-# The tests of the library from C, which need no rt: its header, its layout, its example, every room, readings, and each allocation failing.
+# The tests of the library from C, which need no rt: its header, its layout, its examples, every room, readings, edits, and each allocation
+# failing.
 # usage: tests_of_c.sh HEADER ARCHIVE FOLDER [rooms failing]   (FOLDER has the programs; then how many random documents: 500 and 200)
 # For another target than this machine's, CC is its compiler, and RUN what runs its programs, as "qemu-aarch64 -L /usr/aarch64-linux-gnu".
 set -eu
@@ -37,7 +38,7 @@ if has_cpp "$cc"; then
     run "$work/layout"
 fi
 say "the examples in C"
-for example in example outline; do
+for example in example outline edit; do
     "$cc" -std=c99 -Wall -Wextra -pedantic -Werror -o "$work/$example" $example.c "$archive"
     run "$work/$example" | diff $example.out -
 done
@@ -76,6 +77,10 @@ say "readings that are copied in rooms of each kind, under:$sanitize"
 # shellcheck disable=SC2086
 "$compiler" -std=c99 -g -Wall -Wextra -Werror $sanitize -o "$work/readings" readings.c "$archive"
 run "$work/readings" "$rooms"
+say "documents that are edited have the events that are read anew, under:$sanitize"
+# shellcheck disable=SC2086
+"$compiler" -std=c99 -g -Wall -Wextra -Werror $sanitize -o "$work/edits" edits.c "$archive"
+run "$work/edits" "$rooms" 20
 racing=
 if echo 'int main(void) { return 0; }' | "$compiler" -x c -fsanitize=thread -o "$work/empty" - 2>/dev/null && run "$work/empty" 2>/dev/null; then
     racing=-fsanitize=thread
@@ -90,7 +95,7 @@ say "each allocation failing, under:$sanitize"
 run "$work/failing" "$failing"
 if [ -z "$emulator" ] && command -v valgrind >/dev/null; then
     say "every room, and readings, under valgrind, which sees the library's own reads and writes"
-    for program in rooms readings; do
+    for program in rooms readings edits; do
         "$compiler" -std=c99 -gdwarf-4 -o "$work/$program" $program.c "$archive"
         valgrind --quiet --error-exitcode=1 --leak-check=full "$work/$program" 10
     done

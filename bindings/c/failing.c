@@ -73,6 +73,89 @@ static void readings_in_turn(size_t way, const uint8_t *document, size_t len, st
     }
 }
 
+/* Whether the events of a document are these, where no allocation fails. */
+static int has_events(struct limecove_document *document, size_t sections, const struct limecove_record *all, size_t count) {
+    static struct limecove_record records[4096];
+    struct limecove_answer answer = limecove_document_events(document, 0, sections, records, 4096);
+    CHECK(answer.code == LIMECOVE_READ && answer.count <= 4096);
+    if (answer.count != count)
+        return 0;
+    for (size_t i = 0; i < count; i++)
+        if (!same_record(&records[i], &all[i]))
+            return 0;
+    return 1;
+}
+
+/* The same for a document that is kept: it is open, or it is not and has no memory. If an edit runs out of memory, the document is as it was,
+ * and the edit succeeds behind that. */
+static void documents_in_turn(const uint8_t *document, size_t len, const uint8_t *with, size_t with_len) {
+    static struct limecove_record all[4096], edited[4096], records[4096];
+    struct limecove_text_options text = limecove_default_text_options();
+    struct limecove_document kept = LIMECOVE_NO_DOCUMENT;
+    struct limecove_changed change, untold;
+    struct limecove_place place;
+    size_t sections, count, from = below(len + 1), to = from + below(len - from + 1);
+    long before = blocks;
+    for (long n = 0;; n++) {
+        failed = 0;
+        left = n;
+        struct limecove_answer answer = limecove_document_new(document, len, &text, &kept);
+        left = -1;
+        sections = answer.count;
+        if (answer.code == LIMECOVE_READ)
+            break;
+        CHECK(failed > 0 && answer.code == LIMECOVE_OUT_OF_MEMORY && answer.count == 0 && kept.is_open == 0 && blocks == before);
+        ended++;
+    }
+    count = limecove_document_events(&kept, 0, sections, all, 4096).count;
+    for (long n = 0;; n++) {
+        memset(records, 0xa5, sizeof records);
+        failed = 0;
+        left = n;
+        struct limecove_answer answer = limecove_document_events(&kept, 0, sections, records, 4096);
+        left = -1;
+        if (answer.code == LIMECOVE_READ) {
+            CHECK(answer.count == count);
+            if (failed == 0)
+                break;
+            continue;
+        }
+        CHECK(failed > 0 && answer.code == LIMECOVE_OUT_OF_MEMORY && answer.count == 0 && untouched(records, sizeof records));
+        ended++;
+    }
+    memset(&change, 0xa5, sizeof change);
+    untold = change;
+    for (long n = 0;; n++) {
+        failed = 0;
+        left = n;
+        struct limecove_answer answer = limecove_document_replace(&kept, from, to, with, with_len, &change);
+        left = -1;
+        if (answer.code == LIMECOVE_READ) {
+            sections = answer.count;
+            break;
+        }
+        CHECK(failed > 0 && answer.code == LIMECOVE_OUT_OF_MEMORY && answer.count == 0 && memcmp(&change, &untold, sizeof change) == 0);
+        CHECK(kept.is_open == 1 && has_events(&kept, sections, all, count));
+        ended++;
+    }
+    uint8_t *bytes = malloc(len - (to - from) + with_len + 1);
+    CHECK(bytes != NULL);
+    memcpy(bytes, document, from);
+    memcpy(bytes + from, with, with_len);
+    memcpy(bytes + from + with_len, document + to, len - to);
+    struct limecove_options options = limecove_default_options();
+    count = limecove_read(bytes, len - (to - from) + with_len, &options, edited, 4096).count;
+    CHECK(count <= 4096 && has_events(&kept, sections, edited, count));
+    free(bytes);
+    left = 0;
+    failed = 0;
+    CHECK(limecove_document_place(&kept, 0, 1, &place) == LIMECOVE_READ && place.line == 0 && place.character == 0);
+    CHECK(limecove_document_others(&kept, 0, NULL, 0) == 0 && limecove_document_start_of(&kept, 0) == 0);
+    limecove_document_close(&kept);
+    left = -1;
+    CHECK(kept.is_open == 0 && blocks == before && failed == 0);
+}
+
 static void each_in_turn(size_t way, const uint8_t *document, size_t len, struct limecove_text_options text, size_t cut) {
     static struct limecove_record all[4096], records[4096];
     size_t count = read_so(way, document, len, text, cut, all, 4096).count;
@@ -109,6 +192,10 @@ int main(int argc, char **argv) {
         uint8_t *document = random_document(&len);
         for (size_t way = 0; way < WAYS; way++)
             each_in_turn(way, document, len, random_text_options(), below(5));
+        size_t with_len;
+        uint8_t *with = random_document(&with_len);
+        documents_in_turn(document, len, with, with_len);
+        free(with);
         free(document);
     }
     printf("%ld calls ran out of memory\n", ended);

@@ -46,6 +46,22 @@ LIES(limecove_reading, is_open, 0, 8);
 LIES(limecove_reading, list, 8, 8);
 IS(sizeof(struct limecove_reading) == 16);
 
+LIES(limecove_document, is_open, 0, 8);
+LIES(limecove_document, held, 8, 8);
+IS(sizeof(struct limecove_document) == 16);
+
+LIES(limecove_changed, from, 0, 8);
+LIES(limecove_changed, old_to, 8, 8);
+LIES(limecove_changed, new_to, 16, 8);
+LIES(limecove_changed, start, 24, 8);
+LIES(limecove_changed, end, 32, 8);
+LIES(limecove_changed, others, 40, 8);
+IS(sizeof(struct limecove_changed) == 48);
+
+LIES(limecove_place, line, 0, 8);
+LIES(limecove_place, character, 8, 8);
+IS(sizeof(struct limecove_place) == 16);
+
 /* A number with bits in each byte of a field, so that a field that is cut or moved shows. */
 #define LONG(n) ((size_t)0x0101010101010101u * (n))
 

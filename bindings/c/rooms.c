@@ -98,7 +98,7 @@ static void texts_of_numbers(void) {
     CHECK(strcmp(limecove_code_text(LIMECOVE_OUT_OF_MEMORY), "out of memory") == 0);
     CHECK(strcmp(limecove_code_text(LIMECOVE_LINKS_NO_TEXT), "the machine links no text") == 0);
     CHECK(strcmp(limecove_code_text(LIMECOVE_NO_SUCH_RANGES), "the ranges are no text") == 0);
-    CHECK(limecove_code_text(LIMECOVE_NO_SUCH_RANGES + 1) == NULL);
+    CHECK(limecove_code_text(LIMECOVE_NOT_OPEN + 1) == NULL);
 }
 
 /* Whether a document has a span of this name, with these constructs. */

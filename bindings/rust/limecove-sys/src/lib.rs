@@ -31,8 +31,12 @@ pub const NO_SUCH_MACHINE: u32 = 6;
 /// `deep` is on for a machine that links no text.
 pub const LINKS_NO_TEXT: u32 = 7;
 
-/// The ranges cannot be read as one text.
+/// The ranges cannot be read as one text, or the document has no such sections.
 pub const NO_SUCH_RANGES: u32 = 8;
+/// A range is not in the document, or a place is at none of its characters.
+pub const NO_SUCH_BYTES: u32 = 9;
+/// The document is not open.
+pub const NOT_OPEN: u32 = 10;
 
 /// The bit of code spans.
 pub const CODE_TEXT: u64 = 1;
@@ -174,6 +178,51 @@ pub const NO_READING: Reading = Reading {
     list: null_mut(),
 };
 
+/// A document that can be edited, in the library's memory. Nobody but the library changes its fields. One thread at a time uses it, and
+/// there are no two copies of it. It is cut into sections, which are numbered from 0, and an edit reads only some.
+#[repr(C)]
+#[derive(Debug)]
+pub struct Document {
+    /// 1 if it is open, 0 if it is not.
+    pub is_open: usize,
+    /// The document, if it is open.
+    pub held: *mut c_void,
+}
+
+/// A document begins so. It is not open.
+pub const NO_DOCUMENT: Document = Document {
+    is_open: 0,
+    held: null_mut(),
+};
+
+/// What an edit changed. Sections in front of the replaced ones and behind them have the bytes that they had.
+#[repr(C)]
+#[derive(Clone, Copy, Debug, Default, PartialEq, Eq)]
+pub struct Changed {
+    /// The first section that was replaced, and the first new one.
+    pub from: usize,
+    /// The section behind the last that was replaced, as sections were numbered before.
+    pub old_to: usize,
+    /// The section behind the last new one, as they are numbered now.
+    pub new_to: usize,
+    /// Where the new sections start: a byte index into the document as it is now.
+    pub start: usize,
+    /// Where they end: the index of the byte behind them.
+    pub end: usize,
+    /// How many other sections were read again, since a label came or went.
+    pub others: usize,
+}
+
+/// A place in a document as editors ask for it.
+#[repr(C)]
+#[derive(Clone, Copy, Debug, Default, PartialEq, Eq)]
+pub struct Place {
+    /// The line, from 0.
+    pub line: usize,
+    /// The units of the line in front of the place: bytes of UTF-8, or units of UTF-16.
+    pub character: usize,
+}
+
 extern "C" {
     /// The version of the library. If it is not [`VERSION`], no other function may be called.
     ///
@@ -282,6 +331,111 @@ extern "C" {
     ///
     /// The reading is [`NO_READING`], or as a call of the library left it.
     pub fn limecove_close(reading: *mut Reading);
+
+    /// Reads a whole document with these constructs and tab stops, and keeps it for edits. If the code is [`READ`], it is open, and the
+    /// count is that of its sections. Else it is not open.
+    ///
+    /// # Safety
+    ///
+    /// As of [`limecove_read`], and the document is not open: its memory would be lost.
+    pub fn limecove_document_new(
+        bytes: *const u8,
+        bytes_len: usize,
+        options: *const TextOptions,
+        document: *mut Document,
+    ) -> Answer;
+
+    /// Puts bytes in the place of those from one up to another, and writes what changed. The count is that of the sections now. If the
+    /// code is not [`READ`], the document is as it was, and nothing is written.
+    ///
+    /// # Safety
+    ///
+    /// The document is [`NO_DOCUMENT`], or as a call of the library left it. The bytes are as many as the length says, `change` is to what
+    /// its type says, and no two of the three share a byte.
+    pub fn limecove_document_replace(
+        document: *mut Document,
+        from: usize,
+        to: usize,
+        with: *const u8,
+        with_len: usize,
+        change: *mut Changed,
+    ) -> Answer;
+
+    /// Writes the events of the sections from one up to another over the first records, as many as fit. Their places and links are those
+    /// in the whole document. The count is that of these events, and 0 if the code is not [`READ`].
+    ///
+    /// # Safety
+    ///
+    /// The document is [`NO_DOCUMENT`], or as a call of the library left it. The records share no byte with it, and are as many as the
+    /// length says.
+    pub fn limecove_document_events(
+        document: *mut Document,
+        from: usize,
+        to: usize,
+        records: *mut Record,
+        records_len: usize,
+    ) -> Answer;
+
+    /// Writes the numbers of the sections that the last edit read again and did not replace, from this one of them on, over the first
+    /// numbers, as many as fit. Returns how many were written.
+    ///
+    /// # Safety
+    ///
+    /// As of [`limecove_document_events`].
+    pub fn limecove_document_others(
+        document: *mut Document,
+        from: usize,
+        numbers: *mut usize,
+        numbers_len: usize,
+    ) -> usize;
+
+    /// Writes the place of a byte index, in units of UTF-8 if `utf16` is 0, else of UTF-16. Returns [`READ`], [`NO_SUCH_BYTES`] behind the
+    /// document's end and in a character, or [`NOT_OPEN`]. Only for [`READ`] it writes.
+    ///
+    /// # Safety
+    ///
+    /// The document is [`NO_DOCUMENT`], or as a call of the library left it. `place` is to what its type says, and shares no byte with it.
+    pub fn limecove_document_place(
+        document: *mut Document,
+        byte: usize,
+        utf16: u32,
+        place: *mut Place,
+    ) -> u32;
+
+    /// Writes the byte index of a place, in units of UTF-8 if `utf16` is 0, else of UTF-16. Behind a line's end it is the line's end.
+    /// Returns codes and writes as [`limecove_document_place`] does: [`NO_SUCH_BYTES`] for a line that there is not, and in a character.
+    ///
+    /// # Safety
+    ///
+    /// As of [`limecove_document_place`].
+    pub fn limecove_document_index(
+        document: *mut Document,
+        line: usize,
+        character: usize,
+        utf16: u32,
+        index: *mut usize,
+    ) -> u32;
+
+    /// The section that a byte is in. At the document's end or behind it, the number of sections. 0 if it is not open.
+    ///
+    /// # Safety
+    ///
+    /// The document is [`NO_DOCUMENT`], or as a call of the library left it.
+    pub fn limecove_document_section_at(document: *mut Document, byte: usize) -> usize;
+
+    /// Where a section starts: the index of its first byte. Behind the last section, how many bytes the document has. 0 if it is not open.
+    ///
+    /// # Safety
+    ///
+    /// As of [`limecove_document_section_at`].
+    pub fn limecove_document_start_of(document: *mut Document, section: usize) -> usize;
+
+    /// Gives back the memory of a document, which is then not open. If it is not open, nothing changes.
+    ///
+    /// # Safety
+    ///
+    /// As of [`limecove_document_section_at`].
+    pub fn limecove_document_close(document: *mut Document);
 
     /// Writes back what it sees, so that a caller can compare its layout with the library's, field by field. `numbers` gets 1 to 9, a
     /// number for each field in order. The other two records get the numbers of the options: the machine as the name, the size as the

@@ -17,6 +17,7 @@
 //! |---|---|---|
 //! | events | [`tokenize`], [`with_ranges`] | linear in the document, as measured; 56 bytes an event |
 //! | a few events at a time | [`Reading`] | the list stays in the library; the same time for each event |
+//! | events of a document that is edited | [`Document`] | an edit reads the sections that change, and those that a label reaches |
 //! | spans, flat | [`spans`], [`spans_by_start`] | linear in the events, in any nesting |
 //! | spans, as a tree | [`Tree`], [`Node`] | made in linear time; about 100 bytes a span |
 //! | the span at a byte | [`Tree::node_at`] | a logarithm, and the depth there |
@@ -27,6 +28,7 @@
 #![deny(missing_docs)]
 
 mod definitions;
+mod document;
 mod event;
 mod lines;
 mod list;
@@ -41,6 +43,7 @@ mod tree;
 #[doc = include_str!("../README.md")]
 struct Readme;
 
+pub use crate::document::{Changed, Document, Encoding, Place};
 pub use crate::event::{
     spans, spans_by_start, with_ranges, Content, Event, Kind, Link, Point, Span, Spans, WithRanges,
 };
@@ -348,8 +351,10 @@ pub enum Error {
     OutOfMemory,
     /// The size of tabs times the length of the document, and one more, do not fit `usize`.
     TooLong,
-    /// The ranges cannot be read as one text: [`tokenize_text_in`] says which can.
+    /// The ranges cannot be read as one text: [`tokenize_text_in`] says which can. Or the document has no such sections.
     NoSuchRanges,
+    /// The bytes that are to be replaced are none of the document.
+    NoSuchBytes,
 }
 
 impl fmt::Display for Error {
@@ -358,6 +363,7 @@ impl fmt::Display for Error {
             Error::OutOfMemory => "out of memory",
             Error::TooLong => "document too long",
             Error::NoSuchRanges => "the ranges are no text",
+            Error::NoSuchBytes => "no such bytes",
         })
     }
 }

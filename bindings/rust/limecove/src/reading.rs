@@ -275,7 +275,7 @@ impl FusedIterator for Iter<'_> {}
 
 /// Panics if the library that is linked has another version than its declarations here. It is asked once, before the first call
 /// that writes: such a library may write records of another size.
-fn assert_version() {
+pub(crate) fn assert_version() {
     static IS_SAME: AtomicBool = AtomicBool::new(false);
     if !IS_SAME.load(Ordering::Relaxed) {
         // SAFETY: the function takes nothing, and reads and writes nothing.

@@ -5,11 +5,12 @@
 //! own, glibc's, do their work.
 
 use limecove::{
-    spans, spans_by_start, tokenize, tokenize_text, with_ranges, Error, Event, LineIndex, Machine,
-    Options, TextOptions, Tree,
+    spans, spans_by_start, tokenize, tokenize_text, with_ranges, Document, Error, Event, LineIndex,
+    Machine, Options, TextOptions, Tree,
 };
 use std::ffi::c_void;
 use std::fmt::Debug;
+use std::ops::Range;
 use std::sync::atomic::{AtomicBool, AtomicIsize, AtomicUsize, Ordering::Relaxed};
 
 /// How many allocations succeed before one fails. None fails below 0.
@@ -134,6 +135,35 @@ impl Ends {
         self.of_call(|| Ok(LineIndex::new(document)?.line_count()));
     }
 
+    /// Edits a document and asks for its events, with each allocation failing. If an edit fails, the document is as it was.
+    fn of_edit(&mut self, bytes: &str, range: Range<usize>, with: &str) {
+        let options = Options::default();
+        let made = || Document::new(bytes, &options);
+        let before = made().and_then(|document| document.events());
+        let before = before.expect("there is memory");
+        self.of_call(|| {
+            let mut document = made()?;
+            document.replace(range.clone(), with)?;
+            let others = document.others()?;
+            Ok((document.events()?, others))
+        });
+        for left in 0.. {
+            let mut document = made().expect("there is memory");
+            let (result, failed) = failing(left, true, || document.replace(range.clone(), with));
+            match result {
+                Ok(_) => {
+                    assert_eq!(failed, 0);
+                    break;
+                }
+                Err(error) => {
+                    assert!(error == Error::OutOfMemory && failed > 0);
+                    assert_eq!(document.events().expect("there is memory"), before);
+                    self.out += 1;
+                }
+            }
+        }
+    }
+
     /// Makes a call with each of its allocations failing, alone and with all after it.
     fn of_call<T: PartialEq + Debug>(&mut self, call: impl Fn() -> Result<T, Error>) {
         let want = call().expect("there is memory");
@@ -189,6 +219,8 @@ fn main() {
         let events = tokenize(document, &Options::default()).expect("there is memory");
         ends.of_tree(document, &events);
     }
+    ends.of_edit("# a\n\n[b]\n\n# c\n", 14..14, "\n[b]: d\n");
+    ends.of_edit("# a\n\n[b]\n\n# c\n\n[b]: d\n", 15..22, "");
     println!(
         "{} calls ran out of memory, and {} managed without",
         ends.out, ends.read

@@ -1,0 +1,315 @@
+//! A document that can be edited.
+
+use crate::reading::assert_version;
+use crate::{Error, Event, Options};
+use limecove_sys::{Record, NO_DOCUMENT};
+use std::cell::UnsafeCell;
+use std::fmt;
+use std::mem::size_of;
+use std::ops::Range;
+
+/// A document that can be edited, in the library's memory. It is given back when this is dropped.
+///
+/// It is cut into sections, which are numbered from 0. An edit reads the sections that it changes anew, and those that ask for a label that
+/// came or went; all others keep their events. After each edit the events are those that reading the edited bytes anew would give.
+///
+/// ```
+/// use limecove::{Document, Name, Options};
+///
+/// let mut document = Document::new("# a\n\nb\n", &Options::default())?;
+/// let change = document.replace(5..5, "- ")?;
+/// let events = document.events_in(change.new_sections())?;
+/// assert!(events.iter().any(|event| event.name() == Name::ListItem));
+/// assert_eq!(document.len(), 9);
+/// # Ok::<(), limecove::Error>(())
+/// ```
+///
+/// It can be sent to another thread, and is shared by several only behind a lock.
+///
+/// ```
+/// fn is_send<T: Send>() {}
+/// is_send::<limecove::Document>();
+/// ```
+///
+/// ```compile_fail
+/// fn is_sync<T: Sync>() {}
+/// is_sync::<limecove::Document>();
+/// ```
+pub struct Document {
+    /// What a call of the library left. Each call takes the document out of it and puts it back, and no reference to what is in it
+    /// outlives a call.
+    document: UnsafeCell<limecove_sys::Document>,
+    sections: usize,
+    /// How many others the last edit read again.
+    others: usize,
+}
+
+// SAFETY: as of a reading: it is a number and a pointer to memory of `malloc`, of which nothing else has a pointer. It is not `Sync`.
+unsafe impl Send for Document {}
+
+/// What an edit changed. Sections in front of the replaced ones and behind them have the bytes that they had.
+#[derive(Clone, Copy, Debug, PartialEq, Eq)]
+pub struct Changed(limecove_sys::Changed);
+
+impl Changed {
+    /// The sections that were replaced, as sections were numbered before.
+    pub const fn old_sections(&self) -> Range<usize> {
+        self.0.from..self.0.old_to
+    }
+
+    /// The sections in their place, as sections are numbered now.
+    pub const fn new_sections(&self) -> Range<usize> {
+        self.0.from..self.0.new_to
+    }
+
+    /// The bytes of the new sections, in the document as it is now.
+    pub const fn bytes(&self) -> Range<usize> {
+        self.0.start..self.0.end
+    }
+
+    /// How many other sections were read again, since a label came or went: [`Document::others`] says which.
+    pub const fn others(&self) -> usize {
+        self.0.others
+    }
+}
+
+/// A place in a document as editors ask for it, in the units of an [`Encoding`].
+#[derive(Clone, Copy, Debug, PartialEq, Eq, PartialOrd, Ord, Hash)]
+pub struct Place {
+    /// The line, from 0.
+    pub line: usize,
+    /// The units of the line in front of the place.
+    pub character: usize,
+}
+
+/// What the units of characters are.
+#[derive(Clone, Copy, Debug, PartialEq, Eq, Hash)]
+pub enum Encoding {
+    /// The bytes of UTF-8.
+    Utf8,
+    /// The units of UTF-16, of which a character above U+FFFF has two.
+    Utf16,
+}
+
+impl Document {
+    /// Reads a whole document, with the constructs and the tab size of the options. The rest of them is not looked at.
+    ///
+    /// # Errors
+    ///
+    /// If memory runs out, or the document is too long.
+    ///
+    /// # Panics
+    ///
+    /// If the library that is linked has another version. Nothing has been read or written then.
+    pub fn new(bytes: impl AsRef<[u8]>, options: &Options) -> Result<Document, Error> {
+        assert_version();
+        let bytes = bytes.as_ref();
+        let options = limecove_sys::TextOptions {
+            size: size_of::<limecove_sys::TextOptions>(),
+            tab_size: options.text.tab_size.get(),
+            constructs: options.text.constructs | options.blocks,
+        };
+        let mut made = Document {
+            document: UnsafeCell::new(NO_DOCUMENT),
+            sections: 0,
+            others: 0,
+        };
+        // SAFETY: the version was asked. Pointers and lengths are those of references that live for the call. The document is not open.
+        let answer = unsafe {
+            limecove_sys::limecove_document_new(
+                bytes.as_ptr(),
+                bytes.len(),
+                &options,
+                made.document.get(),
+            )
+        };
+        read(answer.code)?;
+        made.sections = answer.count;
+        Ok(made)
+    }
+
+    /// Puts bytes in the place of these.
+    ///
+    /// # Errors
+    ///
+    /// If memory runs out, the document would be too long, or the bytes are none of it. The document is then as it was.
+    pub fn replace(
+        &mut self,
+        range: Range<usize>,
+        with: impl AsRef<[u8]>,
+    ) -> Result<Changed, Error> {
+        let with = with.as_ref();
+        let mut change = limecove_sys::Changed::default();
+        // SAFETY: the document is as a call of the library left it, and is not shared. Pointers and lengths are those of references.
+        let answer = unsafe {
+            limecove_sys::limecove_document_replace(
+                self.document.get(),
+                range.start,
+                range.end,
+                with.as_ptr(),
+                with.len(),
+                &mut change,
+            )
+        };
+        read(answer.code)?;
+        self.sections = answer.count;
+        self.others = change.others;
+        Ok(Changed(change))
+    }
+
+    /// The sections that the last edit read again and did not replace, as they are numbered now.
+    ///
+    /// # Errors
+    ///
+    /// If memory runs out.
+    pub fn others(&self) -> Result<Vec<usize>, Error> {
+        let mut others = Vec::new();
+        let got = others.try_reserve_exact(self.others);
+        got.map_err(|_| Error::OutOfMemory)?;
+        let numbers = others.as_mut_ptr();
+        // SAFETY: as in `events_in`, and there is room for that many.
+        let written = unsafe {
+            limecove_sys::limecove_document_others(self.document.get(), 0, numbers, self.others)
+        };
+        // SAFETY: that many were written.
+        unsafe { others.set_len(written) };
+        Ok(others)
+    }
+
+    /// All events.
+    ///
+    /// # Errors
+    ///
+    /// If memory runs out.
+    pub fn events(&self) -> Result<Vec<Event>, Error> {
+        self.events_in(0..self.sections)
+    }
+
+    /// The events of these sections. Their places and links are those in the whole document.
+    ///
+    /// # Errors
+    ///
+    /// If memory runs out, or there are no such sections.
+    pub fn events_in(&self, sections: Range<usize>) -> Result<Vec<Event>, Error> {
+        let mut events = Vec::<Event>::new();
+        loop {
+            let room = events.capacity();
+            let records = events.as_mut_ptr().cast::<Record>();
+            // SAFETY: the document is as a call of the library left it, and no other call has it: it is not `Sync`, and the library calls
+            // nothing of this program but the allocator, which has no document. There is room for that many. An event is a record.
+            let answer = unsafe {
+                limecove_sys::limecove_document_events(
+                    self.document.get(),
+                    sections.start,
+                    sections.end,
+                    records,
+                    room,
+                )
+            };
+            read(answer.code)?;
+            if answer.count <= room {
+                // SAFETY: that many were written.
+                unsafe { events.set_len(answer.count) };
+                return Ok(events);
+            }
+            let got = events.try_reserve_exact(answer.count);
+            got.map_err(|_| Error::OutOfMemory)?;
+        }
+    }
+
+    /// How many sections there are.
+    pub const fn sections(&self) -> usize {
+        self.sections
+    }
+
+    /// How many bytes the document has.
+    pub fn len(&self) -> usize {
+        self.start_of(self.sections)
+    }
+
+    /// Whether it has none.
+    pub fn is_empty(&self) -> bool {
+        self.sections == 0
+    }
+
+    /// The section that a byte is in. At the document's end or behind it, the number of sections.
+    pub fn section_at(&self, byte: usize) -> usize {
+        // SAFETY: as in `events_in`.
+        unsafe { limecove_sys::limecove_document_section_at(self.document.get(), byte) }
+    }
+
+    /// Where a section starts: the index of its first byte. Behind the last section, how many bytes the document has.
+    pub fn start_of(&self, section: usize) -> usize {
+        // SAFETY: as in `events_in`.
+        unsafe { limecove_sys::limecove_document_start_of(self.document.get(), section) }
+    }
+
+    /// The place of a byte index. `None` behind the document's end, and in a character.
+    pub fn place(&self, byte: usize, encoding: Encoding) -> Option<Place> {
+        let mut place = limecove_sys::Place::default();
+        // SAFETY: as in `events_in`.
+        let code = unsafe {
+            limecove_sys::limecove_document_place(
+                self.document.get(),
+                byte,
+                number_of(encoding),
+                &mut place,
+            )
+        };
+        (code == limecove_sys::READ).then_some(Place {
+            line: place.line,
+            character: place.character,
+        })
+    }
+
+    /// The byte index of a place. `None` for a line that there is not, and in a character. Behind a line's end it is the line's end.
+    pub fn index(&self, place: Place, encoding: Encoding) -> Option<usize> {
+        let mut index = 0;
+        // SAFETY: as in `events_in`.
+        let code = unsafe {
+            limecove_sys::limecove_document_index(
+                self.document.get(),
+                place.line,
+                place.character,
+                number_of(encoding),
+                &mut index,
+            )
+        };
+        (code == limecove_sys::READ).then_some(index)
+    }
+}
+
+/// The units of an encoding, as the library takes them.
+fn number_of(encoding: Encoding) -> u32 {
+    match encoding {
+        Encoding::Utf8 => 0,
+        Encoding::Utf16 => 1,
+    }
+}
+
+/// Whether a call succeeded, by its code.
+fn read(code: u32) -> Result<(), Error> {
+    match code {
+        limecove_sys::READ => Ok(()),
+        limecove_sys::OUT_OF_MEMORY => Err(Error::OutOfMemory),
+        limecove_sys::TOO_LONG => Err(Error::TooLong),
+        limecove_sys::NO_SUCH_RANGES => Err(Error::NoSuchRanges),
+        limecove_sys::NO_SUCH_BYTES => Err(Error::NoSuchBytes),
+        code => unreachable!("the document is open, and the code is {}", code),
+    }
+}
+
+impl Drop for Document {
+    fn drop(&mut self) {
+        // SAFETY: the document is as a call of the library left it.
+        unsafe { limecove_sys::limecove_document_close(self.document.get_mut()) }
+    }
+}
+
+impl fmt::Debug for Document {
+    fn fmt(&self, f: &mut fmt::Formatter<'_>) -> fmt::Result {
+        f.debug_struct("Document")
+            .field("sections", &self.sections)
+            .finish()
+    }
+}
