@@ -1,12 +1,12 @@
 mod DeepEvents
-mod Emphasis
+pub mod Emphasis
 mod FlowChains
 mod FlowRuns
 pub mod FlowTexts
 mod FlowTiles
 mod Formed
 pub mod InContainers
-mod Innermost
+pub mod Innermost
 mod Prelude
 mod RangeReads
 mod Tiled

@@ -19,11 +19,21 @@ use Rattle.mdconstructs_full_references.specs.FullReference.{full_reference, lab
 use Rattle.mdconstructs_links.specs.Linked.{with_links}
 use Rattle.mdconstructs_inlines.specs.Brackets.{Bracket, Memory, after_item, begins_end, begins_link, end_at, has_bracket, image_bracket, is_image_bracket, is_wanted_at, label_end, link_bracket, lone_end, nothing_read, own_is_defined, own_tail}
 use Rattle.mdconstructs_inlines.specs.InlineEvents.{inline_grammars, inline_item_at, inline_items, run_or_part}
-use Rattle.mdconstructs_rests.specs.Asked.{Agree, asked_from, asked_labels, label_ahead, label_behind, labels_at, looked_up, own_label}
+use Rattle.mdconstructs_rests.specs.Asked.{Agree, asked_from, asked_labels, if_label, label_ahead, label_behind, labels_at, looked_up, own_label}
 
 module _ (bytes : List ℕ) (on : Constructs) (defined others : List ℕ → Bool) where
-  own-agrees : (b : Bracket) (m : Memory) → others (own_label bytes b m) ≡ defined (own_label bytes b m) → own_is_defined others bytes b m ≡ own_is_defined defined bytes b m
-  own-agrees b m h = ap (λ d. not (has_bracket (drop b.count m.events)) && (is_label (own_label bytes b m) && d)) h
+  abbrev Same : List ℕ → Type 0
+  Same label = others label ≡ defined label
+
+  label-agrees : (label : List ℕ) → Agree defined others (if_label label) → (is_label label && others label) ≡ (is_label label && defined label)
+  label-agrees label h = by (is_label label) h
+    where
+      by : (c : Bool) → Agree defined others (cond c (label ∷ []) []) → (c && others label) ≡ (c && defined label)
+      by true h = h.0
+      by false h = refl
+
+  own-agrees : (b : Bracket) (m : Memory) → Agree defined others (if_label (own_label bytes b m)) → own_is_defined others bytes b m ≡ own_is_defined defined bytes b m
+  own-agrees b m h = ap (λ d. not (has_bracket (drop b.count m.events)) && d) (label-agrees (own_label bytes b m) h)
 
   abbrev full_with : (wanted : List ℕ → Bool) → (behind : List ℕ) → Option ℕ → Option Found
   full_with wanted behind o = option_and_then (λ n. cond (wanted (label_text n behind)) (Some (full_reference n)) None) o
@@ -31,13 +41,15 @@ module _ (bytes : List ℕ) (on : Constructs) (defined others : List ℕ → Boo
   full-agrees : (ahead : List Seat) (behind : List ℕ) (o : Option ℕ) → Agree defined others (label_behind bytes ahead behind o)
       → full_with (is_wanted_at others bytes ahead) behind o ≡ full_with (is_wanted_at defined bytes ahead) behind o
   full-agrees ahead behind None h = refl
-  full-agrees ahead behind (Some n) h = ap (λ d. cond (is_label (label_ahead bytes ahead (label_text n behind)) && d) (Some (full_reference n)) None) h.0
+  full-agrees ahead behind (Some n) h = ap (λ d. cond d (Some (full_reference n)) None) (label-agrees (label_ahead bytes ahead (label_text n behind)) h)
 
   end-agrees : (bs : List Bracket) (m : Memory) (behind : List ℕ) → Agree defined others (labels_at bytes bs m behind) → end_at others bytes bs m behind ≡ end_at defined bytes bs m behind
   end-agrees [] m behind h = refl
   end-agrees (b ∷ bs) m behind h =
-      let full = full-agrees m.ahead behind (label_length behind) h.1 in
-      let own = own-agrees b m h.0 in
+      let own = if_label (own_label bytes b m) in
+      let full_one = label_behind bytes m.ahead behind (label_length behind) in
+      let full = full-agrees m.ahead behind (label_length behind) (every-back Same own full_one h) in
+      let own = own-agrees b m (every-front Same own full_one h) in
       (λ i.
       let tail = option_or (resource_grammar.front behind) (option_or (full i) (cond (not (is_some (label_length behind)) && own i) (Some (own_tail behind)) None)) in
       Some (cond b.inactive lone_end (or_else (option_map label_end tail) lone_end)))

@@ -12,7 +12,7 @@ use Rattle.mdconstructs_inline_constructs.specs.WhiteSpace.{white_space}
 use Rattle.mdconstructs_full_references.specs.FullReference.{label_length, label_text}
 use Rattle.mdconstructs_inlines.specs.Brackets.{Bracket, Memory, after_item, begins_end, bytes_before, nothing_read, spanned_bytes}
 use Rattle.mdconstructs_inlines.specs.InlineEvents.{inline_item_at}
-use Rattle.mdconstructs_rests.specs.Asked.{AskedLabelsMove, asked_from, asked_labels, label_ahead, label_behind, labels_at, looked_up, own_label}
+use Rattle.mdconstructs_rests.specs.Asked.{AskedLabelsMove, asked_from, asked_labels, if_label, label_ahead, label_behind, labels_at, looked_up, own_label}
 use Rattle.mdconstructs_rests.proofs.MovedItems.{MovesAs, lines-move}
 use Rattle.mdconstructs_rests.proofs.MovedPlaces.{AreKnownSeats, IsKnown, Moving, Part, all_moved, alone, back, front, moved_event, same-bytes, same-length, whole}
 use Rattle.mdconstructs_rests.proofs.MovedReads.{behind-part, front-part, going, staying}
@@ -34,11 +34,11 @@ module _ (m : Moving) where
 
   labels-same : (bs : List Bracket) (q : Memory) (behind : List ℕ) → IsKnownMemory m q → labels_at m.places.new bs (moved_memory m q) behind ≡ labels_at m.places.old bs q behind
   labels-same [] q behind h = refl
-  labels-same (b ∷ bs) q behind h = let own = own-label-same b q h in let ahead = by (label_length behind) in (λ i. own i ∷ ahead i)
+  labels-same (b ∷ bs) q behind h = let own = own-label-same b q h in let ahead = by (label_length behind) in (λ i. if_label (own i) ++ ahead i)
     where
       by : (o : Option ℕ) → label_behind m.places.new (all_moved m q.ahead) behind o ≡ label_behind m.places.old q.ahead behind o
       by None = refl
-      by (Some n) = ap (λ label. label ∷ []) (ahead-same q.ahead h.ahead (label_text n behind))
+      by (Some n) = ap if_label (ahead-same q.ahead h.ahead (label_text n behind))
 
   module _ (on : Constructs) (defined : List ℕ → Bool) where
     looked-same : (q : Memory) (text : List ℕ) → IsKnownMemory m q → looked_up m.places.new on (moved_memory m q) text ≡ looked_up m.places.old on q text

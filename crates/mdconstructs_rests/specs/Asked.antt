@@ -6,6 +6,7 @@ use Rattle.markdown_base.specs.Virtual.{Seat}
 use Rattle.mdconstructs_documents.specs.FlowTexts.{inline_seat_events}
 use Rattle.mdconstructs_rests.specs.Moved.{begins_line, moved_seat}
 use Rattle.mdconstructs_rests.specs.ReadTexts.{StandsBefore}
+use Rattle.mdconstructs_labels.specs.Labels.{is_label}
 use Rattle.mdconstructs_machines.specs.Breaks.{is_white}
 use Rattle.mdconstructs_full_references.specs.FullReference.{label_length, label_text}
 use Rattle.mdconstructs_inline_constructs.specs.WhiteSpace.{white_space}
@@ -14,6 +15,10 @@ use Rattle.mdconstructs_inlines.specs.InlineEvents.{inline_item_at}
 use Rattle.mdconstructs_resources.specs.Resource.{string_events}
 use Rattle.mdconstructs_text.specs.Bytes.{has_byte_at}
 use Rattle.mdconstructs_text.specs.Parts.{bytes_of}
+
+-- what is looked up, if it is a label at all
+abbrev pub if_label : List ℕ → List (List ℕ)
+if_label label = cond (is_label label) (label ∷ []) []
 
 -- the bytes of a document
 module _ (bytes : List ℕ) where
@@ -28,12 +33,12 @@ module _ (bytes : List ℕ) where
   -- the label of a full reference, if one of this length is there
   abbrev pub label_behind : List Seat → (behind : List ℕ) → Option ℕ → List (List ℕ)
   label_behind ahead behind None = []
-  label_behind ahead behind (Some n) = label_ahead ahead (label_text n behind) ∷ []
+  label_behind ahead behind (Some n) = if_label (label_ahead ahead (label_text n behind))
 
   -- those that are looked up at a `]` with this text behind it: the own label of the last bracket that waits, and the label of a full reference
   abbrev pub labels_at : List Bracket → Memory → (behind : List ℕ) → List (List ℕ)
   labels_at [] m behind = []
-  labels_at (b ∷ bs) m behind = own_label b m ∷ label_behind m.ahead behind (label_length behind)
+  labels_at (b ∷ bs) m behind = if_label (own_label b m) ++ label_behind m.ahead behind (label_length behind)
 
   module _ (on : Constructs) where
     -- those that are looked up at the front of a text, by what is remembered

@@ -50,7 +50,7 @@ module _ (bytes : List ℕ) (on : Constructs) where
       (subst (λ n. AllByRecursion IsQuiet (item_events bytes (label_end tail, take n (s ∷ ss)))) one ((refl, refl), ((refl, refl), ((refl, refl), ((refl, refl), rest)))))
 
   module _ (defined : List ℕ → Bool) where
-    item-runs : (m : Memory) (s : Seat) (ss : List Seat) → ItemRuns bytes (s ∷ ss) (inline_item_at on defined bytes m (bytes_of (s ∷ ss)))
+    pub item-runs : (m : Memory) (s : Seat) (ss : List Seat) → ItemRuns bytes (s ∷ ss) (inline_item_at on defined bytes m (bytes_of (s ∷ ss)))
     item-runs m s ss =
         let l = s ∷ ss in
         let text = bytes_of l in
