@@ -46,6 +46,7 @@ NAMED = {
     ("mdconstructs_costs", "specs", "Chains"): "ChainCosts",
     ("mdconstructs_costs", "specs", "Documents"): "DocumentCosts",
     ("mdconstructs_costs", "specs", "Examples"): "CostExamples",
+    ("mdconstructs_documents", "proofs", "Emphasis"): "InlineEmphasis",
     ("mdconstructs_document_laws", "proofs", "Examples"): "LineStartExamples",
     ("mdconstructs_labels", "specs", "Costs"): "LabelCosts",
     ("mdconstructs_labels", "specs", "Labels"): "NormalLabels",

@@ -170,8 +170,10 @@ pub use Rattle.mdconstructs_containers.proofs.TextLemmas
 pub use Rattle.mdconstructs_containers.proofs.TightMarks
 pub use Rattle.mdconstructs_containers.proofs.WritingLemmas
 pub use Rattle.mdconstructs_containers.proofs.WrittenLemmas
+pub use Rattle.mdconstructs_documents.proofs.Emphasis as InlineEmphasis
 pub use Rattle.mdconstructs_documents.proofs.FlowTexts
 pub use Rattle.mdconstructs_documents.proofs.InContainers
+pub use Rattle.mdconstructs_documents.proofs.Innermost as InnermostInDocuments
 pub use Rattle.mdconstructs_document_laws.proofs.BlockPlaces
 pub use Rattle.mdconstructs_document_laws.proofs.BlockWalk
 pub use Rattle.mdconstructs_document_laws.proofs.ChildEvents
@@ -312,7 +314,10 @@ pub use Rattle.mdconstructs_targets.proofs.Lookups
 pub use Rattle.mdconstructs_targets.proofs.Numerals
 pub use Rattle.mdconstructs_targets.proofs.SpanEnds
 pub use Rattle.mdconstructs_sections.proofs.Anew
+pub use Rattle.mdconstructs_sections.proofs.AskedAgain
+pub use Rattle.mdconstructs_sections.proofs.AskedInBrackets
 pub use Rattle.mdconstructs_sections.proofs.AskedNothing
+pub use Rattle.mdconstructs_sections.proofs.AskingCode
 pub use Rattle.mdconstructs_sections.proofs.Below
 pub use Rattle.mdconstructs_sections.proofs.CharPlaces
 pub use Rattle.mdconstructs_sections.proofs.CharSizes
@@ -321,12 +326,16 @@ pub use Rattle.mdconstructs_sections.proofs.ComeBack
 pub use Rattle.mdconstructs_sections.proofs.CountedEndings
 pub use Rattle.mdconstructs_sections.proofs.CutLines
 pub use Rattle.mdconstructs_sections.proofs.CutSteps
+pub use Rattle.mdconstructs_sections.proofs.FitSections
 pub use Rattle.mdconstructs_sections.proofs.Joined
+pub use Rattle.mdconstructs_sections.proofs.LabelBytes
 pub use Rattle.mdconstructs_sections.proofs.LinesBack
+pub use Rattle.mdconstructs_sections.proofs.MayStand
 pub use Rattle.mdconstructs_sections.proofs.NewLabels
 pub use Rattle.mdconstructs_sections.proofs.PartStarts
 pub use Rattle.mdconstructs_sections.proofs.PartsMove
 pub use Rattle.mdconstructs_sections.proofs.PutBack
+pub use Rattle.mdconstructs_sections.proofs.PutChanged
 pub use Rattle.mdconstructs_sections.proofs.PutKept
 pub use Rattle.mdconstructs_sections.proofs.PutOthers
 pub use Rattle.mdconstructs_sections.proofs.PutSections

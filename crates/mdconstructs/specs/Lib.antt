@@ -239,6 +239,7 @@ pub use Rattle.mdconstructs_sections.specs.Edits
 pub use Rattle.mdconstructs_sections.specs.Finds
 pub use Rattle.mdconstructs_sections.specs.FirstRest
 pub use Rattle.mdconstructs_sections.specs.Fronts
+pub use Rattle.mdconstructs_sections.specs.InBrackets
 pub use Rattle.mdconstructs_sections.specs.Kept
 pub use Rattle.mdconstructs_sections.specs.Lookups
 pub use Rattle.mdconstructs_sections.specs.Packed

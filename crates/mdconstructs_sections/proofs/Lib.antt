@@ -1,5 +1,8 @@
 pub mod Anew
+pub mod AskedAgain
+pub mod AskedInBrackets
 pub mod AskedNothing
+pub mod AskingCode
 pub mod Below
 pub mod CharPlaces
 pub mod CharSizes
@@ -8,12 +11,16 @@ pub mod ComeBack
 pub mod CountedEndings
 pub mod CutLines
 pub mod CutSteps
+pub mod FitSections
 pub mod Joined
+pub mod LabelBytes
 pub mod LinesBack
+pub mod MayStand
 pub mod NewLabels
 pub mod PartStarts
 pub mod PartsMove
 pub mod PutBack
+pub mod PutChanged
 pub mod PutKept
 pub mod PutOthers
 pub mod PutSections

@@ -26,6 +26,11 @@ use Rattle.mdconstructs_sections.specs.declared.section.Section.{Section}
 pub drained : {A Z : Type 0} (it : IntoIter A Z) (all xs : List A) → into_iter_items it ≡ all → into_iter_len it ≡ length all → Drains into_iter_steps it xs → xs ≡ all
 drained it all xs items len h = sym (map-id xs) ∙ items_from_drains xs (h.1.0, h.1.1, λ _. (h.0, h.1.2)) (YieldsList-from_vec all items len)
 
+-- sections with those of a vector that was drained in the place of some
+pub spliced : (from end : ℕ) (items read now : List Section) (it : IntoIter Section Global) (xs : List Section) → into_iter_items it ≡ read → into_iter_len it ≡ length read → Drains into_iter_steps it xs
+    → now ≡ take from items ++ (xs ++ drop end items) → now ≡ take from items ++ (read ++ drop end items)
+spliced from end items read now it xs are len drains is = is ∙ ap (λ ys. take from items ++ (ys ++ drop end items)) (drained it read xs are len drains)
+
 -- parts of a document within the limit are within it
 pub parts-within : (t : ℕ) (front parts behind : List (List ℕ)) → IsWithinLimit t (document_of (front ++ (parts ++ behind))) → AllByRecursion (IsWithinLimit t) parts
 parts-within t front parts behind limit =

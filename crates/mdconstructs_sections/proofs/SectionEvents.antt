@@ -1,10 +1,11 @@
 -- The events of sections that were read, moved one after the other.
-use Rattle.std.proofs.Common.{◌≡◌, ℕ, ◌+◌, ◌≤◌, Bool, List, ◌∷◌, [], ◌++◌, length, map, refl, sym, ap, ◌∙◌, arith, take, drop}
+use Rattle.std.proofs.Common.{◌≡◌, ℕ, ◌+◌, ◌≤◌, Bool, List, ◌∷◌, [], ◌++◌, length, map, refl, subst, sym, ap, ◌∙◌, arith, take, drop}
 use Rattle.std.proofs.lemmas.List.{drop-map, length-append, length-map, map-append, take-map, take_all}
 use Rattle.std.specs.List.{AllByRecursion, sum_by}
 use Rattle.markdown_base.proofs.Common.{every-take}
 use Rattle.markdown_base.specs.declared.configuration.ParseOptions.{ParseOptions}
 use Rattle.markdown_base.specs.declared.event.Event.{Event}
+use Rattle.mdconstructs_documents.specs.Documents.{AreDocumentEvents}
 use Rattle.mdconstructs_labels.specs.Defined.{defines}
 use Rattle.mdconstructs_rests.proofs.ChildrenOfBoth.{no-further}
 use Rattle.mdconstructs_rests.specs.BothDocuments.{events_by, is_rest}
@@ -13,9 +14,10 @@ use Rattle.mdconstructs_rests.specs.Sections.{document_of, events_of_sections}
 use Rattle.mdconstructs_sections.specs.declared.kept.Kept.{Kept}
 use Rattle.mdconstructs_sections.specs.declared.moved.Front.{Front}
 use Rattle.mdconstructs_sections.specs.declared.section.Section.{Section}
-use Rattle.mdconstructs_sections.specs.Divided.{Divided, events_between, events_of, is_label_of}
+use Rattle.mdconstructs_sections.specs.Divided.{Divided, EventsOfAllSectionsAreTheDocuments, bytes_of, events_between, events_of, is_label_of}
 use Rattle.mdconstructs_sections.specs.Fronts.{IsFrontOf, IsSmall, moved_by}
 use Rattle.mdconstructs_sections.specs.Kept.{IsKept, IsRead, bytes_of_sections, divided_of}
+use Rattle.mdconstructs_sections.proofs.Below.{sections-give}
 use Rattle.mdconstructs_sections.proofs.CutLines.{endings-are-counted}
 use Rattle.mdconstructs_sections.proofs.Joined.{sections-take}
 use Rattle.mdconstructs_sections.proofs.SectionFronts.{events-append, events-one, events-twice, length-one, lines_in, sum-cons, sum-one}
@@ -130,5 +132,10 @@ between-events k from to kept order within before is =
     ∙ ap (λ n. map (moved_event (line_endings (document_of front)) (length (document_of front)) n) (E (is_label_of d) (drop from (take to d.sections)))) count
 
 -- those between the first section and the end are all
-pub all-between : (d : Divided) (n : ℕ) → length d.sections ≤ n → events_between d 0 n ≡ events_of d d.sections
+all-between : (d : Divided) (n : ℕ) → length d.sections ≤ n → events_between d 0 n ≡ events_of d d.sections
 all-between d n most = no-further (events_of d (take n d.sections)) ∙ ap (events_of d) (take_all n d.sections most)
+
+-- so they are those of the document
+pub all-are-the-documents : EventsOfAllSectionsAreTheDocuments
+all-are-the-documents d possible is =
+    subst (AreDocumentEvents d.options (bytes_of d)) (sym (all-between d (length d.sections) (omega arith))) (sections-give d.options d.sections possible is.sections.cut)

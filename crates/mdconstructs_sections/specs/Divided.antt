@@ -3,8 +3,9 @@ use Rattle.std.specs.Prelude.{ℕ, Bool, List, length, map, take, drop}
 use Rattle.markdown_base.specs.declared.configuration.ParseOptions.{ParseOptions}
 use Rattle.markdown_base.specs.declared.event.Event.{Event}
 use Rattle.markdown_base.specs.Virtual.{IsWithinLimit}
+use Rattle.markdown_tokenizer.specs.Text.{IsDocument}
 use Rattle.mdconstructs_documents.specs.DocumentEvents.{is_defined_in}
-use Rattle.mdconstructs_documents.specs.Documents.{document}
+use Rattle.mdconstructs_documents.specs.Documents.{AreDocumentEvents, document}
 use Rattle.mdconstructs_rests.specs.BothDocuments.{events_by}
 use Rattle.mdconstructs_rests.specs.Moved.{line_endings, moved_event}
 use Rattle.mdconstructs_rests.specs.Sections.{document_of, events_of_sections}
@@ -40,3 +41,7 @@ abbrev pub events_between : Divided → (from to : ℕ) → List Event
 events_between d from to =
     let front = document_of (take from d.sections) in
     map (moved_event (line_endings front) (length front) (length (events_of d (take from d.sections)))) (events_of d (drop from (take to d.sections)))
+
+-- The events between section 0 and the number of sections are those of the document, if it is a possible one that is cut at each rest
+abbrev pub EventsOfAllSectionsAreTheDocuments : Type 0
+EventsOfAllSectionsAreTheDocuments = (d : Divided) → IsDocument (document d.options (bytes_of d)) → IsDivided d → AreDocumentEvents d.options (bytes_of d) (events_between d 0 (length d.sections))

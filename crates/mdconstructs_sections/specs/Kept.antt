@@ -1,5 +1,5 @@
 -- Inner: what is kept of a document, for private functions.
-use Rattle.std.specs.Prelude.{◌≡◌, ◌≤◌, ◌==◌, ℕ, Bool, List, map, length, take, drop, ◌++◌}
+use Rattle.std.specs.Prelude.{◌≡◌, ◌≤◌, ◌==◌, ℕ, Bool, true, List, map, length, take, drop, ◌++◌}
 use Rattle.std.specs.List.{AllByRecursion, list_any}
 use Rattle.markdown_base.specs.declared.configuration.ParseOptions.{ParseOptions}
 use Rattle.markdown_base.specs.Virtual.{IsWithinLimit, virtual}
@@ -10,7 +10,8 @@ use Rattle.mdconstructs_rests.specs.BothDocuments.{events_by}
 use Rattle.mdconstructs_sections.specs.declared.kept.Kept.{Kept}
 use Rattle.mdconstructs_sections.specs.declared.section.Part.{Part}
 use Rattle.mdconstructs_sections.specs.declared.section.Section.{Section}
-use Rattle.mdconstructs_sections.specs.Divided.{Divided, IsDivided, is_label_of}
+use Rattle.mdconstructs_sections.specs.Divided.{Divided, IsDivided, bytes_of, is_label_of}
+use Rattle.mdconstructs_sections.specs.Packed.{events_fit}
 use Rattle.mdconstructs_sections.specs.PositionParts.{endings}
 
 -- the bytes of parts, and of sections
@@ -32,6 +33,10 @@ IsLabelled options part = AreDefined part.labels (labels_written options part.by
 abbrev pub has_end : List ℕ → Bool
 has_end bytes = list_any (λ byte. byte == 93) bytes
 
+-- the events of bytes can be packed, read by which labels are defined
+abbrev pub IsPackable : ParseOptions → (defined : List ℕ → Bool) → List ℕ → Type 0
+IsPackable options defined bytes = events_fit (events_by options defined bytes) ≡ true
+
 -- A section is read: by which labels are defined
 pub record IsRead (options : ParseOptions) (defined : List ℕ → Bool) (section : Section) : Type 0 where
   pub limit : IsWithinLimit options.tab_size section.part.bytes.items
@@ -49,6 +54,11 @@ pub record IsKept (k : Kept) : Type 0 where
   pub divided : IsDivided (divided_of k)
   pub labels : (label : List ℕ) → defines k.machine.labels label ≡ is_label_of (divided_of k) label
   pub read : AllByRecursion (IsRead k.options (defines k.machine.labels)) k.sections.items
+
+-- What is kept is a document and its events, and the count is that of its bytes
+pub record IsKeptWithSize (k : Kept) (count : ℕ) : Type 0 where
+  pub kept : IsKept k
+  pub size : count ≡ length (bytes_of (divided_of k))
 
 -- the sections of what is kept, with those from one up to another replaced
 abbrev pub recut_sections : Kept → (from end : ℕ) → (parts : List (List ℕ)) → List (List ℕ)

@@ -5,6 +5,7 @@ pub mod Edits
 pub mod Finds
 pub mod FirstRest
 pub mod Fronts
+pub mod InBrackets
 pub mod Kept
 pub mod Lookups
 pub mod Packed

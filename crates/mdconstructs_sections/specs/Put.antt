@@ -1,17 +1,24 @@
 -- Inner: sections that are read again, and their events put in, for private functions.
-use Rattle.std.specs.Prelude.{ℕ, zero, suc, ◌+◌, Bool, cond, List, [], ◌∷◌, ◌++◌}
+use Rattle.std.specs.Prelude.{ℕ, zero, suc, ◌+◌, ◌&&◌, Bool, cond, List, [], ◌∷◌, ◌++◌}
 use Rattle.std.specs.List.{fold}
 use Rattle.markdown_base.specs.declared.configuration.ParseOptions.{ParseOptions}
 use Rattle.markdown_base.specs.declared.event.Event.{Event}
+use Rattle.mdconstructs_labels.specs.Defined.{defines}
+use Rattle.mdconstructs_labels.specs.declared.labels.Labels.{Labels}
 use Rattle.mdconstructs_rests.specs.BothDocuments.{events_by}
 use Rattle.mdconstructs_sections.specs.declared.put.Reread.{Reread}
 use Rattle.mdconstructs_sections.specs.declared.section.Section.{Section}
+use Rattle.mdconstructs_sections.specs.InBrackets.{changes, may_ask}
 
--- those of the sections that may look up a label, read again by these labels; the first of the sections has this number
-abbrev pub rereads : ParseOptions → (defined : List ℕ → Bool) → (first : ℕ) → List Section → List Reread
-rereads options defined first [] = []
-rereads options defined first (s ∷ more) =
-    cond s.asks (record { section = first; events = events_by options defined s.part.bytes.items } ∷ []) [] ++ rereads options defined (first + 1) more
+-- a section may look up a label that changes
+abbrev pub looks_up : (old new : Labels) → Section → Bool
+looks_up old new s = s.asks && may_ask (changes old new) s.part.bytes.items
+
+-- those of the sections that may look up a label that changes, read again by the new labels; the first of the sections has this number
+abbrev pub rereads : ParseOptions → (old new : Labels) → (first : ℕ) → List Section → List Reread
+rereads options old new first [] = []
+rereads options old new first (s ∷ more) =
+    cond (looks_up old new s) (record { section = first; events = events_by options (defines new) s.part.bytes.items } ∷ []) [] ++ rereads options old new (first + 1) more
 
 -- a section with other events
 abbrev pub with_events : List Event → Section → Section

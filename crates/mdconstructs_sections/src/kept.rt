@@ -1,13 +1,17 @@
 //! What is kept of a document that can be edited.
 
-ghost use Rattle.std.specs.Prelude.{◌≡◌, ◌≤◌, ◌<◌, ◌^◌, ◌+◌, ◌||◌, ◌++◌, ◌↔◌, IfOk, IfSome, IfNone, IsErrOf, List, OnOk, ℕ, drop, length, map, slice_index, take};
+ghost use Rattle.std.specs.Prelude.{◌≡◌, ◌≤◌, ◌<◌, ◌^◌, ◌+◌, ◌||◌, ◌++◌, ◌↔◌, IfOk, IfSome, IfNone, IsErrOf, List, OnOk, ℕ, drop, length, map, slice_index, take, true};
 ghost use Rattle.std.specs.List.{AllByRecursion, flat_map};
 ghost use Rattle.markdown_base.specs.Virtual.{IsWithinLimit};
+ghost use Rattle.markdown_tokenizer.specs.Text.{IsDocument};
 ghost use Rattle.mdconstructs_definitions.specs.Labelled.{is_one_of};
+ghost use Rattle.mdconstructs_documents.specs.DocumentEvents.{document_events};
+ghost use Rattle.mdconstructs_documents.specs.Documents.{document};
 ghost use Rattle.mdconstructs_labels.specs.Defined.{defines};
 ghost use Rattle.mdconstructs_rests.specs.Sections.{document_of};
 ghost use Rattle.mdconstructs_sections.specs.Divided.{bytes_of};
 ghost use Rattle.mdconstructs_sections.specs.Kept.{IsKept, IsLabelled, IsRead, bytes_of_parts, bytes_of_sections, divided_of, labels_written};
+ghost use Rattle.mdconstructs_sections.specs.Packed.{events_fit};
 
 use crate::cut::cut;
 use crate::packed::PackError;
@@ -73,16 +77,26 @@ pub(crate) fn define_sections(
     Ok(())
 }
 
-/// A document, read section by section. If the document is longer than the limit, or a number of an event does not fit, it is `TooLong`.
+/// Bytes within the limit are a possible document. It does nothing; its contract says so.
+fn is_document(bytes: &[u8], options: &ParseOptions)
+    requires { IsWithinLimit options.now.tab_size bytes.now }
+    ensures { IsDocument (document options.now bytes.now) }
+{
+    let _columns = options.tab_size.get();
+}
+
+/// A document, read section by section. It is `TooLong` if the document is longer than the limit, and else only if a number of an event does not fit.
 pub(crate) fn read(alloc: Global, bytes: &[u8], options: &ParseOptions) -> Result<Kept, PackError>
     ensures kept { IfOk result IsKept }
     ensures options { IfOk result (λ kept. kept.options ≡ options.now) }
     ensures bytes { IfOk result (λ kept. bytes_of (divided_of kept) ≡ bytes.now) }
     ensures too_long { ¬ IsWithinLimit options.now.tab_size bytes.now → IsErrOf result PackError.TooLong }
+    ensures fits { IsWithinLimit options.now.tab_size bytes.now → events_fit (document_events (document options.now bytes.now)) ≡ true → ¬ IsErrOf result PackError.TooLong }
 {
     if bytes.len() > limit_of(options.tab_size) {
         return Err(PackError::TooLong);
     }
+    is_document(bytes, options);
     let parts = parts_of(alloc, options, cut(alloc, bytes, options)?)?;
     let mut labels = Labels::new(alloc);
     define_parts(alloc, &mut labels, options, parts.as_slice())?;

@@ -1,7 +1,8 @@
 //! Laws about the definitions of this crate. Each is a function that does nothing; its contract is the law.
 
-ghost use Rattle.mdconstructs_sections.specs.Asking.{BytesWithoutEndAskNothing};
+ghost use Rattle.mdconstructs_sections.specs.Asking.{AskedLabelsAreInBrackets, BytesWithoutEndAskNothing};
 ghost use Rattle.mdconstructs_sections.specs.Cuts.{EndingsAreCounted, PartsStartLines};
+ghost use Rattle.mdconstructs_sections.specs.Divided.{EventsOfAllSectionsAreTheDocuments};
 ghost use Rattle.mdconstructs_sections.specs.PositionParts.{EndingsAdd, OffsetsMove, OffsetsStay, PositionsMove, PositionsStay};
 ghost use Rattle.mdconstructs_sections.specs.Positions.{CharactersAreAllBytes, CharactersAreUtf8, OffsetsComeBack, PositionsComeBack, UnitsAreWritten};
 
@@ -50,4 +51,15 @@ pub fn cuts_start_lines()
 /// In texts of bytes without `]` no label is looked up, whatever labels are defined.
 pub fn bytes_without_end_ask_nothing()
     ensures { BytesWithoutEndAskNothing }
+{}
+
+/// What is looked up in the texts of a document is a label, and behind some `[` the bytes agree with it up to its end, where a `]` is, or up to a
+/// line ending. So only such labels matter for its events.
+pub fn asked_labels_are_in_brackets()
+    ensures { AskedLabelsAreInBrackets }
+{}
+
+/// The events between section 0 and the number of sections are those of the document.
+pub fn events_of_all_sections_are_the_documents()
+    ensures { EventsOfAllSectionsAreTheDocuments }
 {}

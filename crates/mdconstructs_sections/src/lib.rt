@@ -1,6 +1,7 @@
 //! A document that can be edited: its sections, places as editors ask for them, and events in little memory.
 #![tactic(auto)]
 
+mod asking;
 mod cut;
 pub mod edit;
 mod kept;

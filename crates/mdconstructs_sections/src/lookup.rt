@@ -20,15 +20,6 @@ fn is_short(kept: &Kept)
     let _columns = kept.options.tab_size.get();
 }
 
-/// How many bytes the document has.
-pub(crate) fn size_of(kept: &Kept) -> usize
-    requires { IsKept kept.now }
-    ensures { result ≡ length (bytes_of (divided_of kept.now)) }
-{
-    is_short(kept);
-    bytes_in(kept.sections.as_slice())
-}
-
 /// Where a section starts; the document's length, if it is the number of sections.
 pub(crate) fn start_of(kept: &Kept, section: usize) -> usize
     requires kept { IsKept kept.now }

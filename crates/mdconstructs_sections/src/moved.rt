@@ -159,7 +159,7 @@ pub(crate) fn events_between(
 }
 
 /// What is kept is a possible document: each of its bytes is below 256, and its tab size is one. It only looks at the sections.
-fn is_document(kept: &Kept)
+pub(crate) fn is_document(kept: &Kept)
     requires { IsKept kept.now }
     ensures { IsDocument (document kept.now.options (bytes_of (divided_of kept.now))) }
 {

@@ -8,10 +8,12 @@ ghost use Rattle.mdconstructs_sections.specs.Divided.{is_label_of};
 ghost use Rattle.mdconstructs_sections.specs.Edits.{IsChange};
 ghost use Rattle.mdconstructs_sections.specs.FirstRest.{items_of};
 ghost use Rattle.mdconstructs_sections.specs.Kept.{IsKept, IsLabelled, IsRecut, IsRead, bytes_of_parts, bytes_of_sections, divided_of, recut_document};
-ghost use Rattle.mdconstructs_sections.specs.Put.{put_all, rereads};
+ghost use Rattle.mdconstructs_sections.specs.Put.{looks_up, put_all, rereads};
 
+use crate::asking::may_ask;
 use crate::edit::{Change, Refused};
 use crate::kept::{Kept, define_parts, define_sections};
+use crate::moved::is_document;
 use crate::packed::{PackError, Packed};
 use crate::recut::Recut;
 use crate::section::{Part, Section, events_of, parts_of, sections_of};
@@ -71,10 +73,24 @@ fn new_labels(
     Ok(Some(labels))
 }
 
-/// Appends the events of those sections that may look up a label, read again by this machine. The first of them has a number.
+/// Whether a section may look up a label that comes or goes.
+fn looks_up(
+    alloc: Global,
+    old: &Labels,
+    new: &Labels,
+    section: &Section,
+) -> Result<bool, AllocError>
+    ensures { IfOk result (λ looks. looks ≡ looks_up old.now new.now section.now) }
+{
+    Ok(section.asks && may_ask(alloc, old, new, section.part.bytes.as_slice())?)
+}
+
+/// Appends the events of those sections that may look up a label that comes or goes, read again by this machine, which knows the new labels.
+/// The first of the sections has a number.
 fn read_again(
     alloc: Global,
     options: &ParseOptions,
+    old: &Labels,
     machine: &Inlines,
     sections: &[Section],
     first: usize,
@@ -82,11 +98,12 @@ fn read_again(
 ) -> Result<(), PackError>
     requires limit { AllByRecursion (λ section. IsWithinLimit options.now.tab_size section.part.bytes.items) sections.now }
     requires numbers { first + length sections.now < 2 ^ 64 }
-    ensures { OnOk result (others.new.items ≡ others.old.items ++ rereads options.now (defines machine.now.labels) first sections.now) }
+    ensures { OnOk result (others.new.items ≡ others.old.items ++ rereads options.now old.now machine.now.labels first sections.now) }
 {
     for index in 0..sections.len() {
         let section = &sections[index];
-        if section.asks {
+        let asks = looks_up(alloc, old, &machine.labels, section)?;
+        if asks {
             let events = events_of(alloc, options, machine, section.part.bytes.as_slice())?;
             others.push(Reread {
                 section: first + index,
@@ -165,7 +182,7 @@ fn put_same(
     })
 }
 
-/// As [`put`], where this machine knows the labels. Others that may look up one are read again.
+/// As [`put`], where this machine knows the labels. Others that may look up one that comes or goes are read again.
 fn put_other(
     alloc: Global,
     kept: &mut Kept,
@@ -184,6 +201,7 @@ fn put_other(
     ensures err { OnErr result (divided_of kept.new ≡ divided_of kept.old) }
     ensures range { ¬ IsErrOf result Refused.Range }
 {
+    is_document(kept);
     let read = read_parts(alloc, &kept.options, &machine, parts)?;
     let new_to = from + read.len();
     let others = read_others(alloc, kept, &machine, from, end, new_to)?;
@@ -218,7 +236,7 @@ fn read_parts(
     }
 }
 
-/// The sections in front of some and behind them that may look up a label, read again by this machine.
+/// The sections in front of some and behind them that may look up a label that comes or goes, read again by this machine, which knows the new labels.
 fn read_others(
     alloc: Global,
     kept: &Kept,
@@ -231,23 +249,19 @@ fn read_others(
     requires order { from ≤ end }
     requires within { end ≤ length kept.now.sections.items }
     requires numbers { new_to + length (drop end kept.now.sections.items) < 2 ^ 64 }
-    ensures others { IfOk result (λ others. others.items ≡ rereads kept.now.options (defines machine.now.labels) 0 (take from kept.now.sections.items) ++ rereads kept.now.options (defines machine.now.labels) new_to (drop end kept.now.sections.items)) }
+    ensures others { let again = rereads kept.now.options kept.now.machine.labels machine.now.labels in IfOk result (λ others. others.items ≡ again 0 (take from kept.now.sections.items) ++ again new_to (drop end kept.now.sections.items)) }
     ensures range { ¬ IsErrOf result Refused.Range }
 {
     let sections = kept.sections.as_slice();
     let options = &kept.options;
+    let old = &kept.machine.labels;
+    let front = &sections[..from];
+    let behind = &sections[end..];
     let mut others = Vec::new(alloc);
-    if let Err(error) = read_again(alloc, options, machine, &sections[..from], 0, &mut others) {
+    if let Err(error) = read_again(alloc, options, old, machine, front, 0, &mut others) {
         return Err(refused(error));
     }
-    if let Err(error) = read_again(
-        alloc,
-        options,
-        machine,
-        &sections[end..],
-        new_to,
-        &mut others,
-    ) {
+    if let Err(error) = read_again(alloc, options, old, machine, behind, new_to, &mut others) {
         return Err(refused(error));
     }
     Ok(others)

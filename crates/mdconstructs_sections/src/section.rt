@@ -1,13 +1,13 @@
 //! A section as it is kept, and how one is read.
 
-ghost use Rattle.std.specs.Prelude.{◌≡◌, ◌≤◌, IfOk, List, length, map};
+ghost use Rattle.std.specs.Prelude.{◌≡◌, ◌≤◌, IfOk, IsErrOf, List, MatchResult, length, map, true};
 ghost use Rattle.std.specs.List.{AllByRecursion};
 ghost use Rattle.markdown_base.specs.Virtual.{IsWithinLimit};
 ghost use Rattle.mdconstructs_definitions.specs.Labelled.{AreDefined};
 ghost use Rattle.mdconstructs_labels.specs.Defined.{defines};
 ghost use Rattle.mdconstructs_rests.specs.BothDocuments.{events_by};
 ghost use Rattle.mdconstructs_sections.specs.FirstRest.{items_of};
-ghost use Rattle.mdconstructs_sections.specs.Kept.{IsLabelled, IsRead, bytes_of_parts, bytes_of_sections, has_end, labels_written};
+ghost use Rattle.mdconstructs_sections.specs.Kept.{IsLabelled, IsPackable, IsRead, bytes_of_parts, bytes_of_sections, has_end, labels_written};
 
 use crate::packed::{PackError, Packed};
 use crate::positions::line_endings;
@@ -75,7 +75,7 @@ pub(crate) fn events_of(
     bytes: &[u8],
 ) -> Result<Packed, PackError>
     requires { IsWithinLimit options.now.tab_size bytes.now }
-    ensures { IfOk result (λ events. events ≡ events_by options.now (defines machine.now.labels) bytes.now) }
+    ensures { MatchResult result (λ events. events ≡ events_by options.now (defines machine.now.labels) bytes.now) (λ error. error ≡ PackError.TooLong → ¬ IsPackable options.now (defines machine.now.labels) bytes.now) }
 {
     let events = read_document_by(alloc, bytes, options, machine)?;
     Packed::of(alloc, events.as_slice())
@@ -99,6 +99,7 @@ fn section_of(
     requires labels { IsLabelled options.now part }
     ensures part { IfOk result (λ section. section.part ≡ part) }
     ensures read { IfOk result (IsRead options.now (defines machine.now.labels)) }
+    ensures fits { IsPackable options.now (defines machine.now.labels) part.bytes.items → ¬ IsErrOf result PackError.TooLong }
 {
     let bytes = part.bytes.as_slice();
     let events = events_of(alloc, options, machine, bytes)?;
@@ -123,6 +124,7 @@ pub(crate) fn sections_of(
     requires labels { AllByRecursion (IsLabelled options.now) parts.items }
     ensures bytes { IfOk result (λ sections. bytes_of_sections sections.items ≡ bytes_of_parts parts.items) }
     ensures read { IfOk result (λ sections. AllByRecursion (IsRead options.now (defines machine.now.labels)) sections.items) }
+    ensures fits { AllByRecursion (IsPackable options.now (defines machine.now.labels)) (bytes_of_parts parts.items) → ¬ IsErrOf result PackError.TooLong }
 {
     let mut sections = Vec::with_capacity(alloc, parts.len())?;
     for part in parts {

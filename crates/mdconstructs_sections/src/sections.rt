@@ -1,18 +1,19 @@
 //! A document that can be edited.
 
-ghost use Rattle.std.specs.Prelude.{◌≡◌, ◌↔◌, ◌≤◌, ◌<◌, IfOk, IsErrOf, IsOk, OnErr, Some, length, slice_get, take};
+ghost use Rattle.std.specs.Prelude.{◌≡◌, ◌↔◌, ◌≤◌, ◌<◌, IfOk, IsErrOf, IsOk, OnErr, Some, length, slice_get, take, true};
 ghost use Rattle.markdown_base.specs.Virtual.{IsWithinLimit};
-ghost use Rattle.mdconstructs_documents.specs.Documents.{AreDocumentEvents};
+ghost use Rattle.mdconstructs_documents.specs.DocumentEvents.{document_events};
+ghost use Rattle.mdconstructs_documents.specs.Documents.{AreDocumentEvents, document};
 ghost use Rattle.mdconstructs_rests.specs.Sections.{document_of};
 ghost use Rattle.mdconstructs_sections.specs.Divided.{Divided, IsDivided, bytes_of, events_between};
 ghost use Rattle.mdconstructs_sections.specs.Edits.{IsChange, IsInside, edited};
-ghost use Rattle.mdconstructs_sections.specs.Kept.{IsKept, divided_of};
 ghost use Rattle.mdconstructs_sections.specs.Lookups.{IsSectionAt, IsSectionAtLine};
+ghost use Rattle.mdconstructs_sections.specs.Packed.{events_fit};
 ghost use Rattle.mdconstructs_sections.specs.Positions.{offset_of, position_of};
 
 use crate::edit::{Change, Edit, Refused};
 use crate::kept::{Kept, read};
-use crate::lookup::{offset_of, position_of, section_at, section_at_line, size_of, start_of};
+use crate::lookup::{offset_of, position_of, section_at, section_at_line, start_of};
 use crate::moved::{all_events, events_between};
 use crate::packed::PackError;
 use crate::positions::{Encoding, Position};
@@ -27,31 +28,37 @@ use std::marker::Model;
 /// A document that can be edited: its bytes, cut at each of its rests into sections, and the events of each.
 #[derive(Drop)]
 pub struct Sections {
+    /// What is kept of it.
     kept: Kept,
+    /// How many bytes it has.
+    size: usize,
 }
 
 impl Model for Sections {
     ghost use Rattle.mdconstructs_sections.specs.Divided.{Divided};
-    ghost use Rattle.mdconstructs_sections.specs.Kept.{IsKept, divided_of};
+    ghost use Rattle.mdconstructs_sections.specs.Kept.{IsKeptWithSize, divided_of};
 
     ghost Value = { Divided };
 
     ghost view = { λ s. divided_of s.kept };
 
-    ghost invariant = { λ s. IsKept s.kept };
+    ghost invariant = { λ s. IsKeptWithSize s.kept s.size };
 }
 
 impl Sections {
     /// Reads a document, section by section.
     ///
-    /// It is `TooLong` if its length is above the limit, or if a number of an event does not fit (see [`Packed`](crate::packed::Packed)).
+    /// It is `TooLong` if its length is above the limit, and else only if a number of an event does not fit (see
+    /// [`Packed`](crate::packed::Packed)).
     pub fn new(alloc: Global, bytes: &[u8], options: &ParseOptions) -> Result<Sections, PackError>
         ensures bytes { IfOk result (λ sections. bytes_of sections ≡ bytes.now) }
         ensures options { IfOk result (λ sections. sections.options ≡ options.now) }
         ensures too_long { ¬ IsWithinLimit options.now.tab_size bytes.now → IsErrOf result PackError.TooLong }
+        ensures fits { IsWithinLimit options.now.tab_size bytes.now → events_fit (document_events (document options.now bytes.now)) ≡ true → ¬ IsErrOf result PackError.TooLong }
     {
         Ok(Sections {
             kept: read(alloc, bytes, options)?,
+            size: bytes.len(),
         })
     }
 
@@ -73,7 +80,7 @@ impl Sections {
     pub fn len(&self) -> usize
         ensures { result ≡ length (bytes_of self.now) }
     {
-        size_of(&self.kept)
+        self.size
     }
 
     /// The document's bytes. It fails only if it runs out of memory.
@@ -157,16 +164,18 @@ impl Sections {
         ensures range { IsErrOf result Refused.Range ↔ ¬ IsInside edit.now (bytes_of self.old) }
         ensures too_long { IsInside edit.now (bytes_of self.old) → ¬ IsWithinLimit self.old.options.tab_size (edited edit.now (bytes_of self.old)) → IsErrOf result Refused.TooLong }
     {
-        let len = self.len();
-        if edit.from > edit.to || edit.to > len {
+        let Sections { kept, size } = self;
+        if edit.from > edit.to || edit.to > *size {
             return Err(Refused::Range);
         }
-        let stay = len - (edit.to - edit.from);
-        let limit = limit_of(self.kept.options.tab_size);
+        let stay = *size - (edit.to - edit.from);
+        let limit = limit_of(kept.options.tab_size);
         if stay > limit || edit.with.len() > limit - stay {
             return Err(Refused::TooLong);
         }
-        let recut = cut_again(alloc, &self.kept, edit)?;
-        put(alloc, &mut self.kept, recut)
+        let recut = cut_again(alloc, kept, edit)?;
+        let change = put(alloc, kept, recut)?;
+        *size = stay + edit.with.len();
+        Ok(change)
     }
 }

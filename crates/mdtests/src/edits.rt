@@ -2,7 +2,6 @@
 
 use markdown::configuration::ParseOptions;
 use mdconstructs::edit::{Edit, Refused};
-use mdconstructs::packed::PackError;
 use mdconstructs::positions::{Encoding, Position};
 use mdconstructs::read_document;
 use mdconstructs::sections::Sections;
@@ -47,18 +46,12 @@ fn is_as_read(alloc: Global, sections: &Sections, bytes: &[u8]) -> Result<bool, 
     Ok(now.as_slice() == bytes && events.as_slice() == anew.as_slice())
 }
 
-/// A document that can be edited, with these bytes.
+/// A document that can be edited, with these bytes. None of these tests is too long for one.
 fn sections_of(alloc: Global, bytes: &[u8]) -> Result<Sections, AllocError> {
     match Sections::new(alloc, bytes, &ParseOptions::default()) {
         Ok(sections) => Ok(sections),
-        Err(PackError::Memory) => Err(AllocError),
-        Err(PackError::TooLong) => unreachable_length(),
+        Err(_) => Err(AllocError),
     }
-}
-
-/// No document of these tests is too long.
-fn unreachable_length() -> Result<Sections, AllocError> {
-    Err(AllocError)
 }
 
 /// Bytes, edited.
@@ -238,6 +231,28 @@ fn references_are_read_again(rt: HostRuntime) -> Result<(), AllocError> {
         Ok(change) => {
             assert_eq!(rt; (change.from, change.old_to, change.new_to), (2, 4, 3));
             assert_eq!(rt; change.others.as_slice(), [0].as_slice());
+        }
+        Err(error) => assert_eq!(rt; error, Refused::Memory),
+    }
+    Ok(())
+}
+
+/// If a definition goes, those sections alone are read again that may refer to it: one with its label, however it is written, and one in which a line ends
+/// behind a `[`; and none with another label.
+#[test]
+fn other_references_are_not_read_again(rt: HostRuntime) -> Result<(), AllocError> {
+    let document = b"x [\nl]\n\n[ L ]\n\n[m]\n\ny\n\n[l]: u\n";
+    let mut sections = sections_of(rt.alloc(), document)?;
+    let edit = Edit {
+        from: 23,
+        to: 30,
+        with: b"",
+    };
+    match sections.replace(rt.alloc(), &edit) {
+        Ok(change) => {
+            assert_eq!(rt; (change.from, change.old_to, change.new_to), (3, 5, 4));
+            assert_eq!(rt; change.others.as_slice(), [0, 1].as_slice());
+            assert!(rt; is_as_read(rt.alloc(), &sections, &document[..23])?);
         }
         Err(error) => assert_eq!(rt; error, Refused::Memory),
     }

@@ -6,7 +6,8 @@ use Rattle.mdconstructs_rests.specs.BothDocuments.{events_by}
 use Rattle.mdconstructs_sections.specs.Divided.{Divided, is_label_of}
 use Rattle.mdconstructs_sections.specs.Edits.{IsChange}
 use Rattle.mdconstructs_sections.specs.Kept.{IsRead, bytes_of_parts, bytes_of_sections, divided_of, recut_document}
-use Rattle.mdconstructs_sections.proofs.PutSections.{bytes-put, change-of, drained, every-put, kept-as, parts-within}
+use Rattle.mdconstructs_sections.proofs.PutSections.{bytes-put, change-of, every-put, kept-as, parts-within, spliced}
+use Rattle.mdconstructs_sections.proofs.put.put_same.Goals.{In_ok-splice}
 use Rattle.mdconstructs_sections.proofs.put.put_same.Goals as goal
 
 pub read_parts-requires-clause-limit : goal.read_parts-requires-clause-limit
@@ -15,32 +16,28 @@ read_parts-requires-clause-limit c =
     let sections = bytes_of_sections kept.sections.items in
     parts-within kept.options.tab_size (take c.args.from sections) (bytes_of_parts c.args.parts.items) (drop c.args.end sections) c.requires.recut.divided.limit
 
-pub returns-clause-kept : goal.returns-clause-kept
-returns-clause-kept c =
-    let kept = c.args.kept.now in
-    let from = c.args.from in
-    let end = c.args.end in
-    let parts = bytes_of_parts c.args.parts.items in
+-- the sections that were read are put in the place of some
+put-in : (c : In_ok-splice) → c.splice.new.self.items ≡ take c.args.from c.args.kept.now.sections.items ++ (c.in_ok-read.read.items ++ drop c.args.end c.args.kept.now.sections.items)
+put-in c =
     let read = c.in_ok-read.read in
     let h = c.in_ok-splice.ensures.items in
-    let given = drained h.0 read.items h.1 h.2.0 (h.2.1 ∙ read.ok.0) h.3 in
-    let items = h.4 ∙ ap (λ xs. take from kept.sections.items ++ (xs ++ drop end kept.sections.items)) given in
-    kept-as (record { options = kept.options; machine = kept.machine; sections = c.splice.new.self }) (recut_document kept from end parts)
-    (ap (λ (sections : List (List ℕ)). record { options = kept.options; sections = sections }) (ap bytes_of_sections items ∙ bytes-put from end kept.sections.items read.items parts c.in_ok-read.ensures.bytes))
-    c.requires.recut.divided c.requires.labels
-    (subst (AllByRecursion (IsRead kept.options (defines kept.machine.labels))) (sym items) (every-put (IsRead kept.options (defines kept.machine.labels)) from end kept.sections.items read.items c.requires.kept.read c.in_ok-read.ensures.read))
+    spliced c.args.from c.args.end c.args.kept.now.sections.items read.items c.splice.new.self.items h.0 h.1 h.2.0 (h.2.1 ∙ read.ok.0) h.3 h.4
 
 pub returns-clause-document : goal.returns-clause-document
 returns-clause-document c =
     let kept = c.args.kept.now in
-    let from = c.args.from in
-    let end = c.args.end in
-    let parts = bytes_of_parts c.args.parts.items in
-    let read = c.in_ok-read.read in
-    let h = c.in_ok-splice.ensures.items in
-    let given = drained h.0 read.items h.1 h.2.0 (h.2.1 ∙ read.ok.0) h.3 in
-    let items = h.4 ∙ ap (λ xs. take from kept.sections.items ++ (xs ++ drop end kept.sections.items)) given in
-    ap (λ (sections : List (List ℕ)). record { options = kept.options; sections = sections }) (ap bytes_of_sections items ∙ bytes-put from end kept.sections.items read.items parts c.in_ok-read.ensures.bytes)
+    let items = put-in (goal.at.returns-clause-document c).In_ok-splice in
+    ap (λ (sections : List (List ℕ)). record { options = kept.options; sections = sections })
+    (ap bytes_of_sections items ∙ bytes-put c.args.from c.args.end kept.sections.items c.in_ok-read.read.items (bytes_of_parts c.args.parts.items) c.in_ok-read.ensures.bytes)
+
+pub returns-clause-kept : goal.returns-clause-kept
+returns-clause-kept c =
+    let kept = c.args.kept.now in
+    let P = IsRead kept.options (defines kept.machine.labels) in
+    let items = put-in (goal.at.returns-clause-kept c).In_ok-splice in
+    kept-as (record { options = kept.options; machine = kept.machine; sections = c.splice.new.self }) (recut_document kept c.args.from c.args.end (bytes_of_parts c.args.parts.items))
+    (returns-clause-document c) c.requires.recut.divided c.requires.labels
+    (subst (AllByRecursion P) (sym items) (every-put P c.args.from c.args.end kept.sections.items c.in_ok-read.read.items c.requires.kept.read c.in_ok-read.ensures.read))
 
 pub returns-clause-change : goal.returns-clause-change
 returns-clause-change c =

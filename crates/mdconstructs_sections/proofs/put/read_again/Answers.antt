@@ -3,27 +3,29 @@ use Rattle.std.proofs.lemmas.List.{append_assoc}
 use Rattle.mdconstructs_labels.specs.Defined.{defines}
 use Rattle.mdconstructs_rests.specs.BothDocuments.{events_by}
 use Rattle.mdconstructs_sections.proofs.put.read_again.Goals as goal
-use Rattle.mdconstructs_sections.proofs.put.read_again.Goals.{then-section+in_ok-events+in_ok-push, else-section}
-use Rattle.mdconstructs_sections.proofs.Rereads.{rereads-asks, rereads-stay}
+use Rattle.mdconstructs_sections.proofs.put.read_again.Goals.{then-asks+in_ok-events+in_ok-push, else-asks}
+use Rattle.mdconstructs_sections.proofs.Rereads.{rereads-looks, rereads-stay}
 use Rattle.mdconstructs_sections.specs.Put.{rereads}
 
 pub loop-index-preserved : goal.loop-index-preserved
 loop-index-preserved c =
     let options = c.args.options.now in
-    let defined = defines c.args.machine.now.labels in
+    let old = c.args.old.now in
+    let new = c.args.machine.now.labels in
     let n = c.args.first in
     let xs = c.args.sections.now in
     let i = c.loop-index.index in
     let s = c.index-sections-index.result in
-    let old = c.args.others.now.items in
+    let before = c.args.others.now.items in
     let lt : i < length xs = omega arith in
-    elim c.if-section.branch [
-      | then-section+in_ok-events+in_ok-push w ↦
+    elim c.if-asks.branch [
+      | then-asks+in_ok-events+in_ok-push w ↦
           let events = w.in_ok-events.events in
-          let more = rereads-asks options defined n xs i s events lt c.index-sections-index.is w.if-section.true
-          (w.in_ok-events.ensures ∙ ap (events_by options defined) w.as_slice.ensures.value) in
+          let more = rereads-looks options old new n xs i s lt c.index-sections-index.is events (sym c.in_ok-asks.ensures ∙ w.if-asks.true)
+          (w.in_ok-events.ensures ∙ ap (events_by options (defines new)) w.as_slice.ensures.value) in
           ap (λ v. v.items) w.others-is ∙ w.in_ok-push.ensures.items ∙ ap (λ os. os ++ record { section = n + i; events = events } ∷ []) c.loop-index.invariant
-          ∙ append_assoc old (rereads options defined n (take i xs)) (record { section = n + i; events = events } ∷ []) ∙ ap (λ os. old ++ os) (sym more)
-      | else-section w ↦
-          ap (λ v. v.items) w.others-is ∙ c.loop-index.invariant ∙ ap (λ os. old ++ os) (sym (rereads-stay options defined n xs i s lt c.index-sections-index.is w.if-section.false))
+          ∙ append_assoc before (rereads options old new n (take i xs)) (record { section = n + i; events = events } ∷ []) ∙ ap (λ os. before ++ os) (sym more)
+      | else-asks w ↦
+          ap (λ v. v.items) w.others-is ∙ c.loop-index.invariant
+          ∙ ap (λ os. before ++ os) (sym (rereads-stay options old new n xs i s lt c.index-sections-index.is (sym c.in_ok-asks.ensures ∙ w.if-asks.false)))
     ]

@@ -1,7 +1,9 @@
-use Rattle.std.proofs.Common.{ap, ◌∙◌}
+use Rattle.std.proofs.Common.{◌≡◌, ap, subst, sym, ◌∙◌}
+use Rattle.std.proofs.lemmas.Result.{err_from_is_err_and}
 use Rattle.mdconstructs_labels.specs.Defined.{defines}
 use Rattle.mdconstructs_rests.specs.BothDocuments.{events_by}
-use Rattle.mdconstructs_sections.specs.Kept.{has_end}
+use Rattle.mdconstructs_sections.specs.declared.packed.PackError.TheVariants.{TooLong}
+use Rattle.mdconstructs_sections.specs.Kept.{IsPackable, has_end}
 use Rattle.mdconstructs_sections.specs.PositionParts.{endings}
 use Rattle.mdconstructs_sections.proofs.section.section_of.Goals as goal
 
@@ -15,3 +17,9 @@ returns-clause-read c =
       asks = c.has_end-asks.ensures ∙ ap has_end same;
       events = c.in_ok-events.ensures ∙ ap (events_by c.args.options.now (defines c.args.machine.now.labels)) same;
     }
+
+pub returns-in_err-events-clause-fits : goal.returns-in_err-events-clause-fits
+returns-in_err-events-clause-fits c fits long =
+    let p = err_from_is_err_and c.from_residual.result c.from_residual.ensures.1 in
+    let is : c.in_err-events.field-0.0 ≡ TooLong = cc (p.1, p.2, long) in
+    c.in_err-events.ensures is (subst (IsPackable c.args.options.now (defines c.args.machine.now.labels)) (sym c.as_slice-bytes.ensures.value) fits)

@@ -1,0 +1,40 @@
+-- Labels that may be looked up in bytes: those that may stand between brackets there.
+use Rattle.std.specs.Prelude.{ℕ, ◌==◌, ◌&&◌, ◌||◌, not, cond, Bool, false, List, [], ◌∷◌, ◌++◌}
+use Rattle.mdconstructs_labels.specs.Defined.{defines}
+use Rattle.mdconstructs_labels.specs.Labels.{hides, is_bracket}
+use Rattle.mdconstructs_labels.specs.declared.labels.Labels.{Labels}
+
+-- a line ends at a byte
+abbrev pub ends_line : ℕ → Bool
+ends_line byte = (byte == 10) || (byte == 13)
+
+-- A label may stand at the front of bytes: it agrees with them up to its end, where a `]` is, or up to a line ending. (In the next lines the marks of
+-- containers may stand between its bytes)
+abbrev pub may_stand : (label bytes : List ℕ) → Bool
+may_stand label [] = false
+may_stand [] (b ∷ bs) = (b == 93) || ends_line b
+may_stand (l ∷ ls) (b ∷ bs) = ((l == b) && may_stand ls bs) || ends_line b
+
+-- so it may somewhere behind a `[`
+abbrev pub is_in_brackets : (label bytes : List ℕ) → Bool
+is_in_brackets label [] = false
+is_in_brackets label (b ∷ bs) = ((b == 91) && may_stand label bs) || is_in_brackets label bs
+
+-- a label is defined in one of two sets, and not in the other
+abbrev pub changes : (old new : Labels) → List ℕ → Bool
+changes old new label = cond (defines old label) (not (defines new label)) (defines new label)
+
+-- ---- how it is found out
+
+module _ (wanted : List ℕ → Bool) where
+  -- Behind a `[` and some bytes, of which the last may hide the next one: a wanted label ends at one of the `]` that come, up to the first bracket that is
+  -- not hidden; or a line ends before that
+  abbrev pub label_ends : (hidden : Bool) → (read bytes : List ℕ) → Bool
+  label_ends hidden read [] = false
+  label_ends hidden read (b ∷ bs) =
+      ends_line b || (((b == 93) && wanted read) || (not (is_bracket b && not hidden) && label_ends (hides hidden b) (read ++ b ∷ []) bs))
+
+  -- a wanted label may stand somewhere behind a `[`
+  abbrev pub may_ask : List ℕ → Bool
+  may_ask [] = false
+  may_ask (b ∷ bs) = ((b == 91) && label_ends false [] bs) || may_ask bs
