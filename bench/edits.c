@@ -1,7 +1,7 @@
 /* Edits a document of 2,500 paragraphs of 400 bytes by the static library, to be measured: prints the document's length, how many bytes the
  * sections have that were replaced, and how many sections were read again beside them.
- * usage: edits MODE TIMES [plain]   (MODE is read, which reads the document TIMES times and edits nothing; keep, which keeps it for edits; or
- * byte, line or paragraph, which keeps it, and TIMES times types a byte, types a line ending, or takes 400 bytes out and puts them back, each at
+ * usage: edits MODE TIMES [plain]   (MODE is print, which writes the document out; read, which reads it TIMES times and edits nothing; keep, which keeps
+ * it for edits; or byte, line or paragraph, which keeps it, and TIMES times types a byte, types a line ending, or takes 400 bytes out and puts them back, each at
  * another place; with plain the paragraphs have no markup) */
 #include "../bindings/limecove.h"
 #include <stdio.h>
@@ -51,6 +51,8 @@ int main(int argc, char **argv) {
     const char *mode = argv[1];
     size_t times = strtoul(argv[2], NULL, 10), replaced = 0, others = 0;
     fill(argc > 3);
+    if (strcmp(mode, "print") == 0)
+        return fwrite(bytes, sizeof bytes, 1, stdout) != 1;
     if (strcmp(mode, "read") == 0) {
         struct limecove_options options = limecove_default_options();
         for (size_t i = 0; i < times; i++) {

@@ -1,13 +1,16 @@
 #!/usr/bin/env python3
 """Prints what an edit costs, as the rows of a table: instructions by callgrind for an edit of a document of 1,000,000 bytes in paragraphs of 400,
-beside what reading the replaced sections takes, and all of the document; and the most that is on the heap while the document is made (massif).
-The status is 1 if an edit takes more than three times the reading of what it replaces, and 2,000, or more than 1/500 of reading all.
+beside what reading the replaced sections takes, and all of the document; and the most that is on the heap while the document is made (massif), beside
+what cmark has there while it writes the same document as HTML, if it is installed (Debian's package cmark).
+The status is 1 if an edit takes more than three times the reading of what it replaces, and 2,000, or more than 1/500 of reading all; or if the heap is
+above twice cmark's.
 
 usage: bench/edits.py [LIBRARY]     needs cc, valgrind, and bindings/out/liblimecove.a (bindings/build.sh), or LIBRARY in its place
 """
 
 import os
 import re
+import shutil
 import subprocess
 import sys
 import tempfile
@@ -32,6 +35,17 @@ def heap(program, folder, *words):
         return max(int(line.split("=")[1]) for line in it if line.startswith("mem_heap_B="))
 
 
+def by_cmark(program, folder, *text):
+    """The most that cmark has on the heap at once over the document, in bytes. None if it is not installed."""
+    cmark = shutil.which("cmark")
+    if not cmark:
+        return None
+    file = f"{folder}/document.md"
+    with open(file, "wb") as it:
+        subprocess.run([program, "print", "0", *text], stdout=it, check=True)
+    return heap(cmark, folder, file)
+
+
 def main(library):
     """Prints the table."""
     bad = 0
@@ -50,7 +64,10 @@ def main(library):
                 each, touched = (edited - kept) / edits, whole / size * replaced / edits
                 bad += each > 3 * touched + 2000 or each > whole / 500
                 print(f"| {' '.join(text) or 'markup'} | {mode} | {each:,.0f} | {each / touched:.2f} | 1/{whole / each:,.0f} | {others} |")
-            print(f"| {' '.join(text) or 'markup'} | none: it is made, {heap(program, folder, 'keep', '0', *text) / 1024:,.0f} KiB | {kept - none:,} | | {(kept - none) / whole:.2f} | |")
+            ours, theirs = heap(program, folder, "keep", "0", *text), by_cmark(program, folder, *text)
+            bad += theirs is not None and ours > 2 * theirs
+            beside = "" if theirs is None else f" (cmark: {theirs / 1024:,.0f})"
+            print(f"| {' '.join(text) or 'markup'} | none: it is made, {ours / 1024:,.0f} KiB{beside} | {kept - none:,} | | {(kept - none) / whole:.2f} | |")
     return 1 if bad else 0
 
 
