@@ -332,6 +332,7 @@ pub use Rattle.mdconstructs_sections.proofs.LabelBytes
 pub use Rattle.mdconstructs_sections.proofs.LinesBack
 pub use Rattle.mdconstructs_sections.proofs.MayStand
 pub use Rattle.mdconstructs_sections.proofs.NewLabels
+pub use Rattle.mdconstructs_sections.proofs.PackedParts
 pub use Rattle.mdconstructs_sections.proofs.PartStarts
 pub use Rattle.mdconstructs_sections.proofs.PartsMove
 pub use Rattle.mdconstructs_sections.proofs.PutBack

@@ -1,8 +1,12 @@
--- If the events of a document can be packed, so can those of each of its sections.
-use Rattle.std.proofs.Common.{◌≡◌, ℕ, ◌+◌, ◌-◌, ◌^◌, ◌&&◌, Bool, true, nat_lt, List, [], ◌∷◌, length, map, refl, subst, sym, ap, ◌∙◌, arith, Option, Some, None}
+-- If the events of a document can be packed, so can those of each of its sections; and an edited document within the limit is a possible one.
+use Rattle.std.proofs.Common.{◌≡◌, ℕ, ◌+◌, ◌-◌, ◌^◌, ◌&&◌, Bool, true, nat_lt, ◌<◌, List, [], ◌∷◌, ◌++◌, length, take, drop, map, refl, subst, sym, ap, ◌∙◌, arith, Option, Some, None}
 use Rattle.std.proofs.lemmas.Bool.{and_from, and_parts, lt-ltb, ltb-true}
 use Rattle.std.proofs.lemmas.List.Folds.{list_all-append}
+use Rattle.std.proofs.lemmas.List.Elements.{All-append, All-drop, All-take}
 use Rattle.std.specs.List.{AllByRecursion}
+use Rattle.std.specs.Prelude.{All}
+use Rattle.markdown_base.specs.Virtual.{IsWithinLimit}
+use Rattle.markdown_base.specs.declared.configuration.ParseOptions.{ParseOptions}
 use Rattle.markdown_base.specs.declared.event.Event.{Event}
 use Rattle.markdown_base.specs.declared.event.Link.{Link}
 use Rattle.markdown_base.specs.declared.event.Point.{Point}
@@ -12,8 +16,10 @@ use Rattle.mdconstructs_documents.specs.Documents.{document}
 use Rattle.mdconstructs_rests.specs.Moved.{line_endings, moved_event, moved_index, moved_link, moved_point}
 use Rattle.mdconstructs_rests.specs.Sections.{events_of_sections}
 use Rattle.mdconstructs_sections.specs.Divided.{Divided, IsDivided, bytes_of, is_label_of, section_events}
+use Rattle.mdconstructs_sections.specs.Edits.{edited}
 use Rattle.mdconstructs_sections.specs.Kept.{IsPackable}
 use Rattle.mdconstructs_sections.specs.Packed.{end_fits, event_fits, events_fit, link_fits, point_fits}
+use Rattle.mdconstructs_sections.specs.declared.edit.Edit.{Edit}
 use Rattle.mdconstructs_sections.proofs.Below.{sections-give}
 
 -- a number fits if a greater one does
@@ -71,3 +77,15 @@ sections-fit d defined possible is knows fits =
     let all = sections-give d.options d.sections possible is.sections.cut in
     let same : defined ≡ is_label_of d = λ i label. knows label i in
     subst (λ g. AllByRecursion (IsPackable d.options g) d.sections) (sym same) (each-fits (section_events d) d.sections (ap events_fit all ∙ fits))
+
+-- a document within the limit stays a possible one when it is edited
+pub edited-document : (options : ParseOptions) (edit : Edit) (bytes : List ℕ) → IsDocument (document options bytes) → All (λ b. b < 256) edit.with.now
+    → IsWithinLimit options.tab_size (edited edit bytes) → IsDocument (document options (edited edit bytes))
+edited-document options edit bytes is new limit =
+    let P = λ (b : ℕ). b < 256 in
+    let behind = drop edit.to bytes in record {
+      bytes = All-append P (take edit.from bytes) (edit.with.now ++ behind) (All-take P edit.from bytes is.bytes) (All-append P edit.with.now behind new (All-drop P edit.to bytes is.bytes));
+      tab = is.tab;
+      limit = limit;
+      one_size = refl;
+    }

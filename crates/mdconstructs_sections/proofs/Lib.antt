@@ -17,6 +17,7 @@ pub mod LabelBytes
 pub mod LinesBack
 pub mod MayStand
 pub mod NewLabels
+pub mod PackedParts
 pub mod PartStarts
 pub mod PartsMove
 pub mod PutBack

@@ -1,16 +1,20 @@
 -- The labels of a document with parts in the place of some of its sections.
-use Rattle.std.proofs.Common.{◌≡◌, ℕ, ◌+◌, ◌-◌, ◌≤◌, Bool, true, false, List, [], ◌∷◌, ◌++◌, length, take, drop, map, refl, sym, ap, ◌∙◌, arith}
+use Rattle.std.proofs.Common.{◌≡◌, ℕ, ◌+◌, ◌-◌, ◌≤◌, Bool, true, false, List, [], ◌∷◌, ◌++◌, length, take, drop, map, refl, sym, ap, ◌∙◌, subst, arith}
 use Rattle.std.proofs.lemmas.Grind.{flat_map-append}
 use Rattle.std.proofs.lemmas.List.{drop-drop, drop-map, map-append, take-append-drop, take-map, take_rest}
 use Rattle.std.proofs.lemmas.List.Folds.{list_any-append}
 use Rattle.std.specs.List.{AllByRecursion, flat_map}
 use Rattle.std.specs.Prelude.{◌||◌}
+use Rattle.markdown_base.proofs.Common.{every-map}
 use Rattle.markdown_base.specs.declared.configuration.ParseOptions.{ParseOptions}
 use Rattle.mdconstructs_definitions.specs.Labelled.{is_one_of}
 use Rattle.mdconstructs_labels.specs.Defined.{defines, is_same}
-use Rattle.mdconstructs_sections.specs.Kept.{IsLabelled, bytes_of_parts, bytes_of_sections, labels_written}
+use Rattle.mdconstructs_sections.specs.Divided.{is_label_of}
+use Rattle.mdconstructs_sections.specs.Kept.{IsKept, IsLabelled, IsRead, IsRecut, bytes_of_parts, bytes_of_sections, labels_written, recut_document}
+use Rattle.mdconstructs_sections.specs.declared.kept.Kept.{Kept}
 use Rattle.mdconstructs_sections.specs.declared.section.Part.{Part}
 use Rattle.mdconstructs_sections.specs.declared.section.Section.{Section}
+use Rattle.mdconstructs_sections.proofs.SectionLabels.{labels-divided}
 
 -- a label is written in sections
 abbrev pub is_written : ParseOptions → List (List ℕ) → List ℕ → Bool
@@ -67,7 +71,7 @@ module _ (options : ParseOptions) where
         ∙ ap (λ ss. is_written options (bytes_of_sections (take from items)) label || (is_written options (bytes_of_parts parts) label || is_written options ss label)) (drop-map (λ section. section.part.bytes.items) end items)
 
     -- where all others and the parts are defined
-    pub all-defined : (label : List ℕ) (last more first none : Bool) → last ≡ (is_written options (bytes_of_sections (take (length items - end) (drop end items))) label || more)
+    all-defined : (label : List ℕ) (last more first none : Bool) → last ≡ (is_written options (bytes_of_sections (take (length items - end) (drop end items))) label || more)
         → more ≡ (is_written options (bytes_of_parts parts) label || first) → first ≡ (is_written options (bytes_of_sections (take from items)) label || none) → none ≡ false
         → last ≡ recut_written label
     all-defined label last more first none is-last is-more is-first is-none =
@@ -90,3 +94,22 @@ module _ (options : ParseOptions) where
         ∙ ap (λ ss. bytes_of_sections (take from items) ++ ss) (map-append (λ section. section.part.bytes.items) (take (end - from) (drop from items)) (drop end items)))
         ∙ written-three (bytes_of_sections (take from items)) between (bytes_of_sections (drop end items)) label
         ∙ ap (λ x. f || (x || b)) (gone ∙ sym come) ∙ sym (recut-three label)
+
+-- ---- what is kept, with parts in the place of some of its sections
+module _ (k : Kept) {xs : List Section} (same : xs ≡ k.sections.items) where
+  -- its sections have the labels that they define
+  pub kept-labelled : IsKept k → AllByRecursion (λ (section : Section). IsLabelled k.options section.part) xs
+  kept-labelled kept =
+      subst (AllByRecursion (λ (section : Section). IsLabelled k.options section.part)) (sym same)
+      (every-map (IsRead k.options (defines k.machine.labels)) (λ section. IsLabelled k.options section.part) (λ section is. is.labels) k.sections.items kept.read)
+
+  module _ {from end : ℕ} (parts : List Part) (recut : IsRecut k from end (bytes_of_parts parts)) (label : List ℕ) where
+    -- what is written there is a label of the document
+    pub written-recut : recut_written k.options xs from end parts label ≡ is_label_of (recut_document k from end (bytes_of_parts parts)) label
+    written-recut = ap (λ ys. recut_written k.options ys from end parts label) same ∙ labels-divided (recut_document k from end (bytes_of_parts parts)) recut.divided label
+
+    -- so is what all others and the parts define
+    pub defined-recut : {last more first none : Bool} → last ≡ (is_written k.options (bytes_of_sections (take (length xs - end) (drop end xs))) label || more)
+        → more ≡ (is_written k.options (bytes_of_parts parts) label || first) → first ≡ (is_written k.options (bytes_of_sections (take from xs)) label || none) → none ≡ false
+        → last ≡ is_label_of (recut_document k from end (bytes_of_parts parts)) label
+    defined-recut {last} {more} {first} {none} is-last is-more is-first is-none = all-defined k.options xs from end parts label last more first none is-last is-more is-first is-none ∙ written-recut

@@ -4,45 +4,69 @@ use Rattle.std.proofs.Math.Nat.{mul-le-mul_right}
 use Rattle.std.proofs.lemmas.List.{append_assoc, drop-drop, drop-map, length-append, length-drop, length-map, length-take, take-map}
 use Rattle.std.specs.Prelude.{◌⊎◌}
 use Rattle.markdown_base.specs.Virtual.{IsWithinLimit}
-use Rattle.markdown_base.specs.declared.configuration.ParseOptions.{ParseOptions}
 use Rattle.mdconstructs_rests.specs.BothDocuments.{is_rest}
 use Rattle.mdconstructs_rests.specs.Sections.{are_sections_by, document_of}
+use Rattle.mdconstructs_sections.specs.declared.edit.Edit.{Edit}
 use Rattle.mdconstructs_sections.specs.declared.kept.Kept.{Kept}
 use Rattle.mdconstructs_sections.specs.declared.section.Section.{Section}
 use Rattle.mdconstructs_sections.specs.Divided.{IsDivided}
+use Rattle.mdconstructs_sections.specs.Edits.{edited}
 use Rattle.mdconstructs_sections.specs.FirstRest.{AreSectionsOf}
-use Rattle.mdconstructs_sections.specs.Kept.{IsRecut, bytes_of_sections, divided_of, recut_sections}
+use Rattle.mdconstructs_sections.specs.Kept.{IsKept, IsRecut, bytes_of_sections, divided_of, recut_sections}
 use Rattle.mdconstructs_sections.specs.Seams.{IsSeam}
 use Rattle.mdconstructs_sections.specs.Settled.{is_settled}
 use Rattle.mdconstructs_sections.proofs.Joined.{document-append}
 use Rattle.mdconstructs_sections.proofs.PutBack.{AreBack, back-all, back-met, edited-bytes, edited-seam, take-both}
 
--- bytes within the limit are few
-pub short-within : (t : ℕ) (bytes : List ℕ) → 1 ≤ t → IsWithinLimit t bytes → length bytes < 2 ^ 64
-short-within t bytes some h = omega (arith, mul-le-mul_right (length bytes) some, h)
+-- the bytes of what is kept are few
+pub short-kept : (k : Kept) {ss : List Section} {columns : ℕ} → ss ≡ k.sections.items → columns ≡ k.options.tab_size → 1 ≤ columns → IsKept k → length (document_of (bytes_of_sections ss)) < 2 ^ 64
+short-kept k same tab some is =
+    let limit = is.divided.limit in
+    let few : length (document_of (bytes_of_sections k.sections.items)) < 2 ^ 64 = omega (arith, mul-le-mul_right (length (document_of (bytes_of_sections k.sections.items))) (subst (λ n. 1 ≤ n) tab some), limit) in
+    subst (λ xs. length (document_of (bytes_of_sections xs)) < 2 ^ 64) (sym same) few
 
 -- the bytes of sections one behind the other
-pub slice-bytes : (count from : ℕ) (ss : List Section) → bytes_of_sections (take count (drop from ss)) ≡ take count (drop from (bytes_of_sections ss))
+slice-bytes : (count from : ℕ) (ss : List Section) → bytes_of_sections (take count (drop from ss)) ≡ take count (drop from (bytes_of_sections ss))
 slice-bytes count from ss =
     sym (take-map (λ (section : Section). section.part.bytes.items) count (drop from ss)) ∙ ap (take count) (sym (drop-map (λ (section : Section). section.part.bytes.items) from ss))
 
+-- Sections are looked at, from one up to another: a text and their bytes are what is cut
+pub record AreLooked (k : Kept) (ss : List Section) (behind end : ℕ) (text next : List ℕ) : Type 0 where
+  pub same : ss ≡ k.sections.items
+  pub order : behind ≤ end
+  pub within : end ≤ length k.sections.items
+  pub bytes : next ≡ text ++ document_of (take (end - behind) (drop behind (bytes_of_sections k.sections.items)))
+
+-- how long that is
+pub looked-size : {k : Kept} {ss : List Section} {behind end : ℕ} {text next : List ℕ} → AreLooked k ss behind end text next → length next ≡ length text + length (document_of (bytes_of_sections (take (end - behind) (drop behind ss))))
+looked-size {k} {ss} {behind} {end} {text} looked =
+    ap length looked.bytes
+    ∙ length-append text (document_of (take (end - behind) (drop behind (bytes_of_sections k.sections.items))))
+    ∙ ap (λ ys. length text + length (document_of ys)) (sym (ap (λ xs. bytes_of_sections (take (end - behind) (drop behind xs))) looked.same ∙ slice-bytes (end - behind) behind k.sections.items))
+
 -- more sections are looked at
-pub text-more : (sections ss : List Section) (behind end step : ℕ) (text now next : List ℕ) → sections ≡ ss → behind ≤ end → now ≡ text ++ document_of (take (end - behind) (drop behind (bytes_of_sections ss)))
-    → next ≡ now ++ document_of (bytes_of_sections (take (end + step - end) (drop end sections))) → next ≡ text ++ document_of (take (end + step - behind) (drop behind (bytes_of_sections ss)))
-text-more sections ss behind end step text now next same order before more =
-    let left = drop behind (bytes_of_sections ss) in
+pub looked-more : (k : Kept) {ss : List Section} {behind end : ℕ} (step : ℕ) (text : List ℕ) {now next : List ℕ} → ss ≡ k.sections.items → behind ≤ end → end ≤ length k.sections.items → step ≤ length ss - end
+    → now ≡ text ++ document_of (take (end - behind) (drop behind (bytes_of_sections k.sections.items))) → next ≡ now ++ document_of (bytes_of_sections (take (end + step - end) (drop end ss))) → AreLooked k ss behind (end + step) text next
+looked-more k {ss} {behind} {end} step text {now} same order within few before more =
+    let old = bytes_of_sections k.sections.items in
+    let left = drop behind old in
     let count = end - behind in
     let e : behind + count ≡ end = omega arith in
     let f : end + step - end ≡ step = omega arith in
     let g : count + step ≡ end + step - behind = omega arith in
-    let added : bytes_of_sections (take (end + step - end) (drop end ss)) ≡ take step (drop count left) =
-    ap (λ n. bytes_of_sections (take n (drop end ss))) f ∙ slice-bytes step end ss ∙ ap (take step) (ap (λ n. drop n (bytes_of_sections ss)) (sym e) ∙ sym (drop-drop count behind (bytes_of_sections ss))) in
-    more
-    ∙ ap (λ xs. now ++ document_of (bytes_of_sections (take (end + step - end) (drop end xs)))) same
-    ∙ ap (λ ys. now ++ document_of ys) added
-    ∙ ap (λ bs. bs ++ document_of (take step (drop count left))) before
-    ∙ append_assoc text (document_of (take count left)) (document_of (take step (drop count left)))
-    ∙ ap (λ bs. text ++ bs) (sym (document-append (take count left) (take step (drop count left))) ∙ ap document_of (take-both count step left) ∙ ap (λ n. document_of (take n left)) g)
+    let added : bytes_of_sections (take (end + step - end) (drop end k.sections.items)) ≡ take step (drop count left) =
+    ap (λ n. bytes_of_sections (take n (drop end k.sections.items))) f ∙ slice-bytes step end k.sections.items ∙ ap (take step) (ap (λ n. drop n old) (sym e) ∙ sym (drop-drop count behind old)) in
+    record {
+      same = same;
+      order = omega arith;
+      within = omega (arith, ap length same, within, few);
+      bytes = more
+          ∙ ap (λ xs. now ++ document_of (bytes_of_sections (take (end + step - end) (drop end xs)))) same
+          ∙ ap (λ ys. now ++ document_of ys) added
+          ∙ ap (λ bs. bs ++ document_of (take step (drop count left))) before
+          ∙ append_assoc text (document_of (take count left)) (document_of (take step (drop count left)))
+          ∙ ap (λ bs. text ++ bs) (sym (document-append (take count left) (take step (drop count left))) ∙ ap document_of (take-both count step left) ∙ ap (λ n. document_of (take n left)) g);
+    }
 
 module _ (k : Kept) (from behind : ℕ) (text : List ℕ) (is : IsDivided (divided_of k)) (order : from ≤ behind) (limit : IsWithinLimit k.options.tab_size (document_of (take from (bytes_of_sections k.sections.items)) ++ (text ++ document_of (drop behind (bytes_of_sections k.sections.items)))))
     (seam : IsSeam k.options (take from (bytes_of_sections k.sections.items)) (text ++ document_of (drop behind (bytes_of_sections k.sections.items)))) where
@@ -61,36 +85,36 @@ module _ (k : Kept) (from behind : ℕ) (text : List ℕ) (is : IsDivided (divid
     bytes = b.bytes;
   }
 
-  module _ (end : ℕ) (now : List ℕ) (parts : List (List ℕ)) (looked : behind ≤ end) (within : end ≤ length k.sections.items) (text-is : now ≡ text ++ document_of (take (end - behind) (drop behind (bytes_of_sections k.sections.items))))
-      (cut : AreSectionsOf k.options now parts) where
+  module _ {ss : List Section} {end : ℕ} {next bytes : List ℕ} {parts : List (List ℕ)} (looked : AreLooked k ss behind end text next) (is_next : bytes ≡ next) (cut : AreSectionsOf k.options bytes parts) where
     are : AreSectionsOf k.options (text ++ document_of (take (end - behind) (drop behind (bytes_of_sections k.sections.items)))) parts
-    are = subst (λ bs. AreSectionsOf k.options bs parts) text-is cut
+    are = subst (λ bs. AreSectionsOf k.options bs parts) (is_next ∙ looked.bytes) cut
 
     -- all of them
-    pub put-all : end ≡ length k.sections.items → ArePut end parts
+    pub put-all : end ≡ length ss → ArePut end parts
     put-all last =
         let old = bytes_of_sections k.sections.items in
-        let long : length old ≡ length k.sections.items = length-map k.sections.items (λ (section : Section). section.part.bytes.items) in
-        put end parts (omega arith) within (back-all k.options old from behind text is.sections seam (end - behind) parts are end (omega arith) (omega (arith, length-drop behind old)))
+        let long : length old ≡ length ss = length-map k.sections.items (λ (section : Section). section.part.bytes.items) ∙ ap length (sym looked.same) in
+        put end parts (omega (arith, looked.order)) looked.within
+        (back-all k.options old from behind text is.sections seam (end - behind) parts are end (omega (arith, long, last)) (omega (arith, long, last, length-drop behind old)))
 
     -- or up to one that a part meets
-    pub put-met : (sections : List Section) (size some passed : ℕ) (found : List (List ℕ)) → sections ≡ k.sections.items → size ≡ length text → take some parts ≡ found → passed < length (take (end - behind) (drop behind sections))
-        → length (document_of (take some parts)) ≡ size + length (document_of (take passed (bytes_of_sections (take (end - behind) (drop behind sections))))) → ArePut (behind + passed) found
-    put-met sections size some passed found same size-is found-is lt met =
+    pub put-met : (size some passed : ℕ) {found : List (List ℕ)} → size ≡ length text → take some parts ≡ found → passed < length (take (end - behind) (drop behind ss))
+        → length (document_of (take some parts)) ≡ size + length (document_of (take passed (bytes_of_sections (take (end - behind) (drop behind ss))))) → ArePut (behind + passed) found
+    put-met size some passed size-is found-is lt met =
         let old = bytes_of_sections k.sections.items in
-        let slice : bytes_of_sections (take (end - behind) (drop behind sections)) ≡ take (end - behind) (drop behind old) =
-        ap (λ ss. bytes_of_sections (take (end - behind) (drop behind ss))) same ∙ slice-bytes (end - behind) behind k.sections.items in
-        let few : passed < length (take (end - behind) (drop behind old)) = omega (arith, lt, ap length slice, length-map (take (end - behind) (drop behind sections)) (λ (section : Section). section.part.bytes.items)) in
+        let slice : bytes_of_sections (take (end - behind) (drop behind ss)) ≡ take (end - behind) (drop behind old) =
+        ap (λ xs. bytes_of_sections (take (end - behind) (drop behind xs))) looked.same ∙ slice-bytes (end - behind) behind k.sections.items in
+        let few : passed < length (take (end - behind) (drop behind old)) = omega (arith, lt, ap length slice, length-map (take (end - behind) (drop behind ss)) (λ (section : Section). section.part.bytes.items)) in
         let long : length old ≡ length k.sections.items = length-map k.sections.items (λ (section : Section). section.part.bytes.items) in
         let back = back-met k.options old from behind text is.sections seam (end - behind) parts are some passed few
         (met ∙ ap (λ ys. size + length (document_of (take passed ys))) slice ∙ ap (λ n. n + length (document_of (take passed (take (end - behind) (drop behind old))))) size-is) in
         subst (λ ps. ArePut (behind + passed) ps) found-is
-        (put (behind + passed) (take some parts) (omega arith) (omega (arith, few, long, length-take (end - behind) (drop behind old), length-drop behind old)) back)
+        (put (behind + passed) (take some parts) (omega arith) (omega (arith, few, long, looked.order, looked.within, length-take (end - behind) (drop behind old), length-drop behind old)) back)
 
--- ---- an edit of sections, of which those from one up to another are touched
-module _ (ss : List Section) (from behind start at first last : ℕ) (order : from ≤ behind) (start-is : start ≡ length (document_of (take from (bytes_of_sections ss)))) (at-is : at ≡ length (document_of (take behind (bytes_of_sections ss))))
-    (before : start ≤ first) (ordered : first ≤ last) (reach : last ≤ at) where
-  touched-size : last ≤ start + length (document_of (take (behind - from) (drop from (bytes_of_sections ss))))
+-- ---- an edit of what is kept: of its sections, those from one up to another are touched
+module _ (k : Kept) (edit : Edit) {ss : List Section} {from behind start at : ℕ} (same : ss ≡ k.sections.items) (order : from ≤ behind) (start-is : start ≡ length (document_of (take from (bytes_of_sections ss))))
+    (at-is : at ≡ length (document_of (take behind (bytes_of_sections ss)))) (before : start ≤ edit.from) (ordered : edit.from ≤ edit.to) (reach : edit.to ≤ at) where
+  touched-size : edit.to ≤ start + length (document_of (take (behind - from) (drop from (bytes_of_sections ss))))
   touched-size =
       let old = bytes_of_sections ss in
       let e : from + (behind - from) ≡ behind = omega arith in
@@ -99,20 +123,26 @@ module _ (ss : List Section) (from behind start at first last : ℕ) (order : fr
       sym (length-append (document_of (take from old)) (document_of (take (behind - from) (drop from old)))) ∙ ap length (sym (document-append (take from old) (take (behind - from) (drop from old))) ∙ ap document_of both) in
       omega arith
 
-  pub touched-within : last ≤ start + length (document_of (bytes_of_sections (take (behind - from) (drop from ss))))
-  touched-within = subst (λ ys. last ≤ start + length (document_of ys)) (sym (slice-bytes (behind - from) from ss)) touched-size
+  pub touched-within : edit.to ≤ start + length (document_of (bytes_of_sections (take (behind - from) (drop from ss))))
+  touched-within = subst (λ ys. edit.to ≤ start + length (document_of ys)) (sym (slice-bytes (behind - from) from ss)) touched-size
 
-  module _ (options : ParseOptions) (w text : List ℕ) (text-is : text ≡ take (first - start) (document_of (bytes_of_sections (take (behind - from) (drop from ss)))) ++ (w ++ drop (last - start) (document_of (bytes_of_sections (take (behind - from) (drop from ss)))))) where
-    text-of : text ≡ take (first - start) (document_of (take (behind - from) (drop from (bytes_of_sections ss)))) ++ (w ++ drop (last - start) (document_of (take (behind - from) (drop from (bytes_of_sections ss)))))
-    text-of = text-is ∙ ap (λ ys. take (first - start) (document_of ys) ++ (w ++ drop (last - start) (document_of ys))) (slice-bytes (behind - from) from ss)
+  module _ {text : List ℕ}
+      (text-is : text ≡ take (edit.from - start) (document_of (bytes_of_sections (take (behind - from) (drop from ss)))) ++ (edit.with.now ++ drop (edit.to - start) (document_of (bytes_of_sections (take (behind - from) (drop from ss)))))) where
+    text-of : text ≡ take (edit.from - start) (document_of (take (behind - from) (drop from (bytes_of_sections ss)))) ++ (edit.with.now ++ drop (edit.to - start) (document_of (take (behind - from) (drop from (bytes_of_sections ss)))))
+    text-of = text-is ∙ ap (λ ys. take (edit.from - start) (document_of ys) ++ (edit.with.now ++ drop (edit.to - start) (document_of ys))) (slice-bytes (behind - from) from ss)
 
-    pub touched-bytes : document_of (take from (bytes_of_sections ss)) ++ (text ++ document_of (drop behind (bytes_of_sections ss))) ≡ take first (document_of (bytes_of_sections ss)) ++ (w ++ drop last (document_of (bytes_of_sections ss)))
+    -- the text in their place edits the document
+    pub touched-bytes : document_of (take from (bytes_of_sections k.sections.items)) ++ (text ++ document_of (drop behind (bytes_of_sections k.sections.items))) ≡ edited edit (document_of (bytes_of_sections k.sections.items))
     touched-bytes =
-        ap (λ bs. document_of (take from (bytes_of_sections ss)) ++ (bs ++ document_of (drop behind (bytes_of_sections ss)))) text-of
-        ∙ edited-bytes options (bytes_of_sections ss) from behind order start first last w start-is before ordered touched-size
+        subst (λ xs. document_of (take from (bytes_of_sections xs)) ++ (text ++ document_of (drop behind (bytes_of_sections xs))) ≡ edited edit (document_of (bytes_of_sections xs))) same
+        (ap (λ bs. document_of (take from (bytes_of_sections ss)) ++ (bs ++ document_of (drop behind (bytes_of_sections ss)))) text-of
+        ∙ edited-bytes k.options (bytes_of_sections ss) from behind order start edit.from edit.to edit.with.now start-is before ordered touched-size)
 
-    pub touched-seam : are_sections_by (is_rest options) (bytes_of_sections ss) ≡ true → (from ≡ 0) ⊎ (is_settled (take (first - start) (drop start (document_of (bytes_of_sections ss)))) ≡ true)
-        → IsSeam options (take from (bytes_of_sections ss)) (text ++ document_of (drop behind (bytes_of_sections ss)))
-    touched-seam cut settled =
-        subst (λ bs. IsSeam options (take from (bytes_of_sections ss)) (bs ++ document_of (drop behind (bytes_of_sections ss)))) (sym text-of)
-        (edited-seam options (bytes_of_sections ss) from behind order start first last w start-is before ordered touched-size cut settled)
+    -- and begins at a rest, if the document did
+    pub touched-seam : IsKept k → (from ≡ 0) ⊎ (is_settled (take (edit.from - start) (drop start (document_of (bytes_of_sections ss)))) ≡ true)
+        → IsSeam k.options (take from (bytes_of_sections k.sections.items)) (text ++ document_of (drop behind (bytes_of_sections k.sections.items)))
+    touched-seam is settled =
+        let cut : are_sections_by (is_rest k.options) (bytes_of_sections ss) ≡ true = subst (λ xs. are_sections_by (is_rest k.options) (bytes_of_sections xs) ≡ true) (sym same) is.divided.sections.cut in
+        subst (λ xs. IsSeam k.options (take from (bytes_of_sections xs)) (text ++ document_of (drop behind (bytes_of_sections xs)))) same
+        (subst (λ bs. IsSeam k.options (take from (bytes_of_sections ss)) (bs ++ document_of (drop behind (bytes_of_sections ss)))) (sym text-of)
+        (edited-seam k.options (bytes_of_sections ss) from behind order start edit.from edit.to edit.with.now start-is before ordered touched-size cut settled))

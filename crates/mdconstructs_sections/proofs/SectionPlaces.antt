@@ -1,6 +1,6 @@
 -- Where sections start, and the lines that they start.
-use Rattle.std.proofs.Common.{◌≡◌, ℕ, ◌+◌, ◌<◌, ◌≤◌, true, List, ◌∷◌, [], ◌++◌, length, sym, ap, ◌∙◌, subst, arith, take, drop, get_or, Bool, cond, suc}
-use Rattle.std.specs.Prelude.{◌==◌}
+use Rattle.std.proofs.Common.{◌≡◌, ℕ, ◌+◌, ◌-◌, ◌<◌, ◌≤◌, true, List, ◌∷◌, [], ◌++◌, length, sym, ap, ◌∙◌, subst, arith, take, drop, get_or, Bool, cond, suc}
+use Rattle.std.specs.Prelude.{◌==◌, vec_len}
 use Rattle.markdown_base.specs.Virtual.{begins_with_lf}
 use Rattle.std.proofs.lemmas.List.{length-append, length-map, take-map}
 use Rattle.markdown_base.specs.declared.configuration.ParseOptions.{ParseOptions}
@@ -19,6 +19,7 @@ use Rattle.mdconstructs_sections.proofs.Joined.{document-cut, sections-take}
 use Rattle.mdconstructs_sections.proofs.SectionEvents.{bytes-one}
 use Rattle.mdconstructs_sections.proofs.SectionFronts.{length-one, lines_in, sum-one, take-next}
 use Rattle.mdconstructs_sections.proofs.SectionLines.{lines-all}
+use Rattle.mdconstructs_sections.proofs.SectionSizes.{size-less}
 
 abbrev bytes : Section → List ℕ
 bytes section = section.part.bytes.items
@@ -51,12 +52,21 @@ module _ (xs : List Section) (i : ℕ) (x : Section) (lt : i < length xs) (is : 
       in
       omega (arith, now, then, endings-are-counted x.part.bytes.items)
 
+-- so too for a section that is read at an index
+pub start-behind : (ss : List Section) {i : ℕ} {x : Section} → i < length ss → x ≡ get_or ss i x → start_of (bytes_of_sections ss) (i + 1) ≡ start_of (bytes_of_sections ss) i + vec_len (get_or ss i x).part.bytes
+start-behind ss {i} {x} lt is = let s = get_or ss i x in omega (arith, start-next ss i s lt (ap (get_or ss i) is), s.part.bytes.ok.0)
+
+-- and for the one in front of an index
+pub start-front : (ss : List Section) {i : ℕ} {x : Section} {bytes : List ℕ} → 0 < i → i ≤ length ss → x ≡ get_or ss (i - 1) x → bytes ≡ (get_or ss (i - 1) x).part.bytes.items
+    → start_of (bytes_of_sections ss) i ≡ start_of (bytes_of_sections ss) (i - 1) + length bytes
+start-front ss {i} {x} some within is value = omega (arith, size-less (λ (section : Section). section.part.bytes.items) ss i (get_or ss (i - 1) x) some within (ap (get_or ss (i - 1)) is), ap length value)
+
 -- how many sections there are
 pub count-bytes : (xs : List Section) → length (bytes_of_sections xs) ≡ length xs
 count-bytes xs = length-map xs bytes
 
 -- the next section of what is kept starts as many lines further on as it has line endings
-pub kept-line-next : (k : Kept) → IsKept k → (i : ℕ) (x : Section) → i < length k.sections.items → x ≡ get_or k.sections.items i x
+kept-line-next : (k : Kept) → IsKept k → (i : ℕ) (x : Section) → i < length k.sections.items → x ≡ get_or k.sections.items i x
     → line_at (bytes_of_sections k.sections.items) (i + 1) ≡ line_at (bytes_of_sections k.sections.items) i + x.lines
 kept-line-next k kept i x lt is =
     let P = IsRead k.options (defines k.machine.labels) in
@@ -71,12 +81,34 @@ lines-few [] = omega arith
 lines-few (b ∷ bs) = few-step (b == 10) (b == 13) (begins_with_lf bs) (line_endings bs) (length bs) (lines-few bs)
 
 -- bytes have at most as many line endings as there are
-pub endings-few : (bs : List ℕ) → endings bs ≤ length bs
+endings-few : (bs : List ℕ) → endings bs ≤ length bs
 endings-few bs = omega (arith, endings-are-counted bs, lines-few bs)
 
 -- so has a section of what is kept
-pub kept-few : (k : Kept) → IsKept k → (i : ℕ) (x : Section) → i < length k.sections.items → x ≡ get_or k.sections.items i x → x.lines ≤ length x.part.bytes.items
+kept-few : (k : Kept) → IsKept k → (i : ℕ) (x : Section) → i < length k.sections.items → x ≡ get_or k.sections.items i x → x.lines ≤ length x.part.bytes.items
 kept-few k kept i x lt is =
     let P = IsRead k.options (defines k.machine.labels) in
     let read : P x = subst P (sym is) (every-at P k.sections.items i x kept.read lt) in
     omega (arith, read.lines, endings-few x.part.bytes.items)
+
+-- The section behind one of what is kept starts that one's bytes and lines further on
+pub record IsNext (k : Kept) (i : ℕ) (x : Section) : Type 0 where
+  pub lt : i < length k.sections.items
+  pub start : start_of (bytes_of_sections k.sections.items) (i + 1) ≡ start_of (bytes_of_sections k.sections.items) i + length x.part.bytes.items
+  pub line : line_at (bytes_of_sections k.sections.items) (i + 1) ≡ line_at (bytes_of_sections k.sections.items) i + x.lines
+  pub few : x.lines ≤ length x.part.bytes.items
+  pub count : length (bytes_of_sections k.sections.items) ≡ length k.sections.items
+  pub within : start_of (bytes_of_sections k.sections.items) (i + 1) ≤ length (document_of (bytes_of_sections k.sections.items))
+
+pub kept-next : (k : Kept) {ss : List Section} {i last : ℕ} {x : Section} → IsKept k → ss ≡ k.sections.items → i < last → last ≡ length ss - 1 → x ≡ get_or ss i x → IsNext k i x
+kept-next k {ss} {i} {last} {x} kept same before last-is is-x =
+    let lt : i < length k.sections.items = omega (arith, before, last-is, ap length same) in
+    let is = is-x ∙ ap (λ (l : List Section). get_or l i x) same in
+    record {
+      lt = lt;
+      start = start-next k.sections.items i x lt is;
+      line = kept-line-next k kept i x lt is;
+      few = kept-few k kept i x lt is;
+      count = count-bytes k.sections.items;
+      within = start-within (i + 1) (bytes_of_sections k.sections.items);
+    }

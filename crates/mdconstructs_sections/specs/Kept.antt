@@ -37,6 +37,10 @@ has_end bytes = list_any (λ byte. byte == 93) bytes
 abbrev pub IsPackable : ParseOptions → (defined : List ℕ → Bool) → List ℕ → Type 0
 IsPackable options defined bytes = events_fit (events_by options defined bytes) ≡ true
 
+-- the events of each section of a document can be packed, read by the labels of the document
+abbrev pub ArePackable : Divided → Type 0
+ArePackable d = AllByRecursion (IsPackable d.options (is_label_of d)) d.sections
+
 -- A section is read: by which labels are defined
 pub record IsRead (options : ParseOptions) (defined : List ℕ → Bool) (section : Section) : Type 0 where
   pub limit : IsWithinLimit options.tab_size section.part.bytes.items

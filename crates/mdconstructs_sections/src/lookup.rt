@@ -1,11 +1,11 @@
 //! Which section a byte or a line is in, and where it starts.
 
-ghost use Rattle.std.specs.Prelude.{◌≡◌, ◌≤◌, ◌<◌, ◌+◌, ◌^◌, length, take};
+ghost use Rattle.std.specs.Prelude.{◌≡◌, ◌≤◌, ◌<◌, ◌+◌, ◌^◌, length, take, false, true};
 ghost use Rattle.mdconstructs_rests.specs.Sections.{document_of};
 ghost use Rattle.mdconstructs_sections.specs.Divided.{bytes_of};
 ghost use Rattle.mdconstructs_sections.specs.Kept.{IsKept, bytes_of_sections, divided_of};
 ghost use Rattle.mdconstructs_sections.specs.Finds.{IsByteIn, IsLineIn};
-ghost use Rattle.mdconstructs_sections.specs.Lookups.{IsSectionAt, IsSectionAtLine};
+ghost use Rattle.mdconstructs_sections.specs.Lookups.{IsSectionAt, IsSectionAtLine, start_of};
 ghost use Rattle.mdconstructs_sections.specs.Positions.{offset_of, position_of};
 
 use crate::kept::{Kept, bytes_in};
@@ -30,19 +30,27 @@ pub(crate) fn start_of(kept: &Kept, section: usize) -> usize
     bytes_in(&kept.sections[..section])
 }
 
-/// The section that a byte is in; the number of sections, if it is behind all.
-pub(crate) fn section_at(sections: &[Section], byte: usize) -> usize
-    ensures { IsSectionAt (bytes_of_sections sections.now) byte result }
+/// The section that a byte is in, and what of the byte is left there; the number of sections, and what is left behind them, if it is behind all.
+pub(crate) fn section_and_left(sections: &[Section], byte: usize) -> (usize, usize)
+    ensures section { IsSectionAt (bytes_of_sections sections.now) byte result.0 }
+    ensures left { start_of (bytes_of_sections sections.now) result.0 + result.1 ≡ byte }
 {
     let mut left = byte;
     for (index, section) in sections.iter().enumerate() {
         let size = section.part.bytes.len();
         if left < size {
-            return index;
+            return (index, left);
         }
         left -= size;
     }
-    sections.len()
+    (sections.len(), left)
+}
+
+/// The section that a byte is in; the number of sections, if it is behind all.
+pub(crate) fn section_at(sections: &[Section], byte: usize) -> usize
+    ensures { IsSectionAt (bytes_of_sections sections.now) byte result }
+{
+    section_and_left(sections, byte).0
 }
 
 /// Where a place is that is looked up: in which section, what is in front of that, and what of the byte or line is left there.
@@ -56,11 +64,12 @@ struct Found {
     lines: usize,
 }
 
-/// The section that a byte is in; the last one, if it is behind all.
-fn byte_in(kept: &Kept, byte: usize) -> Found
+/// The section that a byte is in, or, with `IS_LINE`, that a line starts in; the last one, if it is behind all.
+fn place_in<const IS_LINE: bool>(kept: &Kept, place: usize) -> Found
     requires kept { IsKept kept.now }
     requires some { 0 < length kept.now.sections.items }
-    ensures { IsByteIn (divided_of kept.now).sections byte result }
+    ensures byte { IS_LINE ≡ false → IsByteIn (divided_of kept.now).sections place result }
+    ensures line { IS_LINE ≡ true → IsLineIn (divided_of kept.now).sections place result }
 {
     is_short(kept);
     let sections = kept.sections.as_slice();
@@ -71,7 +80,12 @@ fn byte_in(kept: &Kept, byte: usize) -> Found
     while index < last {
         let section = &sections[index];
         let size = section.part.bytes.len();
-        if byte - bytes < size {
+        let is_here = if IS_LINE {
+            place - lines < section.lines
+        } else {
+            place - bytes < size
+        };
+        if is_here {
             break;
         }
         bytes += size;
@@ -83,6 +97,15 @@ fn byte_in(kept: &Kept, byte: usize) -> Found
         bytes,
         lines,
     }
+}
+
+/// The section that a byte is in; the last one, if it is behind all.
+fn byte_in(kept: &Kept, byte: usize) -> Found
+    requires kept { IsKept kept.now }
+    requires some { 0 < length kept.now.sections.items }
+    ensures { IsByteIn (divided_of kept.now).sections byte result }
+{
+    place_in::<false>(kept, byte)
 }
 
 /// The position of a byte index in the document.
@@ -108,26 +131,7 @@ fn line_in(kept: &Kept, line: usize) -> Found
     requires some { 0 < length kept.now.sections.items }
     ensures { IsLineIn (divided_of kept.now).sections line result }
 {
-    is_short(kept);
-    let sections = kept.sections.as_slice();
-    let last = sections.len() - 1;
-    let mut index = 0;
-    let mut bytes = 0;
-    let mut lines = 0;
-    while index < last {
-        let section = &sections[index];
-        if line - lines < section.lines {
-            break;
-        }
-        bytes += section.part.bytes.len();
-        lines += section.lines;
-        index += 1;
-    }
-    Found {
-        section: index,
-        bytes,
-        lines,
-    }
+    place_in::<true>(kept, line)
 }
 
 /// The byte index of a position in the document.

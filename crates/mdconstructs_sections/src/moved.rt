@@ -171,7 +171,7 @@ pub(crate) fn is_document(kept: &Kept)
 }
 
 /// Bytes are below 256.
-fn is_bytes(bytes: &[u8])
+pub(crate) fn is_bytes(bytes: &[u8])
     ensures { All (λ b. b < 256) bytes.now }
 {
     let _len = bytes.len();

@@ -1,19 +1,20 @@
 //! Sections that are put in the place of others.
 
-ghost use Rattle.std.specs.Prelude.{◌≡◌, ◌≤◌, ◌<◌, ◌+◌, ◌++◌, ◌^◌, IfOk, IfNone, IfSome, IsErrOf, List, OnErr, OnOk, ℕ, drop, length, map, take, true, false};
+ghost use Rattle.std.specs.Prelude.{◌≡◌, ◌≤◌, ◌<◌, ◌+◌, ◌++◌, ◌^◌, ◌↔◌, IfOk, IfNone, IfSome, IsErrOf, List, OnErr, OnOk, ℕ, drop, length, map, take, true, false};
 ghost use Rattle.std.specs.List.{AllByRecursion};
 ghost use Rattle.markdown_base.specs.Virtual.{IsWithinLimit};
+ghost use Rattle.markdown_tokenizer.specs.Text.{IsDocument};
+ghost use Rattle.mdconstructs_documents.specs.Documents.{document};
 ghost use Rattle.mdconstructs_labels.specs.Defined.{defines};
-ghost use Rattle.mdconstructs_sections.specs.Divided.{is_label_of};
+ghost use Rattle.mdconstructs_sections.specs.Divided.{bytes_of, is_label_of};
 ghost use Rattle.mdconstructs_sections.specs.Edits.{IsChange};
 ghost use Rattle.mdconstructs_sections.specs.FirstRest.{items_of};
-ghost use Rattle.mdconstructs_sections.specs.Kept.{IsKept, IsLabelled, IsRecut, IsRead, bytes_of_parts, bytes_of_sections, divided_of, recut_document};
+ghost use Rattle.mdconstructs_sections.specs.Kept.{ArePackable, IsKept, IsLabelled, IsPackable, IsRecut, IsRead, bytes_of_parts, bytes_of_sections, divided_of, recut_document};
 ghost use Rattle.mdconstructs_sections.specs.Put.{looks_up, put_all, rereads};
 
 use crate::asking::may_ask;
 use crate::edit::{Change, Refused};
 use crate::kept::{Kept, define_parts, define_sections};
-use crate::moved::is_document;
 use crate::packed::{PackError, Packed};
 use crate::recut::Recut;
 use crate::section::{Part, Section, events_of, parts_of, sections_of};
@@ -98,7 +99,8 @@ fn read_again(
 ) -> Result<(), PackError>
     requires limit { AllByRecursion (λ section. IsWithinLimit options.now.tab_size section.part.bytes.items) sections.now }
     requires numbers { first + length sections.now < 2 ^ 64 }
-    ensures { OnOk result (others.new.items ≡ others.old.items ++ rereads options.now old.now machine.now.labels first sections.now) }
+    ensures others { OnOk result (others.new.items ≡ others.old.items ++ rereads options.now old.now machine.now.labels first sections.now) }
+    ensures fits { AllByRecursion (λ section. IsPackable options.now (defines machine.now.labels) section.part.bytes.items) sections.now → ¬ IsErrOf result PackError.TooLong }
 {
     for index in 0..sections.len() {
         let section = &sections[index];
@@ -138,12 +140,14 @@ fn put_events(sections: &mut Vec<Section>, others: Vec<Reread>)
 /// Puts parts in the place of the sections that they replace. If it fails, the document is as it was.
 pub(crate) fn put(alloc: Global, kept: &mut Kept, recut: Recut) -> Result<Change, Refused>
     requires kept { IsKept kept.old }
+    requires possible { IsDocument (document kept.old.options (bytes_of (divided_of kept.old))) }
     requires recut { IsRecut kept.old recut.from recut.end (items_of recut.parts.items) }
     ensures kept { IsKept kept.new }
     ensures document { IfOk result (λ _. divided_of kept.new ≡ recut_document kept.old recut.from recut.end (items_of recut.parts.items)) }
     ensures change { IfOk result (IsChange (divided_of kept.old) (divided_of kept.new)) }
     ensures err { OnErr result (divided_of kept.new ≡ divided_of kept.old) }
     ensures range { ¬ IsErrOf result Refused.Range }
+    ensures fits { ArePackable (recut_document kept.old recut.from recut.end (items_of recut.parts.items)) → ¬ IsErrOf result Refused.TooLong }
 {
     let Recut { from, end, parts } = recut;
     let parts = parts_of(alloc, &kept.options, parts)?;
@@ -170,6 +174,7 @@ fn put_same(
     ensures change { IfOk result (IsChange (divided_of kept.old) (divided_of kept.new)) }
     ensures err { OnErr result (divided_of kept.new ≡ divided_of kept.old) }
     ensures range { ¬ IsErrOf result Refused.Range }
+    ensures fits { ArePackable (recut_document kept.old from end (bytes_of_parts parts.items)) → ¬ IsErrOf result Refused.TooLong }
 {
     let read = read_parts(alloc, &kept.options, &kept.machine, parts)?;
     let new_to = from + read.len();
@@ -192,6 +197,7 @@ fn put_other(
     machine: Inlines,
 ) -> Result<Change, Refused>
     requires kept { IsKept kept.old }
+    requires possible { IsDocument (document kept.old.options (bytes_of (divided_of kept.old))) }
     requires recut { IsRecut kept.old from end (bytes_of_parts parts.items) }
     requires labelled { AllByRecursion (IsLabelled kept.old.options) parts.items }
     requires labels { (label : List ℕ) → defines machine.labels label ≡ is_label_of (recut_document kept.old from end (bytes_of_parts parts.items)) label }
@@ -200,8 +206,8 @@ fn put_other(
     ensures change { IfOk result (IsChange (divided_of kept.old) (divided_of kept.new)) }
     ensures err { OnErr result (divided_of kept.new ≡ divided_of kept.old) }
     ensures range { ¬ IsErrOf result Refused.Range }
+    ensures fits { ArePackable (recut_document kept.old from end (bytes_of_parts parts.items)) → ¬ IsErrOf result Refused.TooLong }
 {
-    is_document(kept);
     let read = read_parts(alloc, &kept.options, &machine, parts)?;
     let new_to = from + read.len();
     let others = read_others(alloc, kept, &machine, from, end, new_to)?;
@@ -229,6 +235,7 @@ fn read_parts(
     ensures bytes { IfOk result (λ sections. bytes_of_sections sections.items ≡ bytes_of_parts parts.items) }
     ensures read { IfOk result (λ sections. AllByRecursion (IsRead options.now (defines machine.now.labels)) sections.items) }
     ensures range { ¬ IsErrOf result Refused.Range }
+    ensures fits { AllByRecursion (IsPackable options.now (defines machine.now.labels)) (bytes_of_parts parts.items) → ¬ IsErrOf result Refused.TooLong }
 {
     match sections_of(alloc, options, machine, parts) {
         Ok(sections) => Ok(sections),
@@ -251,6 +258,7 @@ fn read_others(
     requires numbers { new_to + length (drop end kept.now.sections.items) < 2 ^ 64 }
     ensures others { let again = rereads kept.now.options kept.now.machine.labels machine.now.labels in IfOk result (λ others. others.items ≡ again 0 (take from kept.now.sections.items) ++ again new_to (drop end kept.now.sections.items)) }
     ensures range { ¬ IsErrOf result Refused.Range }
+    ensures fits { let are_packable = AllByRecursion (λ section. IsPackable kept.now.options (defines machine.now.labels) section.part.bytes.items) in are_packable (take from kept.now.sections.items) → are_packable (drop end kept.now.sections.items) → ¬ IsErrOf result Refused.TooLong }
 {
     let sections = kept.sections.as_slice();
     let options = &kept.options;
@@ -270,7 +278,7 @@ fn read_others(
 /// Why a document is not edited, if events are not packed.
 fn refused(error: PackError) -> Refused
     ensures memory { error ≡ PackError.Memory → result ≡ Refused.Memory }
-    ensures too_long { error ≡ PackError.TooLong → result ≡ Refused.TooLong }
+    ensures too_long { error ≡ PackError.TooLong ↔ result ≡ Refused.TooLong }
     ensures range { ¬ (result ≡ Refused.Range) }
 {
     match error {

@@ -13,6 +13,7 @@ ghost use Rattle.mdconstructs_sections.specs.Settled.{is_settled};
 use crate::cut::cut;
 use crate::edit::Edit;
 use crate::kept::Kept;
+use crate::lookup::section_and_left;
 use crate::section::Section;
 use std::alloc::{AllocError, Global};
 
@@ -42,28 +43,6 @@ fn is_settled(bytes: &[u8]) -> bool
     false
 }
 
-/// The section that a byte is in, and where it starts. Of an index at the document's end, the number of sections, and the end.
-fn section_at(sections: &[Section], byte: usize) -> (usize, usize)
-    requires inside { byte ≤ length (document_of (bytes_of_sections sections.now)) }
-    requires short { length (document_of (bytes_of_sections sections.now)) < 2 ^ 64 }
-    ensures within { result.0 ≤ length sections.now }
-    ensures start { result.1 ≡ length (document_of (take result.0 (bytes_of_sections sections.now))) }
-    ensures before { result.1 ≤ byte }
-    ensures inside { result.0 < length sections.now → byte < length (document_of (take (result.0 + 1) (bytes_of_sections sections.now))) }
-{
-    let mut index = 0;
-    let mut start = 0;
-    while index < sections.len() {
-        let size = sections[index].part.bytes.len();
-        if byte - start < size {
-            return (index, start);
-        }
-        start += size;
-        index += 1;
-    }
-    (index, start)
-}
-
 /// The first section to be cut again, and where it starts, if the document is edited from a byte on: the last one of which a line ends in front of the
 /// byte, whatever comes there; or the first, if there is none. So it begins at a rest as before.
 fn first_touched(sections: &[Section], byte: usize) -> (usize, usize)
@@ -74,7 +53,8 @@ fn first_touched(sections: &[Section], byte: usize) -> (usize, usize)
     ensures before { result.1 ≤ byte }
     ensures settled { (result.0 ≡ 0) ⊎ (is_settled (take (byte - result.1) (drop result.1 (document_of (bytes_of_sections sections.now)))) ≡ true) }
 {
-    let (mut index, mut start) = section_at(sections, byte);
+    let (mut index, left) = section_and_left(sections, byte);
+    let mut start = byte - left;
     if index < sections.len()
         && is_settled(&sections[index].part.bytes.as_slice()[..byte - start])
     {

@@ -14,7 +14,7 @@ ghost use Rattle.mdconstructs_sections.specs.Positions.{offset_of, position_of};
 use crate::edit::{Change, Edit, Refused};
 use crate::kept::{Kept, read};
 use crate::lookup::{offset_of, position_of, section_at, section_at_line, start_of};
-use crate::moved::{all_events, events_between};
+use crate::moved::{all_events, events_between, is_bytes, is_document};
 use crate::packed::PackError;
 use crate::positions::{Encoding, Position};
 use crate::put::put;
@@ -156,6 +156,9 @@ impl Sections {
     }
 
     /// Edits the document. What it returns says which sections changed. If it fails, the document is as it was.
+    ///
+    /// It is `Range` if the bytes that go are none of the document, and only then. Else it is `TooLong` if the document would be longer than the limit; if it
+    /// would not, only if a number of an event would not fit (see [`Packed`](crate::packed::Packed)).
     pub fn replace(&mut self, alloc: Global, edit: &Edit) -> Result<Change, Refused>
         ensures bytes { IfOk result (λ _. bytes_of self.new ≡ edited edit.now (bytes_of self.old)) }
         ensures options { self.new.options ≡ self.old.options }
@@ -163,6 +166,7 @@ impl Sections {
         ensures kept { OnErr result (self.new ≡ self.old) }
         ensures range { IsErrOf result Refused.Range ↔ ¬ IsInside edit.now (bytes_of self.old) }
         ensures too_long { IsInside edit.now (bytes_of self.old) → ¬ IsWithinLimit self.old.options.tab_size (edited edit.now (bytes_of self.old)) → IsErrOf result Refused.TooLong }
+        ensures fits { let new = edited edit.now (bytes_of self.old) in IsInside edit.now (bytes_of self.old) → IsWithinLimit self.old.options.tab_size new → events_fit (document_events (document self.old.options new)) ≡ true → ¬ IsErrOf result Refused.TooLong }
     {
         let Sections { kept, size } = self;
         if edit.from > edit.to || edit.to > *size {
@@ -173,6 +177,9 @@ impl Sections {
         if stay > limit || edit.with.len() > limit - stay {
             return Err(Refused::TooLong);
         }
+        // The edited document is a possible one.
+        is_document(kept);
+        is_bytes(edit.with);
         let recut = cut_again(alloc, kept, edit)?;
         let change = put(alloc, kept, recut)?;
         *size = stay + edit.with.len();

@@ -1,8 +1,10 @@
 use Rattle.std.proofs.Common.{◌+◌, take, drop, ap, ◌∙◌}
+use Rattle.std.proofs.lemmas.Result.{err_from_is_err_and}
 use Rattle.markdown_base.proofs.Common.{every-map}
 use Rattle.markdown_base.specs.Virtual.{IsWithinLimit}
 use Rattle.mdconstructs_labels.specs.Defined.{defines}
 use Rattle.mdconstructs_sections.specs.Kept.{IsRead, bytes_of_parts, bytes_of_sections}
+use Rattle.mdconstructs_sections.proofs.PackedParts.{behind-fits, front-fits, parts-fit}
 use Rattle.mdconstructs_sections.proofs.PutChanged.{ArePutIn, below, then-change, then-document, then-kept}
 use Rattle.mdconstructs_sections.proofs.PutOthers.{numbers}
 use Rattle.mdconstructs_sections.proofs.PutSections.{parts-within, spliced}
@@ -26,7 +28,7 @@ put-in c =
     let read = c.in_ok-read.read in
     let h = c.in_ok-splice.ensures.items in record {
       kept = c.requires.kept;
-      possible = c.is_document.ensures;
+      possible = c.requires.possible;
       recut = c.requires.recut;
       labels = c.requires.labels;
       bytes = c.in_ok-read.ensures.bytes;
@@ -49,3 +51,17 @@ pub returns-clause-change : goal.returns-clause-change
 returns-clause-change c =
     then-change (put-in (goal.at.returns-clause-change c).In_ok-splice) c.put_events.new.sections c.put_events.ensures c.in_ok-numbers.numbers
     (c.in_ok-numbers.ensures ∙ ap numbers c.as_slice.ensures.value)
+
+pub returns-in_err-read-clause-fits : goal.returns-in_err-read-clause-fits
+returns-in_err-read-clause-fits c fits long =
+    let p = err_from_is_err_and c.from_residual.result c.from_residual.ensures.1 in
+    c.in_err-read.ensures.fits (parts-fit c.args.kept.now c.args.from c.args.end (bytes_of_parts c.args.parts.items) (defines c.args.machine.labels) c.requires.labels fits) (cc (p.1, p.2, long))
+
+pub returns-in_err-others-clause-fits : goal.returns-in_err-others-clause-fits
+returns-in_err-others-clause-fits c fits long =
+    let kept = c.args.kept.now in
+    let parts = bytes_of_parts c.args.parts.items in
+    let defined = defines c.args.machine.labels in
+    let p = err_from_is_err_and c.from_residual-in_err-others.result c.from_residual-in_err-others.ensures.1 in
+    c.in_err-others.ensures.fits (front-fits kept c.args.from c.args.end parts defined c.requires.labels fits)
+    (behind-fits kept c.args.from c.args.end parts defined c.requires.labels fits) (cc (p.1, p.2, long))

@@ -1,11 +1,13 @@
 use Rattle.std.proofs.Common.{◌≡◌, ℕ, ◌+◌, Bool, ◌++◌, List, [], length, get_or, take, drop, subst, sym, ap, ◌∙◌, arith}
 use Rattle.std.proofs.lemmas.List.{length-map}
+use Rattle.std.proofs.lemmas.Result.{err_from_is_err_and}
 use Rattle.std.specs.List.{AllByRecursion}
 use Rattle.mdconstructs_labels.specs.Defined.{defines}
 use Rattle.mdconstructs_rests.specs.BothDocuments.{events_by}
 use Rattle.mdconstructs_sections.specs.Divided.{Divided, is_label_of}
 use Rattle.mdconstructs_sections.specs.Edits.{IsChange}
 use Rattle.mdconstructs_sections.specs.Kept.{IsRead, bytes_of_parts, bytes_of_sections, divided_of, recut_document}
+use Rattle.mdconstructs_sections.proofs.PackedParts.{parts-fit}
 use Rattle.mdconstructs_sections.proofs.PutSections.{bytes-put, change-of, every-put, kept-as, parts-within, spliced}
 use Rattle.mdconstructs_sections.proofs.put.put_same.Goals.{In_ok-splice}
 use Rattle.mdconstructs_sections.proofs.put.put_same.Goals as goal
@@ -57,3 +59,9 @@ returns-clause-change c =
     subst (λ (d : Divided). IsChange old d (record { from = from; old_to = end; new_to = from + c.len.result; others = c.new.result })) (sym (returns-clause-document c))
     (change-of old from end parts (from + c.len.result) c.new.result c.requires.recut.order (omega (arith, c.requires.recut.within)) size
     (λ i within side none. ap (λ (defined : List ℕ → Bool). events_by kept.options defined (get_or new.sections i [])) labels))
+
+pub returns-in_err-read-clause-fits : goal.returns-in_err-read-clause-fits
+returns-in_err-read-clause-fits c fits long =
+    let kept = c.args.kept.now in
+    let p = err_from_is_err_and c.from_residual.result c.from_residual.ensures.1 in
+    c.in_err-read.ensures.fits (parts-fit kept c.args.from c.args.end (bytes_of_parts c.args.parts.items) (defines kept.machine.labels) c.requires.labels fits) (cc (p.1, p.2, long))

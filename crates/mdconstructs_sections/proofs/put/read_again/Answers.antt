@@ -1,11 +1,16 @@
-use Rattle.std.proofs.Common.{◌+◌, ◌<◌, ◌++◌, [], ◌∷◌, length, take, sym, ap, ◌∙◌, arith}
+use Rattle.std.proofs.Common.{◌≡◌, ◌+◌, ◌<◌, ◌++◌, [], ◌∷◌, length, take, subst, sym, ap, ◌∙◌, arith}
 use Rattle.std.proofs.lemmas.List.{append_assoc}
+use Rattle.std.proofs.lemmas.Result.{err_from_is_err_and}
 use Rattle.mdconstructs_labels.specs.Defined.{defines}
 use Rattle.mdconstructs_rests.specs.BothDocuments.{events_by}
 use Rattle.mdconstructs_sections.proofs.put.read_again.Goals as goal
 use Rattle.mdconstructs_sections.proofs.put.read_again.Goals.{then-asks+in_ok-events+in_ok-push, else-asks}
 use Rattle.mdconstructs_sections.proofs.Rereads.{rereads-looks, rereads-stay}
+use Rattle.mdconstructs_sections.proofs.SectionBytes.{every-at}
+use Rattle.mdconstructs_sections.specs.Kept.{IsPackable}
 use Rattle.mdconstructs_sections.specs.Put.{rereads}
+use Rattle.mdconstructs_sections.specs.declared.packed.PackError.TheVariants.{TooLong}
+use Rattle.mdconstructs_sections.specs.declared.section.Section.{Section}
 
 pub loop-index-preserved : goal.loop-index-preserved
 loop-index-preserved c =
@@ -29,3 +34,16 @@ loop-index-preserved c =
           ap (λ v. v.items) w.others-is ∙ c.loop-index.invariant
           ∙ ap (λ os. before ++ os) (sym (rereads-stay options old new n xs i s lt c.index-sections-index.is (sym c.in_ok-asks.ensures ∙ w.if-asks.false)))
     ]
+
+pub returns-in_err-events-clause-fits : goal.returns-in_err-events-clause-fits
+returns-in_err-events-clause-fits c fits long =
+    let xs = c.args.sections.now in
+    let i = c.loop-index.index in
+    let s = c.index-sections-index.result in
+    let fit = IsPackable c.args.options.now (defines c.args.machine.now.labels) in
+    let P = λ (section : Section). fit section.part.bytes.items in
+    let lt : i < length xs = omega arith in
+    let one : P s = subst P (sym c.index-sections-index.is) (every-at P xs i s fits lt) in
+    let p = err_from_is_err_and c.from_residual-in_err-events.result c.from_residual-in_err-events.ensures.1 in
+    let is : c.in_err-events.field-0.0 ≡ TooLong = cc (p.1, p.2, long) in
+    c.in_err-events.ensures is (subst fit (sym c.as_slice.ensures.value) one)

@@ -1,9 +1,9 @@
-use Rattle.std.proofs.Common.{ℕ, ◌+◌, ◌<◌, length, get_or, ap, arith}
+use Rattle.std.proofs.Common.{ℕ, ◌+◌, ◌<◌, length, arith}
 use Rattle.std.specs.declared.alloc.Global.{Global}
 use Rattle.std.specs.declared.vec.Vec.{Vec}
-use Rattle.mdconstructs_sections.specs.declared.section.Section.{Section}
 use Rattle.mdconstructs_sections.specs.FirstRest.{items_of}
 use Rattle.mdconstructs_sections.specs.Kept.{bytes_of_sections}
+use Rattle.mdconstructs_sections.proofs.SectionPlaces.{start-behind, start-within}
 use Rattle.mdconstructs_sections.proofs.SectionSizes.{size-front, size-more}
 use Rattle.mdconstructs_sections.proofs.recut.meeting.Goals as goal
 
@@ -30,23 +30,15 @@ loop-passed-preserved-then-end-start-2 c =
 
 pub overflow_add-start : goal.overflow_add-start
 overflow_add-start c =
-    let ss = c.args.sections.now in
-    let i = c.loop-passed.passed in
-    let s = get_or ss i c.index-sections-passed.result in
-    let more = size-more (λ (section : Section). section.part.bytes.items) ss i s c.loop-passed-test.true (ap (get_or ss i) c.index-sections-passed.is) in
-    let long = s.part.bytes.ok.0 in
-    omega (arith, more, long, size-front (i + 1) (bytes_of_sections ss), c.requires.sections, c.loop-passed.invariant.start, c.len-start.ensures)
+    let next = start-behind c.args.sections.now c.loop-passed-test.true c.index-sections-passed.is in
+    omega (arith, next, start-within (c.loop-passed.passed + 1) (bytes_of_sections c.args.sections.now), c.requires.sections, c.loop-passed.invariant.start, c.len-start.ensures)
 
 pub loop-passed-preserved : goal.loop-passed-preserved
 loop-passed-preserved c =
-    let ss = c.args.sections.now in
-    let i = c.loop-passed.passed in
-    let s = get_or ss i c.index-sections-passed.result in
-    let more = size-more (λ (section : Section). section.part.bytes.items) ss i s c.loop-passed-test.true (ap (get_or ss i) c.index-sections-passed.is) in
-    let long = s.part.bytes.ok.0 in
+    let next = start-behind c.args.sections.now c.loop-passed-test.true c.index-sections-passed.is in
     record {
       end = c.loop-passed.invariant.end;
-      start = omega (arith, more, long, c.loop-passed.invariant.start, c.len-start.ensures);
+      start = omega (arith, next, c.loop-passed.invariant.start, c.len-start.ensures);
       kept = c.loop-passed.invariant.kept;
       passed = omega (arith, c.loop-passed-test.true);
     }
