@@ -11,6 +11,7 @@ use Rattle.mdconstructs_sections.proofs.AskedInBrackets.{asked-in-brackets}
 use Rattle.mdconstructs_sections.proofs.AskedNothing.{asks-nothing}
 use Rattle.mdconstructs_sections.proofs.Below.{labels-decide}
 use Rattle.mdconstructs_sections.proofs.MayStand.{none-wanted}
+use Rattle.mdconstructs_sections.specs.Asking.{BracketsDecide}
 use Rattle.mdconstructs_sections.specs.InBrackets.{is_in_brackets, may_ask}
 use Rattle.mdconstructs_sections.specs.Kept.{has_end}
 
@@ -23,15 +24,18 @@ pub same-events : (options : ParseOptions) (defined others : List ℕ → Bool) 
 same-events options defined others bytes none =
     (labels-decide defined others options bytes (subst (AllByRecursion (λ (label : List ℕ). others label ≡ defined label)) (sym (asks-nothing options defined bytes none)) tt)).0
 
+-- so does a document, if these sets agree on what may stand between its brackets
+pub brackets-decide : BracketsDecide
+brackets-decide options defined others bytes is agree =
+    (labels-decide defined others options bytes
+    (every-map (λ label. (is_label label ≡ true) × (is_in_brackets label bytes ≡ true)) (λ label. others label ≡ defined label) (λ label may. agree label may.0 may.1) (asked_in options defined bytes)
+    (asked-in-brackets options defined bytes is))).0
+
 -- two sets of labels that agree on the labels that are not wanted
 module _ (options : ParseOptions) (defined others wanted : List ℕ → Bool) (agree : (label : List ℕ) → wanted label ≡ false → others label ≡ defined label) where
   -- bytes of a document in which no wanted label may be looked up
   none-asked : (bytes : List ℕ) → IsDocument (document options bytes) → may_ask wanted bytes ≡ false → HasSameEvents options defined others bytes
-  none-asked bytes is none =
-      let known = λ (label : List ℕ) (may : (is_label label ≡ true) × (is_in_brackets label bytes ≡ true)). agree label (none-wanted wanted label bytes none may.0 may.1) in
-      (labels-decide defined others options bytes
-      (every-map (λ label. (is_label label ≡ true) × (is_in_brackets label bytes ≡ true)) (λ label. others label ≡ defined label) known (asked_in options defined bytes)
-      (asked-in-brackets options defined bytes is))).0
+  none-asked bytes is none = brackets-decide options defined others bytes is (λ label one within. agree label (none-wanted wanted label bytes none one within))
 
   -- or that have no `]`
   pub same-unless-asked : (bytes : List ℕ) → IsDocument (document options bytes) → (has_end bytes && may_ask wanted bytes) ≡ false → HasSameEvents options defined others bytes

@@ -5,7 +5,7 @@ use Rattle.markdown_base.specs.declared.configuration.ParseOptions.{ParseOptions
 use Rattle.markdown_tokenizer.specs.Text.{IsDocument}
 use Rattle.mdconstructs_documents.specs.Documents.{document}
 use Rattle.mdconstructs_labels.specs.Labels.{is_label}
-use Rattle.mdconstructs_rests.specs.BothDocuments.{asked_in}
+use Rattle.mdconstructs_rests.specs.BothDocuments.{asked_in, events_by}
 use Rattle.mdconstructs_sections.specs.InBrackets.{is_in_brackets}
 use Rattle.mdconstructs_sections.specs.Kept.{has_end}
 
@@ -17,3 +17,8 @@ BytesWithoutEndAskNothing = (options : ParseOptions) (defined : List ℕ → Boo
 abbrev pub AskedLabelsAreInBrackets : Type 0
 AskedLabelsAreInBrackets = (options : ParseOptions) (defined : List ℕ → Bool) (bytes : List ℕ) → IsDocument (document options bytes)
     → AllByRecursion (λ label. (is_label label ≡ true) × (is_in_brackets label bytes ≡ true)) (asked_in options defined bytes)
+
+-- So if two sets of labels agree on those that may stand between its brackets, a document's events are the same by both
+abbrev pub BracketsDecide : Type 0
+BracketsDecide = (options : ParseOptions) (defined others : List ℕ → Bool) (bytes : List ℕ) → IsDocument (document options bytes)
+    → ((label : List ℕ) → is_label label ≡ true → is_in_brackets label bytes ≡ true → others label ≡ defined label) → events_by options others bytes ≡ events_by options defined bytes

@@ -1,6 +1,6 @@
 //! Laws about the definitions of this crate. Each is a function that does nothing; its contract is the law.
 
-ghost use Rattle.mdconstructs_sections.specs.Asking.{AskedLabelsAreInBrackets, BytesWithoutEndAskNothing};
+ghost use Rattle.mdconstructs_sections.specs.Asking.{AskedLabelsAreInBrackets, BracketsDecide, BytesWithoutEndAskNothing};
 ghost use Rattle.mdconstructs_sections.specs.Cuts.{EndingsAreCounted, PartsStartLines};
 ghost use Rattle.mdconstructs_sections.specs.Divided.{EventsOfAllSectionsAreTheDocuments};
 ghost use Rattle.mdconstructs_sections.specs.PositionParts.{EndingsAdd, OffsetsMove, OffsetsStay, PositionsMove, PositionsStay};
@@ -54,9 +54,10 @@ pub fn bytes_without_end_ask_nothing()
 {}
 
 /// What is looked up in the texts of a document is a label, and behind some `[` the bytes agree with it up to its end, where a `]` is, or up to a
-/// line ending. So only such labels matter for its events.
+/// line ending. So if two sets of labels agree on such labels, its events are the same by both.
 pub fn asked_labels_are_in_brackets()
-    ensures { AskedLabelsAreInBrackets }
+    ensures asked { AskedLabelsAreInBrackets }
+    ensures decide { BracketsDecide }
 {}
 
 /// The events between section 0 and the number of sections are those of the document.
