@@ -1,9 +1,10 @@
 -- Labels that may stand behind a `[`.
 use Rattle.std.proofs.Common.{◌≡◌, eqb-true, ℕ, zero, suc, ◌<◌, ◌==◌, ◌&&◌, ◌||◌, not, Bool, true, false, List, [], ◌∷◌, ◌++◌, drop, take, refl, sym, ap, ◌∙◌, subst, arith, append-nil, append_assoc}
+use Rattle.std.proofs.Math.Bool.{and-true}
 use Rattle.std.proofs.lemmas.Bool.{and_parts, or_parts}
 use Rattle.std.specs.Prelude.{slice_index}
 use Rattle.mdconstructs_labels.specs.Labels.{has_no_bracket, hides, is_bracket, is_label}
-use Rattle.mdconstructs_sections.specs.InBrackets.{ends_line, is_in_brackets, label_ends, may_ask, may_stand}
+use Rattle.mdconstructs_sections.specs.InBrackets.{ends_line, is_in_brackets, is_untold, label_ends, may_ask, may_stand}
 
 -- bytes in front of those where a label may stand
 pub may-behind : (label xs : List ℕ) (n : ℕ) → may_stand label (drop n xs) ≡ true → may_stand (take n xs ++ label) xs ≡ true
@@ -39,36 +40,39 @@ brackets-at label (x ∷ xs) (suc i) rest h may = let more = brackets-at label x
 
 module _ (wanted : List ℕ → Bool) where
   -- behind some bytes that were read
-  ends-found : (hidden : Bool) (read label bytes : List ℕ) → label_ends wanted hidden read bytes ≡ false → has_no_bracket hidden label ≡ true → may_stand label bytes ≡ true → wanted (read ++ label) ≡ false
-  ends-found hidden read label [] none bare may = absurd (cc)
-  ends-found hidden read [] (b ∷ bs) none bare may =
-      let there = or_parts (ends_line b) _ none in
+  ends-found : (read label bytes : List ℕ) → label_ends wanted read bytes ≡ false → has_no_bracket false label ≡ true → may_stand label bytes ≡ true → wanted (read ++ label) ≡ false
+  ends-found read label [] none bare may = absurd (cc)
+  ends-found read [] (b ∷ bs) none bare may =
+      let there = or_parts (is_untold b) _ none in
+      let line = (or_parts (ends_line b) (b == 92) there.0).0 in
       let here = (or_parts ((b == 93) && wanted read) _ there.1).0 in
-      let end : (b == 93) ≡ true = grind (arith, may, there.0) in
+      let end : (b == 93) ≡ true = grind (arith, may, line) in
       ap wanted (append-nil read) ∙ sym (ap (λ x. x && wanted read) end) ∙ here
-  ends-found hidden read (l ∷ ls) (b ∷ bs) none bare may =
-      let there = or_parts (ends_line b) _ none in
+  ends-found read (l ∷ ls) (b ∷ bs) none bare may =
+      let there = or_parts (is_untold b) _ none in
+      let told = or_parts (ends_line b) (b == 92) there.0 in
       let rest = (or_parts ((b == 93) && wanted read) _ there.1).1 in
-      let both : ((l == b) && may_stand ls bs) ≡ true = grind (arith, may, there.0) in
+      let both : ((l == b) && may_stand ls bs) ≡ true = grind (arith, may, told.0) in
       let agree = and_parts (l == b) (may_stand ls bs) both in
       let same = eqb-true l b agree.0 in
-      let shut = and_parts (not (is_bracket l && not hidden)) (has_no_bracket (hides hidden l) ls) bare in
-      let first : not (is_bracket b && not hidden) ≡ true = ap (λ x. not (is_bracket x && not hidden)) (sym same) ∙ shut.0 in
-      let more : label_ends wanted (hides hidden b) (read ++ b ∷ []) bs ≡ false = sym (ap (λ x. x && label_ends wanted (hides hidden b) (read ++ b ∷ []) bs) first) ∙ rest in
-      let next = ends-found (hides hidden b) (read ++ b ∷ []) ls bs more (subst (λ x. has_no_bracket (hides hidden x) ls ≡ true) same shut.1) agree.1 in
+      let shut = and_parts (not (is_bracket l && true)) (has_no_bracket (hides false l) ls) bare in
+      let first : not (is_bracket b) ≡ true = ap (λ x. not (is_bracket x)) (sym same) ∙ ap not (sym (and-true (is_bracket l))) ∙ shut.0 in
+      let plain : hides false l ≡ false = ap (hides false) same ∙ ap (λ x. x && true) told.1 in
+      let more : label_ends wanted (read ++ b ∷ []) bs ≡ false = sym (ap (λ x. x && label_ends wanted (read ++ b ∷ []) bs) first) ∙ rest in
+      let next = ends-found (read ++ b ∷ []) ls bs more (subst (λ h. has_no_bracket h ls ≡ true) plain shut.1) agree.1 in
       ap wanted (ap (λ x. read ++ x ∷ ls) same ∙ sym (append_assoc read (b ∷ []) ls)) ∙ next
 
   -- So it is with labels that may be looked up: if none is found, none of them is wanted
   pub none-wanted : (label bytes : List ℕ) → may_ask wanted bytes ≡ false → is_label label ≡ true → is_in_brackets label bytes ≡ true → wanted label ≡ false
   none-wanted label [] none is within = absurd (cc)
   none-wanted label (b ∷ bs) none is within =
-      let parts = or_parts ((b == 91) && label_ends wanted false [] bs) (may_ask wanted bs) none in
+      let parts = or_parts ((b == 91) && label_ends wanted [] bs) (may_ask wanted bs) none in
       by (b == 91) parts.0 (λ k. none-wanted label bs parts.1 is k) within
     where
-      by : (x : Bool) → (x && label_ends wanted false [] bs) ≡ false → (is_in_brackets label bs ≡ true → wanted label ≡ false) → ((x && may_stand label bs) || is_in_brackets label bs) ≡ true → wanted label ≡ false
+      by : (x : Bool) → (x && label_ends wanted [] bs) ≡ false → (is_in_brackets label bs ≡ true → wanted label ≡ false) → ((x && may_stand label bs) || is_in_brackets label bs) ≡ true → wanted label ≡ false
       by false here more within = more within
       by true here more within = stands (may_stand label bs) refl more within
         where
           stands : (y : Bool) → may_stand label bs ≡ y → (is_in_brackets label bs ≡ true → wanted label ≡ false) → (y || is_in_brackets label bs) ≡ true → wanted label ≡ false
-          stands true may more k = ends-found false [] label bs here (and_parts (has_no_bracket false label) _ is).0 may
+          stands true may more k = ends-found [] label bs here (and_parts (has_no_bracket false label) _ is).0 may
           stands false may more k = more k

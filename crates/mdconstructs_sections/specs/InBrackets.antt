@@ -1,7 +1,7 @@
 -- Labels that may be looked up in bytes: those that may stand between brackets there.
 use Rattle.std.specs.Prelude.{ℕ, ◌==◌, ◌&&◌, ◌||◌, not, cond, Bool, false, List, [], ◌∷◌, ◌++◌}
 use Rattle.mdconstructs_labels.specs.Defined.{defines}
-use Rattle.mdconstructs_labels.specs.Labels.{hides, is_bracket}
+use Rattle.mdconstructs_labels.specs.Labels.{is_bracket}
 use Rattle.mdconstructs_labels.specs.declared.labels.Labels.{Labels}
 
 -- a line ends at a byte
@@ -26,15 +26,17 @@ changes old new label = cond (defines old label) (not (defines new label)) (defi
 
 -- ---- how it is found out
 
+-- at such a byte it is not told which label stands there: a line ends, or the next byte may be escaped
+abbrev pub is_untold : ℕ → Bool
+is_untold byte = ends_line byte || (byte == 92)
+
 module _ (wanted : List ℕ → Bool) where
-  -- Behind a `[` and some bytes, of which the last may hide the next one: a wanted label ends at one of the `]` that come, up to the first bracket that is
-  -- not hidden; or a line ends before that
-  abbrev pub label_ends : (hidden : Bool) → (read bytes : List ℕ) → Bool
-  label_ends hidden read [] = false
-  label_ends hidden read (b ∷ bs) =
-      ends_line b || (((b == 93) && wanted read) || (not (is_bracket b && not hidden) && label_ends (hides hidden b) (read ++ b ∷ []) bs))
+  -- Behind a `[` and some bytes: these are a wanted label, and a `]` is the next bracket; or it is not told which label stands there
+  abbrev pub label_ends : (read bytes : List ℕ) → Bool
+  label_ends read [] = false
+  label_ends read (b ∷ bs) = is_untold b || (((b == 93) && wanted read) || (not (is_bracket b) && label_ends (read ++ b ∷ []) bs))
 
   -- a wanted label may stand somewhere behind a `[`
   abbrev pub may_ask : List ℕ → Bool
   may_ask [] = false
-  may_ask (b ∷ bs) = ((b == 91) && label_ends false [] bs) || may_ask bs
+  may_ask (b ∷ bs) = ((b == 91) && label_ends [] bs) || may_ask bs

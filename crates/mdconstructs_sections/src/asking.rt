@@ -1,6 +1,6 @@
 //! Which bytes may look up a label that comes or goes.
 
-ghost use Rattle.std.specs.Prelude.{◌≡◌, [], IfOk, false};
+ghost use Rattle.std.specs.Prelude.{◌≡◌, [], IfOk};
 ghost use Rattle.mdconstructs_sections.specs.InBrackets.{changes, label_ends, may_ask};
 
 use mdconstructs_labels::labels::Labels;
@@ -13,24 +13,22 @@ fn is_changed(alloc: Global, old: &Labels, new: &Labels, label: &[u8]) -> Result
     Ok(old.contains(alloc, label)? != new.contains(alloc, label)?)
 }
 
-/// Behind a `[`: whether a label that changes ends at a `]` up to the first bracket that is not escaped, or a line ends before that.
+/// Behind a `[`: whether a label that changes ends at the next bracket, which is a `]`. It may, if a line ends or a backslash stands before that.
 fn label_ends(alloc: Global, old: &Labels, new: &Labels, bytes: &[u8]) -> Result<bool, AllocError>
-    ensures { IfOk result (λ ends. ends ≡ label_ends (changes old.now new.now) false [] bytes.now) }
+    ensures { IfOk result (λ ends. ends ≡ label_ends (changes old.now new.now) [] bytes.now) }
 {
     let mut index = 0;
-    let mut hidden = false;
     while index < bytes.len() {
         let byte = bytes[index];
-        if byte == b'\n' || byte == b'\r' {
+        if byte == b'\n' || byte == b'\r' || byte == b'\\' {
             return Ok(true);
         }
-        if byte == b']' && is_changed(alloc, old, new, &bytes[..index])? {
-            return Ok(true);
+        if byte == b']' {
+            return is_changed(alloc, old, new, &bytes[..index]);
         }
-        if (byte == b'[' || byte == b']') && !hidden {
+        if byte == b'[' {
             return Ok(false);
         }
-        hidden = byte == b'\\' && !hidden;
         index += 1;
     }
     Ok(false)
