@@ -137,7 +137,7 @@ def rust(names, machines):
     """The Rust file."""
     derives = "Clone, Copy, Debug, PartialEq, Eq, PartialOrd, Ord, Hash"
     name_comments = comments_of(CRATES / "markdown_base/src/event.rt", "Name")
-    machine_comments = comments_of(CRATES / "mdconstructs_documents/src/choice.rt", "Which")
+    machine_comments = comments_of(CRATES / "mddocument/src/choice.rt", "Which")
     lines = ["//! Names of spans and machines, with their numbers. Written by `bindings/names.py`.", "", "use std::fmt;", "use std::str::FromStr;", ""]
     lines += rust_enum("Machine", "A machine: what reads a document.", machines, machine_comments, "Clone, Copy, Debug, Default, PartialEq, Eq, Hash")[:-1]
     lines += ["", *rust_all("Machine", machines, TEST_MACHINES)[:-1], "}", ""]
@@ -159,7 +159,7 @@ def rust(names, machines):
 
 
 # What crosses the border: the name of each struct in both Rattle and Rust, and where Rattle declares it.
-RANGES = CRATES / "mdconstructs_documents/src/ranges.rt"
+RANGES = CRATES / "mddocument/src/ranges.rt"
 STRUCTS = {"Record": "record.rt", "TextOptions": "choose.rt", "Options": "choose.rt", "Answer": "lib.rt", "ByteRange": RANGES, "Changed": "edits.rt", "Place": "edits.rt"}
 # The same type in Rattle and Rust, and in C.
 TYPES = {"u16": "uint16_t", "u32": "uint32_t", "u64": "uint64_t", "usize": "size_t"}

@@ -17,7 +17,7 @@ MARK = "<!-- The rest of this page is made by tools/definitions.py. -->\n"
 INNER = re.compile(r"^Inner: |An inner file: ")
 
 # the crate whose files have the states of a machine, and what is read stands in another one
-MACHINES = ("mdconstructs_flow",)
+MACHINES = ("mdblock_leaf_machine",)
 
 
 def read(path):

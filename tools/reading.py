@@ -3,7 +3,7 @@
 A definition stands on those that it names, and on what these stand on; files with no such definition are not listed, though they may be
 imported by one that is.
 
-usage: tools/reading.py [NAME [MODULE]]    `document_events` of `mdconstructs_documents.specs.DocumentEvents`, if no name is given
+usage: tools/reading.py [NAME [MODULE]]    `document_events` of `mddocument.specs.DocumentEvents`, if no name is given
        tools/reading.py --check            prints where README's list differs from these files, and ends with 1 if it does
 """
 
@@ -13,7 +13,7 @@ import sys
 
 TOP = os.path.dirname(os.path.dirname(os.path.realpath(__file__)))
 HEAD = re.compile(r"^(?P<space> *)(?:pub )?(?P<kind>abbrev|record|data|enum)?(?: ?pub)? ?(?P<name>[^ :(){}]+)(?: [({].*)? : ")
-WHOLE = ("document_events", "mdconstructs_documents.specs.DocumentEvents")
+WHOLE = ("document_events", "mddocument.specs.DocumentEvents")
 WORD = re.compile(r"[^\s(){}\[\],;λ∷→×≡]+")
 
 

@@ -1,6 +1,6 @@
 #!/usr/bin/env python3
-"""Holds the tables of Unicode's white space and punctuation: in code (mdconstructs_attention/src/unicode.rt), and in specs
-(mdconstructs_attention/specs/Unicode.antt), which has lists of its own, so that the prover refuses an entry of the code that differs.
+"""Holds the tables of Unicode's white space and punctuation: in code (mdinline_emphasis/src/unicode.rt), and in specs
+(mdinline_emphasis/specs/Unicode.antt), which has lists of its own, so that the prover refuses an entry of the code that differs.
 
 usage: tools/tables.py             compares the two with one another, and each with Python's unicodedata. Ends with 1 if they differ in
                                    another code point than one that Python's version of Unicode has not assigned
@@ -14,8 +14,8 @@ import sys
 import unicodedata
 
 TOP = os.path.dirname(os.path.dirname(os.path.realpath(__file__)))
-CODE = f"{TOP}/crates/mdconstructs_attention/src/unicode.rt"
-SPECS = f"{TOP}/crates/mdconstructs_attention/specs/Unicode.antt"
+CODE = f"{TOP}/crates/mdinline_emphasis/src/unicode.rt"
+SPECS = f"{TOP}/crates/mdinline_emphasis/specs/Unicode.antt"
 RANGE = re.compile(r"\(0x([0-9A-F]+), 0x([0-9A-F]+)\)")
 ROW = re.compile(r"\(0x([0-9A-F]+), 0x([0-9A-F]+), (\w+)\)")
 # tab, line feed, form feed, carriage return (CommonMark, "Unicode whitespace character")

@@ -1,3 +1,3 @@
 //! Character references: the characters that a name or a number stands for.
 
-pub use mdconstructs_references::{find, name_from, numeric};
+pub use mdinline_characters::{find, name_from, numeric};

@@ -2,8 +2,8 @@
 
 use crate::shown::assert_shown;
 use markdown::event::{Event, Kind, Name};
-use mdconstructs_attention::pairs::{Delimiters, pair_all};
-use mdconstructs_attention::runs::runs_of;
+use mdinline_emphasis::pairs::{Delimiters, pair_all};
+use mdinline_emphasis::runs::runs_of;
 use mdtests_base::shown::at;
 use std::alloc::{AllocError, Global};
 

@@ -2,15 +2,15 @@
 
 ghost use Rattle.std.specs.Prelude.{◌≡◌, ◌<◌};
 
-use mdconstructs_labels::definitions::{
+use mdconstructs_loop_counts::Turns;
+use mdinline_labels::definitions::{
     Definition, Front, Stretch, definition_at, definition_counted, definitions_counted,
     definitions_in,
 };
-use mdconstructs_labels::labels::Labels;
-use mdconstructs_labels::resources::{Resource, resource_at, resource_counted};
-use mdconstructs_labels::tails::{destination_size, gap, label_size, title_size};
-use mdconstructs_labels::{is_label, is_label_counted, normalised};
-use mdconstructs_turns::Turns;
+use mdinline_labels::labels::Labels;
+use mdinline_labels::resources::{Resource, resource_at, resource_counted};
+use mdinline_labels::tails::{destination_size, gap, label_size, title_size};
+use mdinline_labels::{is_label, is_label_counted, normalised};
 use std::alloc::{AllocError, Global};
 use std::marker::Brand;
 use std::sync::ledger::{Blank, Ledger};

@@ -1,6 +1,6 @@
 //! Character references: names with the characters of HTML's list, and numbers, as CommonMark's examples have them and at the limits.
 
-use mdconstructs_references::{find, numeric};
+use mdinline_characters::{find, numeric};
 
 /// Names, with what they stand for: the first and the last of the list, one from its middle, the longest, two characters, names that differ
 /// in case alone, and what is no name.

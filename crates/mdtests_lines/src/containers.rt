@@ -6,26 +6,26 @@ ghost use Rattle.markdown_base.specs.Virtual.{IsWithinLimit};
 use crate::shown::assert_shown;
 use markdown_base::configuration::{Constructs, TabSize};
 use markdown_base::event::{Content, Event, Name, Point};
-use mdcases_forms::spans::spans_of;
-use mdconstructs_containers::ahead::{Ahead, aheads_of};
-use mdconstructs_containers::chunks::begin_chunk;
-use mdconstructs_containers::frames::{Frame, exit_frames, list_name};
-use mdconstructs_containers::going::{Open, beginning, first_of, list_of_first, rest_of};
-use mdconstructs_containers::leaves::{
+use mdblock_containers::ahead::{Ahead, aheads_of};
+use mdblock_containers::chunks::begin_chunk;
+use mdblock_containers::frames::{Frame, exit_frames, list_name};
+use mdblock_containers::going::{Open, beginning, first_of, list_of_first, rest_of};
+use mdblock_containers::leaves::{
     Leaf, holds_ending, interrupts_paragraph, is_paragraph, is_raw, leaf_after,
 };
-use mdconstructs_containers::letters::with_letters;
-use mdconstructs_containers::lines::rows_of;
-use mdconstructs_containers::rows::Row;
-use mdconstructs_containers::skeleton::skeleton_of;
-use mdconstructs_containers::spans::{RowAt, Span, end_of, start_of, text_end_of};
-use mdconstructs_containers::writing::{
+use mdblock_containers::letters::with_letters;
+use mdblock_containers::lines::rows_of;
+use mdblock_containers::rows::Row;
+use mdblock_containers::skeleton::skeleton_of;
+use mdblock_containers::spans::{RowAt, Span, end_of, start_of, text_end_of};
+use mdblock_containers::writing::{
     begun_prefix, enter, exit, going_prefix, item_prefix, quote_prefix, span, white,
 };
-use mdconstructs_lines::containers::{Container, Prefix};
-use mdconstructs_lines::html::HtmlKind;
-use mdconstructs_lines::kinds::Fence;
-use mdconstructs_turns::Turns;
+use mdblock_lines::containers::{Container, Prefix};
+use mdblock_lines::html::HtmlKind;
+use mdblock_lines::kinds::Fence;
+use mdcases_forms::spans::spans_of;
+use mdconstructs_loop_counts::Turns;
 use mdtests_base::shown::{at, shown};
 use std::alloc::{AllocError, Global};
 use std::marker::Brand;

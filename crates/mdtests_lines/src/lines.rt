@@ -1,20 +1,20 @@
 //! Kinds of lines, containers that go on or begin, and lines that are read.
 
 ghost use Rattle.std.specs.Prelude.{◌≡◌, ◌<◌, ℕ};
-ghost use Rattle.mdconstructs_flow_read.specs.LineKinds.{indent, is_thematic_break, unindented};
+ghost use Rattle.mdblock_leaf_blocks.specs.LineKinds.{indent, is_thematic_break, unindented};
 
 use markdown_base::configuration::{Constructs, TabSize};
 use markdown_base::event::Point;
-use mdconstructs_lines::breaks::{Breaks, breaks_in};
-use mdconstructs_lines::bytes::{behind, front, indent, is_blank_line, unindented};
-use mdconstructs_lines::containers::{Container, begins, first_from, goes_on};
-use mdconstructs_lines::html::{HtmlKind, begins as begins_html, ends, html_kind, waits_for_blank};
-use mdconstructs_lines::kinds::{
+use mdblock_lines::breaks::{Breaks, breaks_in};
+use mdblock_lines::bytes::{behind, front, indent, is_blank_line, unindented};
+use mdblock_lines::containers::{Container, begins, first_from, goes_on};
+use mdblock_lines::html::{HtmlKind, begins as begins_html, ends, html_kind, waits_for_blank};
+use mdblock_lines::kinds::{
     Fence, LineKind, closes, is_atx_heading, is_far, is_fence_of, is_thematic_break,
     is_underline_of_marks, kind_of_rest, line_kind, underline_rank,
 };
-use mdconstructs_lines::places::{behind_ending, moved, read_line};
-use mdconstructs_turns::Turns;
+use mdblock_lines::places::{behind_ending, moved, read_line};
+use mdconstructs_loop_counts::Turns;
 use std::alloc::AllocError;
 use std::marker::Brand;
 use std::sync::ledger::{Blank, Ledger};

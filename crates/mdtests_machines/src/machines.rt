@@ -10,7 +10,7 @@ use markdown::state::Name;
 use markdown::tokenizer::cuts_every;
 use mdconstructs_machines::words::Words;
 use mdconstructs_machines::wrap::Wrap;
-use mdconstructs_text::read::read_text;
+use mdinline_text_machine::read::read_text;
 use mdtests_base::documents::{lines_by, repeated};
 use mdtests_base::shown::shown;
 use std::alloc::{AllocError, Global};

@@ -13,7 +13,7 @@ use mdconstructs_machines::lines::Lines;
 use mdconstructs_machines::paragraphs::Paragraphs;
 use mdconstructs_machines::peek::Peek;
 use mdconstructs_machines::save::Save;
-use mdconstructs_text::text::Text;
+use mdinline_text_machine::text::Text;
 use mdtests_base::pushed::{Seen, read_by};
 use std::alloc::{AllocError, Global};
 

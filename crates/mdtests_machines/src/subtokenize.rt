@@ -20,8 +20,8 @@ use mdconstructs_machines::deep::Deep;
 use mdconstructs_machines::fail::Fail;
 use mdconstructs_machines::paragraphs::Paragraphs;
 use mdconstructs_machines::wrap::Wrap;
-use mdconstructs_text::laws::other_chains_stay_ready_after_texts;
-use mdconstructs_text::text::Text;
+use mdinline_text_machine::laws::other_chains_stay_ready_after_texts;
+use mdinline_text_machine::text::Text;
 use mdtests_base::chunks::Row::{Chunk, Enter, Exit, Span};
 use mdtests_base::chunks::{
     CHAIN_AROUND_ANOTHER, CHAIN_AROUND_CHILDREN, EMPTY_CHUNK, ONE_EMPTY_CHUNK, QUOTE, Row, listed,

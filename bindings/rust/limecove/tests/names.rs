@@ -80,7 +80,7 @@ fn machines_have_their_proved_numbers() {
 /// The named character references are those that are proved.
 #[test]
 fn references_are_those_that_are_proved() {
-    let specs = text("crates/mdconstructs_references/specs/CharacterReferences.antt");
+    let specs = text("crates/mdinline_characters/specs/CharacterReferences.antt");
     let mut count = 0;
     for entry in specs.split("(codes \"").skip(1) {
         let (name, rest) = entry.split_once("\", ").unwrap();

@@ -41,13 +41,13 @@ use Rattle.mdconstructs_tables.specs.RowTest.{never}
 use Rattle.mdconstructs_tables.proofs.Tables.Plans.{formed-lawful}
 use Rattle.mdconstructs_tables.proofs.Tables.Prices.{all-fall, every-late}
 use Rattle.mdconstructs_machines.specs.Spans.{event, leaf, span as span_of}
-use Rattle.mdconstructs_text.specs.ChainTexts.{chain_text, chain_events, with_texts}
-use Rattle.mdconstructs_text.specs.TextEvents.{text_events}
-use Rattle.mdconstructs_text.proofs.Paragraphs.ChunkPairs.{IsPlaced}
-use Rattle.mdconstructs_text.proofs.Paragraphs.ChunksReady.{chunks-are-ready}
-use Rattle.mdconstructs_text.proofs.Texts.Built.{IsKeptBySpans}
-use Rattle.mdconstructs_text.proofs.Texts.ItemsBuilt.{text-built}
-use Rattle.mdconstructs_text.proofs.Texts.Tight.{text-alone, text-tight}
+use Rattle.mdinline_text_machine.specs.ChainTexts.{chain_text, chain_events, with_texts}
+use Rattle.mdinline_text_machine.specs.TextEvents.{text_events}
+use Rattle.mdinline_text_machine.proofs.Paragraphs.ChunkPairs.{IsPlaced}
+use Rattle.mdinline_text_machine.proofs.Paragraphs.ChunksReady.{chunks-are-ready}
+use Rattle.mdinline_text_machine.proofs.Texts.Built.{IsKeptBySpans}
+use Rattle.mdinline_text_machine.proofs.Texts.ItemsBuilt.{text-built}
+use Rattle.mdinline_text_machine.proofs.Texts.Tight.{text-alone, text-tight}
 use Rattle.mdconstructs.specs.Paragraphs.{text_link}
 use Rattle.mdconstructs.specs.Tables.{LineByte, line_ending, other}
 use Rattle.mdexamples.specs.declared.text_lines.Resolver.{Resolver}

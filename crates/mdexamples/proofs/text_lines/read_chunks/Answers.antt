@@ -15,11 +15,11 @@ use Rattle.markdown_children.specs.Ready.{IsReady}
 use Rattle.markdown_children.specs.Reads.{start_at, start_name, text_of_chain, IsSubtokenizeFault}
 use Rattle.markdown_children.proofs.ChainOrder.Forward.{begins-fits}
 use Rattle.mdconstructs_tables.proofs.Tables.Refusals.{none-refused}
-use Rattle.mdconstructs_text.specs.TextEvents.{text_events}
-use Rattle.mdconstructs_text.specs.TextRules.{text_rules}
-use Rattle.mdconstructs_text.proofs.NoRefusals.{text-refuses-nothing}
-use Rattle.mdconstructs_text.proofs.Paragraphs.ChainEvents.{chains-read, is-text-content}
-use Rattle.mdconstructs_text.proofs.Texts.Ends.{reads-items}
+use Rattle.mdinline_text_machine.specs.TextEvents.{text_events}
+use Rattle.mdinline_text_machine.specs.TextRules.{text_rules}
+use Rattle.mdinline_text_machine.proofs.NoRefusals.{text-refuses-nothing}
+use Rattle.mdinline_text_machine.proofs.Paragraphs.ChainEvents.{chains-read, is-text-content}
+use Rattle.mdinline_text_machine.proofs.Texts.Ends.{reads-items}
 use Rattle.mdexamples.proofs.text_lines.read_chunks.Goals as goal
 
 -- the machine of texts may start with the state of each of these chains

@@ -1,0 +1,5 @@
+use Rattle.mdblock_definitions.specs.Seen.{rows_by}
+use Rattle.mdblock_definitions.proofs.skeleton.write_defined.Given as goal
+
+abbrev pub ghost-hold_lines : goal.ghost-hold_lines
+ghost-hold_lines g a = rows_by a.tab a.bytes.now a.rows.now

@@ -1,0 +1,211 @@
+//! The lines of a document with their containers, where paragraphs may begin with definitions.
+
+ghost use Rattle.std.specs.Prelude.{◌≡◌, ◌≤◌, ◌<◌, ◌+◌, ◌*◌, ◌&&◌, true, cond, ℕ, IfOk, [], is_some, length, drop, map};
+ghost use Rattle.markdown_base.specs.Virtual.{virtual};
+ghost use Rattle.mdconstructs_machines.specs.LineEvents.{lines_in};
+ghost use Rattle.mdblock_leaf_blocks.specs.LeafBlocks.{Line, text_of};
+ghost use Rattle.mdblock_leaf_blocks.specs.LineKinds.{underline_rank};
+ghost use Rattle.mdblock_lines.specs.Lines.{line_at, line_length, line_bytes};
+ghost use Rattle.mdblock_containers.specs.Ahead.{AreRows};
+ghost use Rattle.mdblock_containers.specs.Costs.{HaveSizes};
+ghost use Rattle.mdblock_containers.specs.Over.{AreBefore, AreOver};
+ghost use Rattle.mdblock_containers.specs.Rows.{closed, is_paragraph, open_paragraph};
+ghost use Rattle.mdblock_containers.specs.Spans.{ArePlaced, IsPlaced};
+ghost use Rattle.mdblock_containers.specs.Views.{IsRow, leaf_of, open_of};
+ghost use Rattle.mdblock_definitions.specs.Known.{IsKept, IsKnown, held_behind, is_held_used_up};
+ghost use Rattle.mdblock_definitions.specs.Rows.{Known as KnownOf, known_after, row_of, rows};
+
+use crate::texts::{hold_defining, underlines_held};
+use markdown_base::configuration::{Constructs, TabSize};
+use mdblock_containers::leaves::{Leaf, is_paragraph};
+use mdblock_containers::rows::{Before, Row};
+use mdblock_containers::spans::{RowAt, Span};
+use mdblock_containers::texts::read_text;
+use mdblock_lines::bytes::behind;
+use mdblock_lines::places::behind_ending;
+use mdconstructs_loop_counts::Turns;
+use std::alloc::{AllocError, Global};
+use std::sync::ledger::Ledger;
+
+/// What is known before a line.
+#[derive(Drop)]
+pub struct Known {
+    /// What is known without definitions.
+    pub before: Before,
+    /// What is held of the text of the paragraph that is open, if one is: all of it, if it begins with `[` behind white space, and else nothing.
+    pub text: Vec<u8>,
+}
+
+impl Known {
+    /// Nothing is known before the first line.
+    pub fn new(alloc: Global) -> Known
+        ensures stack { result.before.stack.items ≡ [] }
+        ensures depth { result.before.depth ≡ 0 }
+        ensures over { result.before.over ≡ 0 }
+        ensures leaf { leaf_of result.before.leaf ≡ closed }
+        ensures text { result.text.items ≡ [] }
+    {
+        Known {
+            before: Before::new(alloc),
+            text: Vec::new(alloc),
+        }
+    }
+
+    /// A line with its containers, by its number and its virtual bytes. What is known before it becomes what is known behind it.
+    fn next<L: Ledger>(
+        &mut self,
+        alloc: Global,
+        on: &Constructs,
+        number: usize,
+        t: &[u8],
+        turns: &mut Turns<L>,
+    ) -> Result<Row, AllocError>
+        requires depth { self.old.before.depth ≤ length self.old.before.stack.items }
+        requires over { AreOver number self.old.before.over self.old.before.depth self.old.before.stack.items }
+        requires began { AreBefore number self.old.before.stack.items }
+        requires sizes { HaveSizes (map open_of self.old.before.stack.items) }
+        ensures row { IfOk result (λ r. (known : KnownOf) → IsKnown self.old known → (line : Line) → text_of line ≡ t.now → IsRow number r (row_of on.now known number line)) }
+        ensures known { IfOk result (λ _. (known : KnownOf) → IsKnown self.old known → (line : Line) → text_of line ≡ t.now → IsKnown self.new (known_after on.now known (row_of on.now known number line))) }
+        ensures within { IfOk result (λ r. r.columns ≤ length t.now) }
+        ensures depth { IfOk result (λ _. (line : Line) → text_of line ≡ t.now → self.new.before.depth ≤ length self.new.before.stack.items) }
+        ensures over { IfOk result (λ _. (line : Line) → text_of line ≡ t.now → AreOver (number + 1) self.new.before.over self.new.before.depth self.new.before.stack.items) }
+        ensures kept { IfOk result (λ _. (line : Line) → text_of line ≡ t.now → (budget : ℕ) → IsKept (turns.old + self.old.before.over) budget self.old.text.items → IsKept (turns.new + self.new.before.over) (budget + 183 * length t.now + 1703) self.new.text.items) }
+        ensures turns { (line : Line) → text_of line ≡ t.now → turns.new ≤ turns.old + self.old.before.over + 147 * length t.now + 1670 + 16 * length self.old.text.items }
+    {
+        let mut row = self.before.row(alloc, on, number, t, turns)?;
+        row.leaf = leaf_behind(on, self, &row, t, turns);
+        hold_row(&mut self.text, self.before.leaf, &row, t, turns)?;
+        self.before.go_behind(number, &row, turns)?;
+        Ok(row)
+    }
+}
+
+/// The leaf block that may go on behind a line: what would be an underline makes no heading of definitions alone, so it is text. `t` are the line's
+/// virtual bytes.
+fn leaf_behind<L: Ledger>(
+    on: &Constructs,
+    known: &Known,
+    row: &Row,
+    t: &[u8],
+    turns: &mut Turns<L>,
+) -> Leaf
+    requires { row.now.columns ≤ length t.now }
+    ensures value { leaf_of result ≡ cond (on.now.definition && ((row.now.stays && is_paragraph (leaf_of known.now.before.leaf)) && (is_some (underline_rank on.now (drop row.now.columns t.now)) && is_held_used_up known.now.text.items))) open_paragraph (leaf_of row.now.leaf) }
+    ensures text { is_paragraph (leaf_of row.now.leaf) ≡ true → turns.new ≤ turns.old }
+    ensures turns { turns.new ≤ turns.old + 3 * length t.now + 20 + 16 * length known.now.text.items }
+{
+    if is_paragraph(row.leaf) {
+        return row.leaf;
+    }
+    let rest = behind(t, row.columns);
+    if underlines_held(
+        on,
+        known.before.leaf,
+        row.stays,
+        rest,
+        known.text.as_slice(),
+        turns,
+    ) {
+        Leaf::Paragraph
+    } else {
+        row.leaf
+    }
+}
+
+/// What is held of the text of the open paragraph behind a line, by that before it and the leaf block that goes on before it. `t` are the line's
+/// virtual bytes.
+fn hold_row<L: Ledger>(
+    text: &mut Vec<u8>,
+    leaf: Leaf,
+    row: &Row,
+    t: &[u8],
+    turns: &mut Turns<L>,
+) -> Result<(), AllocError>
+    requires { row.now.columns ≤ length t.now }
+    ensures text { IfOk result (λ _. text.new.items ≡ cond (is_paragraph (leaf_of row.now.leaf)) (held_behind (row.now.stays && is_paragraph (leaf_of leaf)) text.old.items (drop row.now.columns t.now)) []) }
+    ensures turns { turns.new ≤ turns.old + length t.now + 1 }
+{
+    if !is_paragraph(row.leaf) {
+        text.clear();
+        return Ok(());
+    }
+    let goes_on = row.stays && is_paragraph(leaf);
+    hold_defining(text, goes_on, behind(t, row.columns), turns)
+}
+
+/// The line with this number and this beginning, with its containers. What is known before it becomes what is known behind it. `line` becomes its
+/// virtual bytes, without its line ending.
+pub fn next_row<L: Ledger>(
+    alloc: Global,
+    bytes: &[u8],
+    tab: TabSize,
+    on: &Constructs,
+    known: &mut Known,
+    line: &mut Vec<u8>,
+    number: usize,
+    start: usize,
+    turns: &mut Turns<L>,
+) -> Result<RowAt, AllocError>
+    requires inside { start < length bytes.now }
+    requires depth { known.old.before.depth ≤ length known.old.before.stack.items }
+    requires over { AreOver number known.old.before.over known.old.before.depth known.old.before.stack.items }
+    requires began { AreBefore number known.old.before.stack.items }
+    requires sizes { HaveSizes (map open_of known.old.before.stack.items) }
+    ensures text { IfOk result (λ _. line.new.items ≡ line_bytes tab number 1 start (drop start bytes.now)) }
+    ensures number { IfOk result (λ at. at.span.number ≡ number) }
+    ensures placed { IfOk result (λ at. IsPlaced tab bytes.now number start at) }
+    ensures row { IfOk result (λ at. (seen : KnownOf) → IsKnown known.old seen → IsRow number at.row (row_of on.now seen number (line_at tab number start (drop start bytes.now)))) }
+    ensures known { IfOk result (λ _. (seen : KnownOf) → IsKnown known.old seen → IsKnown known.new (known_after on.now seen (row_of on.now seen number (line_at tab number start (drop start bytes.now))))) }
+    ensures next { IfOk result (λ at. at.span.next ≡ start + line_length (drop start bytes.now)) }
+    ensures more { IfOk result (λ at. start < at.span.next) }
+    ensures within { IfOk result (λ at. at.span.next ≤ length bytes.now) }
+    ensures depth { IfOk result (λ _. known.new.before.depth ≤ length known.new.before.stack.items) }
+    ensures over { IfOk result (λ _. AreOver (number + 1) known.new.before.over known.new.before.depth known.new.before.stack.items) }
+    ensures kept { IfOk result (λ at. (budget : ℕ) → IsKept (turns.old + known.old.before.over) budget known.old.text.items → IsKept (turns.new + known.new.before.over) (budget + 187 * at.span.size + 1705) known.new.text.items) }
+    ensures turns { turns.new ≤ turns.old + known.old.before.over + 151 * length (line_bytes tab number 1 start (drop start bytes.now)) + 1672 + 16 * length known.old.text.items }
+{
+    let end = read_text(line, bytes, tab, start, turns)?;
+    let next = behind_ending(bytes, end);
+    let row = known.next(alloc, on, number, line.as_slice(), turns)?;
+    let span = Span {
+        number,
+        start,
+        end,
+        next,
+        size: line.len(),
+    };
+    Ok(RowAt { span, row })
+}
+
+/// The lines of a document, with their containers. Fails only for want of memory.
+///
+/// It is linear: a text is looked at where an underline comes behind definitions alone, which is text then, so that a paragraph is looked at twice at
+/// most. Only the text of a paragraph that begins with `[` is kept.
+pub fn rows_with_definitions<L: Ledger>(
+    alloc: Global,
+    bytes: &[u8],
+    tab: TabSize,
+    on: &Constructs,
+    turns: &mut Turns<L>,
+) -> Result<Vec<RowAt>, AllocError>
+    ensures rows { IfOk result (λ found. AreRows found.items (rows on.now (lines_in (virtual tab bytes.now)))) }
+    ensures placed { IfOk result (λ found. ArePlaced tab bytes.now 1 0 found.items (length bytes.now)) }
+    ensures turns { turns.new ≤ turns.old + 1706 * length (virtual tab bytes.now) + 1706 }
+{
+    let tab_size = tab.get();
+    prove!(tab_size >= 1);
+    let mut found = Vec::new(alloc);
+    let mut known = Known::new(alloc);
+    let mut line = Vec::new(alloc);
+    let mut start = 0;
+    while start < bytes.len() {
+        turns.add_one();
+        let number = found.len() + 1;
+        let at = next_row(
+            alloc, bytes, tab, on, &mut known, &mut line, number, start, turns,
+        )?;
+        start = at.span.next;
+        found.push(at)?;
+    }
+    Ok(found)
+}

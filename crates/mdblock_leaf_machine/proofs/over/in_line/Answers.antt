@@ -1,0 +1,8 @@
+use Rattle.std.proofs.Common.{[], ◌∷◌, refl}
+use Rattle.mdblock_leaf_machine.specs.declared.over.TheConstants.{IN_LINE}
+use Rattle.mdblock_leaf_machine.specs.FlowBytes.{is_line_feed}
+use Rattle.mdblock_leaf_machine.proofs.ByteSets.{pass-none}
+use Rattle.mdblock_leaf_machine.proofs.over.in_line.Goals as goal
+
+pub returns : goal.returns
+returns c = pass-none (is_line_feed ∷ []) IN_LINE refl

@@ -1,0 +1,8 @@
+use Rattle.std.proofs.Common.{[], ◌∷◌, refl}
+use Rattle.mdblock_leaf_machine.specs.declared.over.TheConstants.{IN_WORD}
+use Rattle.mdblock_leaf_machine.specs.FlowBytes.{is_line_feed, is_blank}
+use Rattle.mdblock_leaf_machine.proofs.ByteSets.{pass-none}
+use Rattle.mdblock_leaf_machine.proofs.over.in_word.Goals as goal
+
+pub returns : goal.returns
+returns c = pass-none (is_line_feed ∷ is_blank ∷ []) IN_WORD refl

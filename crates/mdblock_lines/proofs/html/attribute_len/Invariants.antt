@@ -1,0 +1,11 @@
+use Rattle.std.proofs.Common.{length, ◌-◌, ◌+◌, ◌≡◌, ◌≤◌, drop}
+use Rattle.std.specs.List.{prefix_len}
+use Rattle.mdblock_leaf_blocks.specs.HtmlLines.{goes_on_attribute}
+use Rattle.mdblock_lines.proofs.html.attribute_len.Given as goal
+
+-- what was passed, and what is left of the name
+abbrev pub invariant-loop-next : goal.invariant-loop-next
+invariant-loop-next g l = (l.next + prefix_len goes_on_attribute (drop l.next l.t) ≡ prefix_len goes_on_attribute l.t) × (l.next ≤ length l.t) × (l.turns ≤ l.fn.turns + l.next)
+
+abbrev pub decreases-loop-next : goal.decreases-loop-next
+decreases-loop-next g l = length l.t - l.next

@@ -1,0 +1,343 @@
+//! Containers: which go on with a line, and which begin in it. The line's rest is its virtual bytes from a column on.
+
+ghost use Rattle.std.specs.Prelude.{◌≡◌, ◌≤◌, ◌<◌, ◌+◌, ◌-◌, ◌*◌, ℕ, IfSome, Bool, true, length, drop, Some, None, ◌&&◌, cond, false, option_map, take, suc, ◌^◌, ◌==◌, slice_index, nat_le};
+ghost use Rattle.mdblock_leaf_blocks.specs.LineKinds.{indent, unindented, is_blank_line, is_thematic_break};
+ghost use Rattle.mdblock_lines.specs.Containers.{quote_size, goes_on, digits, is_one, is_marker, padding, item_at, may_begin_item, begins, quote};
+ghost use Rattle.mdblock_lines.specs.Views.{container_of, prefix_of, quote_prefix, is_marker_behind, may_stand, prefix_behind, prefix_by, is_past, is_quote_at};
+
+use crate::bytes::{begins_white, begins_with, behind, front, indent, run};
+use markdown_base::configuration::Constructs;
+use mdconstructs_loop_counts::Turns;
+use std::sync::ledger::Ledger;
+
+/// A container: a block quote, or a list item.
+#[derive(Clone, Copy)]
+pub struct Container {
+    /// It is a block quote.
+    pub is_quote: bool,
+    /// The number of the line that begins it.
+    pub line: usize,
+    /// Of an item: how many columns of white space a line needs to go on with it.
+    pub size: usize,
+    /// Of an item: its marker, behind its number if it has one.
+    pub marker: u8,
+    /// Of an item: how many digits it has.
+    pub digits: usize,
+    /// Of an item: nothing is behind its marker.
+    pub is_blank: bool,
+}
+
+/// The first column from another on that is not white space, by such a column of a place before it. So white space is walked over once.
+pub fn first_from<L: Ledger>(
+    t: &[u8],
+    from: usize,
+    at: usize,
+    first: usize,
+    turns: &mut Turns<L>,
+) -> usize
+    requires order { from ≤ at }
+    requires inside { at ≤ length t.now }
+    requires first { first ≡ from + indent (drop from t.now) }
+    ensures value { result ≡ at + indent (drop at t.now) }
+    ensures turns { turns.new + first ≤ turns.old + result }
+{
+    if at <= first {
+        return first;
+    }
+    at + indent(behind(t, at), turns)
+}
+
+/// A line's rest has only these columns of white space.
+#[tactic(auto, using(crate::proofs::LineLemmas::all_by_prefix))]
+fn is_all(t: &[u8], columns: usize) -> bool
+    requires { columns ≡ indent t.now }
+    ensures value { result ≡ is_blank_line t.now }
+    ensures len { result ≡ (columns == length t.now) }
+{
+    columns == t.len()
+}
+
+/// The columns of a quote's prefix: white space, the marker, and one column of white space.
+#[tactic(auto, using(crate::proofs::LineLemmas::drop_one))]
+fn quote_size(t: &[u8], columns: usize) -> usize
+    requires columns { columns ≡ indent t.now }
+    requires within { columns ≤ length t.now }
+    requires inside { columns < length t.now }
+    ensures { result ≡ quote_size t.now }
+{
+    let after = behind(t, columns + 1);
+    columns + 1 + if begins_white(after) { 1 } else { 0 }
+}
+
+/// The columns of the prefix with which a container goes on with a line's rest, if it does. `columns` of white space come first.
+pub fn goes_on(c: &Container, number: usize, t: &[u8], columns: usize) -> Option<usize>
+    requires columns { columns ≡ indent t.now }
+    requires within { columns ≤ length t.now }
+    ensures { (list : ℕ) → result ≡ goes_on (container_of list c.now) number t.now }
+{
+    if c.is_quote {
+        quote_goes_on(t, columns)
+    } else {
+        item_goes_on(c, number, t, columns)
+    }
+}
+
+fn quote_goes_on(t: &[u8], columns: usize) -> Option<usize>
+    requires columns { columns ≡ indent t.now }
+    requires within { columns ≤ length t.now }
+    ensures { (line : ℕ) → (number : ℕ) → result ≡ goes_on (quote line) number t.now }
+{
+    if columns > 3 || columns == t.len() || t[columns] != b'>' {
+        return None;
+    }
+    Some(quote_size(t, columns))
+}
+
+fn item_goes_on(c: &Container, number: usize, t: &[u8], columns: usize) -> Option<usize>
+    requires columns { columns ≡ indent t.now }
+    requires within { columns ≤ length t.now }
+    requires item { c.now.is_quote ≡ false }
+    ensures { (list : ℕ) → result ≡ goes_on (container_of list c.now) number t.now }
+{
+    if is_all(t, columns) {
+        if c.is_blank && number > c.line && number - c.line == 1 {
+            return None;
+        }
+        return Some(if c.size <= columns { c.size } else { columns });
+    }
+    if c.size <= columns {
+        Some(c.size)
+    } else {
+        None
+    }
+}
+
+fn digits<L: Ledger>(t: &[u8], turns: &mut Turns<L>) -> usize
+    ensures value { result ≡ digits t.now }
+    ensures within { result ≤ length t.now }
+    ensures turns { turns.new ≤ turns.old + result + 1 }
+{
+    let mut next = 0;
+    while next < t.len() {
+        turns.add_one();
+        if !t[next].is_ascii_digit() {
+            return next;
+        }
+        next += 1;
+    }
+    next
+}
+
+/// The digits are those of one: zeros, and a one behind them.
+fn is_one<L: Ledger>(t: &[u8], turns: &mut Turns<L>) -> bool
+    ensures value { result ≡ is_one t.now }
+    ensures turns { turns.new ≤ turns.old + length t.now + 1 }
+{
+    let n = run(t, b'0', turns);
+    begins_with(behind(t, n), b'1') && t.len() == n + 1
+}
+
+/// Behind so many digits this byte is a marker.
+fn is_marker(n: usize, byte: u8) -> bool
+    ensures { result ≡ is_marker_behind n byte }
+{
+    if n == 0 {
+        byte == b'*' || byte == b'+' || byte == b'-'
+    } else {
+        n <= 9 && (byte == b'.' || byte == b')')
+    }
+}
+
+/// The columns between a marker and the text of an item.
+fn padding(after: &[u8], white: usize) -> usize
+    requires white { white ≡ indent after.now }
+    requires within { white ≤ length after.now }
+    ensures value { result ≡ padding after.now }
+    ensures least { result ≤ 4 }
+{
+    if !is_all(after, white) && white <= 4 {
+        white
+    } else {
+        1
+    }
+}
+
+/// A container that begins, and the columns of its prefix.
+#[derive(Clone, Copy)]
+pub struct Prefix {
+    /// The container.
+    pub container: Container,
+    /// The columns of its prefix.
+    pub size: usize,
+}
+
+/// White space or nothing is behind a marker, and an item may begin there.
+fn may_stand<L: Ledger>(
+    in_paragraph: bool,
+    n: usize,
+    number: &[u8],
+    after: &[u8],
+    white: usize,
+    turns: &mut Turns<L>,
+) -> bool
+    requires white { white ≡ indent after.now }
+    requires within { white ≤ length after.now }
+    ensures value { result ≡ may_stand in_paragraph n number.now after.now }
+    ensures turns { turns.new ≤ turns.old + length number.now + 1 }
+{
+    let is_blank = is_all(after, white);
+    (is_blank || white >= 1) && !(in_paragraph && (is_blank || n >= 1 && !is_one(number, turns)))
+}
+
+/// The item whose number or marker is behind the white space.
+#[tactic(auto, using(crate::proofs::LineLemmas::marker_missing, crate::proofs::LineLemmas::marker_wrong, crate::proofs::LineLemmas::item_none))]
+fn item_at<L: Ledger>(
+    number: usize,
+    t: &[u8],
+    columns: usize,
+    in_paragraph: bool,
+    turns: &mut Turns<L>,
+) -> Option<Prefix>
+    requires columns { columns ≡ indent t.now }
+    requires within { columns ≤ length t.now }
+    ensures value { option_map (prefix_of number) result ≡ cond (may_begin_item in_paragraph (unindented t.now)) (Some (item_at number t.now)) None }
+    ensures found { IfSome result (λ p. turns.new + columns ≤ turns.old + 2 * p.size + indent (drop p.size t.now) + 1) }
+    ensures turns { turns.new ≤ turns.old + 2 * length t.now + 2 }
+{
+    let r = behind(t, columns);
+    let n = digits(r, turns);
+    if n == r.len() {
+        return None;
+    }
+    if !is_marker(n, r[n]) {
+        return None;
+    }
+    item_behind(number, columns, in_paragraph, r, n, turns)
+}
+
+/// The item whose number, of so many digits, and marker are here.
+fn item_behind<L: Ledger>(
+    number: usize,
+    columns: usize,
+    in_paragraph: bool,
+    r: &[u8],
+    n: usize,
+    turns: &mut Turns<L>,
+) -> Option<Prefix>
+    requires within { n < length r.now }
+    requires room { columns + length r.now < 2 ^ 63 }
+    ensures value { option_map (prefix_of number) result ≡ prefix_behind in_paragraph number columns n (slice_index r.now n) r.now (n + 1) }
+    ensures least { IfSome result (λ p. columns + (n + 1) ≤ p.size) }
+    ensures found { IfSome result (λ p. turns.new + columns ≤ turns.old + p.size + indent (drop (p.size - columns) r.now) + 1) }
+    ensures turns { turns.new ≤ turns.old + length r.now + 1 }
+{
+    let after = behind(r, n + 1);
+    let white = indent(after, turns);
+    if may_stand(in_paragraph, n, front(r, n), after, white, turns) {
+        Some(item_of(number, columns + (n + 1), r[n], n, after, white))
+    } else {
+        None
+    }
+}
+
+/// An item, by its marker and what is behind it.
+fn item_of(
+    number: usize,
+    front: usize,
+    marker: u8,
+    digits: usize,
+    after: &[u8],
+    white: usize,
+) -> Prefix
+    requires white { white ≡ indent after.now }
+    requires within { white ≤ length after.now }
+    requires room { front + 4 < 2 ^ 64 }
+    ensures value { prefix_of number result ≡ prefix_by number front marker digits after.now }
+    ensures least { front ≤ result.size }
+{
+    let size = front + padding(after, white);
+    let is_blank = is_all(after, white);
+    let container = Container {
+        is_quote: false,
+        line: number,
+        size,
+        marker,
+        digits,
+        is_blank,
+    };
+    Prefix {
+        container,
+        size: if is_blank { front } else { size },
+    }
+}
+
+/// The block quote that begins behind the white space.
+fn quote_at(number: usize, t: &[u8], columns: usize) -> Prefix
+    requires columns { columns ≡ indent t.now }
+    requires within { columns ≤ length t.now }
+    requires inside { columns < length t.now }
+    ensures { prefix_of number result ≡ quote_prefix number t.now }
+{
+    let container = Container {
+        is_quote: true,
+        line: number,
+        size: 0,
+        marker: b'>',
+        digits: 0,
+        is_blank: false,
+    };
+    Prefix {
+        container,
+        size: quote_size(t, columns),
+    }
+}
+
+/// The container that begins with a line's rest, if one does. `columns` of white space come first; `is_break`: the rest is a thematic break.
+pub fn begins<L: Ledger>(
+    on: &Constructs,
+    number: usize,
+    in_paragraph: bool,
+    t: &[u8],
+    columns: usize,
+    is_break: bool,
+    turns: &mut Turns<L>,
+) -> Option<Prefix>
+    requires columns { columns ≡ indent t.now }
+    requires within { columns ≤ length t.now }
+    requires is_break { is_break ≡ on.now.thematic_break && is_thematic_break (unindented t.now) }
+    ensures value { option_map (prefix_of number) result ≡ begins on.now number in_paragraph t.now }
+    ensures found { IfSome result (λ p. turns.new + columns ≤ turns.old + 2 * p.size + indent (drop p.size t.now) + 1) }
+    ensures turns { turns.new ≤ turns.old + 2 * length t.now + 2 }
+{
+    if is_past(on, t, columns, is_break) {
+        return None;
+    }
+    if is_quote_at(on, t, columns) {
+        return Some(quote_at(number, t, columns));
+    }
+    if on.list_item {
+        item_at(number, t, columns, in_paragraph, turns)
+    } else {
+        None
+    }
+}
+
+/// No container begins: the line's rest is too far to the right, or blank, or a thematic break.
+fn is_past(on: &Constructs, t: &[u8], columns: usize, is_break: bool) -> bool
+    requires columns { columns ≡ indent t.now }
+    requires within { columns ≤ length t.now }
+    requires is_break { is_break ≡ on.now.thematic_break && is_thematic_break (unindented t.now) }
+    ensures value { result ≡ is_past on.now t.now }
+    ensures some { result ≡ false → columns < length t.now }
+{
+    on.code_indented && columns >= 4 || is_all(t, columns) || is_break
+}
+
+/// A quote's marker is behind the white space.
+fn is_quote_at(on: &Constructs, t: &[u8], columns: usize) -> bool
+    requires columns { columns ≡ indent t.now }
+    requires within { columns ≤ length t.now }
+    ensures { result ≡ is_quote_at on.now t.now }
+{
+    on.block_quote && begins_with(behind(t, columns), b'>')
+}

@@ -1,4 +1,0 @@
-use Rattle.mdconstructs_attention.proofs.emphasis.put_edits.Given as goal
-
-abbrev pub ghosts-put_edits_uncounted : goal.ghosts-put_edits_uncounted
-ghosts-put_edits_uncounted a = record { name = a.blank.name; parts = a.blank.parts }

@@ -1,4 +1,0 @@
-use Rattle.mdconstructs_attention.proofs.runs.runs_of.Given as goal
-
-abbrev pub ghosts-runs_uncounted : goal.ghosts-runs_uncounted
-ghosts-runs_uncounted a = record { name = a.blank.name; parts = a.blank.parts }

@@ -1,9 +1,0 @@
-use Rattle.mdconstructs_containers.proofs.GoingLemmas.{goes_on_within_size}
-use Rattle.mdconstructs_containers.specs.Views.{open_of}
-use Rattle.mdconstructs_containers.proofs.going.goes_on_open.Goals as goal
-
-pub returns : goal.returns
-returns c = record {
-  value = c.goes_on.ensures c.args.entry.now.list;
-  within = goes_on_within_size (open_of c.args.entry.now) c.args.number c.args.t.now c.goes_on.result (c.goes_on.ensures c.args.entry.now.list);
-}

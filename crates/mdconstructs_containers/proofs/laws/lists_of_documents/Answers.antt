@@ -1,7 +1,0 @@
--- The definitions compute what is told.
-use Rattle.mdconstructs_containers.proofs.Examples.{of-lists}
-use Rattle.mdconstructs_containers.proofs.laws.lists_of_documents.Goals as goal
-
--- src/laws.rt:16:1
-pub returns : goal.returns
-returns c = of-lists

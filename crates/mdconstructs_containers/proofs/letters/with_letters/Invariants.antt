@@ -1,6 +1,0 @@
-use Rattle.std.proofs.Common.{◌≡◌, take}
-use Rattle.mdconstructs_containers.specs.Letters.{with_letters}
-use Rattle.mdconstructs_containers.proofs.letters.with_letters.Given as goal
-
-abbrev pub invariant-loop-index : goal.invariant-loop-index
-invariant-loop-index l = l.all.items ≡ with_letters (take l.index-index l.indices) l.bytes

@@ -1,5 +1,0 @@
-use Rattle.mdconstructs_containers.proofs.ListNumbers.{first_digits}
-use Rattle.mdconstructs_containers.proofs.lists.digits_at.Goals as goal
-
-pub returns-clause-digits : goal.returns-clause-digits
-returns-clause-digits c = rw c.digits_first.ensures.value (first_digits c.behind-rest.result.now)

@@ -1,5 +1,0 @@
-use Rattle.mdconstructs_costs.proofs.ChainBytes.{chains-apart}
-use Rattle.mdconstructs_costs.proofs.laws.chains_are_apart.Goals as goal
-
-pub returns : goal.returns
-returns c = chains-apart

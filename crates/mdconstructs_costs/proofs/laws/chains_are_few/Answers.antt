@@ -1,5 +1,0 @@
-use Rattle.mdconstructs_costs.proofs.ChainCount.{chains-few}
-use Rattle.mdconstructs_costs.proofs.laws.chains_are_few.Goals as goal
-
-pub returns : goal.returns
-returns c = chains-few

@@ -1,5 +1,0 @@
-use Rattle.mdconstructs_definitions.proofs.PlainLetters.{letters-are-plain}
-use Rattle.mdconstructs_definitions.proofs.laws.letters_are_plain.Goals as goal
-
-pub returns : goal.returns
-returns c = letters-are-plain

@@ -1,5 +1,0 @@
-use Rattle.mdconstructs_definitions.proofs.SectionsReady.{skeletons-are-formed}
-use Rattle.mdconstructs_definitions.proofs.laws.skeletons_are_well_formed.Goals as goal
-
-pub returns : goal.returns
-returns c = skeletons-are-formed

@@ -1,4 +1,0 @@
-use Rattle.mdconstructs_definitions.proofs.parts.skeleton_with_definitions.Given as goal
-
-abbrev pub ghosts-skeleton_uncounted : goal.ghosts-skeleton_uncounted
-ghosts-skeleton_uncounted a = record { name = a.blank.name; parts = a.blank.parts }

@@ -1,5 +1,0 @@
-use Rattle.mdconstructs_document_laws.proofs.Emphasis.RunsApart.{runs-are-apart}
-use Rattle.mdconstructs_document_laws.proofs.laws.runs_are_apart.Goals as goal
-
-pub returns : goal.returns
-returns c = runs-are-apart

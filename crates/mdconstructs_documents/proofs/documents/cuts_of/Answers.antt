@@ -1,4 +1,0 @@
-use Rattle.mdconstructs_documents.proofs.documents.cuts_of.Goals as goal
-
-pub returns-in-Some-clause-cuts : goal.returns-in-Some-clause-cuts
-returns-in-Some-clause-cuts c = c.cuts_every.ensures.cuts

@@ -1,5 +1,0 @@
-use Rattle.mdconstructs_documents.proofs.FlowTexts.InlineForms.{inlines-formed}
-use Rattle.mdconstructs_documents.proofs.laws.inline_texts_in_their_blocks_are_well_formed.Goals as goal
-
-pub returns : goal.returns
-returns c = inlines-formed

@@ -1,5 +1,0 @@
-use Rattle.mdconstructs_documents.proofs.Innermost.Texts.{document-tiles}
-use Rattle.mdconstructs_documents.proofs.laws.innermost_spans_tile_documents_with_containers.Goals as goal
-
-pub returns : goal.returns
-returns c = document-tiles

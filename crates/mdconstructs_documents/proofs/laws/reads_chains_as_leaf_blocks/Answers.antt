@@ -1,5 +1,0 @@
-use Rattle.mdconstructs_documents.proofs.FlowChains.Blocks.{chains-read-blocks}
-use Rattle.mdconstructs_documents.proofs.laws.reads_chains_as_leaf_blocks.Goals as goal
-
-pub returns : goal.returns
-returns c = chains-read-blocks

@@ -1,5 +1,0 @@
-use Rattle.mdconstructs_documents.proofs.Prelude.{inr}
-use Rattle.mdconstructs_documents.proofs.making.read_deep_by.Goals as goal
-
-pub returns-clause-message : goal.returns-clause-message
-returns-clause-message g c = λ m e. inr (_, c.in_ok-events.ensures.events, c.with_children.ensures.message m e)

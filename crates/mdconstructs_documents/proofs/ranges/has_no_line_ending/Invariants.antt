@@ -1,6 +1,0 @@
-use Rattle.mdconstructs_documents.proofs.Prelude.{HasNoLineEnding}
-use Rattle.mdconstructs_documents.proofs.ranges.has_no_line_ending.Given as goal
-
--- up to the index reached there is none
-abbrev pub invariant-loop-index : goal.invariant-loop-index
-invariant-loop-index l = HasNoLineEnding l.bytes l.from l.index

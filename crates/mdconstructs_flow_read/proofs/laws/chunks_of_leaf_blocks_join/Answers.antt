@@ -1,5 +1,0 @@
-use Rattle.mdconstructs_flow_read.proofs.Marks.ChunksJoin.{blocks-join, blocks-meet}
-use Rattle.mdconstructs_flow_read.proofs.laws.chunks_of_leaf_blocks_join.Goals as goal
-
-pub returns : goal.returns
-returns c = record { documents = blocks-join; texts = blocks-meet }

@@ -1,5 +1,0 @@
-use Rattle.mdconstructs_inlines.proofs.InlineChains.{chains-read-inline}
-use Rattle.mdconstructs_inlines.proofs.laws.chains_are_read_as_inline_text.Goals as goal
-
-pub returns : goal.returns
-returns c = chains-read-inline

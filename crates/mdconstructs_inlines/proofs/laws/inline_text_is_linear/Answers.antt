@@ -1,5 +1,0 @@
-use Rattle.mdconstructs_inlines.proofs.InlineReads.{inline-text-is-linear}
-use Rattle.mdconstructs_inlines.proofs.laws.inline_text_is_linear.Goals as goal
-
-pub returns : goal.returns
-returns c = inline-text-is-linear

@@ -1,5 +1,0 @@
-use Rattle.mdconstructs_inlines.proofs.StringChains.{strings-stay-ready}
-use Rattle.mdconstructs_inlines.proofs.laws.other_chains_stay_ready_after_strings.Goals as goal
-
-pub returns : goal.returns
-returns c = strings-stay-ready

@@ -1,8 +1,0 @@
-use Rattle.std.proofs.Common.{◌≡◌, ◌≤◌, ◌+◌, ◌++◌, length, drop}
-use Rattle.mdconstructs_lines.specs.Lines.{expanded}
-use Rattle.mdconstructs_lines.proofs.places.expand.Given as goal
-
-abbrev pub invariant-loop-byte : goal.invariant-loop-byte
-invariant-loop-byte g l =
-    (l.line.items ++ expanded l.tab (length l.line.items + 1) (drop l.byte-index l.text) ≡ expanded l.tab 1 l.text)
-    × (l.turns ≤ l.fn.turns + l.byte-index)

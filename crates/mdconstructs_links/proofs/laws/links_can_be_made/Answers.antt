@@ -1,5 +1,0 @@
-use Rattle.mdconstructs_links.proofs.LinkEdits.{links-can-be-made}
-use Rattle.mdconstructs_links.proofs.laws.links_can_be_made.Goals as goal
-
-pub returns : goal.returns
-returns c = links-can-be-made

@@ -1,5 +1,0 @@
-use Rattle.mdconstructs_links.proofs.Costs.{links-cost-little}
-use Rattle.mdconstructs_links.proofs.laws.links_cost_little.Goals as goal
-
-pub returns : goal.returns
-returns c = links-cost-little

@@ -1,5 +1,0 @@
-use Rattle.mdconstructs_links.proofs.LinkOrder.{in-order}
-use Rattle.mdconstructs_links.proofs.laws.links_keep_order.Goals as goal
-
-pub returns : goal.returns
-returns c = in-order

@@ -1,5 +1,0 @@
-use Rattle.mdconstructs_links.proofs.LinkPlaces.{stay-inside}
-use Rattle.mdconstructs_links.proofs.laws.links_keep_places.Goals as goal
-
-pub returns : goal.returns
-returns c = stay-inside

@@ -1,5 +1,0 @@
-use Rattle.mdconstructs_links.proofs.LinkTight.{links-tight}
-use Rattle.mdconstructs_links.proofs.laws.links_keep_tight.Goals as goal
-
-pub returns : goal.returns
-returns c = links-tight

@@ -1,5 +1,0 @@
-use Rattle.mdconstructs_references.proofs.Names.{begins-so, found-so}
-use Rattle.mdconstructs_references.proofs.laws.names_are_found_by_their_beginnings.Goals as goal
-
-pub returns : goal.returns
-returns c = record { sound = begins-so; complete = found-so }

@@ -1,5 +1,0 @@
-use Rattle.mdconstructs_rests.proofs.DocumentBytes.{document-first-line-tells}
-use Rattle.mdconstructs_rests.proofs.laws.document_first_line_tells.Goals as goal
-
-pub returns : goal.returns
-returns c = document-first-line-tells

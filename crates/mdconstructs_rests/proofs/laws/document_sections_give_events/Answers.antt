@@ -1,5 +1,0 @@
-use Rattle.mdconstructs_rests.proofs.BothDocuments.{document-sections-give-events}
-use Rattle.mdconstructs_rests.proofs.laws.document_sections_give_events.Goals as goal
-
-pub returns : goal.returns
-returns c = document-sections-give-events

@@ -1,5 +1,0 @@
-use Rattle.mdconstructs_rests.proofs.ReadTexts.{flow-inlines-of-both}
-use Rattle.mdconstructs_rests.proofs.laws.flow_inlines_of_both.Goals as goal
-
-pub returns : goal.returns
-returns c = flow-inlines-of-both

@@ -1,5 +1,0 @@
-use Rattle.mdconstructs_rests.proofs.Asked.{labels-decide}
-use Rattle.mdconstructs_rests.proofs.laws.labels_decide.Goals as goal
-
-pub returns : goal.returns
-returns c defined others on bytes seats h = labels-decide bytes on defined others seats h

@@ -1,9 +1,0 @@
-use Rattle.std.proofs.Common.{◌≡◌, ◌-◌, [], length, take, drop}
-use Rattle.mdconstructs_sections.specs.InBrackets.{changes, label_ends}
-use Rattle.mdconstructs_sections.proofs.asking.label_ends.Given as goal
-
-abbrev pub invariant-loop-index : goal.invariant-loop-index
-invariant-loop-index l = let wanted = changes l.old l.new in label_ends wanted [] l.bytes ≡ label_ends wanted (take l.index l.bytes) (drop l.index l.bytes)
-
-abbrev pub decreases-loop-index : goal.decreases-loop-index
-decreases-loop-index l = length l.bytes - l.index

@@ -1,9 +1,0 @@
-use Rattle.std.proofs.Common.{◌≡◌, ◌-◌, length, drop}
-use Rattle.mdconstructs_sections.specs.InBrackets.{changes, may_ask}
-use Rattle.mdconstructs_sections.proofs.asking.may_ask.Given as goal
-
-abbrev pub invariant-loop-index : goal.invariant-loop-index
-invariant-loop-index l = let wanted = changes l.old l.new in may_ask wanted l.bytes ≡ may_ask wanted (drop l.index l.bytes)
-
-abbrev pub decreases-loop-index : goal.decreases-loop-index
-decreases-loop-index l = length l.bytes - l.index

@@ -1,9 +1,0 @@
-use Rattle.mdconstructs_sections.proofs.AskedAgain.{brackets-decide}
-use Rattle.mdconstructs_sections.proofs.AskedInBrackets.{asked-in-brackets}
-use Rattle.mdconstructs_sections.proofs.laws.asked_labels_are_in_brackets.Goals as goal
-
-pub returns-clause-asked : goal.returns-clause-asked
-returns-clause-asked c = asked-in-brackets
-
-pub returns-clause-decide : goal.returns-clause-decide
-returns-clause-decide c = brackets-decide

@@ -1,5 +1,0 @@
-use Rattle.mdconstructs_sections.proofs.SectionEvents.{all-are-the-documents}
-use Rattle.mdconstructs_sections.proofs.laws.events_of_all_sections_are_the_documents.Goals as goal
-
-pub returns : goal.returns
-returns c = all-are-the-documents

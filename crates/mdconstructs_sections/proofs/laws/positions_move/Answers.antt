@@ -1,5 +1,0 @@
-use Rattle.mdconstructs_sections.proofs.PartsMove.{endings-add, offsets-move, positions-move}
-use Rattle.mdconstructs_sections.proofs.laws.positions_move.Goals as goal
-
-pub returns : goal.returns
-returns c = record { positions = positions-move; offsets = offsets-move; endings = endings-add }

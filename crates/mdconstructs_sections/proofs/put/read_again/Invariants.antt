@@ -1,6 +1,0 @@
-use Rattle.std.proofs.Common.{◌≡◌, ◌++◌, take}
-use Rattle.mdconstructs_sections.specs.Put.{rereads}
-use Rattle.mdconstructs_sections.proofs.put.read_again.Given as goal
-
-abbrev pub invariant-loop-index : goal.invariant-loop-index
-invariant-loop-index l = l.others.items ≡ l.fn.others.items ++ rereads l.options l.old l.machine.labels l.first (take l.index l.sections)

@@ -1,5 +1,0 @@
-use Rattle.mdconstructs_strings.proofs.Plain.{data_is_read}
-use Rattle.mdconstructs_strings.proofs.laws.data_is_read_as_string.Goals as goal
-
-pub returns : goal.returns
-returns c = data_is_read

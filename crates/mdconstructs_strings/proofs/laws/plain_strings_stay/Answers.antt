@@ -1,5 +1,0 @@
-use Rattle.mdconstructs_strings.proofs.Plain.{plain_stays}
-use Rattle.mdconstructs_strings.proofs.laws.plain_strings_stay.Goals as goal
-
-pub returns : goal.returns
-returns c = plain_stays

@@ -1,5 +1,0 @@
-use Rattle.mdconstructs_strings.proofs.Kept.{strings_keep}
-use Rattle.mdconstructs_strings.proofs.laws.strings_keep_lists.Goals as goal
-
-pub returns : goal.returns
-returns c = strings_keep

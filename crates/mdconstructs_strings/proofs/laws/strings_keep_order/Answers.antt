@@ -1,5 +1,0 @@
-use Rattle.mdconstructs_strings.proofs.Orders.{keep_order}
-use Rattle.mdconstructs_strings.proofs.laws.strings_keep_order.Goals as goal
-
-pub returns : goal.returns
-returns c = keep_order

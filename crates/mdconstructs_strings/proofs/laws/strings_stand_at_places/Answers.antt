@@ -1,5 +1,0 @@
-use Rattle.mdconstructs_strings.proofs.Places.{stand_at_places}
-use Rattle.mdconstructs_strings.proofs.laws.strings_stand_at_places.Goals as goal
-
-pub returns : goal.returns
-returns c = stand_at_places

@@ -1,5 +1,0 @@
-use Rattle.mdconstructs_strings.proofs.Orders.{stay_well_formed}
-use Rattle.mdconstructs_strings.proofs.laws.strings_stay_well_formed.Goals as goal
-
-pub returns : goal.returns
-returns c = stay_well_formed

@@ -1,4 +1,0 @@
-use Rattle.mdconstructs_targets.proofs.definitions.definitions_of.Given as goal
-
-abbrev pub ghosts-definitions_of_uncounted : goal.ghosts-definitions_of_uncounted
-ghosts-definitions_of_uncounted a = record { name = a.blank.name; parts = a.blank.parts }

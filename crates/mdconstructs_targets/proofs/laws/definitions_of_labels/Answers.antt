@@ -1,6 +1,0 @@
--- The definitions compute what is told.
-use Rattle.mdconstructs_targets.proofs.Examples.{of-definitions}
-use Rattle.mdconstructs_targets.proofs.laws.definitions_of_labels.Goals as goal
-
-pub returns : goal.returns
-returns c = of-definitions

@@ -1,5 +1,0 @@
-use Rattle.mdconstructs_targets.proofs.SpanEnds.{spans-end}
-use Rattle.mdconstructs_targets.proofs.laws.spans_end_at_their_exits.Goals as goal
-
-pub returns : goal.returns
-returns c = spans-end

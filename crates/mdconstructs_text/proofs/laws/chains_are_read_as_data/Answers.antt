@@ -1,7 +1,0 @@
-use Rattle.mdconstructs_text.proofs.Prelude.{data_events, paragraphs_rules}
-use Rattle.mdconstructs_text.proofs.Paragraphs.ChainEvents.{chains-read}
-use Rattle.mdconstructs_text.proofs.Paragraphs.DataEvents.{reads-as-data}
-use Rattle.mdconstructs_text.proofs.laws.chains_are_read_as_data.Goals as goal
-
-pub returns : goal.returns
-returns c g events document ready = chains-read g events document ready paragraphs_rules (λ text. data_events g.bytes text.seats) (reads-as-data g)

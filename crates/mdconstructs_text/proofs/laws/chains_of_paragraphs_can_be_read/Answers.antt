@@ -1,5 +1,0 @@
-use Rattle.mdconstructs_text.proofs.Paragraphs.Ready.{paragraphs-readable, text-readable}
-use Rattle.mdconstructs_text.proofs.laws.chains_of_paragraphs_can_be_read.Goals as goal
-
-pub returns : goal.returns
-returns c = record { paragraphs = paragraphs-readable; text = text-readable }

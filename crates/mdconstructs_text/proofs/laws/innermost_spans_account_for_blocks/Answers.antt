@@ -1,6 +1,0 @@
-use Rattle.mdconstructs_text.proofs.Prelude.{paragraphs_rules, blocks-accounted, text_rules}
-use Rattle.mdconstructs_text.proofs.Paragraphs.Blocks.{paragraphs-by-blocks, text-by-blocks}
-use Rattle.mdconstructs_text.proofs.laws.innermost_spans_account_for_blocks.Goals as goal
-
-pub returns : goal.returns
-returns c = record { paragraphs = blocks-accounted paragraphs_rules paragraphs-by-blocks; text = blocks-accounted text_rules text-by-blocks }

@@ -1,5 +1,0 @@
-use Rattle.mdconstructs_text.proofs.ParagraphTexts.Whole.{data-formed, texts-formed}
-use Rattle.mdconstructs_text.proofs.laws.texts_in_their_paragraphs_are_in_order.Goals as goal
-
-pub returns : goal.returns
-returns c = record { as_data = data-formed; as_texts = texts-formed }

@@ -1,5 +1,0 @@
-use Rattle.mdconstructs_text.proofs.Texts.Tight.{data-tight, text-tight}
-use Rattle.mdconstructs_text.proofs.laws.void_spans_of_texts_are_empty.Goals as goal
-
-pub returns : goal.returns
-returns c = record { texts = text-tight; «data» = data-tight }

@@ -1,0 +1,39 @@
+-- The passes in which a document is read, and how many calls of states they make.
+use Rattle.std.specs.Prelude.{ℕ, ◌+◌, ◌-◌, ◌*◌, ◌^◌, ◌<◌, ◌≤◌, Bool, List, length, None}
+use Rattle.markdown_base.specs.declared.event.Event.{Event}
+use Rattle.markdown_base.specs.Virtual.{virtual}
+use Rattle.markdown_children.specs.Reads.{IsSubtokenized}
+use Rattle.markdown_tokenizer.specs.declared.subtokenize.Subresult.{Subresult}
+use Rattle.markdown_tokenizer.specs.Text.{Given, IsDocument}
+use Rattle.mdblock_leaf_machine.specs.FlowKnows.{flow_rules}
+use Rattle.mdinline_machine.specs.InlineRules.{inlines_rules}
+use Rattle.mdblock_definitions.specs.Blocks.{document_skeleton, shown_as_text}
+use Rattle.mddocument_costs.specs.Chains.{calls_in}
+
+-- A document is read in two passes of states: first its skeleton gets the leaf blocks of its chains, and then these blocks get their texts and strings, by
+-- whatever labels are defined. The skeleton itself, and the strings of destinations, titles and labels, are read by plain code
+pub record Passes (g : Given) (defined : List ℕ → Bool) : Type 0 where
+  pub blocks : List Event
+  pub found : Subresult
+  pub leaf_blocks : IsSubtokenized (shown_as_text g) flow_rules None (document_skeleton g) blocks found
+  pub events : List Event
+  pub more : Subresult
+  pub texts : IsSubtokenized g (inlines_rules defined) None blocks events more
+
+module _ (g : Given) (defined : List ℕ → Bool) (passes : Passes g defined) where
+  -- how many calls of states the first pass makes, and the second
+  abbrev pub calls_of_blocks : ℕ
+  calls_of_blocks = calls_in (shown_as_text g) flow_rules None (document_skeleton g) passes.blocks passes.found passes.leaf_blocks
+
+  abbrev pub calls_of_texts : ℕ
+  calls_of_texts = calls_in g (inlines_rules defined) None passes.blocks passes.events passes.more passes.texts
+
+-- Both passes make at most 397 calls for each virtual byte: 19 the first, and 378 the second
+pub record AreLinear (g : Given) (defined : List ℕ → Bool) (passes : Passes g defined) : Type 0 where
+  pub blocks : calls_of_blocks g defined passes ≤ 19 * length (virtual g.tab g.bytes)
+  pub texts : calls_of_texts g defined passes ≤ 378 * length (virtual g.tab g.bytes)
+  pub all : calls_of_blocks g defined passes + calls_of_texts g defined passes ≤ 397 * length (virtual g.tab g.bytes)
+
+-- So it is with each document, if so many calls can be counted
+abbrev pub DocumentsAreLinear : Type 0
+DocumentsAreLinear = (g : Given) (defined : List ℕ → Bool) (passes : Passes g defined) → IsDocument g → 374 * length (virtual g.tab g.bytes) + 4 < 2 ^ 64 - 1 → AreLinear g defined passes

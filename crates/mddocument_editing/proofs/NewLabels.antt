@@ -1,0 +1,115 @@
+-- The labels of a document with parts in the place of some of its sections.
+use Rattle.std.proofs.Common.{◌≡◌, ℕ, ◌+◌, ◌-◌, ◌≤◌, Bool, true, false, List, [], ◌∷◌, ◌++◌, length, take, drop, map, refl, sym, ap, ◌∙◌, subst, arith}
+use Rattle.std.proofs.lemmas.Grind.{flat_map-append}
+use Rattle.std.proofs.lemmas.List.{drop-drop, drop-map, map-append, take-append-drop, take-map, take_rest}
+use Rattle.std.proofs.lemmas.List.Folds.{list_any-append}
+use Rattle.std.specs.List.{AllByRecursion, flat_map}
+use Rattle.std.specs.Prelude.{◌||◌}
+use Rattle.markdown_base.proofs.Common.{every-map}
+use Rattle.markdown_base.specs.declared.configuration.ParseOptions.{ParseOptions}
+use Rattle.mdblock_definitions.specs.Labelled.{is_one_of}
+use Rattle.mdinline_labels.specs.Defined.{defines, is_same}
+use Rattle.mddocument_editing.specs.Divided.{is_label_of}
+use Rattle.mddocument_editing.specs.Kept.{IsKept, IsLabelled, IsRead, IsRecut, bytes_of_parts, bytes_of_sections, labels_written, recut_document}
+use Rattle.mddocument_editing.specs.declared.kept.Kept.{Kept}
+use Rattle.mddocument_editing.specs.declared.section.Part.{Part}
+use Rattle.mddocument_editing.specs.declared.section.Section.{Section}
+use Rattle.mddocument_editing.proofs.SectionLabels.{labels-divided}
+
+-- a label is written in sections
+abbrev pub is_written : ParseOptions → List (List ℕ) → List ℕ → Bool
+is_written options sections label = is_one_of (flat_map (labels_written options) sections) label
+
+-- a list is what is in front, between and behind
+three : {A : Type 0} (from end : ℕ) (xs : List A) → from ≤ end → xs ≡ take from xs ++ (take (end - from) (drop from xs) ++ drop end xs)
+three from end xs order =
+    let e : from + (end - from) ≡ end = omega arith in
+    sym (take-append-drop from xs)
+    ∙ ap (λ ys. take from xs ++ ys) (sym (take-append-drop (end - from) (drop from xs)) ∙ ap (λ ys. take (end - from) (drop from xs) ++ ys) (drop-drop (end - from) from xs ∙ ap (λ k. drop k xs) e))
+
+turned : (a b c : Bool) → (c || (b || (a || false))) ≡ (a || (b || c))
+turned true true true = refl
+turned true true false = refl
+turned true false true = refl
+turned true false false = refl
+turned false true true = refl
+turned false true false = refl
+turned false false true = refl
+turned false false false = refl
+
+module _ (options : ParseOptions) where
+  written-append : (xs ys : List (List ℕ)) (label : List ℕ) → is_written options (xs ++ ys) label ≡ (is_written options xs label || is_written options ys label)
+  written-append xs ys label =
+      ap (λ written. is_one_of written label) (flat_map-append (labels_written options) xs ys)
+      ∙ list_any-append (λ one. is_same label one) (flat_map (labels_written options) xs) (flat_map (labels_written options) ys)
+
+  -- what is written in three parts
+  written-three : (front parts behind : List (List ℕ)) (label : List ℕ)
+      → is_written options (front ++ (parts ++ behind)) label ≡ (is_written options front label || (is_written options parts label || is_written options behind label))
+  written-three front parts behind label =
+      written-append front (parts ++ behind) label ∙ ap (λ b. is_written options front label || b) (written-append parts behind label)
+
+  -- what defines nothing writes no label
+  pub none-written : {A : Type 0} (part : A → Part) (xs : List A) → AllByRecursion (λ (x : A). IsLabelled options (part x)) xs
+      → AllByRecursion (λ (x : A). (label : List ℕ) → defines (part x).labels label ≡ false) xs → (label : List ℕ) → is_written options (map (λ (x : A). (part x).bytes.items) xs) label ≡ false
+  none-written part [] is none label = refl
+  none-written {A = A} part (x ∷ xs) is none label =
+      let bytes : A → List ℕ = λ y. (part y).bytes.items in
+      list_any-append (λ one. is_same label one) (labels_written options (bytes x)) (flat_map (labels_written options) (map bytes xs))
+      ∙ ap (λ b. b || is_written options (map bytes xs) label) (sym (is.0 label) ∙ none.0 label) ∙ none-written part xs is.1 none.1 label
+
+  module _ (items : List Section) (from end : ℕ) (parts : List Part) where
+    -- the labels of the document with the parts
+    abbrev pub recut_written : List ℕ → Bool
+    recut_written label = is_written options (take from (bytes_of_sections items) ++ (bytes_of_parts parts ++ drop end (bytes_of_sections items))) label
+
+    recut-three : (label : List ℕ)
+        → recut_written label ≡ (is_written options (bytes_of_sections (take from items)) label || (is_written options (bytes_of_parts parts) label || is_written options (bytes_of_sections (drop end items)) label))
+    recut-three label =
+        written-three (take from (bytes_of_sections items)) (bytes_of_parts parts) (drop end (bytes_of_sections items)) label
+        ∙ ap (λ ss. is_written options ss label || (is_written options (bytes_of_parts parts) label || is_written options (drop end (bytes_of_sections items)) label)) (take-map (λ section. section.part.bytes.items) from items)
+        ∙ ap (λ ss. is_written options (bytes_of_sections (take from items)) label || (is_written options (bytes_of_parts parts) label || is_written options ss label)) (drop-map (λ section. section.part.bytes.items) end items)
+
+    -- where all others and the parts are defined
+    all-defined : (label : List ℕ) (last more first none : Bool) → last ≡ (is_written options (bytes_of_sections (take (length items - end) (drop end items))) label || more)
+        → more ≡ (is_written options (bytes_of_parts parts) label || first) → first ≡ (is_written options (bytes_of_sections (take from items)) label || none) → none ≡ false
+        → last ≡ recut_written label
+    all-defined label last more first none is-last is-more is-first is-none =
+        let b = is_written options (bytes_of_sections (drop end items)) label in
+        let p = is_written options (bytes_of_parts parts) label in
+        let f = is_written options (bytes_of_sections (take from items)) label in
+        is-last ∙ ap (λ ss. is_written options (bytes_of_sections ss) label || more) (take_rest items end)
+        ∙ ap (λ x. b || x) (is-more ∙ ap (λ x. p || x) (is-first ∙ ap (λ x. f || x) is-none)) ∙ turned f p b ∙ sym (recut-three label)
+
+    -- where the sections that go and the parts define nothing
+    pub none-changed : from ≤ end → (label : List ℕ) → is_written options (bytes_of_sections (take (end - from) (drop from items))) label ≡ false → is_written options (bytes_of_parts parts) label ≡ false
+        → is_written options (bytes_of_sections items) label ≡ recut_written label
+    none-changed order label gone come =
+        let between = bytes_of_sections (take (end - from) (drop from items)) in
+        let f = is_written options (bytes_of_sections (take from items)) label in
+        let b = is_written options (bytes_of_sections (drop end items)) label in
+        ap (λ xs. is_written options (bytes_of_sections xs) label) (three from end items order)
+        ∙ ap (λ ss. is_written options ss label)
+        (map-append (λ section. section.part.bytes.items) (take from items) (take (end - from) (drop from items) ++ drop end items)
+        ∙ ap (λ ss. bytes_of_sections (take from items) ++ ss) (map-append (λ section. section.part.bytes.items) (take (end - from) (drop from items)) (drop end items)))
+        ∙ written-three (bytes_of_sections (take from items)) between (bytes_of_sections (drop end items)) label
+        ∙ ap (λ x. f || (x || b)) (gone ∙ sym come) ∙ sym (recut-three label)
+
+-- ---- what is kept, with parts in the place of some of its sections
+module _ (k : Kept) {xs : List Section} (same : xs ≡ k.sections.items) where
+  -- its sections have the labels that they define
+  pub kept-labelled : IsKept k → AllByRecursion (λ (section : Section). IsLabelled k.options section.part) xs
+  kept-labelled kept =
+      subst (AllByRecursion (λ (section : Section). IsLabelled k.options section.part)) (sym same)
+      (every-map (IsRead k.options (defines k.machine.labels)) (λ section. IsLabelled k.options section.part) (λ section is. is.labels) k.sections.items kept.read)
+
+  module _ {from end : ℕ} (parts : List Part) (recut : IsRecut k from end (bytes_of_parts parts)) (label : List ℕ) where
+    -- what is written there is a label of the document
+    pub written-recut : recut_written k.options xs from end parts label ≡ is_label_of (recut_document k from end (bytes_of_parts parts)) label
+    written-recut = ap (λ ys. recut_written k.options ys from end parts label) same ∙ labels-divided (recut_document k from end (bytes_of_parts parts)) recut.divided label
+
+    -- so is what all others and the parts define
+    pub defined-recut : {last more first none : Bool} → last ≡ (is_written k.options (bytes_of_sections (take (length xs - end) (drop end xs))) label || more)
+        → more ≡ (is_written k.options (bytes_of_parts parts) label || first) → first ≡ (is_written k.options (bytes_of_sections (take from xs)) label || none) → none ≡ false
+        → last ≡ is_label_of (recut_document k from end (bytes_of_parts parts)) label
+    defined-recut {last} {more} {first} {none} is-last is-more is-first is-none = all-defined k.options xs from end parts label last more first none is-last is-more is-first is-none ∙ written-recut

@@ -1,0 +1,79 @@
+use Rattle.std.proofs.Common.{◌≡◌, ◌∙◌, List, ℕ, ap, length, subst, sym}
+use Rattle.std.proofs.Math.Bool.{or-false}
+use Rattle.std.proofs.lemmas.Result.{err_from_is_err_and}
+use Rattle.std.specs.List.{AllByRecursion, flat_map}
+use Rattle.std.specs.Prelude.{◌||◌}
+use Rattle.markdown_base.specs.declared.configuration.ParseOptions.{ParseOptions}
+use Rattle.markdown_base.specs.Virtual.{IsWithinLimit}
+use Rattle.markdown_tokenizer.specs.Text.{IsDocument}
+use Rattle.mdblock_definitions.specs.Labelled.{is_one_of}
+use Rattle.mddocument.specs.DocumentEvents.{document_events}
+use Rattle.mddocument.specs.Documents.{document}
+use Rattle.mdinline_labels.specs.Defined.{defines}
+use Rattle.mddocument_editing.specs.Divided.{Divided, IsDivided, is_label_of}
+use Rattle.mddocument_editing.specs.FirstRest.{items_of}
+use Rattle.mddocument_editing.specs.Kept.{IsPackable, bytes_of_parts, bytes_of_sections, labels_written}
+use Rattle.mddocument_editing.specs.Packed.{events_fit}
+use Rattle.mddocument_editing.proofs.FitSections.{sections-fit}
+use Rattle.mddocument_editing.proofs.SectionBytes.{divided-cut, sections-within}
+use Rattle.mddocument_editing.proofs.SectionLabels.{labels-divided}
+use Rattle.mddocument_editing.proofs.kept.read.Goals as goal
+use Rattle.mddocument_editing.proofs.kept.read.Goals.{In_ok-cut, In_ok-define_parts}
+
+-- the document with these sections
+abbrev cut_into : ParseOptions → List (List ℕ) → Divided
+cut_into options sections = record { options = options; sections = sections }
+
+-- the document, cut
+abbrev d : In_ok-cut → Divided
+d c = cut_into c.args.options.now (items_of c.in_ok-cut.field-0.items)
+
+divided : (c : In_ok-cut) → IsDivided (d c)
+divided c =
+    divided-cut c.args.options.now c.args.bytes.now (items_of c.in_ok-cut.field-0.items) c.in_ok-cut.ensures ((c.limit_of.ensures (length c.args.bytes.now)).0 c.if-bytes-limit_of.false)
+
+within : (c : In_ok-cut) → AllByRecursion (IsWithinLimit c.args.options.now.tab_size) (items_of c.in_ok-cut.field-0.items)
+within c = sections-within c.args.options.now.tab_size (items_of c.in_ok-cut.field-0.items) (divided c).limit
+
+pub parts_of-requires : goal.parts_of-requires
+parts_of-requires c = within (goal.at.parts_of-requires c).In_ok-cut
+
+pub sections_of-requires-clause-limit : goal.sections_of-requires-clause-limit
+sections_of-requires-clause-limit c = subst (AllByRecursion (IsWithinLimit c.args.options.now.tab_size)) (sym c.in_ok-parts.ensures.bytes) (within (goal.at.sections_of-requires-clause-limit c).In_ok-cut)
+
+-- the labels of its parts are its labels
+knows : (c : In_ok-define_parts) → let it = cut_into c.args.options.now (items_of c.in_ok-cut.field-0.items) in IsDivided it → (label : List ℕ) → defines c.define_parts.new.labels label ≡ is_label_of it label
+knows c is label =
+    let options = c.args.options.now in
+    let in_parts = λ (sections : List (List ℕ)). is_one_of (flat_map (labels_written options) sections) label in
+    c.in_ok-define_parts.ensures label
+    ∙ ap (λ b. in_parts (bytes_of_parts c.as_slice.result.now) || b) (c.new-labels.ensures label)
+    ∙ or-false (in_parts (bytes_of_parts c.as_slice.result.now))
+    ∙ ap (λ parts. in_parts (bytes_of_parts parts)) c.as_slice.ensures.value
+    ∙ ap in_parts c.in_ok-parts.ensures.bytes
+    ∙ labels-divided (cut_into options (items_of c.in_ok-cut.field-0.items)) is label
+
+pub returns-in_err-sections-clause-fits : goal.returns-in_err-sections-clause-fits
+returns-in_err-sections-clause-fits c limit fits long =
+    let options = c.args.options.now in
+    let steps = goal.at.returns-in_err-sections-clause-fits c in
+    let it = d steps.In_ok-cut in
+    let is : IsDivided it = divided steps.In_ok-cut in
+    let same = c.in_ok-cut.ensures.document in
+    let possible = subst (λ bytes. IsDocument (document options bytes)) (sym same) c.is_document.ensures in
+    let all = ap (λ bytes. events_fit (document_events (document options bytes))) same ∙ fits in
+    let each = sections-fit it (defines c.define_parts.new.labels) possible is (knows steps.In_ok-define_parts is) all in
+    let p = err_from_is_err_and c.from_residual-in_err-sections.result c.from_residual-in_err-sections.ensures.1 in
+    c.in_err-sections.ensures.fits (subst (AllByRecursion (IsPackable options (defines c.define_parts.new.labels))) (sym c.in_ok-parts.ensures.bytes) each) (cc (p.1, p.2, long))
+
+pub returns-clause-kept : goal.returns-clause-kept
+returns-clause-kept c =
+    let options = c.args.options.now in
+    let steps = goal.at.returns-clause-kept c in
+    let is : IsDivided (d steps.In_ok-cut) = divided steps.In_ok-cut in
+    let same : bytes_of_sections c.in_ok-sections.sections.items ≡ items_of c.in_ok-cut.field-0.items = c.in_ok-sections.ensures.bytes ∙ c.in_ok-parts.ensures.bytes in
+    record {
+      divided = subst (λ sections. IsDivided (cut_into options sections)) (sym same) is;
+      labels = λ label. knows steps.In_ok-define_parts is label ∙ ap (λ sections. is_label_of (cut_into options sections) label) (sym same);
+      read = c.in_ok-sections.ensures.read;
+    }

@@ -1,0 +1,20 @@
+use Rattle.std.proofs.Common.{◌≡◌, sym, ap, subst, ◌∙◌, arith, length, Vec, Global}
+use Rattle.std.proofs.lemmas.List.{length-map}
+use Rattle.std.proofs.lemmas.Result.{IfOk-weaker}
+use Rattle.markdown_base.specs.declared.event.Event.{Event}
+use Rattle.mddocument.specs.Documents.{AreDocumentEvents}
+use Rattle.mddocument_editing.specs.declared.section.Section.{Section}
+use Rattle.mddocument_editing.specs.Divided.{bytes_of, events_between}
+use Rattle.mddocument_editing.specs.Kept.{divided_of}
+use Rattle.mddocument_editing.proofs.SectionEvents.{all-are-the-documents}
+use Rattle.mddocument_editing.proofs.moved.all_events.Goals as goal
+
+pub returns : goal.returns
+returns c =
+    let k = c.args.kept.now in
+    let d = divided_of k in
+    let n = c.len.result in
+    let all = all-are-the-documents d c.is_document.ensures c.requires.divided in
+    let end : n ≡ length d.sections = omega (arith, c.len.ensures, length-map k.sections.items (λ (section : Section). section.part.bytes.items)) in
+    IfOk-weaker c.events_between.result (λ (events : Vec Event Global). events.items ≡ events_between d 0 n) (λ (events : Vec Event Global). AreDocumentEvents k.options (bytes_of d) events.items)
+    (λ events is. subst (AreDocumentEvents k.options (bytes_of d)) (sym (is ∙ ap (events_between d 0) end)) all) c.events_between.ensures

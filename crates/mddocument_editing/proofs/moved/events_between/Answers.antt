@@ -1,0 +1,56 @@
+use Rattle.std.proofs.Common.{◌≡◌, ◌+◌, ◌-◌, ◌<◌, sym, ap, subst, ◌∙◌, length, drop, map, take, arith}
+use Rattle.std.proofs.lemmas.List.{drop-take, take_all}
+use Rattle.std.specs.List.{AllByRecursion}
+use Rattle.mdinline_labels.specs.Defined.{defines}
+use Rattle.mddocument_parts.specs.BothDocuments.{events_by}
+use Rattle.mddocument_parts.specs.Sections.{events_of_sections}
+use Rattle.markdown_base.proofs.Common.{every-take, every-drop}
+use Rattle.mddocument_editing.specs.Fronts.{IsFrontOf, moved_by}
+use Rattle.mddocument_editing.specs.Kept.{IsRead, bytes_of_sections}
+use Rattle.mddocument_editing.proofs.SectionBytes.{every-at}
+use Rattle.mddocument_editing.proofs.SectionEvents.{behind-more, behind-none, between-events, moved-more}
+use Rattle.mddocument_editing.proofs.SectionFronts.{take-next}
+use Rattle.mddocument_editing.proofs.moved.events_between.Goals as goal
+
+pub loop-section-init : goal.loop-section-init
+loop-section-init c = record {
+  front = behind-none (events_by c.args.kept.now.options (defines c.args.kept.now.machine.labels)) c.in_ok-front.front c.in_ok-front.ensures.small;
+  events = c.new-events.ensures.items;
+}
+
+pub loop-section-preserved : goal.loop-section-preserved
+loop-section-preserved c =
+    let k = c.args.kept.now in
+    let knows = defines k.machine.labels in
+    let wanted = take (c.args.to - c.args.from) (drop c.args.from c.as_slice-sections.result.now) in
+    let i = c.loop-section.section-index in
+    let x = c.section-item.result in
+    let all = subst (λ l. AllByRecursion (IsRead k.options knows) l) (sym c.as_slice-sections.ensures.value) c.requires.kept.read in
+    let read = every-take (IsRead k.options knows) (c.args.to - c.args.from) (drop c.args.from c.as_slice-sections.result.now) (every-drop (IsRead k.options knows) c.args.from c.as_slice-sections.result.now all) in
+    let inside : i < length wanted = c.loop-section-test.true in
+    let one : IsRead k.options knows x = subst (IsRead k.options knows) (sym c.section-item.is) (every-at (IsRead k.options knows) wanted i x read inside) in
+    let e = c.in-Some.ensures in
+    let before = c.loop-section.invariant.front in
+    rw (take-next wanted i x inside c.section-item.is) (record {
+      front = behind-more k.options knows c.in_ok-front.front c.loop-section.front (take i wanted) x before one c.in-Some.next e.lines e.bytes e.events e.small;
+      events = moved-more k.options knows c.in_ok-front.front c.loop-section.front (take i wanted) x before one c.loop-section.events.items _ c.loop-section.invariant.events c.in_ok-push_section.ensures;
+    })
+
+pub returns : goal.returns
+returns c =
+    let k = c.args.kept.now in
+    let from = c.args.from in
+    let to = c.args.to in
+    let all = k.sections.items in
+    let sections = c.as_slice-sections.result.now in
+    let wanted = take (to - from) (drop from sections) in
+    let read = events_by k.options (defines k.machine.labels) in
+    let end : take c.loop-section.section-index wanted ≡ wanted = take_all c.loop-section.section-index wanted c.loop-section-test.false in
+    let order : from + (to - from) ≡ to = omega arith in
+    let cut : wanted ≡ drop from (take to all) =
+    sym (drop-take from (to - from) sections) ∙ ap (λ n. drop from (take n sections)) order ∙ ap (λ l. drop from (take to l)) c.as_slice-sections.ensures.value
+    in
+    let is = subst (λ l. IsFrontOf (take from l) c.in_ok-front.front) c.as_slice-sections.ensures.value c.in_ok-front.ensures in
+    c.loop-section.invariant.events
+    ∙ ap (λ l. map (moved_by c.in_ok-front.front) (events_of_sections read (bytes_of_sections l))) (end ∙ cut)
+    ∙ between-events k from to c.requires.kept c.requires.order c.requires.within c.in_ok-front.front is

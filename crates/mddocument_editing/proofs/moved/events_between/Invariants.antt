@@ -1,0 +1,17 @@
+use Rattle.std.proofs.Common.{◌≡◌, map, take}
+use Rattle.mdinline_labels.specs.Defined.{defines}
+use Rattle.mddocument_parts.specs.BothDocuments.{events_by}
+use Rattle.mddocument_parts.specs.Sections.{events_of_sections}
+use Rattle.mddocument_editing.specs.Fronts.{moved_by}
+use Rattle.mddocument_editing.specs.Kept.{bytes_of_sections}
+use Rattle.mddocument_editing.proofs.SectionEvents.{IsBehind}
+use Rattle.mddocument_editing.proofs.moved.events_between.Given as goal
+
+abbrev pub invariant-loop-section : goal.invariant-loop-section
+invariant-loop-section l =
+    let read = events_by l.kept.options (defines l.kept.machine.labels) in
+    let passed = take l.section-index l.wanted in
+    record {
+      front : IsBehind read l.initial.front passed l.front;
+      events : l.events.items ≡ map (moved_by l.initial.front) (events_of_sections read (bytes_of_sections passed));
+    }

@@ -1,0 +1,6 @@
+use Rattle.std.proofs.Common.{take}
+use Rattle.mddocument_editing.specs.Fronts.{IsFrontOf}
+use Rattle.mddocument_editing.proofs.moved.front_of.Given as goal
+
+abbrev pub invariant-loop-section : goal.invariant-loop-section
+invariant-loop-section l = IsFrontOf (take l.section-index l.sections) l.front

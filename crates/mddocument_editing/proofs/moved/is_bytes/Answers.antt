@@ -1,0 +1,6 @@
+use Rattle.std.proofs.Common.{◌<◌, arith}
+use Rattle.std.proofs.lemmas.List.Elements.{All-from_get_or}
+use Rattle.mddocument_editing.proofs.moved.is_bytes.Goals as goal
+
+pub returns : goal.returns
+returns c = All-from_get_or (λ b. b < 256) c.args.bytes.now 0 (λ i l. omega (arith, c.type_inv.bytes i))

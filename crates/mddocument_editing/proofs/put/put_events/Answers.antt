@@ -1,0 +1,36 @@
+use Rattle.std.proofs.Common.{◌≡◌, ◌<◌, length, subst, sym, ap, ◌∙◌, arith, rules, map-id}
+use Rattle.std.proofs.lemmas.Iterator.Adapters.{YieldsList-from_vec}
+use Rattle.std.proofs.lemmas.Iterator.Consumers.{YieldsList-end, YieldsList-turn}
+use Rattle.std.proofs.lemmas.List.Sums.{fold_push}
+use Rattle.std.proofs.lemmas.List.Elements.{All-from_recursion}
+use Rattle.mddocument_editing.proofs.put.put_events.Goals as goal
+use Rattle.mddocument_editing.proofs.Rereads.{length-put-all, put-at-set}
+use Rattle.mddocument_editing.specs.Put.{put_all, put_at}
+use Rattle.mddocument_editing.specs.declared.put.Reread.{Reread}
+
+pub index_mut-requires : goal.index_mut-requires
+index_mut-requires c =
+    let others = c.args.others.items in
+    let o = c.in-Some.other in
+    let n = length c.args.sections.now.items in
+    let turn = YieldsList-turn (YieldsList-from_vec {s = c.into_iter-other-iterator.result} others (search rules) (search rules))
+    c.loop-other.yielded c.loop-other.other-iterator c.loop-other.yielded_by c.next.result c.next.new.self o c.in-Some.is c.next.ensures.steps in
+    let within : o.section < n = subst (λ (x : Reread). x.section < n) (sym turn.1) (All-from_recursion (λ (other : Reread). other.section < n) others c.requires (length c.loop-other.yielded) o turn.0) in
+    let same : length c.loop-other.sections.items ≡ n = ap length c.loop-other.invariant ∙ length-put-all c.loop-other.yielded c.args.sections.now.items in
+    let len = c.loop-other.sections.ok.0 in
+    omega arith
+
+pub loop-other-preserved : goal.loop-other-preserved
+loop-other-preserved c =
+    let x = c.index_mut.result.now in
+    let o = c.in-Some.other in
+    let old = c.loop-other.sections.items in
+    put-at-set old o.section x o.events c.index_mut.ensures.value
+    ∙ ap (λ xs. put_at o.section o.events xs) c.loop-other.invariant
+    ∙ sym (fold_push (λ sections other. put_at other.section other.events sections) c.args.sections.now.items c.loop-other.yielded o)
+
+pub returns : goal.returns
+returns c =
+    let end = YieldsList-end (YieldsList-from_vec {s = c.into_iter-other-iterator.result} c.args.others.items (search rules) (search rules))
+    c.loop-other.yielded c.loop-other.other-iterator c.loop-other.yielded_by c.next.result c.next.new.self c.in-None.is c.next.ensures.steps in
+    c.loop-other.invariant ∙ ap (put_all c.args.sections.now.items) (sym (map-id c.loop-other.yielded) ∙ end.0)

@@ -1,0 +1,6 @@
+use Rattle.std.proofs.Common.{◌≡◌}
+use Rattle.mddocument_editing.specs.Put.{put_all}
+use Rattle.mddocument_editing.proofs.put.put_events.Given as goal
+
+abbrev pub invariant-loop-other : goal.invariant-loop-other
+invariant-loop-other l = l.sections.items ≡ put_all l.fn.sections.items l.yielded

@@ -1,0 +1,36 @@
+use Rattle.std.proofs.Common.{◌≡◌, sym, subst}
+use Rattle.std.specs.Prelude.{IfOk}
+use Rattle.markdown_base.specs.Virtual.{IsWithinLimit}
+use Rattle.mddocument_parts.specs.Sections.{document_of}
+use Rattle.mddocument_editing.specs.FirstRest.{items_of}
+use Rattle.mddocument_editing.specs.Kept.{recut_sections}
+use Rattle.mddocument_editing.proofs.PutKept.{short-kept, touched-bytes, touched-seam, touched-within}
+use Rattle.mddocument_editing.proofs.recut.cut_again.Goals as goal
+
+pub first_touched-from-requires-clause-short : goal.first_touched-from-requires-clause-short
+first_touched-from-requires-clause-short c = short-kept c.args.kept.now c.as_slice-sections.ensures.value c.get-columns.ensures.columns c.get-columns.ensures.least c.requires.kept
+
+pub behind-behind-requires-clause-short : goal.behind-behind-requires-clause-short
+behind-behind-requires-clause-short c = short-kept c.args.kept.now c.as_slice-sections.ensures.value c.get-columns.ensures.columns c.get-columns.ensures.least c.requires.kept
+
+pub edited_bytes-requires-clause-within : goal.edited_bytes-requires-clause-within
+edited_bytes-requires-clause-within c =
+    touched-within c.args.kept.now c.args.edit.now c.as_slice-sections.ensures.value c.behind-behind.ensures.order c.first_touched-from.ensures.start c.behind-behind.ensures.start c.first_touched-from.ensures.before c.requires.inside.0
+    c.behind-behind.ensures.behind
+
+pub cut_from-requires-clause-limit : goal.cut_from-requires-clause-limit
+cut_from-requires-clause-limit c =
+    let told = touched-bytes c.args.kept.now c.args.edit.now c.as_slice-sections.ensures.value c.behind-behind.ensures.order c.first_touched-from.ensures.start c.behind-behind.ensures.start c.first_touched-from.ensures.before c.requires.inside.0
+    c.behind-behind.ensures.behind c.in_ok-text.ensures in
+    subst (λ bs. IsWithinLimit c.args.kept.now.options.tab_size bs) (sym told) c.requires.limit
+
+pub cut_from-requires-clause-seam : goal.cut_from-requires-clause-seam
+cut_from-requires-clause-seam c =
+    touched-seam c.args.kept.now c.args.edit.now c.as_slice-sections.ensures.value c.behind-behind.ensures.order c.first_touched-from.ensures.start c.behind-behind.ensures.start c.first_touched-from.ensures.before c.requires.inside.0
+    c.behind-behind.ensures.behind c.in_ok-text.ensures c.requires.kept c.first_touched-from.ensures.settled
+
+pub returns-clause-bytes : goal.returns-clause-bytes
+returns-clause-bytes c =
+    let told = touched-bytes c.args.kept.now c.args.edit.now c.as_slice-sections.ensures.value c.behind-behind.ensures.order c.first_touched-from.ensures.start c.behind-behind.ensures.start c.first_touched-from.ensures.before c.requires.inside.0
+    c.behind-behind.ensures.behind c.in_ok-text.ensures in
+    subst (λ bs. IfOk c.cut_from.result (λ r. document_of (recut_sections c.args.kept.now r.from r.end (items_of r.parts.items)) ≡ bs)) told c.cut_from.ensures.bytes

@@ -1,0 +1,73 @@
+use Rattle.std.proofs.Common.{◌≡◌, ◌-◌, ◌≤◌, length, take, get_or, true, sym, ap, ◌∙◌, arith, inr}
+use Rattle.std.proofs.lemmas.List.{length-take}
+use Rattle.mddocument_parts.specs.Sections.{document_of}
+use Rattle.mddocument_editing.specs.declared.section.Section.{Section}
+use Rattle.mddocument_editing.specs.Kept.{bytes_of_sections}
+use Rattle.mddocument_editing.specs.Settled.{is_settled}
+use Rattle.mddocument_editing.proofs.SectionPlaces.{count-bytes, start-front, start-next}
+use Rattle.mddocument_editing.proofs.SectionSizes.{bytes-inside, bytes-outside}
+use Rattle.mddocument_editing.proofs.SettledBytes.{settled-more}
+use Rattle.mddocument_editing.proofs.recut.first_touched.Goals as goal
+
+pub slice_bounds-is_settled-length : goal.slice_bounds-is_settled-length
+slice_bounds-is_settled-length c =
+    let ss = c.args.sections.now in
+    let i = c.section_and_left-index.result.0 in
+    let left = c.section_and_left-index.result.1 in
+    let next = start-next ss i (get_or ss i c.index-sections-index.result) c.if-index-sections.true (ap (get_or ss i) c.index-sections-index.is) in
+    let inside = c.section_and_left-index.ensures.section.end (omega (arith, c.if-index-sections.true, count-bytes ss)) in
+    omega (arith, next, inside, c.section_and_left-index.ensures.left, ap length c.as_slice.ensures.value, length-take (c.args.byte - (c.args.byte - left)) c.as_slice.result.now)
+
+pub returns-then-is_settled-clause-settled : goal.returns-then-is_settled-clause-settled
+returns-then-is_settled-clause-settled c =
+    let ss = c.args.sections.now in
+    let i = c.section_and_left-index.result.0 in
+    let start = c.args.byte - c.section_and_left-index.result.1 in
+    let s = get_or ss i c.index-sections-index.result in
+    let lt = c.if-index-sections.true in
+    let is = ap (get_or ss i) c.index-sections-index.is in
+    let inside = c.section_and_left-index.ensures.section.end (omega (arith, lt, count-bytes ss)) in
+    let at : start ≡ length (document_of (take i (bytes_of_sections ss))) = omega (arith, c.section_and_left-index.ensures.left) in
+    let few : c.args.byte - start ≤ length s.part.bytes.items = omega (arith, start-next ss i s lt is, inside, at) in
+    let told : is_settled (take (c.args.byte - start) c.as_slice.result.now) ≡ true = sym c.is_settled.ensures ∙ c.if-is_settled.true in
+    inr (
+    ap is_settled (bytes-inside (λ (section : Section). section.part.bytes.items) ss i start s at lt is (c.args.byte - start) few)
+    ∙ ap (λ bs. is_settled (take (c.args.byte - start) bs)) (sym c.as_slice.ensures.value)
+    ∙ told
+    )
+
+pub overflow_sub-start-in-loop-index : goal.overflow_sub-start-in-loop-index
+overflow_sub-start-in-loop-index c =
+    let less = start-front c.args.sections.now c.loop-index-test.true c.loop-index.invariant.within c.index-sections-index-in-loop-index.is c.as_slice-bytes.ensures.value in
+    omega (arith, less, c.loop-index.invariant.start)
+
+pub returns-then-is_settled-2-clause-start : goal.returns-then-is_settled-2-clause-start
+returns-then-is_settled-2-clause-start c =
+    let less = start-front c.args.sections.now c.loop-index-test.true c.loop-index.invariant.within c.index-sections-index-in-loop-index.is c.as_slice-bytes.ensures.value in
+    omega (arith, less, c.loop-index.invariant.start)
+
+pub returns-then-is_settled-2-clause-settled : goal.returns-then-is_settled-2-clause-settled
+returns-then-is_settled-2-clause-settled c =
+    let less = start-front c.args.sections.now c.loop-index-test.true c.loop-index.invariant.within c.index-sections-index-in-loop-index.is c.as_slice-bytes.ensures.value in
+    let ss = c.args.sections.now in
+    let i = c.loop-index.index in
+    let s = get_or ss (i - 1) c.index-sections-index-in-loop-index.result in
+    let value = c.as_slice-bytes.ensures.value in
+    let start = c.loop-index.start - length c.as_slice-bytes.result.now in
+    let at : start ≡ length (document_of (take (i - 1) (bytes_of_sections ss))) = omega (arith, less, c.loop-index.invariant.start) in
+    let n = c.args.byte - start in
+    let many : length s.part.bytes.items ≤ n = omega (arith, less, c.loop-index.invariant.start, c.loop-index.invariant.before, ap length value) in
+    let told : is_settled s.part.bytes.items ≡ true = ap is_settled (sym value) ∙ sym c.is_settled-in-loop-index.ensures ∙ c.if-is_settled-2.true in
+    inr (
+    ap is_settled (bytes-outside (λ (section : Section). section.part.bytes.items) ss (i - 1) start s at (omega (arith, c.loop-index.invariant.within, c.loop-index-test.true)) (ap (get_or ss (i - 1)) c.index-sections-index-in-loop-index.is) n many)
+    ∙ settled-more s.part.bytes.items _ told
+    )
+
+pub loop-index-preserved : goal.loop-index-preserved
+loop-index-preserved c =
+    let less = start-front c.args.sections.now c.loop-index-test.true c.loop-index.invariant.within c.index-sections-index-in-loop-index.is c.as_slice-bytes.ensures.value in
+    record {
+      start = omega (arith, less, c.loop-index.invariant.start);
+      before = omega (arith, c.loop-index.invariant.before);
+      within = omega (arith, c.loop-index.invariant.within);
+    }

@@ -1,0 +1,44 @@
+use Rattle.std.proofs.Common.{ℕ, ◌+◌, ◌<◌, length, arith}
+use Rattle.std.specs.declared.alloc.Global.{Global}
+use Rattle.std.specs.declared.vec.Vec.{Vec}
+use Rattle.mddocument_editing.specs.FirstRest.{items_of}
+use Rattle.mddocument_editing.specs.Kept.{bytes_of_sections}
+use Rattle.mddocument_editing.proofs.SectionPlaces.{start-behind, start-within}
+use Rattle.mddocument_editing.proofs.SectionSizes.{size-front, size-more}
+use Rattle.mddocument_editing.proofs.recut.meeting.Goals as goal
+
+pub overflow_add-end : goal.overflow_add-end
+overflow_add-end c =
+    let parts = c.args.parts.now in
+    let i = c.loop-passed.kept in
+    let lt : i < length parts = omega (arith, c.loop-passed.invariant.kept) in
+    let more = size-more (λ (part : Vec ℕ Global). part.items) parts i c.index-parts-kept.result lt c.index-parts-kept.is in
+    omega (arith, more, size-front (i + 1) (items_of parts), c.requires.parts, c.loop-passed.invariant.end, c.len-end.ensures)
+
+pub loop-passed-preserved-then-end-start-2 : goal.loop-passed-preserved-then-end-start-2
+loop-passed-preserved-then-end-start-2 c =
+    let parts = c.args.parts.now in
+    let i = c.loop-passed.kept in
+    let lt : i < length parts = omega (arith, c.loop-passed.invariant.kept) in
+    let more = size-more (λ (part : Vec ℕ Global). part.items) parts i c.index-parts-kept.result lt c.index-parts-kept.is in
+    record {
+      end = omega (arith, more, c.loop-passed.invariant.end, c.len-end.ensures);
+      start = c.loop-passed.invariant.start;
+      kept = omega (arith, lt);
+      passed = c.loop-passed.invariant.passed;
+    }
+
+pub overflow_add-start : goal.overflow_add-start
+overflow_add-start c =
+    let next = start-behind c.args.sections.now c.loop-passed-test.true c.index-sections-passed.is in
+    omega (arith, next, start-within (c.loop-passed.passed + 1) (bytes_of_sections c.args.sections.now), c.requires.sections, c.loop-passed.invariant.start, c.len-start.ensures)
+
+pub loop-passed-preserved : goal.loop-passed-preserved
+loop-passed-preserved c =
+    let next = start-behind c.args.sections.now c.loop-passed-test.true c.index-sections-passed.is in
+    record {
+      end = c.loop-passed.invariant.end;
+      start = omega (arith, next, c.loop-passed.invariant.start, c.len-start.ensures);
+      kept = c.loop-passed.invariant.kept;
+      passed = omega (arith, c.loop-passed-test.true);
+    }

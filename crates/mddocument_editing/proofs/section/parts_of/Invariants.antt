@@ -1,0 +1,15 @@
+use Rattle.std.proofs.Common.{◌≡◌, ◌++◌, length}
+use Rattle.std.specs.List.{AllByRecursion}
+use Rattle.std.specs.Vec.Iter.{into_iter_items, into_iter_len}
+use Rattle.markdown_base.specs.Virtual.{IsWithinLimit}
+use Rattle.mddocument_editing.specs.FirstRest.{items_of}
+use Rattle.mddocument_editing.specs.Kept.{IsLabelled, bytes_of_parts}
+use Rattle.mddocument_editing.proofs.section.parts_of.Given as goal
+
+abbrev pub invariant-loop-bytes : goal.invariant-loop-bytes
+invariant-loop-bytes l = record {
+  counted : into_iter_len l.bytes-iterator ≡ length (into_iter_items l.bytes-iterator);
+  bytes : bytes_of_parts l.parts.items ++ items_of (into_iter_items l.bytes-iterator) ≡ items_of l.fn.cut.items;
+  limit : AllByRecursion (IsWithinLimit l.fn.options.tab_size) (items_of (into_iter_items l.bytes-iterator));
+  labels : AllByRecursion (IsLabelled l.fn.options) l.parts.items;
+}

@@ -1,0 +1,18 @@
+use Rattle.std.proofs.Common.{◌≡◌, ◌++◌, length}
+use Rattle.std.specs.List.{AllByRecursion}
+use Rattle.std.specs.Vec.Iter.{into_iter_items, into_iter_len}
+use Rattle.markdown_base.specs.Virtual.{IsWithinLimit}
+use Rattle.mdinline_labels.specs.Defined.{defines}
+use Rattle.mddocument_editing.specs.Kept.{IsLabelled, IsPackable, IsRead, bytes_of_parts, bytes_of_sections}
+use Rattle.mddocument_editing.proofs.section.sections_of.Given as goal
+
+abbrev pub invariant-loop-part : goal.invariant-loop-part
+invariant-loop-part l = record {
+  counted : into_iter_len l.part-iterator ≡ length (into_iter_items l.part-iterator);
+  bytes : bytes_of_sections l.sections.items ++ bytes_of_parts (into_iter_items l.part-iterator) ≡ bytes_of_parts l.fn.parts.items;
+  limit : AllByRecursion (IsWithinLimit l.fn.options.tab_size) (bytes_of_parts (into_iter_items l.part-iterator));
+  labels : AllByRecursion (IsLabelled l.fn.options) (into_iter_items l.part-iterator);
+  fits : AllByRecursion (IsPackable l.fn.options (defines l.fn.machine.labels)) (bytes_of_parts l.fn.parts.items)
+      → AllByRecursion (IsPackable l.fn.options (defines l.fn.machine.labels)) (bytes_of_parts (into_iter_items l.part-iterator));
+  read : AllByRecursion (IsRead l.fn.options (defines l.fn.machine.labels)) l.sections.items;
+}

@@ -1,0 +1,33 @@
+use Rattle.std.proofs.Common.{◌≡◌, true, refl, subst, sym}
+use Rattle.std.proofs.lemmas.Result.{err_from_is_err_and}
+use Rattle.markdown_base.specs.Virtual.{IsWithinLimit}
+use Rattle.markdown_tokenizer.specs.Text.{IsDocument}
+use Rattle.mddocument.specs.DocumentEvents.{document_events}
+use Rattle.mddocument.specs.Documents.{document}
+use Rattle.mddocument_editing.specs.Divided.{Divided, bytes_of, is_label_of}
+use Rattle.mddocument_editing.specs.Edits.{edited}
+use Rattle.mddocument_editing.specs.FirstRest.{items_of}
+use Rattle.mddocument_editing.specs.Kept.{ArePackable, divided_of, recut_document}
+use Rattle.mddocument_editing.specs.Packed.{events_fit}
+use Rattle.mddocument_editing.proofs.FitSections.{edited-document, sections-fit}
+use Rattle.mddocument_editing.proofs.sections.Sections.replace.Goals as goal
+
+pub returns-in_err-change-clause-fits : goal.returns-in_err-change-clause-fits
+returns-in_err-change-clause-fits c inside limit fits long =
+    let edit = c.args.edit.now in
+    let kept = c.self.inside.kept in
+    let options = kept.options in
+    let recut = c.in_ok-recut.recut in
+    let new = recut_document kept recut.from recut.end (items_of recut.parts.items) in
+    let bytes = bytes_of (divided_of kept) in
+    let same : bytes_of new ≡ edited edit bytes = c.in_ok-recut.ensures.bytes in
+    -- the edit in terms of what is kept
+    let within : IsWithinLimit options.tab_size (edited edit bytes) = subst (λ (d : Divided). IsWithinLimit d.options.tab_size (edited edit (bytes_of d))) (sym c.self.view_is) limit in
+    let all : events_fit (document_events (document options (edited edit bytes))) ≡ true =
+    subst (λ (d : Divided). events_fit (document_events (document d.options (edited edit (bytes_of d)))) ≡ true) (sym c.self.view_is) fits in
+    let possible = edited-document options edit bytes c.is_document.ensures c.is_bytes.ensures within in
+    let each : ArePackable new =
+    sections-fit new (is_label_of new) (subst (λ bs. IsDocument (document options bs)) (sym same) possible) c.in_ok-recut.ensures.recut.divided (λ label. refl)
+    (subst (λ bs. events_fit (document_events (document options bs)) ≡ true) (sym same) all) in
+    let p = err_from_is_err_and c.from_residual-in_err-change.result c.from_residual-in_err-change.ensures.1 in
+    c.in_err-change.ensures.fits each (cc (p.1, p.2, long))

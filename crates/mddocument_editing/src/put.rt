@@ -1,0 +1,288 @@
+//! Sections that are put in the place of others.
+
+ghost use Rattle.std.specs.Prelude.{◌≡◌, ◌≤◌, ◌<◌, ◌+◌, ◌++◌, ◌^◌, ◌↔◌, IfOk, IfNone, IfSome, IsErrOf, List, OnErr, OnOk, ℕ, drop, length, map, take, true, false};
+ghost use Rattle.std.specs.List.{AllByRecursion};
+ghost use Rattle.markdown_base.specs.Virtual.{IsWithinLimit};
+ghost use Rattle.markdown_tokenizer.specs.Text.{IsDocument};
+ghost use Rattle.mddocument.specs.Documents.{document};
+ghost use Rattle.mdinline_labels.specs.Defined.{defines};
+ghost use Rattle.mddocument_editing.specs.Divided.{bytes_of, is_label_of};
+ghost use Rattle.mddocument_editing.specs.Edits.{IsChange};
+ghost use Rattle.mddocument_editing.specs.FirstRest.{items_of};
+ghost use Rattle.mddocument_editing.specs.Kept.{ArePackable, IsKept, IsLabelled, IsPackable, IsRecut, IsRead, bytes_of_parts, bytes_of_sections, divided_of, recut_document};
+ghost use Rattle.mddocument_editing.specs.Put.{looks_up, put_all, rereads};
+
+use crate::asking::may_ask;
+use crate::edit::{Change, Refused};
+use crate::kept::{Kept, define_parts, define_sections};
+use crate::packed::{PackError, Packed};
+use crate::recut::Recut;
+use crate::section::{Part, Section, events_of, parts_of, sections_of};
+use markdown_base::configuration::ParseOptions;
+use mdinline_labels::labels::Labels;
+use mdinline_machine::inlines::Inlines;
+use std::alloc::{AllocError, Global};
+
+/// The events of a section that is read again, by its number.
+#[derive(Drop)]
+struct Reread {
+    section: usize,
+    events: Packed,
+}
+
+/// Whether sections define nothing.
+fn define_nothing(sections: &[Section]) -> bool
+    ensures { result ≡ true → AllByRecursion (λ section. (label : List ℕ) → defines section.part.labels label ≡ false) sections.now }
+{
+    sections
+        .iter()
+        .all(|section| section.part.labels.is_empty())
+}
+
+/// Whether parts define nothing.
+fn parts_define_nothing(parts: &[Part]) -> bool
+    ensures { result ≡ true → AllByRecursion (λ part. (label : List ℕ) → defines part.labels label ≡ false) parts.now }
+{
+    parts.iter().all(|part| part.labels.is_empty())
+}
+
+/// The labels that a document defines with parts in the place of some of its sections. `None` if they are the same as before.
+fn new_labels(
+    alloc: Global,
+    kept: &Kept,
+    from: usize,
+    end: usize,
+    parts: &[Part],
+) -> Result<Option<Labels>, AllocError>
+    requires kept { IsKept kept.now }
+    requires recut { IsRecut kept.now from end (bytes_of_parts parts.now) }
+    requires labels { AllByRecursion (IsLabelled kept.now.options) parts.now }
+    ensures none { IfOk result (λ found. IfNone found ((label : List ℕ) → defines kept.now.machine.labels label ≡ is_label_of (recut_document kept.now from end (bytes_of_parts parts.now)) label)) }
+    ensures some { IfOk result (λ found. IfSome found (λ labels. (label : List ℕ) → defines labels label ≡ is_label_of (recut_document kept.now from end (bytes_of_parts parts.now)) label)) }
+{
+    let sections = kept.sections.as_slice();
+    if define_nothing(&sections[from..end]) && parts_define_nothing(parts) {
+        return Ok(None);
+    }
+    let mut labels = Labels::new(alloc);
+    define_sections(alloc, &mut labels, &kept.options, &sections[..from])?;
+    define_parts(alloc, &mut labels, &kept.options, parts)?;
+    define_sections(alloc, &mut labels, &kept.options, &sections[end..])?;
+    if labels.is_same(&kept.machine.labels) {
+        return Ok(None);
+    }
+    Ok(Some(labels))
+}
+
+/// Whether a section may look up a label that comes or goes.
+fn looks_up(
+    alloc: Global,
+    old: &Labels,
+    new: &Labels,
+    section: &Section,
+) -> Result<bool, AllocError>
+    ensures { IfOk result (λ looks. looks ≡ looks_up old.now new.now section.now) }
+{
+    Ok(section.asks && may_ask(alloc, old, new, section.part.bytes.as_slice())?)
+}
+
+/// Appends the events of those sections that may look up a label that comes or goes, read again by this machine, which knows the new labels.
+/// The first of the sections has a number.
+fn read_again(
+    alloc: Global,
+    options: &ParseOptions,
+    old: &Labels,
+    machine: &Inlines,
+    sections: &[Section],
+    first: usize,
+    others: &mut Vec<Reread>,
+) -> Result<(), PackError>
+    requires limit { AllByRecursion (λ section. IsWithinLimit options.now.tab_size section.part.bytes.items) sections.now }
+    requires numbers { first + length sections.now < 2 ^ 64 }
+    ensures others { OnOk result (others.new.items ≡ others.old.items ++ rereads options.now old.now machine.now.labels first sections.now) }
+    ensures fits { AllByRecursion (λ section. IsPackable options.now (defines machine.now.labels) section.part.bytes.items) sections.now → ¬ IsErrOf result PackError.TooLong }
+{
+    for index in 0..sections.len() {
+        let section = &sections[index];
+        let asks = looks_up(alloc, old, &machine.labels, section)?;
+        if asks {
+            let events = events_of(alloc, options, machine, section.part.bytes.as_slice())?;
+            others.push(Reread {
+                section: first + index,
+                events,
+            })?;
+        }
+    }
+    Ok(())
+}
+
+/// The numbers of sections that were read again.
+fn numbers_of(alloc: Global, others: &[Reread]) -> Result<Vec<usize>, AllocError>
+    ensures { IfOk result (λ numbers. numbers.items ≡ map (λ other. other.section) others.now) }
+{
+    let mut numbers = Vec::with_capacity(alloc, others.len())?;
+    for other in others {
+        numbers.push(other.section)?;
+    }
+    Ok(numbers)
+}
+
+/// Puts the events of sections that were read again in the place of those that they had.
+fn put_events(sections: &mut Vec<Section>, others: Vec<Reread>)
+    requires { AllByRecursion (λ other. other.section < length sections.old.items) others.items }
+    ensures { sections.new.items ≡ put_all sections.old.items others.items }
+{
+    for other in others {
+        sections[other.section].events = other.events;
+    }
+}
+
+/// Puts parts in the place of the sections that they replace. If it fails, the document is as it was.
+pub(crate) fn put(alloc: Global, kept: &mut Kept, recut: Recut) -> Result<Change, Refused>
+    requires kept { IsKept kept.old }
+    requires possible { IsDocument (document kept.old.options (bytes_of (divided_of kept.old))) }
+    requires recut { IsRecut kept.old recut.from recut.end (items_of recut.parts.items) }
+    ensures kept { IsKept kept.new }
+    ensures document { IfOk result (λ _. divided_of kept.new ≡ recut_document kept.old recut.from recut.end (items_of recut.parts.items)) }
+    ensures change { IfOk result (IsChange (divided_of kept.old) (divided_of kept.new)) }
+    ensures err { OnErr result (divided_of kept.new ≡ divided_of kept.old) }
+    ensures range { ¬ IsErrOf result Refused.Range }
+    ensures fits { ArePackable (recut_document kept.old recut.from recut.end (items_of recut.parts.items)) → ¬ IsErrOf result Refused.TooLong }
+{
+    let Recut { from, end, parts } = recut;
+    let parts = parts_of(alloc, &kept.options, parts)?;
+    match new_labels(alloc, kept, from, end, parts.as_slice())? {
+        None => put_same(alloc, kept, from, end, parts),
+        Some(labels) => put_other(alloc, kept, from, end, parts, Inlines { labels }),
+    }
+}
+
+/// As [`put`], where the labels stay.
+fn put_same(
+    alloc: Global,
+    kept: &mut Kept,
+    from: usize,
+    end: usize,
+    parts: Vec<Part>,
+) -> Result<Change, Refused>
+    requires kept { IsKept kept.old }
+    requires recut { IsRecut kept.old from end (bytes_of_parts parts.items) }
+    requires labelled { AllByRecursion (IsLabelled kept.old.options) parts.items }
+    requires labels { (label : List ℕ) → defines kept.old.machine.labels label ≡ is_label_of (recut_document kept.old from end (bytes_of_parts parts.items)) label }
+    ensures kept { IsKept kept.new }
+    ensures document { IfOk result (λ _. divided_of kept.new ≡ recut_document kept.old from end (bytes_of_parts parts.items)) }
+    ensures change { IfOk result (IsChange (divided_of kept.old) (divided_of kept.new)) }
+    ensures err { OnErr result (divided_of kept.new ≡ divided_of kept.old) }
+    ensures range { ¬ IsErrOf result Refused.Range }
+    ensures fits { ArePackable (recut_document kept.old from end (bytes_of_parts parts.items)) → ¬ IsErrOf result Refused.TooLong }
+{
+    let read = read_parts(alloc, &kept.options, &kept.machine, parts)?;
+    let new_to = from + read.len();
+    kept.sections.splice(from..end, read)?;
+    Ok(Change {
+        from,
+        old_to: end,
+        new_to,
+        others: Vec::new(alloc),
+    })
+}
+
+/// As [`put`], where this machine knows the labels. Others that may look up one that comes or goes are read again.
+fn put_other(
+    alloc: Global,
+    kept: &mut Kept,
+    from: usize,
+    end: usize,
+    parts: Vec<Part>,
+    machine: Inlines,
+) -> Result<Change, Refused>
+    requires kept { IsKept kept.old }
+    requires possible { IsDocument (document kept.old.options (bytes_of (divided_of kept.old))) }
+    requires recut { IsRecut kept.old from end (bytes_of_parts parts.items) }
+    requires labelled { AllByRecursion (IsLabelled kept.old.options) parts.items }
+    requires labels { (label : List ℕ) → defines machine.labels label ≡ is_label_of (recut_document kept.old from end (bytes_of_parts parts.items)) label }
+    ensures kept { IsKept kept.new }
+    ensures document { IfOk result (λ _. divided_of kept.new ≡ recut_document kept.old from end (bytes_of_parts parts.items)) }
+    ensures change { IfOk result (IsChange (divided_of kept.old) (divided_of kept.new)) }
+    ensures err { OnErr result (divided_of kept.new ≡ divided_of kept.old) }
+    ensures range { ¬ IsErrOf result Refused.Range }
+    ensures fits { ArePackable (recut_document kept.old from end (bytes_of_parts parts.items)) → ¬ IsErrOf result Refused.TooLong }
+{
+    let read = read_parts(alloc, &kept.options, &machine, parts)?;
+    let new_to = from + read.len();
+    let others = read_others(alloc, kept, &machine, from, end, new_to)?;
+    let numbers = numbers_of(alloc, others.as_slice())?;
+    kept.sections.splice(from..end, read)?;
+    kept.machine = machine;
+    put_events(&mut kept.sections, others);
+    Ok(Change {
+        from,
+        old_to: end,
+        new_to,
+        others: numbers,
+    })
+}
+
+/// Parts, each read; with the error of an edit.
+fn read_parts(
+    alloc: Global,
+    options: &ParseOptions,
+    machine: &Inlines,
+    parts: Vec<Part>,
+) -> Result<Vec<Section>, Refused>
+    requires limit { AllByRecursion (IsWithinLimit options.now.tab_size) (bytes_of_parts parts.items) }
+    requires labels { AllByRecursion (IsLabelled options.now) parts.items }
+    ensures bytes { IfOk result (λ sections. bytes_of_sections sections.items ≡ bytes_of_parts parts.items) }
+    ensures read { IfOk result (λ sections. AllByRecursion (IsRead options.now (defines machine.now.labels)) sections.items) }
+    ensures range { ¬ IsErrOf result Refused.Range }
+    ensures fits { AllByRecursion (IsPackable options.now (defines machine.now.labels)) (bytes_of_parts parts.items) → ¬ IsErrOf result Refused.TooLong }
+{
+    match sections_of(alloc, options, machine, parts) {
+        Ok(sections) => Ok(sections),
+        Err(error) => Err(refused(error)),
+    }
+}
+
+/// The sections in front of some and behind them that may look up a label that comes or goes, read again by this machine, which knows the new labels.
+fn read_others(
+    alloc: Global,
+    kept: &Kept,
+    machine: &Inlines,
+    from: usize,
+    end: usize,
+    new_to: usize,
+) -> Result<Vec<Reread>, Refused>
+    requires limit { AllByRecursion (λ section. IsWithinLimit kept.now.options.tab_size section.part.bytes.items) kept.now.sections.items }
+    requires order { from ≤ end }
+    requires within { end ≤ length kept.now.sections.items }
+    requires numbers { new_to + length (drop end kept.now.sections.items) < 2 ^ 64 }
+    ensures others { let again = rereads kept.now.options kept.now.machine.labels machine.now.labels in IfOk result (λ others. others.items ≡ again 0 (take from kept.now.sections.items) ++ again new_to (drop end kept.now.sections.items)) }
+    ensures range { ¬ IsErrOf result Refused.Range }
+    ensures fits { let are_packable = AllByRecursion (λ section. IsPackable kept.now.options (defines machine.now.labels) section.part.bytes.items) in are_packable (take from kept.now.sections.items) → are_packable (drop end kept.now.sections.items) → ¬ IsErrOf result Refused.TooLong }
+{
+    let sections = kept.sections.as_slice();
+    let options = &kept.options;
+    let old = &kept.machine.labels;
+    let front = &sections[..from];
+    let behind = &sections[end..];
+    let mut others = Vec::new(alloc);
+    if let Err(error) = read_again(alloc, options, old, machine, front, 0, &mut others) {
+        return Err(refused(error));
+    }
+    if let Err(error) = read_again(alloc, options, old, machine, behind, new_to, &mut others) {
+        return Err(refused(error));
+    }
+    Ok(others)
+}
+
+/// Why a document is not edited, if events are not packed.
+fn refused(error: PackError) -> Refused
+    ensures memory { error ≡ PackError.Memory → result ≡ Refused.Memory }
+    ensures too_long { error ≡ PackError.TooLong ↔ result ≡ Refused.TooLong }
+    ensures range { ¬ (result ≡ Refused.Range) }
+{
+    match error {
+        PackError::Memory => Refused::Memory,
+        PackError::TooLong => Refused::TooLong,
+    }
+}

@@ -1,0 +1,134 @@
+//! A section as it is kept, and how one is read.
+
+ghost use Rattle.std.specs.Prelude.{◌≡◌, ◌≤◌, IfOk, IsErrOf, List, MatchResult, length, map, true};
+ghost use Rattle.std.specs.List.{AllByRecursion};
+ghost use Rattle.markdown_base.specs.Virtual.{IsWithinLimit};
+ghost use Rattle.mdblock_definitions.specs.Labelled.{AreDefined};
+ghost use Rattle.mdinline_labels.specs.Defined.{defines};
+ghost use Rattle.mddocument_parts.specs.BothDocuments.{events_by};
+ghost use Rattle.mddocument_editing.specs.FirstRest.{items_of};
+ghost use Rattle.mddocument_editing.specs.Kept.{IsLabelled, IsPackable, IsRead, bytes_of_parts, bytes_of_sections, has_end, labels_written};
+
+use crate::packed::{PackError, Packed};
+use crate::positions::line_endings;
+use markdown_base::configuration::ParseOptions;
+use mdblock_definitions::parts::skeleton_with_definitions;
+use mddocument::documents::read_document_by;
+use mdinline_labels::labels::Labels;
+use mdinline_machine::inlines::Inlines;
+use std::alloc::{AllocError, Global};
+
+/// A part of a document that begins at a rest, with the labels that it defines.
+#[derive(Drop)]
+pub(crate) struct Part {
+    /// Its bytes.
+    pub(crate) bytes: Vec<u8>,
+    /// The labels that it defines.
+    pub(crate) labels: Labels,
+}
+
+/// A section: such a part, with its events.
+#[derive(Drop)]
+pub(crate) struct Section {
+    /// Its bytes and labels.
+    pub(crate) part: Part,
+    /// How many line endings it has.
+    pub(crate) lines: usize,
+    /// Whether it may look up a label: it has a `]`.
+    pub(crate) asks: bool,
+    /// Its events, as those of a document of its own, by the labels of the whole document.
+    pub(crate) events: Packed,
+}
+
+/// The labels that a part defines.
+fn labels_in(alloc: Global, options: &ParseOptions, bytes: &[u8]) -> Result<Labels, AllocError>
+    requires { IsWithinLimit options.now.tab_size bytes.now }
+    ensures { IfOk result (λ labels. AreDefined labels (labels_written options.now bytes.now)) }
+{
+    let skeleton = skeleton_with_definitions(alloc, bytes, options.tab_size, &options.constructs)?;
+    Ok(skeleton.labels)
+}
+
+/// The parts with these bytes.
+pub(crate) fn parts_of(
+    alloc: Global,
+    options: &ParseOptions,
+    cut: Vec<Vec<u8>>,
+) -> Result<Vec<Part>, AllocError>
+    requires { AllByRecursion (IsWithinLimit options.now.tab_size) (items_of cut.items) }
+    ensures bytes { IfOk result (λ parts. bytes_of_parts parts.items ≡ items_of cut.items) }
+    ensures labels { IfOk result (λ parts. AllByRecursion (IsLabelled options.now) parts.items) }
+{
+    let mut parts = Vec::with_capacity(alloc, cut.len())?;
+    for bytes in cut {
+        let labels = labels_in(alloc, options, bytes.as_slice())?;
+        parts.push(Part { bytes, labels })?;
+    }
+    Ok(parts)
+}
+
+/// The events of a part.
+pub(crate) fn events_of(
+    alloc: Global,
+    options: &ParseOptions,
+    machine: &Inlines,
+    bytes: &[u8],
+) -> Result<Packed, PackError>
+    requires { IsWithinLimit options.now.tab_size bytes.now }
+    ensures { MatchResult result (λ events. events ≡ events_by options.now (defines machine.now.labels) bytes.now) (λ error. error ≡ PackError.TooLong → ¬ IsPackable options.now (defines machine.now.labels) bytes.now) }
+{
+    let events = read_document_by(alloc, bytes, options, machine)?;
+    Packed::of(alloc, events.as_slice())
+}
+
+/// Whether there is a `]` in bytes.
+fn has_end(bytes: &[u8]) -> bool
+    ensures { result ≡ has_end bytes.now }
+{
+    bytes.iter().any(|byte| *byte == b']')
+}
+
+/// A part, read.
+fn section_of(
+    alloc: Global,
+    options: &ParseOptions,
+    machine: &Inlines,
+    part: Part,
+) -> Result<Section, PackError>
+    requires limit { IsWithinLimit options.now.tab_size part.bytes.items }
+    requires labels { IsLabelled options.now part }
+    ensures part { IfOk result (λ section. section.part ≡ part) }
+    ensures read { IfOk result (IsRead options.now (defines machine.now.labels)) }
+    ensures fits { IsPackable options.now (defines machine.now.labels) part.bytes.items → ¬ IsErrOf result PackError.TooLong }
+{
+    let bytes = part.bytes.as_slice();
+    let events = events_of(alloc, options, machine, bytes)?;
+    let lines = line_endings(bytes);
+    let asks = has_end(bytes);
+    Ok(Section {
+        part,
+        lines,
+        asks,
+        events,
+    })
+}
+
+/// Parts, each read.
+pub(crate) fn sections_of(
+    alloc: Global,
+    options: &ParseOptions,
+    machine: &Inlines,
+    parts: Vec<Part>,
+) -> Result<Vec<Section>, PackError>
+    requires limit { AllByRecursion (IsWithinLimit options.now.tab_size) (bytes_of_parts parts.items) }
+    requires labels { AllByRecursion (IsLabelled options.now) parts.items }
+    ensures bytes { IfOk result (λ sections. bytes_of_sections sections.items ≡ bytes_of_parts parts.items) }
+    ensures read { IfOk result (λ sections. AllByRecursion (IsRead options.now (defines machine.now.labels)) sections.items) }
+    ensures fits { AllByRecursion (IsPackable options.now (defines machine.now.labels)) (bytes_of_parts parts.items) → ¬ IsErrOf result PackError.TooLong }
+{
+    let mut sections = Vec::with_capacity(alloc, parts.len())?;
+    for part in parts {
+        sections.push(section_of(alloc, options, machine, part)?)?;
+    }
+    Ok(sections)
+}

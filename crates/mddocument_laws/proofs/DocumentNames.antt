@@ -1,0 +1,133 @@
+-- Documents have names of the constructs that are on: so do their containers and definitions, and what is put in place of chunks and strings.
+use Rattle.std.proofs.Common.{◌≡◌, ℕ, List, [], ◌∷◌, ◌++◌, Bool, true, false, Some, inl, inr, sym, ◌∙◌, subst}
+use Rattle.std.proofs.lemmas.Bool.{false_from_ne_true, false≢true, or_cases, or_left, or_right}
+use Rattle.std.proofs.lemmas.List.Elements.{All-from_recursion, All-weaker}
+use Rattle.std.specs.List.{flat_map}
+use Rattle.std.specs.Prelude.{All}
+use Rattle.markdown_base.specs.declared.configuration.Constructs.{Constructs}
+use Rattle.markdown_base.specs.declared.event.Content.TheVariants.{Content, String, Text}
+use Rattle.markdown_base.specs.declared.event.Event.{Event}
+use Rattle.markdown_base.specs.declared.event.Name.{Name}
+use Rattle.markdown_base.specs.Events.{same_name}
+use Rattle.markdown_base.specs.Virtual.{Seat, virtual}
+use Rattle.markdown_edits.proofs.Balanced.{same_name-true}
+use Rattle.markdown_tokenizer.specs.Text.{Given, Text as TextOf}
+use Rattle.markdown_children.specs.Reads.{text_from}
+use Rattle.mdinline_labels.specs.Defined.{is_same}
+use Rattle.mdinline_text_machine.specs.ChainTexts.{chain_text}
+use Rattle.mdblock_leaf_blocks.specs.LeafEvents.{flow_events}
+use Rattle.mdblock_definitions.specs.Blocks.{document_blocks, document_skeleton, shown_as_text}
+use Rattle.mdblock_definitions.specs.Labelled.{is_one_of}
+use Rattle.mdblock_definitions.specs.Rows.{rows}
+use Rattle.mdblock_definitions.specs.Sections.{Inside, Section, defined, lines, text_in}
+use Rattle.mdblock_definitions.specs.Skeleton.{all_rows, labels_in, labels_of_section, sections_in_seats, skeleton}
+use Rattle.mdinline_machine.specs.InlineEvents.{inline_events}
+use Rattle.mdinline_machine.specs.LawStatements.{with_inlines}
+use Rattle.mdinline_machine.specs.StringEvents.{string_events}
+use Rattle.mdconstructs_machines.specs.LineEvents.{lines_in}
+use Rattle.mdinline_link_strings.specs.StringItems.{string_seat_events}
+use Rattle.mddocument.specs.DocumentEvents.{document_events, document_texts, is_defined_in}
+use Rattle.mddocument_laws.specs.Names.{may_be_named}
+use Rattle.mddocument_laws.specs.NamesOff.{AreDefinedIfOn, DocumentsAreNamed, InlinesAreNamed, LeafBlocksAreNamed, OffIsLeftOut, SkeletonsAreNamed, StringsAreNamed}
+use Rattle.mddocument_laws.proofs.ChildNames.{children-named, with-strings-named}
+use Rattle.mddocument_laws.proofs.FlowNames.{flow-named}
+use Rattle.mddocument_laws.proofs.ItemNames.{read-outer, strings-named}
+use Rattle.mddocument_laws.proofs.LinkNames.{links-named}
+use Rattle.mddocument_laws.proofs.Inside.{StandsAround, StandsInside, around-inside, inside-may}
+use Rattle.mddocument_laws.proofs.Named.{Named, weaker}
+use Rattle.mddocument_laws.proofs.PlainNames.{bare-around, plain-inside}
+use Rattle.mddocument_laws.proofs.RowNames.{InsideIsOn, SectionsAreOn, rows-on, sections-on}
+use Rattle.mddocument_laws.proofs.SkeletonNames.{skeleton-named}
+
+abbrev May : Constructs → Name → Type 0
+May on n = may_be_named on n ≡ true
+
+all-named : (on : Constructs) (events : List Event) → Named (May on) events → All (λ e. may_be_named on e.name ≡ true) events
+all-named on events h = All-from_recursion (λ (e : Event). may_be_named on e.name ≡ true) events h.all
+
+pub leaf-blocks-named : LeafBlocksAreNamed
+leaf-blocks-named on bytes seats = all-named on _ (flow-named on bytes seats)
+
+-- strings, containers and definitions, and inline text have none of the names that tell of headings
+pub string-inside : (on : Constructs) (bytes : List ℕ) (seats : List Seat) → Named (StandsInside on) (string_seat_events on bytes seats)
+string-inside on bytes seats = weaker (plain-inside on) (string_seat_events on bytes seats) (strings-named on bytes seats).named
+
+pub skeleton-around : (on : Constructs) (bytes : List ℕ) (seats : List Seat) → Named (StandsAround on) (skeleton on bytes seats)
+skeleton-around on bytes seats = weaker (bare-around on) (skeleton on bytes seats) (skeleton-named on bytes seats)
+
+pub skeleton-inside : (on : Constructs) (bytes : List ℕ) (seats : List Seat) → Named (StandsInside on) (skeleton on bytes seats)
+skeleton-inside on bytes seats = weaker (around-inside on) (skeleton on bytes seats) (skeleton-around on bytes seats)
+
+pub inline-inside : (labels : List ℕ → Bool) (g : Given) (text : TextOf) → AreDefinedIfOn labels g.options.constructs → Named (StandsInside g.options.constructs) (inline_events labels g text)
+inline-inside labels g text h = links-named g.options.constructs g.bytes _ (read-outer g.options.constructs labels g.bytes h text.seats)
+
+string-named : (on : Constructs) (bytes : List ℕ) (seats : List Seat) → Named (May on) (string_seat_events on bytes seats)
+string-named on bytes seats = weaker (inside-may on) (string_seat_events on bytes seats) (string-inside on bytes seats)
+
+bare-named : (on : Constructs) (bytes : List ℕ) (seats : List Seat) → Named (May on) (skeleton on bytes seats)
+bare-named on bytes seats = weaker (inside-may on) (skeleton on bytes seats) (skeleton-inside on bytes seats)
+
+inline-named : (labels : List ℕ → Bool) (g : Given) (text : TextOf) → AreDefinedIfOn labels g.options.constructs → Named (May g.options.constructs) (inline_events labels g text)
+inline-named labels g text h = weaker (inside-may g.options.constructs) (inline_events labels g text) (inline-inside labels g text h)
+
+pub strings-are-named : StringsAreNamed
+strings-are-named on bytes seats = all-named on _ (string-named on bytes seats)
+
+pub skeletons-named : SkeletonsAreNamed
+skeletons-named on bytes seats = all-named on _ (bare-named on bytes seats)
+
+pub inlines-named : InlinesAreNamed
+inlines-named labels g text h = all-named g.options.constructs _ (inline-named labels g text h)
+
+-- ---- labels of a document are defined only where definitions are on
+module _ (on : Constructs) (label : List ℕ) where
+  one-of-both : (xs ys : List (List ℕ)) → (is_one_of xs label ≡ true → on.definition ≡ true) → (is_one_of ys label ≡ true → on.definition ≡ true) → is_one_of (xs ++ ys) label ≡ true → on.definition ≡ true
+  one-of-both [] ys h k e = k e
+  one-of-both (x ∷ xs) ys h k e = elim (or_cases (is_same label x) (is_one_of (xs ++ ys) label) e) [
+    | inl same ↦ h (or_left (is_same label x) (is_one_of xs label) same)
+    | inr more ↦ one-of-both xs ys (λ m. h (or_right (is_same label x) (is_one_of xs label) m)) k more
+  ]
+
+  of-inside : (s : Section) (inside : Inside) → InsideIsOn on inside → is_one_of (elim inside [ lines is_behind ↦ [] | defined ds ↦ labels_in ds (text_in (all_rows s.part)) ]) label ≡ true → on.definition ≡ true
+  of-inside s (lines is_behind) h e = absurd (false≢true e)
+  of-inside s (defined ds) h e = h
+
+  of-sections : (ss : List Section) → SectionsAreOn on ss → is_one_of (flat_map labels_of_section ss) label ≡ true → on.definition ≡ true
+  of-sections [] h e = absurd (false≢true e)
+  of-sections (s ∷ ss) h e = one-of-both (labels_of_section s) (flat_map labels_of_section ss) (of-inside s s.inside h.0.inside) (of-sections ss h.1) e
+
+pub defined-if-on : (g : Given) → AreDefinedIfOn (is_defined_in g) g.options.constructs
+defined-if-on g label e =
+    let on = g.options.constructs in
+    let seats = virtual g.tab g.bytes in
+    of-sections on label (sections_in_seats on seats) (sections-on on (rows on (lines_in seats)) (rows-on on (lines_in seats))) e
+
+-- ---- documents
+blocks-named : (g : Given) → Named (May g.options.constructs) (document_blocks g)
+blocks-named g =
+    let on = g.options.constructs in
+    children-named (May on) (Some Content) (document_skeleton g) (λ c. flow_events on (shown_as_text g).bytes (text_from (shown_as_text g) (document_skeleton g) c).seats) (bare-named on g.bytes (virtual g.tab g.bytes))
+    (λ c. flow-named on (shown_as_text g).bytes (text_from (shown_as_text g) (document_skeleton g) c).seats)
+
+texts-named : (g : Given) → Named (May g.options.constructs) (document_texts g)
+texts-named g =
+    let on = g.options.constructs in
+    let blocks = document_blocks g in
+    let inlines = with_inlines (is_defined_in g) g blocks in
+    children-named (May on) (Some String) inlines (λ c. string_events g (chain_text g inlines c))
+    (children-named (May on) (Some Text) blocks (λ c. inline_events (is_defined_in g) g (chain_text g blocks c)) (blocks-named g) (λ c. inline-named (is_defined_in g) g (chain_text g blocks c) (defined-if-on g)))
+    (λ c. string-named on g.bytes (chain_text g inlines c).seats)
+
+document-named : (g : Given) → Named (May g.options.constructs) (document_events g)
+document-named g = with-strings-named g.options.constructs g.tab g.bytes (document_texts g) (texts-named g)
+
+pub documents-named : DocumentsAreNamed
+documents-named g = all-named g.options.constructs (document_events g) (document-named g)
+
+other-name : (on : Constructs) (n name : Name) → may_be_named on name ≡ false → may_be_named on n ≡ true → same_name n name ≡ false
+other-name on n name off is = false_from_ne_true (same_name n name) (λ e. false≢true (sym off ∙ subst (May on) (same_name-true n name e) is))
+
+pub off-left-out : OffIsLeftOut
+off-left-out g name off =
+    let on = g.options.constructs in
+    All-weaker (λ (e : Event). may_be_named on e.name ≡ true) (λ (e : Event). same_name e.name name ≡ false) (λ e h. other-name on e.name name off h) (document_events g) (documents-named g)

@@ -1,0 +1,39 @@
+-- The names that stand around leaf blocks and in their texts: those that a document may have, but for those that tell of headings.
+use Rattle.std.proofs.Common.{◌≡◌, Bool, true, false, not}
+use Rattle.std.proofs.lemmas.Bool.{and_parts, not-true}
+use Rattle.std.specs.Prelude.{◌&&◌, ◌||◌}
+use Rattle.markdown_base.specs.declared.configuration.Constructs.{Constructs}
+use Rattle.markdown_base.specs.declared.event.Name.{Name}
+use Rattle.markdown_base.specs.declared.event.Name.TheVariants as name
+use Rattle.markdown_base.specs.Events.{same_name}
+use Rattle.mddocument_laws.specs.Names.{may_be_named}
+
+-- the names of headings, and of the sequences that tell their ranks
+abbrev pub is_of_heading : Name → Bool
+is_of_heading n = same_name n name.HeadingAtx || (same_name n name.HeadingSetext || (same_name n name.HeadingAtxSequence || same_name n name.HeadingSetextUnderlineSequence))
+
+-- a document may have the name, and it is none of these
+abbrev pub stands_inside : Constructs → Name → Bool
+stands_inside on n = not (is_of_heading n) && may_be_named on n
+
+abbrev pub StandsInside : Constructs → Name → Type 0
+StandsInside on n = stands_inside on n ≡ true
+
+pub inside-may : (on : Constructs) (n : Name) → stands_inside on n ≡ true → may_be_named on n ≡ true
+inside-may on n h = (and_parts (not (is_of_heading n)) (may_be_named on n) h).1
+
+pub inside-other : (on : Constructs) (n : Name) → stands_inside on n ≡ true → is_of_heading n ≡ false
+inside-other on n h = not-true (is_of_heading n) (and_parts (not (is_of_heading n)) (may_be_named on n) h).0
+
+-- around leaf blocks stands no character reference either
+abbrev pub stands_around : Constructs → Name → Bool
+stands_around on n = not (same_name n name.CharacterReference) && stands_inside on n
+
+abbrev pub StandsAround : Constructs → Name → Type 0
+StandsAround on n = stands_around on n ≡ true
+
+pub around-inside : (on : Constructs) (n : Name) → stands_around on n ≡ true → stands_inside on n ≡ true
+around-inside on n h = (and_parts (not (same_name n name.CharacterReference)) (stands_inside on n) h).1
+
+pub around-other : (on : Constructs) (n : Name) → stands_around on n ≡ true → same_name n name.CharacterReference ≡ false
+around-other on n h = not-true (same_name n name.CharacterReference) (and_parts (not (same_name n name.CharacterReference)) (stands_inside on n) h).0

@@ -1,0 +1,474 @@
+-- The events of the items of inline text, and of strings, have names of the constructs that are on.
+use Rattle.std.proofs.Common.{◌≡◌, ℕ, zero, suc, ◌+◌, ◌-◌, List, [], ◌∷◌, ◌++◌, Bool, true, cond, inl, not, Some, None, Option, refl, take, drop, length, map, inr}
+use Rattle.std.proofs.lemmas.Bool.{and_from, and_parts, cond_both, false≢true, or_left, or_right}
+use Rattle.std.specs.List.{AllByRecursion, between, flat_map, position_or_len, prefix_len}
+use Rattle.std.specs.Option.{is_some, option_and_then, option_or}
+use Rattle.std.specs.Prelude.{◌&&◌, ◌||◌, option_map, slice_get}
+use Rattle.markdown_base.specs.declared.configuration.Constructs.{Constructs}
+use Rattle.markdown_base.specs.declared.event.Event.{Event}
+use Rattle.markdown_base.specs.declared.event.Name.{Name}
+use Rattle.markdown_base.specs.declared.event.Name.TheVariants as name
+use Rattle.markdown_base.specs.Virtual.{Seat}
+use Rattle.mdinline_labels.specs.Labels.{is_label}
+use Rattle.mdconstructs_machines.specs.Breaks.{is_white}
+use Rattle.mdconstructs_machines.specs.Spans.{leaf, span}
+use Rattle.mdinline_labels.specs.declared.definitions.Stretch.{Stretch}
+use Rattle.mdinline_labels.specs.declared.resources.Resource.{Resource as Parts}
+use Rattle.mdinline_labels.specs.Resources.{resource_at}
+use Rattle.mdinline_labels.specs.Tails.{begins_with}
+use Rattle.mdinline_text_machine.specs.Autolink.{autolink, autolink_at, autolink_to, uri}
+use Rattle.mdinline_text_machine.specs.Bytes.{backticks, has_byte_at, is_backtick, is_greater_than, is_less_than, is_line_feed, passes}
+use Rattle.mdinline_text_machine.specs.CodeSpan.{before_backtick_string, code_span, code_span_at, pieces}
+use Rattle.mdinline_text_machine.specs.Construct.{BracketMark, Found, Grammar, fails, first_there, if_on, makes, opens, or_else, plain}
+use Rattle.mdinline_text_machine.specs.Escape.{escape, escape_at}
+use Rattle.mdinline_text_machine.specs.Items.{item_length}
+use Rattle.mdinline_text_machine.specs.Parts.{Part, bytes_of, cut, cut_remembering, line_ending, part, part_events, part_length, plain_run}
+use Rattle.mdinline_text_machine.specs.TextEvents.{item_events}
+use Rattle.mdinline_constructs.specs.Email.{email, email_at, email_with}
+use Rattle.mdinline_constructs.specs.HardBreak.{break_escape_at, hard_break_escape, hard_break_trailing, trailing_break_at}
+use Rattle.mdinline_constructs.specs.HtmlMarked.{marked}
+use Rattle.mdinline_constructs.specs.HtmlTag.{tag_length}
+use Rattle.mdinline_constructs.specs.HtmlText.{Piece, data_run as html_run, has_blank_line, html, html_of, line_break as html_break, piece_at, piece_events, piece_length}
+use Rattle.mdinline_constructs.specs.Reference.{Kind, body_at, decimal, hexadecimal, mark_events, named, number_at, reference, reference_at, value_at}
+use Rattle.mdinline_constructs.specs.WhiteSpace.{white_space, white_space_at}
+use Rattle.mdinline_link_tails.specs.Resource.{behind_destination, destination_events, destination_string, gap_events, in_marks, in_resource, line_part, resource, string_events, title_events, unmarked}
+use Rattle.mdinline_full_references.specs.FullReference.{full_reference, label_length, label_text}
+use Rattle.mdinline_machine.specs.Brackets.{Bracket, Memory, after_item, are_brackets, before_link, bytes_before, has_bracket, spanned_bytes, begins_end, begins_link, bracket_at, collapsed_reference, end_at, end_of_last, image_bracket, is_image_bracket, is_wanted_at, label_end, link_bracket, lone_end, no_tail, nothing_read, own_is_defined, own_tail, tail_of, waiting_behind}
+use Rattle.mdinline_machine.specs.InlineEvents.{begins_run, bracket_or_part, data_length, data_run, delimiter_run, inline_grammars, inline_item_at, inline_items, line_break, run_length, run_or_part}
+use Rattle.mdinline_link_strings.specs.StringItems.{is_string_special, string_data, string_grammars, string_item_at, string_items, string_part, string_seat_events}
+use Rattle.mddocument_laws.specs.Names.{has_labels}
+use Rattle.mddocument_laws.proofs.Named.{and as named-and, leafed, spanned}
+use Rattle.mddocument_laws.proofs.SpanNames.{Inner, May, Outer, outer-both, outer-none, outer-span}
+use Rattle.mddocument_laws.proofs.WholeSpans.{around-whole, both-whole, none-whole}
+use Rattle.mddocument_laws.proofs.SpanNames as spans
+
+module _ (on : Constructs) where
+  abbrev Are : List Event → Type 0
+  Are es = Inner on es
+
+  -- brackets of links or of images are on
+  abbrev HasBrackets : Type 0
+  HasBrackets = (on.label_start_link || on.label_start_image) ≡ true
+
+  -- what waits as a bracket is on
+  abbrev MayOpen : BracketMark → Type 0
+  MayOpen (opens image) = HasBrackets
+  MayOpen _ = Unit {0}
+
+  -- what is found has such names
+  pub record IsItem (f : Found) : Type 0 where
+    pub opens : MayOpen f.mark
+    pub names : (bytes : List ℕ) (seats : List Seat) → Are (f.events bytes seats)
+
+  abbrev pub IfItem : Option Found → Type 0
+  IfItem None = Unit {0}
+  IfItem (Some f) = IsItem f
+
+  -- ---- spans
+  nothing : Are []
+  nothing = spans.nothing on
+
+  together : (xs ys : List Event) → Are xs → Are ys → Are (xs ++ ys)
+  together xs ys h k = spans.together on xs ys h k
+
+  and : {xs ys : List Event} → Are xs → Are ys → Are (xs ++ ys)
+  and {xs} {ys} h k = spans.together on xs ys h k
+
+  over : (bytes : List ℕ) (n : Name) (seats : List Seat) (inside : List Event) → May on n → Are inside → Are (span bytes n seats inside)
+  over bytes n seats inside p h = spans.over on bytes n seats inside p h
+
+  leafs : (bytes : List ℕ) (n : Name) (seats : List Seat) → May on n → Are (leaf bytes n seats)
+  leafs bytes n seats p = spans.leafs on bytes n seats p
+
+  named-flat : {A : Type 0} (f : A → List Event) (xs : List A) → ((x : A) → Are (f x)) → Are (flat_map f xs)
+  named-flat f xs h = spans.flat on f xs h
+
+  parts-named : (bytes : List ℕ) (n : Name) (p : Part × List Seat) → May on n → Are (part_events bytes n p)
+  parts-named bytes n (line_ending, seats) h = leafs bytes name.LineEnding seats refl
+  parts-named bytes n (plain_run k, seats) h = leafs bytes n seats h
+
+  -- ---- code spans, autolinks, escapes, hard breaks, white space
+  code-item : (b i : ℕ) → on.code_text ≡ true → IsItem (code_span b i)
+  code-item b i h = record {
+    opens = tt;
+    names = λ bytes seats.
+        let inside = named-flat (part_events bytes name.CodeTextData) (pieces (between b (b + i) seats)) (λ p. parts-named bytes name.CodeTextData p h) in
+        over bytes name.CodeText seats _ h (and (leafs bytes name.CodeTextSequence (take b seats) h) (and inside (leafs bytes name.CodeTextSequence (drop (b + i) seats) h)));
+  }
+
+  mapped : {A : Type 0} (f : A → Found) (o : Option A) → ((a : A) → IsItem (f a)) → IfItem (option_map f o)
+  mapped f None h = tt
+  mapped f (Some a) h = h a
+
+  codes-fit : (text : List ℕ) → on.code_text ≡ true → IfItem (code_span_at text)
+  codes-fit text h = cond_both (has_byte_at text 0 is_backtick) _ None IfItem (λ e. mapped (code_span (backticks text)) (before_backtick_string (backticks text) (drop (backticks text) text)) (λ i. code-item (backticks text) i h)) (λ e. tt)
+
+  autolink-item : (n : ℕ) → on.autolink ≡ true → IsItem (autolink n)
+  autolink-item n h = record { opens = tt; names = λ bytes seats. search (together, over, leafs, h) }
+
+  autolinks-to : (text : List ℕ) (o : Option ℕ) → on.autolink ≡ true → IfItem (autolink_to text o)
+  autolinks-to text None h = tt
+  autolinks-to text (Some n) h = cond_both (has_byte_at text (n + 1) is_greater_than) (Some (autolink n)) None IfItem (λ e. autolink-item n h) (λ e. tt)
+
+  autolinks-fit : (text : List ℕ) → on.autolink ≡ true → IfItem (autolink_at text)
+  autolinks-fit text h = cond_both (has_byte_at text 0 is_less_than) _ None IfItem (λ e. autolinks-to text (uri (drop 1 text)) h) (λ e. tt)
+
+  email-item : (n : ℕ) → on.autolink ≡ true → IsItem (email n)
+  email-item n h = record { opens = tt; names = λ bytes seats. search (together, over, leafs, h) }
+
+  email-with : (text : List ℕ) (n : ℕ) → on.autolink ≡ true → IfItem (email_with text n)
+  email-with text n h = cond_both _ (Some (email _)) None IfItem (λ e. email-item _ h) (λ e. tt)
+
+  emails-fit : (text : List ℕ) → on.autolink ≡ true → IfItem (email_at text)
+  emails-fit text h = cond_both (has_byte_at text 0 is_less_than) _ None IfItem (λ e. email-with text _ h) (λ e. tt)
+
+  escape-item : on.character_escape ≡ true → IsItem escape
+  escape-item h = record { opens = tt; names = λ bytes seats. search (together, over, leafs, h) }
+
+  escapes-fit : (text : List ℕ) → on.character_escape ≡ true → IfItem (escape_at text)
+  escapes-fit text h = cond_both _ (Some escape) None IfItem (λ e. escape-item h) (λ e. tt)
+
+  break-escapes-fit : (text : List ℕ) → on.hard_break_escape ≡ true → IfItem (break_escape_at text)
+  break-escapes-fit text h = cond_both _ (Some hard_break_escape) None IfItem (λ e. record { opens = tt; names = λ bytes seats. leafs bytes name.HardBreakEscape seats h }) (λ e. tt)
+
+  trailing-fit : (text : List ℕ) → on.hard_break_trailing ≡ true → IfItem (trailing_break_at text)
+  trailing-fit text h = cond_both _ (Some (hard_break_trailing _)) None IfItem (λ e. record { opens = tt; names = λ bytes seats. leafs bytes name.HardBreakTrailing seats h }) (λ e. tt)
+
+  white-item : (n : ℕ) → IsItem (white_space n)
+  white-item n = record { opens = tt; names = λ bytes seats. leafs bytes name.SpaceOrTab seats refl }
+
+  whites-fit : (text : List ℕ) → IfItem (white_space_at text)
+  whites-fit text = cond_both _ (Some (white_space _)) None IfItem (λ e. white-item _) (λ e. tt)
+
+  -- ---- raw HTML
+  piece-named : (bytes : List ℕ) (p : Piece × List Seat) → on.html_text ≡ true → Are (piece_events bytes p)
+  piece-named bytes (html_break n, seats) h = search (together, leafs)
+  piece-named bytes (html_run n, seats) h = leafs bytes name.HtmlTextData seats h
+
+  html-item : (n : ℕ) → on.html_text ≡ true → IsItem (html n)
+  html-item n h = record {
+    opens = tt;
+    names = λ bytes seats. over bytes name.HtmlText seats _ h (named-flat (piece_events bytes) (cut piece_at piece_length (length seats) seats) (λ p. piece-named bytes p h));
+  }
+
+  htmls-of : (text : List ℕ) (o : Option ℕ) → on.html_text ≡ true → IfItem (html_of text o)
+  htmls-of text None h = tt
+  htmls-of text (Some n) h = cond_both (has_blank_line (take n text)) None (Some (html n)) IfItem (λ e. tt) (λ e. html-item n h)
+
+  -- ---- character references
+  marks-named : (bytes : List ℕ) (kind : Kind) (seats : List Seat) → on.character_reference ≡ true → Are (mark_events bytes kind seats)
+  marks-named bytes named seats h = leafs bytes name.CharacterReferenceMarker _ h
+  marks-named bytes decimal seats h = search (together, leafs, h)
+  marks-named bytes hexadecimal seats h = search (together, leafs, h)
+
+  reference-item : (kind : Kind) (n : ℕ) → on.character_reference ≡ true → IsItem (reference kind n)
+  reference-item kind n h = record { opens = tt; names = λ bytes seats. search (together, over, leafs, marks-named, h) }
+
+  values-fit : (kind : Kind) (text : List ℕ) → on.character_reference ≡ true → IfItem (value_at kind text)
+  values-fit kind text h = cond_both _ (Some (reference kind _)) None IfItem (λ e. reference-item kind _ h) (λ e. tt)
+
+  numbers-fit : (text : List ℕ) → on.character_reference ≡ true → IfItem (number_at text)
+  numbers-fit text h = cond_both _ (value_at hexadecimal (drop 1 text)) (value_at decimal text) IfItem (λ e. values-fit hexadecimal (drop 1 text) h) (λ e. values-fit decimal text h)
+
+  bodies-fit : (text : List ℕ) → on.character_reference ≡ true → IfItem (body_at text)
+  bodies-fit text h = cond_both _ (number_at (drop 1 text)) (value_at named text) IfItem (λ e. numbers-fit (drop 1 text) h) (λ e. values-fit named text h)
+
+  references-fit : (text : List ℕ) → on.character_reference ≡ true → IfItem (reference_at text)
+  references-fit text h = cond_both _ (body_at (drop 1 text)) None IfItem (λ e. bodies-fit (drop 1 text) h) (λ e. tt)
+
+  -- ---- the first construct that is there
+  abbrev pub Fits : Grammar Found → Type 0
+  Fits grammar = grammar.on on ≡ true → (text : List ℕ) → IfItem (grammar.front text)
+
+  or-item : (o : Option Found) (other : Found) → IfItem o → IsItem other → IsItem (or_else o other)
+  or-item None other h k = k
+  or-item (Some f) other h k = h
+
+  first-item : (grammars : List (Grammar Found)) (text : List ℕ) (other : Found) → AllByRecursion Fits grammars → IsItem other → IsItem (first_there grammars on text other)
+  first-item [] text other h k = k
+  first-item (grammar ∷ grammars) text other h k =
+      or-item (if_on (grammar.on on) (grammar.front text)) (first_there grammars on text other) (cond_both (grammar.on on) (grammar.front text) None IfItem (λ e. h.0 e text) (λ e. tt)) (first-item grammars text other h.1 k)
+
+  pub strings-fit : AllByRecursion Fits string_grammars
+  strings-fit = (λ h text. escapes-fit text h, (λ h text. references-fit text h, tt))
+
+  pub inlines-fit : AllByRecursion Fits inline_grammars
+  inlines-fit = (
+    λ h text. codes-fit text h,
+    (
+      λ h text. autolinks-fit text h,
+      (
+        λ h text. emails-fit text h,
+        (
+          λ h text. htmls-of text (marked text) h,
+          (
+            λ h text. htmls-of text (tag_length text) h,
+            (
+              λ h text. escapes-fit text h,
+              (
+                λ h text. break-escapes-fit text h,
+                (
+                  λ h text. references-fit text h,
+                  (λ h text. trailing-fit text h, (λ h text. whites-fit text, tt)),
+                ),
+              ),
+            ),
+          ),
+        ),
+      ),
+    ),
+  )
+
+  -- ---- strings
+  part-item : (p : Part) → IsItem (part p)
+  part-item p = record { opens = tt; names = λ bytes seats. parts-named bytes name.Data (p, seats) refl }
+
+  string-item : (text : List ℕ) → IsItem (string_item_at on text)
+  string-item text =
+      first-item string_grammars text (string_part text) strings-fit
+      (cond_both (has_byte_at text 0 is_line_feed) (part line_ending) (string_data text) IsItem (λ e. part-item line_ending) (λ e. part-item (plain_run (1 + position_or_len is_string_special (drop 1 text)))))
+
+  cut-items : (bound : ℕ) (seats : List Seat) → AllByRecursion (λ (p : Found × List Seat). IsItem p.0) (cut (string_item_at on) item_length bound seats)
+  cut-items zero seats = tt
+  cut-items (suc bound) [] = tt
+  cut-items (suc bound) (s ∷ ss) = (string-item (bytes_of (s ∷ ss)), cut-items bound _)
+
+  pub items-named : (bytes : List ℕ) (items : List (Found × List Seat)) → AllByRecursion (λ (p : Found × List Seat). IsItem p.0) items → Are (flat_map (item_events bytes) items)
+  items-named bytes [] h = nothing
+  items-named bytes ((f, seats) ∷ items) h = and (h.0.names bytes seats) (items-named bytes items h.1)
+
+  pub strings-named : (bytes : List ℕ) (seats : List Seat) → Are (string_seat_events on bytes seats)
+  strings-named bytes seats = items-named bytes (string_items on seats) (cut-items (length seats) seats)
+
+  -- ---- tails of links
+  module _ (bytes : List ℕ) (labels : has_labels on ≡ true) where
+    in-marks : (n mark : Name) (inside : List Event) (seats : List Seat) → May on n → May on mark → Are inside → Are (in_marks bytes n mark inside seats)
+    in-marks n mark inside seats p m h = over bytes n seats _ p (and (leafs bytes mark (take 1 seats) m) (and h (leafs bytes mark (drop (length seats - 1) seats) m)))
+
+    strings-of : (seats : List Seat) → Are (string_events bytes seats)
+    strings-of seats = named-flat (part_events bytes name.Data) (cut line_part part_length (length seats) seats) (λ p. parts-named bytes name.Data p refl)
+
+    gaps : (seats : List Seat) → Are (gap_events bytes seats)
+    gaps seats = search (together, leafs)
+
+    destination-string : (seats : List Seat) → Are (destination_string bytes seats)
+    destination-string seats = search (over, leafs, labels)
+
+    destinations : (seats : List Seat) → Are (destination_events bytes seats)
+    destinations seats = over bytes name.ResourceDestination seats _ labels (cond_both (begins_with 60 (bytes_of seats)) _ _ Are
+        (λ e. in-marks name.ResourceDestinationLiteral name.ResourceDestinationLiteralMarker _ seats labels labels (destination-string _))
+        (λ e. over bytes name.ResourceDestinationRaw seats _ labels (destination-string seats)))
+
+    titles : (seats : List Seat) → Are (title_events bytes seats)
+    titles seats = in-marks name.ResourceTitle name.ResourceTitleMarker _ seats labels labels (over bytes name.ResourceTitleString (unmarked bytes seats) _ labels (strings-of (unmarked bytes seats)))
+
+    behind-destinations : (title : Option Stretch) (from last : ℕ) (seats : List Seat) → Are (behind_destination bytes title from last seats)
+    behind-destinations None from last seats = gaps (between from last seats)
+    behind-destinations (Some t) from last seats = search (together, gaps, titles)
+
+    in-resources : (destination title : Option Stretch) (last : ℕ) (seats : List Seat) → Are (in_resource bytes destination title last seats)
+    in-resources None title last seats = gaps (between 1 last seats)
+    in-resources (Some d) title last seats = search (together, gaps, destinations, behind-destinations)
+
+  -- ---- ends of labels, by which labels are defined: some are only where definitions are on
+  module _ (labels : has_labels on ≡ true) (defined : List ℕ → Bool) (bytes : List ℕ) (defs : (label : List ℕ) → defined label ≡ true → on.definition ≡ true) where
+    resource-item : (r : Parts) → IsItem (resource r)
+    resource-item r = record { opens = tt; names = λ bytes seats. in-marks bytes labels name.Resource name.ResourceMarker _ seats labels labels (in-resources bytes labels r.destination r.title (r.size - 1) seats) }
+
+    full-item : (n : ℕ) → on.definition ≡ true → IsItem (full_reference n)
+    full-item n d =
+        let r : (has_labels on && on.definition) ≡ true = and_from (has_labels on) on.definition labels d in
+        record {
+          opens = tt;
+          names = λ bytes seats. in-marks bytes labels name.Reference name.ReferenceMarker _ seats r r (over bytes name.ReferenceString (unmarked bytes seats) _ r (strings-of bytes labels (unmarked bytes seats)));
+        }
+
+    own-item : (behind : List ℕ) → on.definition ≡ true → IsItem (own_tail behind)
+    own-item behind d =
+        let r : (has_labels on && on.definition) ≡ true = and_from (has_labels on) on.definition labels d in
+        cond_both (are_brackets behind) collapsed_reference no_tail IsItem (λ e. record { opens = tt; names = λ bytes seats. in-marks bytes labels name.Reference name.ReferenceMarker [] seats r r nothing })
+        (λ e. record { opens = tt; names = λ bytes seats. nothing })
+
+    full-fits : (wanted : List ℕ → Bool) → ((label : List ℕ) → wanted label ≡ true → on.definition ≡ true) → (text : List ℕ) (o : Option ℕ)
+        → IfItem (option_and_then (λ n. cond (wanted (label_text n text)) (Some (full_reference n)) None) o)
+    full-fits wanted w text None = tt
+    full-fits wanted w text (Some n) = cond_both (wanted (label_text n text)) (Some (full_reference n)) None IfItem (λ e. full-item n (w (label_text n text) e)) (λ e. tt)
+
+    either : (o p : Option Found) → IfItem o → IfItem p → IfItem (option_or o p)
+    either None p h k = k
+    either (Some f) p h k = h
+
+    wanted-defined : (ahead : List Seat) (label : List ℕ) → is_wanted_at defined bytes ahead label ≡ true → on.definition ≡ true
+    wanted-defined ahead label e =
+        let text = drop 2 ahead in
+        let found = spanned_bytes (bytes_before bytes (drop (length label) text)) (string_events bytes (take (length label) text)) in
+        defs found (and_parts (is_label found) (defined found) e).1
+
+    own-defined : (b : Bracket) (m : Memory) → own_is_defined defined bytes b m ≡ true → on.definition ≡ true
+    own-defined b m e =
+        let es = drop b.count m.events in
+        let label = spanned_bytes (bytes_before bytes m.ahead) es in
+        defs label (and_parts (is_label label) (defined label) (and_parts (not (has_bracket es)) (is_label label && defined label) e).1).1
+
+    tails-fit : (b : Bracket) (m : Memory) (behind : List ℕ) → IfItem (tail_of defined bytes b m behind)
+    tails-fit b m behind =
+        either _ _ (mapped resource (resource_at behind) resource-item)
+        (either _ _ (full-fits (is_wanted_at defined bytes m.ahead) (wanted-defined m.ahead) behind (label_length behind))
+        (cond_both (not (is_some (label_length behind)) && own_is_defined defined bytes b m) (Some (own_tail behind)) None IfItem (λ e. own-item behind (own-defined b m (and_parts _ _ e).1)) (λ e. tt)))
+
+    lone-item : IsItem lone_end
+    lone-item = record { opens = tt; names = λ bytes seats. leafs bytes name.LabelMarker seats labels }
+
+    end-item : (tail : Found) → IsItem tail → IsItem (label_end tail)
+    end-item tail h = record {
+      opens = tt;
+      names = λ bytes seats. and (over bytes name.LabelEnd (take 1 seats) _ labels (leafs bytes name.LabelMarker (take 1 seats) labels)) (h.names bytes (drop 1 seats));
+    }
+
+    tailed : (o : Option Found) → IfItem o → IfItem (option_map label_end o)
+    tailed None h = tt
+    tailed (Some f) h = end-item f h
+
+    pub ends-fit : (b : Bracket) (m : Memory) (behind : List ℕ) → IsItem (end_of_last defined bytes b m behind)
+    ends-fit b m behind =
+        cond_both b.inactive lone_end _ IsItem (λ e. lone-item)
+        (λ e. or-item (option_map label_end (tail_of defined bytes b m behind)) lone_end (tailed (tail_of defined bytes b m behind) (tails-fit b m behind)) lone-item)
+
+  -- ---- brackets, by what is remembered: brackets wait only where they are on
+  abbrev MayWait : List Bracket → Type 0
+  MayWait [] = Unit {0}
+  MayWait (b ∷ bs) = HasBrackets
+
+  any-waits : (bs : List Bracket) → HasBrackets → MayWait bs
+  any-waits [] h = tt
+  any-waits (b ∷ bs) h = h
+
+  waits-behind : (mark : BracketMark) (count : ℕ) (bs : List Bracket) → MayOpen mark → MayWait bs → MayWait (waiting_behind mark count bs)
+  waits-behind plain count bs o h = h
+  waits-behind (opens image) count bs o h = o
+  waits-behind makes count [] o h = tt
+  waits-behind makes count (b ∷ bs) o h = cond_both b.image bs (map before_link bs) MayWait (λ e. any-waits bs h) (λ e. any-waits (map before_link bs) h)
+  waits-behind fails count [] o h = tt
+  waits-behind fails count (b ∷ bs) o h = any-waits bs h
+
+  passes-first : (b : Bool) (test : ℕ → Bool) (o : Option ℕ) → passes (λ byte. b && test byte) o ≡ true → b ≡ true
+  passes-first b test None h = absurd (cc)
+  passes-first b test (Some byte) h = (and_parts b (test byte) h).0
+
+  -- ---- items of inline text: those, and brackets, which have such names only if ends of labels are on
+  record IsOuter (f : Found) : Type 0 where
+    opens : MayOpen f.mark
+    outer : (bytes : List ℕ) (seats : List Seat) → Outer on (f.events bytes seats)
+
+  abbrev IfOuter : Option Found → Type 0
+  IfOuter None = Unit {0}
+  IfOuter (Some f) = IsOuter f
+
+  loosened : (f : Found) → IsItem f → IsOuter f
+  loosened f h = record { opens = h.opens; outer = λ bytes seats. (h.names bytes seats).outer }
+
+  if-loosened : (o : Option Found) → IfItem o → IfOuter o
+  if-loosened None h = tt
+  if-loosened (Some f) h = loosened f h
+
+  or-outer : (o : Option Found) (other : Found) → IfOuter o → IsOuter other → IsOuter (or_else o other)
+  or-outer None other h k = k
+  or-outer (Some f) other h k = h
+
+  first-outer : (grammars : List (Grammar Found)) (text : List ℕ) (other : Found) → AllByRecursion Fits grammars → IsOuter other → IsOuter (first_there grammars on text other)
+  first-outer [] text other h k = k
+  first-outer (grammar ∷ grammars) text other h k =
+      or-outer (if_on (grammar.on on) (grammar.front text)) (first_there grammars on text other) (cond_both (grammar.on on) (grammar.front text) None IfOuter (λ e. if-loosened (grammar.front text) (h.0 e text)) (λ e. tt))
+      (first-outer grammars text other h.1 k)
+
+  link-item : on.label_start_link ≡ true → IsOuter link_bracket
+  link-item h = record { opens = or_left on.label_start_link on.label_start_image h; outer = events }
+    where
+      link : on.label_end ≡ true → May on name.LabelLink
+      link e = and_from on.label_end on.label_start_link e h
+
+      label : on.label_end ≡ true → May on name.LabelMarker
+      label e = and_from on.label_end (on.label_start_link || on.label_start_image) e (or_left on.label_start_link on.label_start_image h)
+
+      events : (bytes : List ℕ) (seats : List Seat) → Outer on (link_bracket.events bytes seats)
+      events bytes [] = outer-none on
+      events bytes (s ∷ ss) =
+          let seats = s ∷ ss in
+          outer-span on bytes name.LabelLink s ss (leaf bytes name.LabelMarker seats) (around-whole bytes name.LabelMarker s ss [] none-whole) ((λ e. absurd (cc)), ((λ e. absurd (cc)), tt)) (refl, (refl, tt))
+          (record { named = λ b e. spanned bytes name.LabelLink seats (link e) (leafed bytes name.LabelMarker seats (label e)); either = inl refl }) (λ e. absurd (cc)) refl
+
+  image-item : on.label_start_image ≡ true → IsOuter image_bracket
+  image-item h = record { opens = or_right on.label_start_link on.label_start_image h; outer = events }
+    where
+      image : on.label_end ≡ true → May on name.LabelImage
+      image e = and_from on.label_end on.label_start_image e h
+
+      label : on.label_end ≡ true → May on name.LabelMarker
+      label e = and_from on.label_end (on.label_start_link || on.label_start_image) e (or_right on.label_start_link on.label_start_image h)
+
+      events : (bytes : List ℕ) (seats : List Seat) → Outer on (image_bracket.events bytes seats)
+      events bytes [] = outer-none on
+      events bytes (s ∷ []) =
+          outer-span on bytes name.LabelImage s [] (leaf bytes name.LabelImageMarker (s ∷ [])) (around-whole bytes name.LabelImageMarker s [] [] none-whole) ((λ e. absurd (cc)), ((λ e. absurd (cc)), tt)) (refl, (refl, tt))
+          (record { named = λ b e. spanned bytes name.LabelImage (s ∷ []) (image e) (leafed bytes name.LabelImageMarker (s ∷ []) (image e)); either = inl refl }) (λ e. absurd (cc)) refl
+      events bytes (s ∷ r ∷ rs) =
+          let first = leaf bytes name.LabelImageMarker (s ∷ []) in
+          let second = leaf bytes name.LabelMarker (r ∷ rs) in
+          outer-span on bytes name.LabelImage s (r ∷ rs) (first ++ second) (both-whole first second (around-whole bytes name.LabelImageMarker s [] [] none-whole) (around-whole bytes name.LabelMarker r rs [] none-whole))
+          ((λ e. absurd (cc)), ((λ e. absurd (cc)), ((λ e. absurd (cc)), ((λ e. absurd (cc)), tt)))) (refl, (refl, (refl, (refl, tt))))
+          (record {
+            named = λ b e. spanned bytes name.LabelImage (s ∷ r ∷ rs) (image e) (named-and (leafed bytes name.LabelImageMarker (s ∷ []) (image e)) (leafed bytes name.LabelMarker (r ∷ rs) (label e)));
+            either = inl refl;
+          }) (λ e. absurd (cc)) refl
+
+  module _ (defined : List ℕ → Bool) (bytes : List ℕ) (defs : (label : List ℕ) → defined label ≡ true → on.definition ≡ true) where
+    end-fits : (bs : List Bracket) (m : Memory) (behind : List ℕ) → MayWait bs → on.label_end ≡ true → IfOuter (end_at defined bytes bs m behind)
+    end-fits [] m behind h e = tt
+    end-fits (b ∷ bs) m behind h e =
+        loosened (end_of_last defined bytes b m behind) (ends-fit (and_from on.label_end (on.label_start_link || on.label_start_image) e h) defined bytes defs b m behind)
+
+    brackets-fit : (m : Memory) (text : List ℕ) → MayWait m.waiting → IfOuter (bracket_at on defined bytes m text)
+    brackets-fit m text h =
+        cond_both (has_byte_at text 0 (begins_link on)) (Some link_bracket) _ IfOuter (λ e. link-item (passes-first on.label_start_link _ (slice_get text 0) e)) (λ e0.
+        cond_both (is_image_bracket on text) (Some image_bracket) _ IfOuter (λ e. image-item (passes-first on.label_start_image _ (slice_get text 0) (and_parts _ _ e).0)) (λ e1.
+        cond_both (has_byte_at text 0 (begins_end on)) (end_at defined bytes m.waiting m (drop 1 text)) None IfOuter (λ e. end-fits m.waiting m (drop 1 text) h (passes-first on.label_end _ (slice_get text 0) e)) (λ e2. tt)))
+
+    -- a delimiter run is a run
+    run-outer : (n : ℕ) → on.attention ≡ true → IsOuter (delimiter_run n)
+    run-outer n h = record { opens = tt; outer = λ given seats. sequence given seats }
+      where
+        sequence : (given : List ℕ) (seats : List Seat) → Outer on (leaf given name.AttentionSequence seats)
+        sequence given [] = outer-none on
+        sequence given (s ∷ ss) = outer-span on given name.AttentionSequence s ss [] none-whole tt tt (record { named = λ b e. absurd (false≢true b); either = inr (inl refl) }) (λ e. h) refl
+
+    run-item : (text : List ℕ) → IsOuter (run_or_part on text)
+    run-item text =
+        cond_both (has_byte_at text 0 (begins_run on)) (delimiter_run (run_length text)) _ IsOuter (λ e. run-outer (run_length text) (passes-first on.attention _ (slice_get text 0) e)) (λ e0.
+        cond_both (has_byte_at text 0 is_line_feed) (line_break (prefix_len is_white (drop 1 text))) (data_run (data_length on text)) IsOuter
+        (λ e. loosened (line_break (prefix_len is_white (drop 1 text))) (record { opens = tt; names = λ given seats. search (together, leafs) }))
+        (λ e. loosened (data_run (data_length on text)) (record { opens = tt; names = λ given seats. leafs given name.Data seats refl })))
+
+    inline-item : (m : Memory) (text : List ℕ) → MayWait m.waiting → IsOuter (inline_item_at on defined bytes m text)
+    inline-item m text h =
+        first-outer inline_grammars text (bracket_or_part on defined bytes m text) inlines-fit
+        (or-outer (bracket_at on defined bytes m text) (run_or_part on text) (brackets-fit m text h) (run-item text))
+
+    cut-inlines : (bound : ℕ) (m : Memory) (seats : List Seat) → MayWait m.waiting
+        → AllByRecursion (λ (p : Found × List Seat). IsOuter p.0) (cut_remembering (after_item bytes) (inline_item_at on defined bytes) item_length bound m seats)
+    cut-inlines zero m seats h = tt
+    cut-inlines (suc bound) m [] h = tt
+    cut-inlines (suc bound) m (s ∷ ss) h =
+        let f = inline_item_at on defined bytes m (bytes_of (s ∷ ss)) in
+        let is = inline-item m (bytes_of (s ∷ ss)) h in
+        (is, cut-inlines bound (after_item bytes m f) (drop f.size (s ∷ ss)) (waits-behind f.mark (length (m.events ++ f.events bytes (take f.size m.ahead))) m.waiting is.opens h))
+
+    all-outer : (items : List (Found × List Seat)) → AllByRecursion (λ (p : Found × List Seat). IsOuter p.0) items → Outer on (flat_map (item_events bytes) items)
+    all-outer [] h = outer-none on
+    all-outer ((f, seats) ∷ items) h = outer-both on (f.events bytes seats) (flat_map (item_events bytes) items) (h.0.outer bytes seats) (all-outer items h.1)
+
+    -- The events that are read of inline text are whole spans, with such names
+    pub read-outer : (seats : List Seat) → Outer on (flat_map (item_events bytes) (inline_items on defined bytes seats))
+    read-outer seats =
+        let n = prefix_len is_white (bytes_of seats) in
+        all-outer (inline_items on defined bytes seats)
+        (loosened (white_space n) (white-item n), cut-inlines (length seats) (after_item bytes (nothing_read seats) (white_space n)) (drop n seats) tt)

@@ -1,0 +1,35 @@
+-- The names that stand around leaf blocks, and in their texts before emphasis is made: there is no emphasis yet.
+use Rattle.std.proofs.Common.{◌≡◌, Bool, true, false, not}
+use Rattle.std.proofs.lemmas.Bool.{and_parts, not-true}
+use Rattle.std.specs.Prelude.{◌&&◌}
+use Rattle.markdown_base.specs.declared.configuration.Constructs.{Constructs}
+use Rattle.markdown_base.specs.declared.event.Name.{Name}
+use Rattle.markdown_base.specs.declared.event.Name.TheVariants as name
+use Rattle.markdown_base.specs.Events.{same_name}
+use Rattle.mddocument_laws.specs.EmphasisSpans.{is_emphasis}
+use Rattle.mddocument_laws.specs.Names.{may_be_named}
+use Rattle.mddocument_laws.proofs.Inside.{inside-may, stands_around, stands_inside}
+
+abbrev pub stands_plain : Constructs → Name → Bool
+stands_plain on n = not (is_emphasis n) && stands_inside on n
+
+pub plain-inside : (on : Constructs) (n : Name) → stands_plain on n ≡ true → stands_inside on n ≡ true
+plain-inside on n h = (and_parts (not (is_emphasis n)) (stands_inside on n) h).1
+
+pub plain-may : (on : Constructs) (n : Name) → stands_plain on n ≡ true → may_be_named on n ≡ true
+plain-may on n h = inside-may on n (plain-inside on n h)
+
+pub plain-other : (on : Constructs) (n : Name) → stands_plain on n ≡ true → is_emphasis n ≡ false
+plain-other on n h = not-true (is_emphasis n) (and_parts (not (is_emphasis n)) (stands_inside on n) h).0
+
+-- around leaf blocks stands no character reference either
+abbrev pub stands_bare : Constructs → Name → Bool
+stands_bare on n = not (same_name n name.CharacterReference) && stands_plain on n
+
+pub bare-plain : (on : Constructs) (n : Name) → stands_bare on n ≡ true → stands_plain on n ≡ true
+bare-plain on n h = (and_parts (not (same_name n name.CharacterReference)) (stands_plain on n) h).1
+
+pub bare-around : (on : Constructs) (n : Name) → stands_bare on n ≡ true → stands_around on n ≡ true
+bare-around on n h =
+    let parts = and_parts (not (same_name n name.CharacterReference)) (stands_plain on n) h in
+    (λ j. parts.0 j && plain-inside on n parts.1 j)

@@ -1,0 +1,56 @@
+-- Links, images and emphasis leave each character reference whole.
+use Rattle.std.proofs.Common.{◌≡◌, ℕ, List, [], ◌∷◌, ◌++◌, Bool, true, refl, inl}
+use Rattle.std.specs.List.{AllByRecursion}
+use Rattle.markdown_base.proofs.Common.{every-append}
+use Rattle.markdown_base.specs.declared.event.Event.{Event}
+use Rattle.markdown_base.specs.declared.event.Kind.TheVariants.{Exit}
+use Rattle.markdown_base.specs.declared.event.Name.{Name}
+use Rattle.markdown_base.specs.declared.event.Point.{Point}
+use Rattle.mdinline_emphasis.specs.Emphasis.{Run, closings, data_of, events_of_runs, later, markers_of_all, openings, paired, unlinked_event}
+use Rattle.mdinline_emphasis.specs.Runs.{runs_in}
+use Rattle.mdinline_links.proofs.Kept.{links-keep}
+use Rattle.mdinline_links.specs.Kept.{IsKept, is_made_of}
+use Rattle.mdinline_links.specs.Linked.{as_data, spanning, with_links}
+use Rattle.mddocument_laws.proofs.EmphasisEvents.{as-data-are, closings-are, data-are, openings-are}
+use Rattle.mddocument_laws.proofs.LinkEvents.{AnyRun, IsOther as IsOtherName, any-runs, other-made, other-of-emphasis}
+use Rattle.mddocument_laws.proofs.ReferenceSpans.{AreWhole, IsOther, others-whole, outside, spans-whole, whole-both}
+
+-- what makes emphasis is no reference
+closings-other : (p : Point) (ss : List Bool) → AllByRecursion IsOther (closings p ss)
+closings-other p ss = closings-are IsOther IsOtherName (λ e o. o) refl (Unit {0}) (λ t. other-of-emphasis) p ss other-of-emphasis
+
+rest-other : (p : Point) (left : ℕ) (ss : List Bool) → AllByRecursion IsOther (data_of p left ++ openings (later left p) ss)
+rest-other p left ss =
+    every-append IsOther (data_of p left) (openings (later left p) ss) (data-are IsOther IsOtherName (λ e o. o) refl (Unit {0}) (λ t. other-of-emphasis) p left)
+    (openings-are IsOther IsOtherName (λ e o. o) refl (Unit {0}) (λ t. other-of-emphasis) (later left p) ss other-of-emphasis)
+
+module _ (Is : Event → List Event → Type 0) where
+  abbrev Are : List Event → Type 0
+  Are es = AreWhole Is es
+
+  runs-whole : (texts : ℕ → List Event) → ((k : ℕ) → Are (texts k)) → (rs : List Run) → Are (events_of_runs texts rs)
+  runs-whole texts h [] = refl
+  runs-whole texts h (r ∷ rs) =
+      let p = later (markers_of_all r.closed) r.start in
+      let rest = data_of p r.left ++ openings (later r.left p) r.opened in
+      whole-both Is ((texts r.index ++ closings r.start r.closed) ++ rest) (events_of_runs texts rs)
+      (whole-both Is (texts r.index ++ closings r.start r.closed) rest (whole-both Is (texts r.index) (closings r.start r.closed) (h r.index) (others-whole Is (closings r.start r.closed) (closings-other r.start r.closed)))
+      (others-whole Is rest (rest-other p r.left r.opened)))
+      (runs-whole texts h rs)
+
+  spanning-whole : (n : Name) (start end : Point) (es : List Event) → is_made_of n ≡ true → Are es → Are (spanning n start end es)
+  spanning-whole n start end es made h = let o = other-made n made in let last = unlinked_event Exit n end ∷ [] in (outside, inl (o, refl), whole-both Is es last h (others-whole Is last (o, tt)))
+
+  kept : IsKept (λ p. Unit {0}) Are AnyRun
+  kept = record {
+    places = λ e es h. (tt, tt);
+    nothing = refl;
+    together = whole-both Is;
+    span_around = λ n start end es made p q h. spanning-whole n start end es made h;
+    data_of_it = λ es h. others-whole Is (as_data es) (as-data-are IsOther IsOtherName (λ e o. o) refl (Unit {0}) (λ t. other-of-emphasis) es);
+    emphasis = λ texts rs rest h fresh k. whole-both Is (events_of_runs texts (paired rs)) rest (runs-whole texts h (paired rs)) k;
+  }
+
+  -- If those of a list are whole, they are so with links
+  pub links-whole : (bytes : List ℕ) (es : List Event) → AreWhole Is es → AreWhole Is (with_links bytes es)
+  links-whole bytes es h = links-keep (λ p. Unit {0}) Are AnyRun kept bytes es (spans-whole Is _ es h) (any-runs (runs_in bytes es))

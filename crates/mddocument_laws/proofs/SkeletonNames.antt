@@ -1,0 +1,84 @@
+-- The events of containers and of definitions have names of the constructs that are on.
+use Rattle.std.proofs.Common.{◌≡◌, ℕ, suc, List, [], ◌∷◌, true, Some, None, Option, refl}
+use Rattle.std.specs.List.{AllByRecursion}
+use Rattle.markdown_base.proofs.Common.{every-map}
+use Rattle.markdown_base.specs.declared.configuration.Constructs.{Constructs}
+use Rattle.markdown_base.specs.declared.event.Name.{Name}
+use Rattle.markdown_base.specs.declared.event.Name.TheVariants as name
+use Rattle.markdown_base.specs.Virtual.{Seat}
+use Rattle.markdown_tokenizer.proofs.Positions.Order.{every-all}
+use Rattle.mdconstructs_machines.specs.LineEvents.{line_text, lines_in}
+use Rattle.mdblock_leaf_blocks.specs.LeafEvents.{Mark}
+use Rattle.mdblock_lines.specs.Containers.{Container, Prefix, item, quote}
+use Rattle.mdblock_containers.specs.Rows.{Row}
+use Rattle.mdblock_containers.specs.Skeleton.{Part, chained_from}
+use Rattle.mdblock_definitions.specs.Rows.{rows}
+use Rattle.mdblock_definitions.specs.Sections.{Inside, Section, defined, lines}
+use Rattle.mdblock_definitions.specs.Skeleton.{all_rows, sections_in_seats, sections_marks, skeleton}
+use Rattle.mddocument_laws.proofs.InnerTexts.{AnySeat, any-seats}
+use Rattle.mddocument_laws.proofs.MarksWalk.{Walk}
+use Rattle.mddocument_laws.proofs.Named.{Marked, Named, around, names-walk, none}
+use Rattle.mddocument_laws.proofs.PlainNames.{stands_bare}
+use Rattle.mddocument_laws.proofs.RowNames.{InsideIsOn, IsOn, PartIsOn, PrefixesAreOn, RowIsOn, SectionIsOn, SectionsAreOn, list-on, rows-on, sections-on}
+use Rattle.mddocument_laws.proofs.SkeletonWalk.{AreOfDefinition, InsideMay, MayHold, PartMay, PrefixesMay, RowAt, SectionMay, sections-are}
+
+module _ (on : Constructs) (bytes : List ℕ) where
+  abbrev May : Name → Type 0
+  May n = stands_bare on n ≡ true
+
+  abbrev Are : List Mark → Type 0
+  Are marks = Marked May marks
+
+  walk : Walk bytes Are May AnySeat
+  walk = names-walk May refl refl refl bytes
+
+  -- ---- what containers, lines and sections have names of
+  holds : (c : Container) → IsOn on c → MayHold May c
+  holds (quote line) h = (h, h, h)
+  holds (item i) h = (list-on on i h, h, h, h, h)
+
+  all-hold : (ps : List Prefix) → PrefixesAreOn on ps → PrefixesMay May ps
+  all-hold ps h = every-map (λ (p : Prefix). IsOn on p.container) (λ (p : Prefix). MayHold May p.container) (λ p k. holds p.container k) ps h
+
+  part-may : (part : Part) → PartIsOn on part → PartMay May part
+  part-may part h = record {
+    rows = every-map (RowIsOn on) (λ (r : Row). PrefixesMay May r.went_on) (λ r k. all-hold r.went_on k.went_on) (all_rows part) (h.first, h.more);
+    begun = all-hold part.first.begun h.first.begun;
+    frames = h.frames;
+  }
+
+  of-definition : on.definition ≡ true → AreOfDefinition May
+  of-definition h = record {
+    definition = h;
+    label = h;
+    label_marker = h;
+    label_string = h;
+    marker = h;
+    destination = h;
+    destination_literal = h;
+    destination_literal_marker = h;
+    destination_raw = h;
+    destination_string = h;
+    title = h;
+    title_marker = h;
+    title_string = h;
+  }
+
+  inside-may : (part : Part) (inside : Inside) → InsideIsOn on inside → InsideMay May AnySeat part inside
+  inside-may part (lines is_behind) h = tt
+  inside-may part (defined ds) h = (of-definition h, every-all (RowAt AnySeat) (λ r. any-seats (line_text r.line)) (all_rows part))
+
+  sections-may : (ss : List Section) → SectionsAreOn on ss → AllByRecursion (SectionMay May AnySeat) ss
+  sections-may ss h = every-map (SectionIsOn on) (SectionMay May AnySeat) (λ s k. record { part = part-may s.part k.part; inside = inside-may s.part s.inside k.inside }) ss h
+
+  chained : (i : ℕ) (previous : Option ℕ) (marks : List Mark) → AllByRecursion (λ (m : Mark). May m.0.name) marks → AllByRecursion (λ e. May e.name) (chained_from i previous marks)
+  chained i previous [] h = tt
+  chained i previous ((e, None) ∷ marks) h = (h.0, chained (suc i) previous marks h.1)
+  chained i previous ((e, Some chunk) ∷ marks) h = (h.0, chained (suc i) (Some i) marks h.1)
+
+  -- The skeleton of a document has such names
+  pub skeleton-named : (seats : List Seat) → Named May (skeleton on bytes seats)
+  skeleton-named seats =
+      let ss = sections_in_seats on seats in
+      let are = sections-are bytes Are May walk (λ k n place m. record { all = (m, tt) }) AnySeat (λ seats h. around bytes None name.Data seats refl none) (λ c seats. around bytes (Some c) name.Data seats refl none) ss (sections-may ss (sections-on on (rows on (lines_in seats)) (rows-on on (lines_in seats)))) in
+      record { all = chained 0 None (sections_marks bytes (sections_in_seats on seats)) are.all }

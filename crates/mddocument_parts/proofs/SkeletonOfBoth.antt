@@ -1,0 +1,256 @@
+-- The skeleton of a document is that of its parts, where the second goes on with no stretch of lines.
+use Rattle.std.proofs.Common.{◌≡◌, ℕ, ◌+◌, ◌≤◌, ◌==◌, ◌∙◌, Bool, true, false, List, [], ◌∷◌, ◌++◌, nat_le, length, ap, arith, cond, refl, subst, sym, None, Option, Some, suc}
+use Rattle.std.proofs.lemmas.Bool.{eq-eqb, eqb-true, le-leb, leb-true}
+use Rattle.std.specs.List.{AllByRecursion}
+use Rattle.std.specs.Prelude.{map}
+use Rattle.markdown_base.proofs.Facts.Bools.{and-left}
+use Rattle.markdown_base.specs.declared.configuration.Constructs.{Constructs}
+use Rattle.markdown_base.specs.declared.event.Event.{Event}
+use Rattle.markdown_base.specs.declared.event.Point.{Point}
+use Rattle.markdown_base.specs.Virtual.{Seat, virtual}
+use Rattle.mdconstructs_machines.specs.LineEvents.{lines_in}
+use Rattle.mdblock_leaf_blocks.specs.LeafBlocks.{Line}
+use Rattle.mdblock_leaf_blocks.specs.LeafEvents.{Mark}
+use Rattle.mdblock_lines.specs.Containers.{Container, Prefix, item, quote}
+use Rattle.mdblock_containers.specs.Rows.{Row}
+use Rattle.mdblock_containers.specs.Skeleton.{Frame, Part, chained_from, next_chunk}
+use Rattle.mdblock_containers.proofs.WrittenLemmas.{chained_length}
+use Rattle.mdblock_definitions.specs.Rows.{rows}
+use Rattle.mdblock_definitions.specs.Sections.{Section, sections}
+use Rattle.mdblock_definitions.specs.Skeleton.{skeleton, sections_marks}
+use Rattle.mddocument_parts.specs.DocumentRests.{first_at_document_rest, first_stays, known_at_start, moved_container, moved_prefix, moved_row}
+use Rattle.mddocument_parts.specs.Moved.{begins_line, line_endings, moved_event, moved_point}
+use Rattle.mddocument_parts.specs.MovedSections.{SkeletonOfBoth, moved_section}
+use Rattle.mddocument_parts.proofs.Chained.{BeginsApart, HasNoLink, chained-append, chained-moved, further_on}
+use Rattle.mddocument_parts.proofs.Events.{full-lines, in-lines, map-ext, map-same}
+use Rattle.mddocument_parts.proofs.FirstRows.{first-marks}
+use Rattle.mddocument_parts.proofs.MarksOfBoth.{marks-of-both}
+use Rattle.mddocument_parts.proofs.MovedSkeleton.{sections-marks-moved}
+use Rattle.mddocument_parts.proofs.RowPlaces.{in-sections, rows-ok}
+use Rattle.mddocument_parts.proofs.MovedLines.{AreOk, AreRowsOk, IsRowOk, Shift, mc, mk, mp, mr, ms, mpart, msection}
+use Rattle.mddocument_parts.proofs.Shown.{shown-behind, shown-front, within}
+use Rattle.mddocument_parts.proofs.SkeletonLinks.{document-alone}
+
+-- ---- sections of which lines and places are where they are
+module _ (m : Shift) (to-is : (p : Point) → m.places.to p ≡ p) (number-is : (n : ℕ) → m.number n ≡ n) where
+  line-is : (line : Line) → ms m line ≡ line
+  line-is line = map-same _ (λ (s : Seat). (let p = to-is s.point in let q = to-is s.end in (λ i. let r : Seat = record { byte = s.byte; point = p i; end = q i } in r))) line
+
+  container-is : (c : Container) → mc m c ≡ c
+  container-is (quote line) = ap quote (number-is line)
+  container-is (item i) = let a = number-is i.line in let b = number-is i.list in (λ j. item (record i { line = a j; list = b j }))
+
+  prefix-is : (p : Prefix) → mp m p ≡ p
+  prefix-is p = let c = container-is p.container in (λ i. record p { container = c i })
+
+  row-is : (r : Row) → mr m r ≡ r
+  row-is r =
+      let n = number-is r.number in
+      let line = line-is r.line in
+      let went = map-same (mp m) prefix-is r.went_on in
+      let begun = map-same (mp m) prefix-is r.begun in
+      (λ i. record r { number = n i; line = line i; went_on = went i; begun = begun i })
+
+  frame-is : (f : Frame) → (let g : Frame = record f { line = m.number f.line } in g) ≡ f
+  frame-is f = let n = number-is f.line in (λ i. record f { line = n i })
+
+  section-is : (s : Section) → msection m s ≡ s
+  section-is s =
+      let p = s.part in
+      let first = row-is p.first in
+      let more = map-same (mr m) row-is p.more in
+      let frames = map-same _ frame-is p.frames in
+      let stands = map-same (mc m) container-is p.stands in
+      (λ i. record s { part = (let part : Part = record { first = first i; more = more i; frames = frames i; stands = stands i } in part) })
+
+-- ---- a document by its lines
+module _ (m : Shift) (t : ℕ) (bytes : List ℕ) (known : AreOk m (virtual t bytes)) (on : Constructs) where
+  abbrev document : List Row
+  document = rows on (lines_in (virtual t bytes))
+
+  document-ok : AreRowsOk m document
+  document-ok = rows-ok m on (known_at_start on) 1 (lines_in (virtual t bytes)) (in-lines _ (virtual t bytes) known) (full-lines (virtual t bytes))
+
+  first-ok : (rs : List Row) → AreRowsOk m rs → AreRowsOk m (first_stays false rs)
+  first-ok [] h = tt
+  first-ok (r ∷ rs) h = (record { seats = h.0.seats; some = h.0.some; room = h.0.room }, h.1)
+
+  whole-marks : sections_marks m.places.new (map (msection m) (sections on document)) ≡ mk m (sections_marks m.places.old (sections on document))
+  whole-marks = sections-marks-moved m (sections on document) (in-sections (IsRowOk m) on document document-ok)
+
+  first-moved : sections_marks m.places.new (map (msection m) (sections on (first_stays false document))) ≡ mk m (sections_marks m.places.old (sections on document))
+  first-moved =
+      let rs = first_stays false document in
+      sections-marks-moved m (sections on rs) (in-sections (IsRowOk m) on rs (first-ok document document-ok)) ∙ ap (mk m) (first-marks on false m.places.old document)
+
+any-known : (m : Shift) → ((p : Point) → m.places.known p ≡ true) → (seats : List Seat) → AreOk m seats
+any-known m h [] = tt
+any-known m h (s ∷ ss) = ((h s.point, h s.end), any-known m h ss)
+
+-- ---- marks have no link
+module _ (b : List ℕ) where
+  bare : Shift
+  bare = record { places = record { old = b; new = b; to = λ p. p; link = λ l. None; unlinked = refl; known = λ p. true; shows = λ p k. refl }; number = λ n. n; same = λ i j. refl }
+
+  no-link : (marks : List Mark) → AllByRecursion HasNoLink (map (λ (q : Mark). let e : Event = record q.0 { link = None } in let r : Mark = (e, q.1) in r) marks)
+  no-link [] = tt
+  no-link (q ∷ marks) = (refl, no-link marks)
+
+  document-unlinked : (on : Constructs) (t : ℕ) → AllByRecursion HasNoLink (sections_marks b (sections on (rows on (lines_in (virtual t b)))))
+  unfolding bare
+  document-unlinked on t =
+      let ss = sections on (rows on (lines_in (virtual t b))) in
+      let stays = map-same (msection bare) (section-is bare (λ p. refl) (λ n. refl)) ss in
+      let same = sym (ap (sections_marks b) stays) ∙ whole-marks bare t b (any-known bare (λ p. refl) (virtual t b)) on in
+      subst (AllByRecursion HasNoLink) (sym same) (no-link (sections_marks b ss))
+
+-- ---- the first part, as it is
+module _ (a b : List ℕ) (h : begins_line b a ≡ true) where
+  stays : Shift
+  stays = record {
+    places = record {
+      old = a;
+      new = a ++ b;
+      to = λ p. p;
+      link = λ l. l;
+      unlinked = refl;
+      known = λ p. nat_le p.index (length a);
+      shows = λ p k. shown-front a b h p (leb-true p.index (length a) k);
+    };
+    number = λ n. n;
+    same = λ i j. refl;
+  }
+
+  in-first : (seats : List Seat) → AllByRecursion (λ (s : Seat). (s.point.index ≤ length a) × (s.end.index ≤ length a)) seats → AreOk stays seats
+  unfolding stays
+  in-first [] k = tt
+  in-first (s ∷ seats) k = ((le-leb s.point.index (length a) k.0.0, le-leb s.end.index (length a) k.0.1), in-first seats k.1)
+
+  pub front-marks : (on : Constructs) (t : ℕ) → let ss = sections on (rows on (lines_in (virtual t a))) in sections_marks (a ++ b) ss ≡ sections_marks a ss
+  unfolding stays
+  front-marks on t =
+      let ss = sections on (rows on (lines_in (virtual t a))) in
+      let same = map-same (msection stays) (section-is stays (λ p. refl) (λ n. refl)) ss in
+      sym (ap (sections_marks (a ++ b)) same)
+      ∙ whole-marks stays t a (in-first (virtual t a) (within t (length a) a 1 1 0 (omega arith))) on
+      ∙ map-same _ (λ (q : Mark). refl) (sections_marks a ss)
+
+  -- ---- the second part, moved
+  abbrev pub moved_mark : Mark → Mark
+  moved_mark q = (record q.0 { point = moved_point (line_endings a) (length a) q.0.point }, q.1)
+
+  same-number : (n i j : ℕ) → ((i + n) == (j + n)) ≡ (i == j)
+  same-number n i j = by (i == j) refl ((i + n) == (j + n)) refl
+    where
+      by : (c : Bool) → (i == j) ≡ c → (d : Bool) → ((i + n) == (j + n)) ≡ d → d ≡ c
+      by true f true g = refl
+      by false f false g = refl
+      by true f false g = let same : i + n ≡ j + n = omega (arith, eqb-true i j f) in let both : true ≡ false = sym (eq-eqb (i + n) (j + n) same) ∙ g in absurd (cc)
+      by false f true g = let same : i ≡ j = omega (arith, eqb-true (i + n) (j + n) g) in let both : true ≡ false = sym (eq-eqb i j same) ∙ f in absurd (cc)
+
+  goes : Shift
+  goes = record {
+    places = record {
+      old = b;
+      new = a ++ b;
+      to = moved_point (line_endings a) (length a);
+      link = λ l. l;
+      unlinked = refl;
+      known = λ p. true;
+      shows = λ p k. shown-behind a b h (line_endings a) p;
+    };
+    number = λ n. n + line_endings a;
+    same = same-number (line_endings a);
+  }
+
+  container-goes : (c : Container) → moved_container (line_endings a) c ≡ mc goes c
+  unfolding goes
+  container-goes (quote line) = refl
+  container-goes (item i) = refl
+
+  prefix-goes : (p : Prefix) → moved_prefix (line_endings a) p ≡ mp goes p
+  prefix-goes p = let c = container-goes p.container in (λ i. record p { container = c i })
+
+  row-goes : (r : Row) → moved_row (line_endings a) (length a) r ≡ mr goes r
+  unfolding goes
+  row-goes r =
+      let went = map-ext (moved_prefix (line_endings a)) (mp goes) prefix-goes r.went_on in
+      let begun = map-ext (moved_prefix (line_endings a)) (mp goes) prefix-goes r.begun in
+      (λ i. record (moved_row (line_endings a) (length a) r) { went_on = went i; begun = begun i })
+
+  section-goes : (s : Section) → moved_section (line_endings a) (length a) s ≡ msection goes s
+  unfolding goes
+  section-goes s =
+      let p = s.part in
+      let first = row-goes p.first in
+      let more = map-ext (moved_row (line_endings a) (length a)) (mr goes) row-goes p.more in
+      let stands = map-ext (moved_container (line_endings a)) (mc goes) container-goes p.stands in
+      (λ i. record s { part = (let part : Part = record (mpart goes p) { first = first i; more = more i; stands = stands i } in part) })
+
+  pub behind-marks : (on : Constructs) (t : ℕ) → let all = rows on (lines_in (virtual t b)) in
+      sections_marks (a ++ b) (map (moved_section (line_endings a) (length a)) (sections on (first_stays false all))) ≡ map moved_mark (sections_marks b (sections on all))
+  unfolding goes
+  behind-marks on t =
+      let all = rows on (lines_in (virtual t b)) in
+      ap (sections_marks (a ++ b)) (map-ext (moved_section (line_endings a) (length a)) (msection goes) section-goes (sections on (first_stays false all))) ∙ first-moved goes t b (any-known goes (λ p. refl) (virtual t b)) on
+
+  -- its sections as they are
+  pub all-behind : (on : Constructs) (t : ℕ) → let ss = sections on (rows on (lines_in (virtual t b))) in
+      sections_marks (a ++ b) (map (moved_section (line_endings a) (length a)) ss) ≡ map moved_mark (sections_marks b ss)
+  unfolding goes
+  all-behind on t =
+      let ss = sections on (rows on (lines_in (virtual t b))) in
+      ap (sections_marks (a ++ b)) (map-ext (moved_section (line_endings a) (length a)) (msection goes) section-goes ss) ∙ whole-marks goes t b (any-known goes (λ p. refl) (virtual t b)) on
+
+  -- ---- events of moved marks
+  next-same : (i : ℕ) (marks : List Mark) → next_chunk i (map moved_mark marks) ≡ next_chunk i marks
+  next-same i [] = refl
+  next-same i ((e, None) ∷ marks) = next-same (suc i) marks
+  next-same i ((e, Some chunk) ∷ marks) = refl
+
+  apart-moved : (marks : List Mark) → BeginsApart marks → BeginsApart (map moved_mark marks)
+  apart-moved [] k = tt
+  apart-moved ((e, None) ∷ marks) k = apart-moved marks k
+  apart-moved ((e, Some chunk) ∷ marks) k = k
+
+  abbrev placed : Event → Event
+  placed e = record e { point = moved_point (line_endings a) (length a) e.point }
+
+  chained-placed : (i : ℕ) (p : Option ℕ) (marks : List Mark) → chained_from i p (map moved_mark marks) ≡ map placed (chained_from i p marks)
+  chained-placed i p [] = refl
+  chained-placed i p ((e, None) ∷ marks) = ap (λ l. placed e ∷ l) (chained-placed (suc i) p marks)
+  chained-placed i p ((e, Some chunk) ∷ marks) =
+      let next = next-same (suc i) marks in
+      let rest = chained-placed (suc i) (Some i) marks in
+      (λ d. (let v : Event = record (placed e) { link = Some (record { previous = cond chunk.has_previous p None; next = cond chunk.has_next (next d) None; content = chunk.content }) } in v) ∷ rest d)
+
+  placed-on : (k : ℕ) (es : List Event) → map placed (map (further_on k) es) ≡ map (moved_event (line_endings a) (length a) k) es
+  placed-on k [] = refl
+  placed-on k (e ∷ es) = ap (λ l. moved_event (line_endings a) (length a) k e ∷ l) (placed-on k es)
+
+-- the events of the marks of both
+pub chained-of-both : (on : Constructs) (t : ℕ) (a b : List ℕ) (torn : begins_line b a ≡ true)
+    → let first = skeleton on a (virtual t a) in
+    chained_from 0 None (sections_marks (a ++ b) (sections on (rows on (lines_in (virtual t a)))) ++ map (moved_mark a b torn) (sections_marks b (sections on (rows on (lines_in (virtual t b))))))
+    ≡ first ++ map (moved_event (line_endings a) (length a) (length first)) (skeleton on b (virtual t b))
+chained-of-both on t a b torn =
+    let one = sections_marks a (sections on (rows on (lines_in (virtual t a)))) in
+    let two = sections_marks b (sections on (rows on (lines_in (virtual t b)))) in
+    let first = chained_from 0 None one in
+    let k = length first in
+    let size = chained_length 0 None one in
+    let linked = (document-alone a on (lines_in (virtual t a))).linked in
+    let apart = apart-moved a b torn two (document-alone b on (lines_in (virtual t b))).apart in
+    ap (λ ms. chained_from 0 None (ms ++ map (moved_mark a b torn) two)) (front-marks a b torn on t)
+    ∙ chained-append 0 k None one (map (moved_mark a b torn) two) (omega (arith, size)) linked apart
+    ∙ ap (λ l. first ++ l)
+    (chained-placed a b torn k None two
+    ∙ ap (λ l. map (placed a b torn) l) (chained-moved k 0 k None None two (omega arith) refl (document-unlinked b on t))
+    ∙ placed-on a b torn k (chained_from 0 None two))
+
+pub skeleton-of-both : SkeletonOfBoth
+skeleton-of-both on t a b rest off =
+    let torn : begins_line b a ≡ true = and-left (begins_line b a) (first_at_document_rest on (lines_in (virtual t a)) (lines_in (virtual t b))) rest in
+    ap (chained_from 0 None) (marks-of-both on t a b rest off)
+    ∙ ap (λ ms. chained_from 0 None (sections_marks (a ++ b) (sections on (rows on (lines_in (virtual t a)))) ++ ms)) (behind-marks a b torn on t)
+    ∙ chained-of-both on t a b torn

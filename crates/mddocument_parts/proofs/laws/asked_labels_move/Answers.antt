@@ -1,0 +1,5 @@
+use Rattle.mddocument_parts.proofs.MovedAsked.{asked-move}
+use Rattle.mddocument_parts.proofs.laws.asked_labels_move.Goals as goal
+
+pub returns : goal.returns
+returns c = asked-move

@@ -1,0 +1,5 @@
+use Rattle.mddocument_parts.proofs.Asked.{labels-decide}
+use Rattle.mddocument_parts.proofs.laws.labels_decide.Goals as goal
+
+pub returns : goal.returns
+returns c defined others on bytes seats h = labels-decide bytes on defined others seats h

@@ -1,0 +1,73 @@
+-- The edits of runs, one by one, and that the runs of a list have room.
+use Rattle.mdinline_emphasis.proofs.Prelude.{◌≡◌, ℕ, zero, suc, ◌+◌, ◌-◌, ◌<◌, ◌≤◌, cond, List, [], ◌∷◌, ◌++◌, Option, Some, inl, inr, map, take, length, get_or, refl, sym, ap, ◌∙◌, subst, arith, ◌==◌, ◌&&◌, slice_get, cases_Bool, nat_tests, map-append, All-head, All-tail, take-suc, Event, Edit, edit_at, put_after, removal_at, Delimiters, Run, HasRoom, markers, standing, AreApart, AllHaveRoom, ArePlacesInside, in_place, edits_of, index_of, index_of_event, is_sequence, depth_after, run_at, runs_from, as_run}
+use Rattle.mdinline_emphasis.proofs.RunTexts.{HasRuns}
+
+-- ---- one edit more, behind the others
+
+abbrev AllBelow : ℕ → List Edit → Type 0
+AllBelow n [] = Unit {0}
+AllBelow n (e ∷ es) = (e.index < n) × AllBelow n es
+
+put-behind : (es : List Edit) (d : Edit) → AllBelow d.index es → put_after es d ≡ es ++ d ∷ []
+put-behind [] d h = refl
+put-behind (e ∷ es) d h = grind (arith, nat_tests, h.0, put-behind es d h.1)
+
+removes-none : (es : List Edit) (n : ℕ) → AllBelow n es → removal_at es n ≡ 0
+removes-none [] n h = refl
+removes-none (e ∷ es) n h = grind (arith, nat_tests, h.0, removes-none es n h.1)
+
+-- the run at an index is behind those before it
+behind-others : (ds : List Delimiters) (from i : ℕ) (d : Delimiters) → AreApart from (map index_of (map as_run ds)) → i < length ds → d ≡ get_or ds i d
+    → AllBelow d.index (edits_of (map as_run (take i ds))) × (from ≤ d.index)
+behind-others [] from i d h inside is = absurd (omega (arith, inside))
+behind-others (x ∷ ds) from zero d h inside is = (tt, subst (λ (y : Delimiters). from ≤ y.index) (sym is) h.0)
+behind-others (x ∷ ds) from (suc i) d h inside is =
+    let rest = behind-others ds (x.index + 2) i d h.1 (omega (arith, inside)) is in
+    ((omega (arith, rest.1), rest.0), omega (arith, h.0, rest.1))
+
+module _ (ds : List Delimiters) (i : ℕ) (d : Delimiters) (inside : i < length ds) (is : d ≡ get_or ds i d) where
+  pub fits-behind : AreApart 0 (map index_of (map as_run ds)) → removal_at (edits_of (map as_run (take i ds))) d.index ≡ 0
+  fits-behind h = removes-none (edits_of (map as_run (take i ds))) d.index (behind-others ds 0 i d h inside is).0
+
+  pub one-more : AreApart 0 (map index_of (map as_run ds)) → put_after (edits_of (map as_run (take i ds))) (edit_at d.index 2 (in_place (as_run d))) ≡ edits_of (map as_run (take (i + 1) ds))
+  one-more h =
+      put-behind (edits_of (map as_run (take i ds))) (edit_at d.index 2 (in_place (as_run d))) (behind-others ds 0 i d h inside is).0
+      ∙ sym (map-append (λ r. edit_at r.index 2 (in_place r)) (map as_run (take i ds)) (as_run d ∷ []))
+      ∙ ap edits_of (sym (map-append as_run (take i ds) (d ∷ [])))
+      ∙ ap (λ y. edits_of (map as_run (take i ds ++ y ∷ []))) is
+      ∙ ap (λ ys. edits_of (map as_run ys)) (sym (take-suc ds i d inside))
+      ∙ ap (λ n. edits_of (map as_run (take n ds))) (let same : suc i ≡ i + 1 = omega arith in same)
+
+  pub room-at : AllHaveRoom (map standing (map as_run ds)) → HasRoom (markers (as_run d)) d.start
+  room-at h = subst (λ (y : Delimiters). HasRoom (markers (as_run y)) y.start) (sym is) (found ds i inside h)
+    where
+      found : (xs : List Delimiters) (n : ℕ) → n < length xs → AllHaveRoom (map standing (map as_run xs)) → HasRoom (markers (as_run (get_or xs n d))) (get_or xs n d).start
+      found [] n lt all = absurd (omega (arith, lt))
+      found (x ∷ xs) zero lt all = all.0
+      found (x ∷ xs) (suc n) lt all = found xs n (omega (arith, lt)) all.1
+
+-- ---- the runs of a list
+
+pub apart : (i : ℕ) (rs : List Run) (xs : List Event) → HasRuns i rs xs → AreApart i (map index_of rs)
+apart i [] xs h = tt
+apart i (r ∷ rs) xs h = (omega (arith, h.6), apart (r.index + 2) rs h.1 h.9)
+
+room : (bytes : List ℕ) (e f : Event) → (e.point.index ≤ length bytes) × HasRoom (length bytes - e.point.index) e.point → f.point.index ≤ length bytes → HasRoom (0 + (f.point.index - e.point.index + 0)) e.point
+room bytes e f h k = (omega (arith, h.1.0, k), omega (arith, h.1.1, k))
+
+pub all-room : (bytes : List ℕ) (ys : List Event) (i depth : ℕ) (before : Option ℕ) → ArePlacesInside bytes ys → AllHaveRoom (map standing (runs_from bytes i depth before ys))
+all-room bytes [] i depth before h = tt
+all-room bytes (e ∷ []) i depth before h = tt
+all-room bytes (e ∷ f ∷ es) i depth before h =
+    let Fit : Event → Type 0 = λ x. (x.point.index ≤ length bytes) × HasRoom (length bytes - x.point.index) x.point in
+    let first = All-head Fit e (f ∷ es) h in
+    let others = All-tail Fit e (f ∷ es) h in
+    let second = All-head Fit f es others in
+    elim (cases_Bool (depth == 0 && is_sequence e f)) [
+      | inl b ↦
+          subst (λ c. AllHaveRoom (map standing (cond c (run_at bytes i e f before (index_of_event (slice_get es 0)) ∷ runs_from bytes (i + 2) depth (Some f.point.index) es) (runs_from bytes (i + 1) (depth_after e.kind depth) (Some e.point.index) (f ∷ es))))) (sym b)
+          (room bytes e f first second.0, all-room bytes es (i + 2) depth (Some f.point.index) (All-tail Fit f es others))
+      | inr b ↦
+          subst (λ c. AllHaveRoom (map standing (cond c (run_at bytes i e f before (index_of_event (slice_get es 0)) ∷ runs_from bytes (i + 2) depth (Some f.point.index) es) (runs_from bytes (i + 1) (depth_after e.kind depth) (Some e.point.index) (f ∷ es))))) (sym b)
+          (all-room bytes (f ∷ es) (i + 1) (depth_after e.kind depth) (Some e.point.index) others)
+    ]

@@ -1,0 +1,187 @@
+//! The delimiter runs of a text: its attention sequences, each with the characters beside it.
+
+ghost use Rattle.std.specs.Prelude.{◌≡◌, ◌+◌, ◌-◌, ◌<◌, ◌≤◌, ◌^◌, length, map, slice_get, IfOk};
+ghost use Rattle.mdinline_emphasis.specs.Runs.{is_punctuation, is_other, is_left_flanking, is_right_flanking, can_open, can_close, class_beside, is_star_byte, run_at, is_sequence, index_of_event, depth_after, runs_in};
+ghost use Rattle.mdinline_emphasis.specs.Searches.{as_run};
+
+use crate::classes::{class_after, class_before};
+use crate::pairs::Delimiters;
+use markdown_base::event::{Event, Kind, Name};
+use markdown_base::util::char::Kind as Class;
+use mdconstructs_loop_counts::Turns;
+use std::alloc::{AllocError, Global};
+use std::marker::Brand;
+use std::sync::ledger::{Blank, Ledger};
+
+/// Whether a class is punctuation.
+fn is_punctuation(class: &Class) -> bool
+    ensures { result ≡ is_punctuation class.now }
+{
+    matches!(class, Class::Punctuation)
+}
+
+/// Whether a class is neither white space nor punctuation.
+fn is_other(class: &Class) -> bool
+    ensures { result ≡ is_other class.now }
+{
+    matches!(class, Class::Other)
+}
+
+/// Whether a run between characters of these classes is left-flanking.
+fn is_left_flanking(before: &Class, after: &Class) -> bool
+    ensures { result ≡ is_left_flanking before.now after.now }
+{
+    is_other(after) || is_punctuation(after) && !is_other(before)
+}
+
+/// Whether a run between characters of these classes is right-flanking.
+fn is_right_flanking(before: &Class, after: &Class) -> bool
+    ensures { result ≡ is_right_flanking before.now after.now }
+{
+    is_other(before) || is_punctuation(before) && !is_other(after)
+}
+
+/// Whether a run can open emphasis.
+fn can_open(is_star: bool, before: &Class, after: &Class) -> bool
+    ensures { result ≡ can_open is_star before.now after.now }
+{
+    is_left_flanking(before, after)
+        && (is_star || !is_right_flanking(before, after) || is_punctuation(before))
+}
+
+/// Whether a run can close emphasis.
+fn can_close(is_star: bool, before: &Class, after: &Class) -> bool
+    ensures { result ≡ can_close is_star before.now after.now }
+{
+    is_right_flanking(before, after)
+        && (is_star || !is_left_flanking(before, after) || is_punctuation(after))
+}
+
+/// The class of the character at an end of a run: that of the document there, if the event beside the run stands at the same index.
+fn class_beside(beside: Option<usize>, index: usize, class: Class) -> Class
+    ensures { result ≡ class_beside beside index class }
+{
+    match beside {
+        Some(other) if other == index => class,
+        _ => Class::Whitespace,
+    }
+}
+
+/// At which index an event of a list stands, if the list has it.
+fn index_of_event(events: &[Event], index: usize) -> Option<usize>
+    ensures { result ≡ index_of_event (slice_get events.now index) }
+{
+    match events.get(index) {
+        None => None,
+        Some(event) => Some(event.point.index),
+    }
+}
+
+/// Whether two events are an attention sequence.
+fn is_sequence(enter: &Event, exit: &Event) -> bool
+    ensures { result ≡ is_sequence enter.now exit.now }
+{
+    enter.kind == Kind::Enter
+        && enter.name == Name::AttentionSequence
+        && exit.kind == Kind::Exit
+        && exit.name == Name::AttentionSequence
+}
+
+/// How many spans are open after an event.
+fn depth_after(kind: Kind, depth: usize) -> usize
+    requires fits { depth < 2 ^ 64 - 1 }
+    ensures { result ≡ depth_after kind depth }
+{
+    match kind {
+        Kind::Enter => depth + 1,
+        Kind::Exit => depth.saturating_sub(1),
+    }
+}
+
+/// The run of an attention sequence, by the index of its enter in the list, and where the events beside it stand.
+fn run_at(
+    alloc: Global,
+    bytes: &[u8],
+    index: usize,
+    enter: &Event,
+    exit: &Event,
+    before: Option<usize>,
+    behind: Option<usize>,
+) -> Delimiters
+    ensures { as_run result ≡ run_at bytes.now index enter.now exit.now before behind }
+{
+    let start = enter.point.index;
+    let end = exit.point.index;
+    let before_it = class_beside(before, start, class_before(bytes, start));
+    let after_it = class_beside(behind, end, class_after(bytes, end));
+    let is_star = bytes.get(start) == Some(&b'*');
+    let left = end.saturating_sub(start);
+    Delimiters {
+        index,
+        start: enter.point,
+        is_star,
+        rest: left % 3,
+        opens: can_open(is_star, &before_it, &after_it),
+        closes: can_close(is_star, &before_it, &after_it),
+        closed: Vec::new(alloc),
+        left,
+        opened: Vec::new(alloc),
+    }
+}
+
+/// The delimiter runs of a list of events: its attention sequences that are in no other span.
+///
+/// A turn is a look at an event. Of each run the characters at its ends are looked up in tables besides.
+pub fn runs_of_counted<L: Ledger>(
+    alloc: Global,
+    bytes: &[u8],
+    events: &[Event],
+    turns: &mut Turns<L>,
+) -> Result<Vec<Delimiters>, AllocError>
+    ensures runs { IfOk result (λ runs. map as_run runs.items ≡ runs_in bytes.now events.now) }
+    ensures turns { turns.new ≤ turns.old + length events.now }
+{
+    let mut runs = Vec::new(alloc);
+    let mut index = 0;
+    let mut depth = 0;
+    let mut before = None;
+    while index + 1 < events.len() {
+        turns.add_one();
+        let enter = &events[index];
+        let exit = &events[index + 1];
+        if depth == 0 && is_sequence(enter, exit) {
+            let behind = index_of_event(events, index + 2);
+            runs.push(run_at(alloc, bytes, index, enter, exit, before, behind))?;
+            before = Some(exit.point.index);
+            index += 2;
+        } else {
+            depth = depth_after(enter.kind, depth);
+            before = Some(enter.point.index);
+            index += 1;
+        }
+    }
+    Ok(runs)
+}
+
+/// The delimiter runs of a list of events, counted from nothing.
+fn runs_uncounted<L: Ledger>(
+    alloc: Global,
+    bytes: &[u8],
+    events: &[Event],
+    blank: Blank,
+) -> Result<Vec<Delimiters>, AllocError>
+    requires name { blank.name ≡ L.name }
+    requires parts { blank.parts ≡ L.parts }
+    requires some { 0 < blank.parts }
+    ensures { IfOk result (λ runs. map as_run runs.items ≡ runs_in bytes.now events.now) }
+{
+    let mut turns = Turns::<L>::new(blank);
+    runs_of_counted(alloc, bytes, events, &mut turns)
+}
+
+/// The delimiter runs of a list of events, as `runs_of_counted` finds them.
+pub fn runs_of(alloc: Global, bytes: &[u8], events: &[Event]) -> Result<Vec<Delimiters>, AllocError>
+    ensures { IfOk result (λ runs. map as_run runs.items ≡ runs_in bytes.now events.now) }
+{
+    runs_uncounted::<Brand>(alloc, bytes, events, Blank::new(1))
+}

@@ -1,0 +1,128 @@
+//! Labels of links, images and link reference definitions: what one is, when two are the same, and a set of them (CommonMark, "Links").
+#![tactic(auto)]
+
+ghost use Rattle.std.specs.Prelude.{◌≡◌, ◌+◌, ◌≤◌, ◌<◌, IfOk, length};
+ghost use Rattle.mdinline_labels.specs.Labels.{is_label_white, begins_character, hides, is_bracket, is_label, collapsed, normalised};
+
+pub mod definitions;
+pub mod labels;
+pub mod resources;
+pub mod tails;
+
+use mdconstructs_loop_counts::Turns;
+use std::alloc::{AllocError, Global};
+use std::marker::Brand;
+use std::str;
+use std::sync::ledger::{Blank, Ledger};
+
+/// A label has at most this many characters.
+pub const LABEL_SIZE_MAX: usize = 999;
+
+/// Whether a byte is white space in a label.
+fn is_label_white(byte: u8) -> bool
+    ensures { result ≡ is_label_white byte }
+{
+    byte == b' ' || byte == b'\t' || byte == b'\n' || byte == b'\r'
+}
+
+/// Whether a byte begins a character: it does not go on with one.
+fn begins_character(byte: u8) -> bool
+    ensures { result ≡ begins_character byte }
+{
+    byte < 128 || byte >= 192
+}
+
+/// Whether a byte is a bracket.
+fn is_bracket(byte: u8) -> bool
+    ensures { result ≡ is_bracket byte }
+{
+    byte == b'[' || byte == b']'
+}
+
+/// Whether these bytes may stand between the brackets of a label: no bracket in them that is not escaped, at most 999 characters, and not
+/// only white space.
+pub fn is_label_counted<L: Ledger>(bytes: &[u8], turns: &mut Turns<L>) -> bool
+    ensures label { result ≡ is_label bytes.now }
+    ensures turns { turns.new ≤ turns.old + length bytes.now }
+{
+    let mut next = 0;
+    let mut characters = 0usize;
+    let mut filled = false;
+    let mut hidden = false;
+    while next < bytes.len() {
+        turns.add_one();
+        let byte = bytes[next];
+        if is_bracket(byte) && !hidden {
+            return false;
+        }
+        if begins_character(byte) {
+            if characters >= LABEL_SIZE_MAX {
+                return false;
+            }
+            characters += 1;
+        }
+        filled = filled || !is_label_white(byte);
+        hidden = byte == b'\\' && !hidden;
+        next += 1;
+    }
+    filled
+}
+
+/// Whether these bytes are a label, counted from nothing.
+fn is_label_from<L: Ledger>(bytes: &[u8], blank: Blank) -> bool
+    requires name { blank.name ≡ L.name }
+    requires parts { blank.parts ≡ L.parts }
+    requires some { 0 < blank.parts }
+    ensures { result ≡ is_label bytes.now }
+{
+    let mut turns = Turns::<L>::new(blank);
+    is_label_counted(bytes, &mut turns)
+}
+
+/// Whether these bytes may stand between the brackets of a label, as `is_label_counted`.
+pub fn is_label(bytes: &[u8]) -> bool
+    ensures { result ≡ is_label bytes.now }
+{
+    is_label_from::<Brand>(bytes, Blank::new(1))
+}
+
+/// The bytes with white space collapsed: none at the ends, and one space for each stretch of it between.
+fn collapsed(alloc: Global, bytes: &[u8]) -> Result<Vec<u8>, AllocError>
+    ensures { IfOk result (λ out. out.items ≡ collapsed bytes.now) }
+{
+    let mut out = Vec::new(alloc);
+    let mut begun = false;
+    let mut apart = false;
+    let mut next = 0;
+    while next < bytes.len() {
+        let byte = bytes[next];
+        if is_label_white(byte) {
+            apart = true;
+        } else {
+            if begun && apart {
+                out.push(b' ')?;
+            }
+            out.push(byte)?;
+            begun = true;
+            apart = false;
+        }
+        next += 1;
+    }
+    Ok(out)
+}
+
+/// The form of a label by which labels are compared: white space collapsed, then lower case and then upper case, as the Rust crate does.
+/// So `ẞ` and `SS` are the same. Of bytes that are no UTF-8 only ASCII letters change.
+pub fn normalised(alloc: Global, bytes: &[u8]) -> Result<Vec<u8>, AllocError>
+    ensures { IfOk result (λ out. out.items ≡ normalised bytes.now) }
+{
+    let together = collapsed(alloc, bytes)?;
+    match str::from_utf8(together.as_slice()) {
+        Ok(text) => {
+            let lower = text.to_lowercase(alloc)?;
+            let upper = lower.as_str().to_uppercase(alloc)?;
+            Ok(upper.into_bytes())
+        }
+        Err(_) => together.as_slice().to_ascii_uppercase(alloc),
+    }
+}

@@ -1,0 +1,43 @@
+-- What is promised of links and images.
+use Rattle.std.specs.Prelude.{◌≡◌, ◌+◌, ◌*◌, ◌≤◌, ℕ, false, List, length}
+use Rattle.std.specs.List.{AllByRecursion}
+use Rattle.markdown_base.specs.declared.event.Event.{Event}
+use Rattle.markdown_base.specs.declared.event.Name.TheVariants.{LabelEnd, LabelMarker}
+use Rattle.markdown_base.proofs.Orders.{AreTight, InOrder}
+use Rattle.markdown_base.specs.declared.event.Point.{Point}
+use Rattle.markdown_base.specs.Events.{IsBalanced}
+use Rattle.markdown_tokenizer.specs.Plain.{HaveNoLinks}
+use Rattle.mdinline_emphasis.specs.Costs.{markers_left}
+use Rattle.mdinline_emphasis.specs.Places.{ArePlacesInside}
+use Rattle.mdinline_emphasis.specs.Runs.{runs_in, with_emphasis}
+use Rattle.mdinline_links.specs.Linked.{is_bracket, is_named, outermost_spans, with_links}
+use Rattle.mdinline_links.specs.Places.{Anywhere, AreBytewise}
+
+-- a span is no bracket, no marker alone and no end
+abbrev pub IsNoBracket : List Event → Type 0
+IsNoBracket span = (is_bracket span ≡ false) × (is_named LabelMarker span ≡ false) × (is_named LabelEnd span ≡ false)
+
+-- of a balanced text without brackets emphasis alone is made
+abbrev pub IsEmphasisAlone : Type 0
+IsEmphasisAlone = (bytes : List ℕ) (es : List Event) → IsBalanced es → AllByRecursion IsNoBracket (outermost_spans es) → with_links bytes es ≡ with_emphasis bytes es
+
+-- Links and images leave a balanced list balanced, and a list without links without them
+abbrev pub LinksKeepLists : Type 0
+LinksKeepLists = (bytes : List ℕ) (es : List Event) → (IsBalanced es → IsBalanced (with_links bytes es)) × (HaveNoLinks es → HaveNoLinks (with_links bytes es))
+
+-- They leave the exit of each void span behind its enter
+abbrev pub LinksKeepTight : Type 0
+LinksKeepTight = (bytes : List ℕ) (es : List Event) → IsBalanced es → AreTight es → AreTight (with_links bytes es)
+
+-- They leave events in order between two places, if each delimiter run goes byte by byte
+abbrev pub LinksKeepOrder : Type 0
+LinksKeepOrder = (bytes : List ℕ) (es : List Event) (p q : Point) → IsBalanced es → AreBytewise Anywhere es → InOrder p es q → InOrder p (with_links bytes es) q
+
+-- They leave places in the document, with room behind them in their lines
+abbrev pub LinksKeepPlaces : Type 0
+LinksKeepPlaces = (bytes : List ℕ) (es : List Event) → ArePlacesInside bytes es → ArePlacesInside bytes (with_links bytes es)
+
+-- What links, images and emphasis may cost is linear in the events of a text, which stand in order inside the document, and its bytes
+abbrev pub LinksCostLittle : Type 0
+LinksCostLittle = (bytes : List ℕ) (es : List Event) (p q : Point) → ArePlacesInside bytes es → InOrder p es q
+    → (15 * length (runs_in bytes es) + 3 * markers_left (runs_in bytes es)) + 5 * length es ≤ 13 * length es + 3 * length bytes

@@ -1,0 +1,146 @@
+-- Data of inline text, of strings and of code spans reads over the bytes that cannot end it, and so do URIs, raw HTML between marks, and values in quotes.
+use Rattle.std.proofs.Common.{◌<◌, get_or}
+use Rattle.std.proofs.lemmas.Bool.{and_parts, ltb-true, not-true, or_parts}
+use Rattle.std.specs.Prelude.{◌==◌, nat_le, nat_lt}
+use Rattle.markdown_base.specs.declared.state.TheConstants.Name.{AutolinkUrlInside, HtmlTextTagOpenAttributeValueQuoted, HtmlTextTagOpenAttributeValueQuotedAfter, RawTextData}
+use Rattle.markdown_tokenizer.proofs.ByteSets.{pass_all, passed}
+use Rattle.markdown_tokenizer.specs.Over.{ReadsOver, step_over}
+use Rattle.mdinline_machine.proofs.Prelude.{◌≡◌, ◌⊎◌, inl, inr, ℕ, ◌&&◌, ◌||◌, List, [], ◌∷◌, Bool, true, false, cond, Option, Some, refl, ap, ◌∙◌, subst, sym, and-false, passes, exit, Retry, TextBefore, Data, Name, Next, DataInside, DataStart, Given, Configuration, Sight, sight, Step, consume, row, picked, StateRows, is_white, is_line_feed, some_begins, some_first, raw_text_data, TextByte, is_line_feed_class, text_byte, line_feed, backtick, less, backslash, ampersand, white, punctuation, line-classed, white-classed, is_white_class, begins_run, ends_data, marked_grammars, inline_constructs, inline_data, inline_data_rows, is_delimiter, inlines_rules, inlines, is_string_special}
+use Rattle.mdconstructs_tables.proofs.Tables.Over.{picked-read-over}
+use Rattle.mdconstructs_tables.specs.Over.{PicksOver}
+use Rattle.mdconstructs_tables.specs.Rows.{Row, Rows, named, when, write}
+use Rattle.mdinline_text_machine.proofs.Autolinks.Readings.{link-class}
+use Rattle.mdinline_text_machine.specs.Autolink.{is_allowed}
+use Rattle.mdinline_text_machine.specs.AutolinkRows.{autolink_url}
+use Rattle.mdinline_text_machine.specs.Bytes.{is_backtick, is_greater_than}
+use Rattle.mdinline_text_machine.specs.CodeSpanRows.{raw_text_data_rows}
+use Rattle.mdinline_text_machine.specs.Laws.Classes.{tick-classed}
+use Rattle.mdinline_text_machine.specs.TextBytes.{is_backtick_class}
+use Rattle.mdinline_constructs.proofs.HtmlMarks.Picked.{look-others}
+use Rattle.mdinline_constructs.proofs.HtmlTexts.Rows.{other-rows}
+use Rattle.mdinline_constructs.specs.HtmlMarkedRows.{in_mark, is_mark_byte, mark_ends, mark_inside, mark_line_ends}
+use Rattle.mdinline_constructs.specs.HtmlTagRows.{html_text_value_quoted, is_quote, quote_waits}
+use Rattle.mdinline_constructs.specs.HtmlTextRows.{html_ends, html_goes_on, html_line_ends}
+use Rattle.mdinline_constructs.specs.declared.names.TheConstants.{HtmlTextMarkClose, HtmlTextMarkInside}
+use Rattle.mdinline_text_machine.specs.TextSizes.{size_b_grows}
+use Rattle.mdinline_machine.proofs.BracketBytes.{begins-no-bracket}
+use Rattle.mdinline_machine.proofs.InlineApart.{begins_mark, marked-classed}
+use Rattle.mdinline_machine.proofs.StringReads.{string-special-classed, string_data_row}
+use Rattle.mdinline_machine.specs.Brackets.{begins_bracket, is_of_bracket}
+use Rattle.mdinline_machine.specs.Over.{AllPass, is_in_code, is_in_data, is_in_marks, is_in_quotes, is_in_string}
+use Rattle.mdinline_machine.specs.StringTable.{string_data}
+
+-- each byte of a set is above CR and passes a test, if that is tried on each
+pub all-pass : (test : ℕ → Bool) (set : List Bool) → pass_all (λ byte. nat_lt 13 byte && test byte) set ≡ true → AllPass test set
+all-pass test set all byte e =
+    let both = and_parts (nat_lt 13 byte) (test byte) (passed (λ n. nat_lt 13 n && test n) set all byte e) in
+    (ltb-true 13 byte both.0, both.1)
+
+-- the state of a name reads over a byte
+abbrev IsOver : Name → ℕ → Type 0
+IsOver name byte = (defined : List ℕ → Bool) (g : Given) → ReadsOver g (inlines_rules defined g) name byte
+
+-- it does if its rows in the table pick the row that consumes the byte
+reads-over : (state : StateRows TextByte Unit Unit) (name : Name) (byte : ℕ) → ((defined : List ℕ → Bool) → named (inlines defined).states name ≡ Some state) → PicksOver state name text_byte byte
+    → (other : Name) → other.number ≡ name.number → IsOver other byte
+reads-over state name byte there over other is =
+    subst (λ n. IsOver (record { number = n }) byte) (sym is)
+    (λ defined g text k choices n ready holds same current.
+    subst (λ n. (inlines_rules defined g).step (sight g text k) k n ≡ step_over k n) (sym same) (picked-read-over (inlines defined) state name byte (λ local. refl) (there defined) over g (sight g text k) k current))
+
+-- ---- data of inline text
+
+-- the classes at which it goes on, whatever the byte before: all that begin no line ending and no construct, but punctuation, with which a run may begin
+data-goes-on : (w : TextByte) → (is_line_feed_class w || some_begins inline_constructs w) ≡ false → is_white_class w ≡ false
+    → (w ≡ punctuation) ⊎ ((before : Option TextByte) → inline_data_rows before (Some w) ≡ row (consume ∷ []) (Next DataInside))
+data-goes-on line_feed h i = absurd (cc)
+data-goes-on backtick h i = absurd (cc)
+data-goes-on less h i = absurd (cc)
+data-goes-on backslash h i = absurd (cc)
+data-goes-on ampersand h i = absurd (cc)
+data-goes-on white h i = absurd (cc)
+data-goes-on punctuation h i = inl refl
+data-goes-on _ h i = inr (λ before. refl)
+
+data-picks : (byte : ℕ) → is_in_data byte ≡ true → PicksOver inline_data DataInside text_byte byte
+data-picks byte is before g s k current =
+    let on = g.options.constructs in
+    let (white_byte, others) = or_parts (is_white byte) (is_line_feed byte || (some_first marked_grammars byte || (is_delimiter byte || is_of_bracket byte))) (not-true _ is) in
+    let (line, marks) = or_parts (is_line_feed byte) (some_first marked_grammars byte || (is_delimiter byte || is_of_bracket byte)) others in
+    let (marked, mark_bytes) = or_parts (some_first marked_grammars byte) (is_delimiter byte || is_of_bracket byte) marks in
+    let (delimiter, of_bracket) = or_parts (is_delimiter byte) (is_of_bracket byte) mark_bytes in
+    let run : begins_run on byte ≡ false = ap (λ t. on.attention && t) delimiter ∙ and-false on.attention in
+    let bracket = begins-no-bracket on byte of_bracket in
+    let none : begins_mark on byte ≡ false = λ i. run i || bracket i in
+    let ends : ends_data on byte ≡ false = λ i. line i || (marked i || none i) in
+    let ending : Row Unit Unit = record { acts = exit Data ∷ []; answer = Retry TextBefore } in
+    let going : Row Unit Unit = record { acts = consume ∷ []; answer = Next DataInside } in
+    elim (data-goes-on (text_byte byte) (marked-classed on byte none ∙ ends) (white-classed byte ∙ white_byte)) [
+      | inl class ↦
+          ap (λ w. picked (inline_data_rows before (Some w)) g s k) class ∙ ap (λ (o : Option ℕ). cond ((on.attention && passes is_delimiter o) || passes (begins_bracket on) o) ending going) current ∙ ap (λ t. cond t ending going) none
+      | inr rows ↦ ap (λ r. picked r g s k) (rows before)
+    ]
+
+pub data-over : (byte : ℕ) → is_in_data byte ≡ true → (name : Name) → name.number ≡ DataInside.number → IsOver name byte
+data-over byte is = reads-over inline_data DataInside byte (λ defined. refl) (data-picks byte is)
+
+-- ---- data of strings
+
+string-picks : (byte : ℕ) → is_in_string byte ≡ true → PicksOver (string_data {R = Unit {0}} {D = Unit {0}}) DataStart text_byte byte
+string-picks byte is before g s k current = ap (λ t. picked (string_data_row t) g s k) (string-special-classed byte ∙ not-true (is_string_special byte) is)
+
+pub string-over : (byte : ℕ) → is_in_string byte ≡ true → (name : Name) → name.number ≡ DataStart.number → IsOver name byte
+string-over byte is = reads-over string_data DataStart byte (λ defined. refl) (string-picks byte is)
+
+-- ---- data of code spans
+
+code-goes-on : (w : TextByte) → is_line_feed_class w ≡ false → is_backtick_class w ≡ false → (before : Option TextByte) → raw_text_data_rows {R = Unit {0}} {D = Unit {0}} before (Some w) ≡ row (consume ∷ []) (Next RawTextData)
+code-goes-on line_feed h i = absurd (cc)
+code-goes-on backtick h i = absurd (cc)
+code-goes-on _ h i = λ before. refl
+
+code-picks : (byte : ℕ) → is_in_code byte ≡ true → PicksOver (raw_text_data {R = Unit {0}} {D = Unit {0}}) RawTextData text_byte byte
+code-picks byte is before g s k current =
+    let (line, tick) = or_parts (is_line_feed byte) (is_backtick byte) (not-true _ is) in
+    ap (λ r. picked r g s k) (code-goes-on (text_byte byte) (line-classed byte ∙ line) (tick-classed byte ∙ tick) before)
+
+pub code-over : (byte : ℕ) → is_in_code byte ≡ true → (name : Name) → name.number ≡ RawTextData.number → IsOver name byte
+code-over byte is = reads-over raw_text_data RawTextData byte (λ defined. refl) (code-picks byte is)
+
+-- ---- raw HTML between marks
+
+abbrev marks : Rows Unit Unit
+marks = when in_mark (row (write size_b_grows ∷ consume ∷ []) (Next HtmlTextMarkClose)) (html_goes_on HtmlTextMarkInside)
+
+mark-picks : (byte : ℕ) → is_in_marks byte ≡ true → PicksOver (mark_inside {R = Unit {0}} {D = Unit {0}}) HtmlTextMarkInside text_byte byte
+mark-picks byte is before g s k current =
+    let sizes = k.local.tokenize_state in
+    let (line, others) = or_parts (is_line_feed byte) (is_greater_than byte || is_mark_byte byte) (not-true _ is) in
+    let (last, other) = or_parts (is_greater_than byte) (is_mark_byte byte) others in
+    let ends : mark_ends g s k ≡ false = (λ i. passes is_greater_than (current i) && nat_le sizes.size_c sizes.size_b) ∙ (λ i. last i && nat_le sizes.size_c sizes.size_b) in
+    let among : in_mark g s k ≡ false = (λ i. passes (λ b. is_mark_byte b && (b == sizes.marker)) (current i)) ∙ (λ i. other i && (byte == sizes.marker)) in
+    ap (λ r. picked r g s k) (look-others mark_line_ends (when mark_ends html_ends marks) before byte line)
+    ∙ ap (λ t. cond t (picked html_ends g s k) (picked marks g s k)) ends
+    ∙ ap (λ t. cond t (picked (row (write size_b_grows ∷ consume ∷ []) (Next HtmlTextMarkClose)) g s k) (picked (html_goes_on HtmlTextMarkInside) g s k)) among
+
+pub mark-over : (byte : ℕ) → is_in_marks byte ≡ true → (name : Name) → name.number ≡ HtmlTextMarkInside.number → IsOver name byte
+mark-over byte is = reads-over mark_inside HtmlTextMarkInside byte (λ defined. refl) (mark-picks byte is)
+
+-- ---- values in quotes
+
+quote-picks : (byte : ℕ) → is_in_quotes byte ≡ true → PicksOver (html_text_value_quoted {R = Unit {0}} {D = Unit {0}}) HtmlTextTagOpenAttributeValueQuoted text_byte byte
+quote-picks byte is before g s k current =
+    let (line, other) = or_parts (is_line_feed byte) (is_quote byte) (not-true _ is) in
+    let after : Rows Unit Unit = html_goes_on HtmlTextTagOpenAttributeValueQuotedAfter in
+    let inside : Rows Unit Unit = html_goes_on HtmlTextTagOpenAttributeValueQuoted in
+    let waits : quote_waits g s k ≡ false = (λ i. passes (λ b. is_quote b && (b == k.local.tokenize_state.marker)) (current i)) ∙ (λ i. other i && (byte == k.local.tokenize_state.marker)) in
+    ap (λ r. picked r g s k) (other-rows (html_line_ends HtmlTextTagOpenAttributeValueQuoted.number) (when quote_waits after inside) before byte line)
+    ∙ ap (λ t. cond t (picked after g s k) (picked inside g s k)) waits
+
+pub quote-over : (byte : ℕ) → is_in_quotes byte ≡ true → (name : Name) → name.number ≡ HtmlTextTagOpenAttributeValueQuoted.number → IsOver name byte
+quote-over byte is = reads-over html_text_value_quoted HtmlTextTagOpenAttributeValueQuoted byte (λ defined. refl) (quote-picks byte is)
+
+-- ---- URIs of autolinks
+
+pub uri-over : (byte : ℕ) → is_allowed byte ≡ true → (name : Name) → name.number ≡ AutolinkUrlInside.number → IsOver name byte
+uri-over byte is = reads-over autolink_url AutolinkUrlInside byte (λ defined. refl) (λ before g s k current. ap (λ r. picked r g s k) (link-class before byte is))
