@@ -14,7 +14,7 @@ import sys
 TOP = os.path.dirname(os.path.dirname(os.path.realpath(__file__)))
 PARTS = {
     "markdown": ["markdown_base", "markdown_edits", "markdown_tokenizer", "markdown_children"],
-    "mdconstructs": ["mdconstructs_tables", "mdconstructs_machines", "mdinline_text_machine", "mdinline_labels", "mdinline_emphasis", "mdinline_characters", "mdinline_constructs", "mdinline_link_strings", "mdinline_machine", "mdblock_leaf_machine", "mdblock_leaf_blocks", "mdblock_lines", "mdblock_containers", "mddocument", "mddocument_costs", "mddocument_laws", "mddocument_parts", "mddocument_link_targets", "mddocument_editing"],
+    "mdconstructs": ["mdconstructs_tables", "mdconstructs_machines", "mdinline_text_machine", "mdinline_labels", "mdinline_emphasis", "mdinline_characters", "mdinline_constructs", "mdinline_link_strings", "mdinline_machine", "mdblock_leaf_rows", "mdblock_leaf_machine", "mdblock_leaf_blocks", "mdblock_lines", "mdblock_containers", "mddocument", "mddocument_costs", "mddocument_laws", "mddocument_parts", "mddocument_link_targets", "mddocument_editing"],
 }
 NAMED = {
     ("markdown_children", "specs", "LawStatements"): "ChildrenLawStatements",
@@ -28,14 +28,15 @@ NAMED = {
     ("mdblock_leaf_blocks", "proofs", "Lines"): "LineParts",
     ("mdblock_leaf_blocks", "proofs", "Looks"): "LineLooks",
     ("mdblock_leaf_blocks", "proofs", "Paragraphs"): "LeafParagraphs",
-    ("mdblock_leaf_machine", "specs", "Flow"): "FlowStates",
+    ("mdconstructs_tables", "specs", "Laws"): "TableLaws",
+    ("mdblock_leaf_rows", "specs", "Flow"): "FlowStates",
     ("mdinline_machine", "specs", "Over"): "InlinesOver",
-    ("mdblock_leaf_machine", "specs", "LawStatements"): "FlowLawStatements",
-    ("mdblock_leaf_machine", "specs", "Laws"): "FlowLaws",
-    ("mdblock_leaf_machine", "specs", "Over"): "FlowOver",
-    ("mdblock_leaf_machine", "specs", "Steps"): "FlowSteps",
+    ("mdblock_leaf_rows", "specs", "LawStatements"): "FlowLawStatements",
+    ("mdblock_leaf_rows", "specs", "Laws"): "FlowLaws",
+    ("mdblock_leaf_rows", "specs", "Over"): "FlowOver",
+    ("mdblock_leaf_rows", "specs", "Steps"): "FlowSteps",
     ("mdblock_leaf_machine", "proofs", "Called"): "FlowCalled",
-    ("mdblock_leaf_machine", "proofs", "NoRefusals"): "FlowNoRefusals",
+    ("mdblock_leaf_rows", "proofs", "NoRefusals"): "FlowNoRefusals",
     ("mdinline_machine", "proofs", "Looks"): "InlineLooks",
     ("mdinline_machine", "specs", "Laws"): "InlineLaws",
     ("mdinline_machine", "specs", "LawStatements"): "InlineLawStatements",

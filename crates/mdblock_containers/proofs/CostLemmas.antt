@@ -9,7 +9,7 @@ use Rattle.std.proofs.lemmas.List.Sums.{sum_by-cons}
 use Rattle.markdown_base.specs.declared.configuration.Constructs.{Constructs}
 use Rattle.markdown_base.proofs.Common.{and-right, every-take}
 use Rattle.markdown_base.proofs.Facts.Bools.{and-left}
-use Rattle.mdconstructs_machines.specs.Breaks.{is_white}
+use Rattle.mdconstructs_tables.specs.Breaks.{is_white}
 use Rattle.mdblock_leaf_blocks.specs.HtmlLines.{ends, waits_for_blank}
 use Rattle.mdblock_leaf_blocks.specs.LeafBlocks.{Line, interrupts, text_of}
 use Rattle.mdblock_leaf_blocks.specs.LineKinds.{begins_with, blank, closes, indent, indented, is_blank_line, is_far, kind_of_rest, line_kind, underline_rank, unindented}

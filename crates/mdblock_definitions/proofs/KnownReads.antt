@@ -4,7 +4,7 @@ use Rattle.std.specs.Prelude.{◌&&◌, is_some}
 use Rattle.std.proofs.lemmas.Bool.{false≢true}
 use Rattle.markdown_base.specs.declared.configuration.Constructs.{Constructs}
 use Rattle.markdown_base.proofs.Common.{and-right}
-use Rattle.mdconstructs_machines.specs.Breaks.{is_white}
+use Rattle.mdconstructs_tables.specs.Breaks.{is_white}
 use Rattle.mdblock_leaf_blocks.specs.LeafBlocks.{Line}
 use Rattle.mdblock_leaf_blocks.specs.LineKinds.{indent, is_blank_line, underline_rank, unindented}
 use Rattle.mdblock_containers.specs.Rows.{Row, nothing_known, open_paragraph, rest_of}

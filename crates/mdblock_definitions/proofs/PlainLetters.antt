@@ -8,7 +8,7 @@ use Rattle.markdown_base.proofs.Common.{and-right, every-append, every-map, ever
 use Rattle.markdown_base.specs.declared.configuration.Constructs.{Constructs}
 use Rattle.markdown_base.specs.Virtual.{Seat, begins_with_lf, in_tab, line_feed, other_byte, tab_width, virtual, virtual_from}
 use Rattle.markdown_tokenizer.proofs.Positions.Order.{every-back, every-front}
-use Rattle.mdconstructs_machines.specs.Breaks.{is_white}
+use Rattle.mdconstructs_tables.specs.Breaks.{is_white}
 use Rattle.mdconstructs_machines.specs.LineEvents.{line_text, lines_in}
 use Rattle.mdblock_leaf_blocks.proofs.Lines.WholeLines.{IsWhole, whole-lines}
 use Rattle.mdblock_leaf_blocks.specs.LeafBlocks.{Line, bytes_of, text_of}

@@ -12,7 +12,7 @@ use Rattle.markdown_base.specs.declared.event.Point.{Point}
 use Rattle.markdown_base.specs.Places.{shown}
 use Rattle.markdown_base.specs.Virtual.{Seat, end_after}
 use Rattle.markdown_tokenizer.proofs.Positions.Order.{every-back, every-front}
-use Rattle.mdconstructs_machines.specs.Breaks.{is_white}
+use Rattle.mdconstructs_tables.specs.Breaks.{is_white}
 use Rattle.mdconstructs_machines.specs.LineEvents.{all_of, ending_of, line_text}
 use Rattle.mdblock_leaf_blocks.proofs.Marks.Courses.{Track, track-on, track-place}
 use Rattle.mdblock_leaf_blocks.proofs.Marks.MarkForms.{Forms}

@@ -10,7 +10,7 @@ use Rattle.markdown_base.specs.declared.event.Name.TheVariants as name
 use Rattle.markdown_base.specs.declared.event.Point.{Point}
 use Rattle.markdown_base.specs.Places.{shown}
 use Rattle.markdown_base.specs.Virtual.{Seat, point}
-use Rattle.mdconstructs_machines.specs.Breaks.{is_white}
+use Rattle.mdconstructs_tables.specs.Breaks.{is_white}
 use Rattle.mdconstructs_machines.specs.LineEvents.{ending_of, line_text}
 use Rattle.mdblock_leaf_blocks.specs.LeafBlocks.{text_of}
 use Rattle.mdblock_leaf_blocks.specs.LeafEvents.{Mark, white}

@@ -62,29 +62,29 @@ pub use Rattle.markdown_tokenizer.specs.declared.subtokenize.Subresult.{Subresul
 pub use Rattle.markdown_tokenizer.specs.declared.waiting.AttemptKind.TheVariants.{Check}
 pub use Rattle.markdown_tokenizer.specs.declared.waiting.Waits.{Waits}
 pub use Rattle.markdown_tokenizer.specs.declared.waiting.Waits.TheVariants.{Byte, End, Nothing}
-pub use Rattle.mdblock_leaf_machine.proofs.TagNames.{block-told, raw-told, letter-is}
-pub use Rattle.mdblock_leaf_machine.specs.CodeFenced.{fence_ends, flow_before_raw_rows, raw_flow_after_rows, raw_flow_after_sequence_close_rows, raw_flow_at_non_lazy_break, raw_flow_at_non_lazy_break_rows, raw_flow_before_content_chunk_rows, raw_flow_before_sequence_close_rows, raw_flow_close_before_rows, raw_flow_close_between_rows, raw_flow_close_sequence_rows, raw_flow_close_start_rows, raw_flow_content_before_rows, raw_flow_content_start_rows, raw_flow_info_before_rows, raw_flow_info_rows, raw_flow_look_info_rows, raw_flow_meta_before_rows, raw_flow_sequence_close_rows, raw_flow_sequence_open_rows, raw_flow_start_rows}
-pub use Rattle.mdblock_leaf_machine.specs.CodeIndented.{code_indented_inside}
-pub use Rattle.mdblock_leaf_machine.specs.Flow.{blank_begins_line, content_definition_before, flow_after, flow_blank_line_after, flow_blank_line_after_rows, flow_start, flow_start_rows, mark_begins_line}
-pub use Rattle.mdblock_leaf_machine.specs.FlowBytes.{Cased, FlowByte, begins_name, begins_no_value, blank, by_byte, cased, closing, dash, equals, flow_byte, greater, is_bang, is_blank, is_blank as is_blank_class, is_closing, is_dash, is_double, is_equals, is_fence, is_greater, is_in_name, is_in_no_value, is_less, is_letter, is_line_feed, is_opening, is_question, is_quote, is_rule, is_sign, is_sign as is_sign_class, is_single, is_slash, is_star, is_tick, is_tilde, is_underscore, less, line_feed, name_byte, other, question, sign, spelled, star, tick, tilde, underscore, word_byte}
-pub use Rattle.mdblock_leaf_machine.specs.FlowKnows.{flow_rules}
-pub use Rattle.mdblock_leaf_machine.specs.FlowTable.{flow, unchanged}
-pub use Rattle.mdblock_leaf_machine.specs.FlowWrites.{at_mark, breaks_are_on, count_becomes, count_grows, counts_to_four, fences_are_on, has_room, has_three, headings_are_on, indent_becomes, indent_grows, is_as_long, is_byte, is_tilde_fence, kind_becomes, mark_becomes, may_be_indented, signs_end, signs_were_text, size_becomes, size_grows, string_link, text_grows, underlines_are_on}
-pub use Rattle.mdblock_leaf_machine.specs.HeadingAtx.{flow_before_heading_atx_rows, heading_atx_look_after_rows, heading_atx_look_blank_rows, heading_atx_look_signs_rows, heading_atx_look_start_rows, heading_atx_look_text_rows, text_goes_on, text_or_signs}
-pub use Rattle.mdblock_leaf_machine.specs.HeadingEdits.{heading_ends, paragraph_begins, paragraph_ends, renaming, under, with_names}
-pub use Rattle.mdblock_leaf_machine.specs.HeadingSetext.{flow_before_heading_setext_rows, further_dash, heading_setext_after_rows, heading_setext_look_after_rows, heading_setext_start_rows}
-pub use Rattle.mdblock_leaf_machine.specs.HtmlFlow.{html_flow_blank_line_before_rows, html_flow_continuation, html_flow_continuation_after_rows, html_flow_continuation_before_rows, html_flow_continuation_cdata_inside_rows, html_flow_continuation_close_rows, html_flow_continuation_comment_inside_rows, html_flow_continuation_declaration_inside_rows, html_flow_continuation_raw_end_tag_goes_on, html_flow_continuation_raw_end_tag_rows, html_flow_continuation_raw_tag_open_rows, html_flow_continuation_rows, html_flow_continuation_start_rows, html_flow_start_rows}
-pub use Rattle.mdblock_leaf_machine.specs.HtmlNames.{AreToldApart, IsListed, is_number_in, is_tag_name, no_name, number_behind, number_of, one_byte_more}
-pub use Rattle.mdblock_leaf_machine.specs.HtmlTags.{html_flow_basic_self_closing_rows, html_flow_cdata_open_inside_rows, html_flow_comment_open_inside_rows, html_flow_complete_after_rows, html_flow_complete_attribute_name_after_rows, html_flow_complete_attribute_name_before_rows, html_flow_complete_attribute_name_rows, html_flow_complete_attribute_value_before_rows, html_flow_complete_attribute_value_quoted_after_rows, html_flow_complete_attribute_value_quoted_rows, html_flow_complete_attribute_value_unquoted_rows, html_flow_complete_closing_tag_after_rows, html_flow_complete_end_rows, html_flow_declaration_open_rows, html_flow_open_rows, html_flow_tag_close_start_rows, html_flow_tag_name_goes_on, html_flow_tag_name_rows}
-pub use Rattle.mdblock_leaf_machine.specs.HtmlWrites.{at_cdata, cdata_byte, closes_tag, html_becomes, html_is, html_is_on, is_block_tag, is_raw_tag, name_grows, opens_raw, raw_name_grows, tag_closes}
-pub use Rattle.mdblock_leaf_machine.specs.Laws.Headings.{added-last, below-more}
-pub use Rattle.mdblock_leaf_machine.specs.Laws.Measures.{word-is-word, word-no-feed}
-pub use Rattle.mdblock_leaf_machine.specs.Laws.Renamings.{told-apart}
-pub use Rattle.mdblock_leaf_machine.specs.Look.{break_may_begin, dash_may_begin, equals_may_begin, fence_may_begin, flow_blank_line_before_rows, heading_may_begin, html_may_begin, paragraph_look_start_rows, text_may_begin, underline_may_begin}
-pub use Rattle.mdblock_leaf_machine.specs.Paragraph.{flow_before_content_rows, paragraph_inside, paragraph_inside_rows, paragraph_line_after_rows, paragraph_line_start_rows, paragraph_start_rows}
-pub use Rattle.mdblock_leaf_machine.specs.Renamings.{Told, edits_from, kept as as_told, renamed}
-pub use Rattle.mdblock_leaf_machine.specs.ThematicBreak.{flow_before_thematic_break_rows, thematic_break_at_break_rows}
-pub use Rattle.mdblock_leaf_machine.specs.declared.names.TheConstants.{CodeIndentedLineAfter, HeadingAtxLookAfter, HeadingAtxLookBlank, HeadingAtxLookSigns, HeadingAtxLookStart, HeadingAtxLookText, HeadingSetextLookAfter, HeadingSetextTextAfter, HtmlFlowBlankLineInside, ParagraphLineAfter, ParagraphLookStart, RawFlowCloseBefore, RawFlowCloseBetween, RawFlowCloseBlank, RawFlowCloseSequence, RawFlowInfoAfter, RawFlowLookInfo}
+pub use Rattle.mdblock_leaf_rows.proofs.TagNames.{block-told, raw-told, letter-is}
+pub use Rattle.mdblock_leaf_rows.specs.CodeFenced.{fence_ends, flow_before_raw_rows, raw_flow_after_rows, raw_flow_after_sequence_close_rows, raw_flow_at_non_lazy_break, raw_flow_at_non_lazy_break_rows, raw_flow_before_content_chunk_rows, raw_flow_before_sequence_close_rows, raw_flow_close_before_rows, raw_flow_close_between_rows, raw_flow_close_sequence_rows, raw_flow_close_start_rows, raw_flow_content_before_rows, raw_flow_content_start_rows, raw_flow_info_before_rows, raw_flow_info_rows, raw_flow_look_info_rows, raw_flow_meta_before_rows, raw_flow_sequence_close_rows, raw_flow_sequence_open_rows, raw_flow_start_rows}
+pub use Rattle.mdblock_leaf_rows.specs.CodeIndented.{code_indented_inside}
+pub use Rattle.mdblock_leaf_rows.specs.Flow.{blank_begins_line, content_definition_before, flow_after, flow_blank_line_after, flow_blank_line_after_rows, flow_start, flow_start_rows, mark_begins_line}
+pub use Rattle.mdblock_leaf_rows.specs.FlowBytes.{Cased, FlowByte, begins_name, begins_no_value, blank, by_byte, cased, closing, dash, equals, flow_byte, greater, is_bang, is_blank, is_blank as is_blank_class, is_closing, is_dash, is_double, is_equals, is_fence, is_greater, is_in_name, is_in_no_value, is_less, is_letter, is_line_feed, is_opening, is_question, is_quote, is_rule, is_sign, is_sign as is_sign_class, is_single, is_slash, is_star, is_tick, is_tilde, is_underscore, less, line_feed, name_byte, other, question, sign, spelled, star, tick, tilde, underscore, word_byte}
+pub use Rattle.mdblock_leaf_rows.specs.FlowKnows.{flow_rules}
+pub use Rattle.mdblock_leaf_rows.specs.FlowTable.{flow, unchanged}
+pub use Rattle.mdblock_leaf_rows.specs.FlowWrites.{at_mark, breaks_are_on, count_becomes, count_grows, counts_to_four, fences_are_on, has_room, has_three, headings_are_on, indent_becomes, indent_grows, is_as_long, is_byte, is_tilde_fence, kind_becomes, mark_becomes, may_be_indented, signs_end, signs_were_text, size_becomes, size_grows, string_link, text_grows, underlines_are_on}
+pub use Rattle.mdblock_leaf_rows.specs.HeadingAtx.{flow_before_heading_atx_rows, heading_atx_look_after_rows, heading_atx_look_blank_rows, heading_atx_look_signs_rows, heading_atx_look_start_rows, heading_atx_look_text_rows, text_goes_on, text_or_signs}
+pub use Rattle.mdblock_leaf_rows.specs.HeadingEdits.{heading_ends, paragraph_begins, paragraph_ends, renaming, under, with_names}
+pub use Rattle.mdblock_leaf_rows.specs.HeadingSetext.{flow_before_heading_setext_rows, further_dash, heading_setext_after_rows, heading_setext_look_after_rows, heading_setext_start_rows}
+pub use Rattle.mdblock_leaf_rows.specs.HtmlFlow.{html_flow_blank_line_before_rows, html_flow_continuation, html_flow_continuation_after_rows, html_flow_continuation_before_rows, html_flow_continuation_cdata_inside_rows, html_flow_continuation_close_rows, html_flow_continuation_comment_inside_rows, html_flow_continuation_declaration_inside_rows, html_flow_continuation_raw_end_tag_goes_on, html_flow_continuation_raw_end_tag_rows, html_flow_continuation_raw_tag_open_rows, html_flow_continuation_rows, html_flow_continuation_start_rows, html_flow_start_rows}
+pub use Rattle.mdblock_leaf_rows.specs.HtmlNames.{AreToldApart, IsListed, is_number_in, is_tag_name, no_name, number_behind, number_of, one_byte_more}
+pub use Rattle.mdblock_leaf_rows.specs.HtmlTags.{html_flow_basic_self_closing_rows, html_flow_cdata_open_inside_rows, html_flow_comment_open_inside_rows, html_flow_complete_after_rows, html_flow_complete_attribute_name_after_rows, html_flow_complete_attribute_name_before_rows, html_flow_complete_attribute_name_rows, html_flow_complete_attribute_value_before_rows, html_flow_complete_attribute_value_quoted_after_rows, html_flow_complete_attribute_value_quoted_rows, html_flow_complete_attribute_value_unquoted_rows, html_flow_complete_closing_tag_after_rows, html_flow_complete_end_rows, html_flow_declaration_open_rows, html_flow_open_rows, html_flow_tag_close_start_rows, html_flow_tag_name_goes_on, html_flow_tag_name_rows}
+pub use Rattle.mdblock_leaf_rows.specs.HtmlWrites.{at_cdata, cdata_byte, closes_tag, html_becomes, html_is, html_is_on, is_block_tag, is_raw_tag, name_grows, opens_raw, raw_name_grows, tag_closes}
+pub use Rattle.mdblock_leaf_rows.specs.Laws.Headings.{added-last, below-more}
+pub use Rattle.mdblock_leaf_rows.specs.Laws.Measures.{word-is-word, word-no-feed}
+pub use Rattle.mdblock_leaf_rows.specs.Laws.Renamings.{told-apart}
+pub use Rattle.mdblock_leaf_rows.specs.Look.{break_may_begin, dash_may_begin, equals_may_begin, fence_may_begin, flow_blank_line_before_rows, heading_may_begin, html_may_begin, paragraph_look_start_rows, text_may_begin, underline_may_begin}
+pub use Rattle.mdblock_leaf_rows.specs.Paragraph.{flow_before_content_rows, paragraph_inside, paragraph_inside_rows, paragraph_line_after_rows, paragraph_line_start_rows, paragraph_start_rows}
+pub use Rattle.mdblock_leaf_rows.specs.Renamings.{Told, edits_from, kept as as_told, renamed}
+pub use Rattle.mdblock_leaf_rows.specs.ThematicBreak.{flow_before_thematic_break_rows, thematic_break_at_break_rows}
+pub use Rattle.mdblock_leaf_rows.specs.declared.names.TheConstants.{CodeIndentedLineAfter, HeadingAtxLookAfter, HeadingAtxLookBlank, HeadingAtxLookSigns, HeadingAtxLookStart, HeadingAtxLookText, HeadingSetextLookAfter, HeadingSetextTextAfter, HtmlFlowBlankLineInside, ParagraphLineAfter, ParagraphLookStart, RawFlowCloseBefore, RawFlowCloseBetween, RawFlowCloseBlank, RawFlowCloseSequence, RawFlowInfoAfter, RawFlowLookInfo}
 pub use Rattle.mdblock_leaf_blocks.specs.BlockLines.{LinesAreInBlocks, block_lines}
 pub use Rattle.mdblock_leaf_blocks.specs.BlocksFormed.{BlocksAreFormed}
 pub use Rattle.mdblock_leaf_blocks.specs.BlocksRead.{AddsEdits, AreLines, BlankLinesAreRead, BreaksAreRead, FencedCodeIsRead, HeadingsAreRead, HtmlIsRead, IndentedCodeIsRead, IsAtLines, IsBlockRead, IsFound, IsLine, IsReadAs, KeepsEdits, ParagraphsAreRead, SetextHeadingsAreRead, behind_block, block_seats, heading_told, is_underlined, last_ending, paragraph_told, underline_told, waits_then}
@@ -103,10 +103,10 @@ pub use Rattle.mdblock_leaf_blocks.specs.ToldChunks.{ChunksStand, EditsGiveNames
 pub use Rattle.mdblock_leaf_blocks.specs.ToldMarks.{ToldMark, as_it_is, before_edits, behind_edits, mark_before, marks_behind, told_edits, under_names}
 pub use Rattle.mdconstructs_machines.proofs.BlockReads.Accounts.{lines-are-all}
 pub use Rattle.mdconstructs_machines.proofs.Innermost.{enter-more, exit-more, span-more}
-pub use Rattle.mdconstructs_machines.specs.Breaks.{is_white, one_more}
+pub use Rattle.mdconstructs_tables.specs.Breaks.{is_white, one_more}
 pub use Rattle.mdconstructs_machines.specs.Innermost.{AccountFor, ended_next, innermost_spans}
 pub use Rattle.mdconstructs_machines.specs.LineEvents.{all_of, ending_of, is_line_ending, joined, line_text, lines_in}
-pub use Rattle.mdconstructs_machines.specs.Paragraphs.{text_link}
+pub use Rattle.mdconstructs_tables.specs.Paragraphs.{text_link}
 pub use Rattle.mdconstructs_machines.specs.Spans.{event}
 pub use Rattle.mdconstructs_tables.proofs.Cases.{at-byte}
 pub use Rattle.mdconstructs_tables.proofs.Looks.Deep.{Leads, Leads as LeadsIn}

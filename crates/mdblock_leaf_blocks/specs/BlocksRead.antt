@@ -19,7 +19,7 @@ use Rattle.mdconstructs_tables.specs.Looks.{waits_at}
 use Rattle.mdconstructs_tables.specs.Rows.{table_step}
 use Rattle.mdconstructs_machines.specs.LineEvents.{all_of, ending_of, line_text}
 use Rattle.mdconstructs_machines.specs.Spans.{event}
-use Rattle.mdblock_leaf_machine.specs.FlowTable.{flow}
+use Rattle.mdblock_leaf_rows.specs.FlowTable.{flow}
 use Rattle.mdblock_leaf_blocks.specs.HtmlLines.{HtmlKind, ends, waits_for_blank}
 use Rattle.mdblock_leaf_blocks.specs.LeafBlocks.{Line, ends_text, further_code, has_line, lines_through, lines_until, text_of}
 use Rattle.mdblock_leaf_blocks.specs.LineKinds.{Fence, closes, is_blank_line, is_thematic_break, unindented}

@@ -10,8 +10,8 @@ use Rattle.markdown_tokenizer.specs.declared.subtokenize.Subresult.{Subresult}
 use Rattle.markdown_tokenizer.specs.Reading.{Reading, EndsIn}
 use Rattle.markdown_tokenizer.specs.Resolving.{IsResolved}
 use Rattle.markdown_tokenizer.specs.Text.{Given, Text}
-use Rattle.mdblock_leaf_machine.specs.FlowKnows.{flow_rules}
-use Rattle.mdblock_leaf_machine.specs.FlowTable.{flow}
+use Rattle.mdblock_leaf_rows.specs.FlowKnows.{flow_rules}
+use Rattle.mdblock_leaf_rows.specs.FlowTable.{flow}
 use Rattle.mdblock_leaf_blocks.specs.LeafEvents.{flow_events}
 
 -- A reading of a text ended well; and when its edits are made (all is resolved then), its events are those of the text's leaf blocks

@@ -7,7 +7,7 @@ use Rattle.markdown_tokenizer.specs.Configuration.{start_configuration}
 use Rattle.markdown_tokenizer.specs.Reading.{Reading, EndsIn}
 use Rattle.markdown_tokenizer.specs.Text.{Given, Text}
 use Rattle.mdconstructs_tables.specs.Rows.{table_step}
-use Rattle.mdblock_leaf_machine.specs.FlowTable.{flow}
+use Rattle.mdblock_leaf_rows.specs.FlowTable.{flow}
 use Rattle.mdblock_leaf_blocks.specs.BlocksTold.{flow_told}
 use Rattle.mdblock_leaf_blocks.specs.LeafEvents.{linked_from}
 use Rattle.mdblock_leaf_blocks.specs.ToldMarks.{ToldMark, before_edits, told_edits}

@@ -3,7 +3,7 @@ use Rattle.std.specs.Prelude.{ℕ, zero, suc, ◌+◌, ◌==◌, ◌&&◌, ◌||
 use Rattle.std.specs.List.{prefix_len}
 use Rattle.std.specs.Char.{is_ascii_alphabetic, is_ascii_alphanumeric}
 use Rattle.markdown_base.specs.Texts.{html_block_names, html_raw_names}
-use Rattle.mdconstructs_machines.specs.Breaks.{is_white}
+use Rattle.mdconstructs_tables.specs.Breaks.{is_white}
 pub use Rattle.mdblock_leaf_blocks.specs.LineWords.{first_passes, holds, is_blank_line, lower, starts_with, unindented}
 
 -- Tag name (CommonMark, 6.6): an ASCII letter, and then letters, digits and dashes; how many bytes it has

@@ -3,7 +3,7 @@
 use Rattle.std.specs.Prelude.{ℕ, ◌==◌, ◌&&◌, ◌||◌, not, nat_le, Bool, cond, List, filter, take, drop, length, reverse, Option, None, Some}
 use Rattle.std.specs.List.{list_all, prefix_len}
 use Rattle.markdown_base.specs.declared.configuration.Constructs.{Constructs}
-use Rattle.mdconstructs_machines.specs.Breaks.{is_white}
+use Rattle.mdconstructs_tables.specs.Breaks.{is_white}
 pub use Rattle.mdblock_leaf_blocks.specs.LineWords.{begins_with, indent, is_blank_line, run, unindented}
 use Rattle.mdblock_leaf_blocks.specs.HtmlLines.{HtmlKind, html_kind}
 

@@ -1,7 +1,7 @@
 -- Words for bytes of a line: what comes first, white space, and runs of one byte.
 use Rattle.std.specs.Prelude.{ℕ, ◌+◌, ◌==◌, ◌&&◌, ◌||◌, nat_le, Bool, true, false, cond, List, [], ◌∷◌, drop}
 use Rattle.std.specs.List.{list_all, prefix_len}
-use Rattle.mdconstructs_machines.specs.Breaks.{is_white}
+use Rattle.mdconstructs_tables.specs.Breaks.{is_white}
 
 -- a byte comes first, and it passes the test
 abbrev pub first_passes : (ℕ → Bool) → List ℕ → Bool

@@ -11,7 +11,7 @@ use Rattle.markdown_base.specs.Virtual.{Seat}
 use Rattle.markdown_tokenizer.specs.Configuration.{Local}
 use Rattle.markdown_tokenizer.specs.Text.{Given, Text}
 use Rattle.mdconstructs_tables.specs.Looks.{scan}
-use Rattle.mdblock_leaf_machine.specs.FlowTable.{flow}
+use Rattle.mdblock_leaf_rows.specs.FlowTable.{flow}
 use Rattle.mdblock_leaf_blocks.specs.LeafBlocks.{bytes_of}
 use Rattle.mdblock_leaf_blocks.specs.LineKinds.{heading_text, is_thematic_break, run, unindented}
 use Rattle.mdblock_leaf_blocks.specs.SeenKinds.{SeenKind, html_number, blank, indented, heading, fence, html, underline, thematic_break, text, seen_kind}

@@ -4,7 +4,7 @@ use Rattle.std.specs.List.{flat_map}
 use Rattle.markdown_base.specs.declared.event.Event.{Event}
 use Rattle.markdown_base.specs.declared.event.Name.{Name}
 use Rattle.markdown_edits.specs.Edits.{Edit, edit_at}
-use Rattle.mdblock_leaf_machine.specs.HeadingEdits.{under}
+use Rattle.mdblock_leaf_rows.specs.HeadingEdits.{under}
 use Rattle.mdblock_leaf_blocks.specs.LeafEvents.{Mark}
 
 -- A mark, which is kept; or an event without a chunk, which gets these names in place of its own

@@ -3,8 +3,8 @@ use Rattle.std.proofs.Common.{◌≡◌, ◌+◌, ◌∙◌, ℕ, Bool, true, Li
 use Rattle.std.proofs.lemmas.Bool.{and_parts, ltb-true, not-true}
 use Rattle.std.specs.Prelude.{◌&&◌, not, nat_lt}
 use Rattle.markdown_tokenizer.proofs.ByteSets.{pass_all, passed}
-use Rattle.mdblock_leaf_machine.specs.FlowBytes.{FlowByte, flow_byte}
-use Rattle.mdblock_leaf_machine.specs.Over.{PassesNone, PassNone}
+use Rattle.mdblock_leaf_rows.specs.FlowBytes.{FlowByte, flow_byte}
+use Rattle.mdblock_leaf_rows.specs.Over.{PassesNone, PassNone}
 
 -- no test passes a class
 abbrev pub none_of : List (FlowByte → Bool) → FlowByte → Bool

@@ -6,10 +6,10 @@ use Rattle.markdown_base.specs.declared.state.TheConstants.Name.{ParagraphStart,
 use Rattle.markdown_base.specs.declared.event.Name.TheVariants.{HeadingSetextUnderline}
 use Rattle.markdown_tokenizer.specs.Configuration.{Configuration, Local, Choice}
 use Rattle.mdconstructs_tables.specs.Quiet.{is_one_of}
-use Rattle.mdconstructs_machines.specs.Paragraphs.{HasChunk}
-use Rattle.mdblock_leaf_machine.specs.FlowKnows.{looks, Place, before_chunk, in_underline, place_at, KnowsChunk, KnowsEdits, IsBehindParagraph, knows_flow}
-use Rattle.mdblock_leaf_machine.specs.HeadingEdits.{CanEndHeading}
-use Rattle.mdblock_leaf_machine.specs.Laws.Headings.{edits-before, exit-within}
+use Rattle.mdconstructs_tables.specs.Paragraphs.{HasChunk}
+use Rattle.mdblock_leaf_rows.specs.FlowKnows.{looks, Place, before_chunk, in_underline, place_at, KnowsChunk, KnowsEdits, IsBehindParagraph, knows_flow}
+use Rattle.mdblock_leaf_rows.specs.HeadingEdits.{CanEndHeading}
+use Rattle.mdblock_leaf_rows.specs.Laws.Headings.{edits-before, exit-within}
 
 -- before a chunk of a paragraph, the previous one is where it was noted
 pub known-before : (events : List Event) (local : Local Unit Unit) (choices : List Choice) (n : ℕ) → n ≡ ParagraphStart.number → knows_flow events local choices (Retry (record { number = n }))

@@ -9,8 +9,8 @@ use Rattle.markdown_base.specs.declared.event.Name.{Name as EventName}
 use Rattle.markdown_tokenizer.specs.Calls.{with_local}
 use Rattle.markdown_tokenizer.specs.Configuration.{TokenizerValue, at_configuration}
 use Rattle.mdconstructs_tables.specs.Chunks.{last_event}
-use Rattle.mdblock_leaf_machine.specs.HeadingEdits.{with_names, renaming, renamed, CanEndHeading}
-use Rattle.mdblock_leaf_machine.specs.Laws.Headings.{added-last, below-more}
+use Rattle.mdblock_leaf_rows.specs.HeadingEdits.{with_names, renaming, renamed, CanEndHeading}
+use Rattle.mdblock_leaf_rows.specs.Laws.Headings.{added-last, below-more}
 
 none-removed : (n : ℕ) (es : List Edit) → AllByRecursion (λ (e : Edit). e.index < n) es → removal_at es n ≡ 0
 none-removed n [] h = refl

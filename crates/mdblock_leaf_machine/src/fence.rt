@@ -2,12 +2,12 @@
 
 ghost use Rattle.std.specs.Prelude.{IfOk};
 ghost use Rattle.markdown_tokenizer.specs.declared.waiting.Waits.TheVariants.{Byte};
-ghost use Rattle.mdblock_leaf_machine.specs.Steps.{rows_step};
+ghost use Rattle.mdblock_leaf_rows.specs.Steps.{rows_step};
 ghost use Rattle.mdconstructs_tables.specs.RowInvariant.{DoesAll, IsCallable, step_in};
-ghost use Rattle.mdblock_leaf_machine.specs.FlowBytes.{flow_byte};
-ghost use Rattle.mdblock_leaf_machine.specs.CodeFenced.{flow_before_raw, raw_flow_look_info, raw_flow_start, raw_flow_sequence_open, raw_flow_info_before, raw_flow_before_sequence_open, raw_flow_info, raw_flow_info_after, raw_flow_meta_before, raw_flow_meta, fence_ends};
+ghost use Rattle.mdblock_leaf_rows.specs.FlowBytes.{flow_byte};
+ghost use Rattle.mdblock_leaf_rows.specs.CodeFenced.{flow_before_raw, raw_flow_look_info, raw_flow_start, raw_flow_sequence_open, raw_flow_info_before, raw_flow_before_sequence_open, raw_flow_info, raw_flow_info_after, raw_flow_meta_before, raw_flow_meta, fence_ends};
 
-use crate::names;
+use mdblock_leaf_rows::names;
 use crate::sizes::{STRING, add_to_size, at_mark, has_three, is_tilde_fence, set_kind};
 use markdown_tokenizer::event;
 use markdown_tokenizer::state::{MachineTypes, Name, State};

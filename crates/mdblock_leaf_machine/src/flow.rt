@@ -6,7 +6,7 @@
 
 ghost use Rattle.std.specs.Prelude.{◌≡◌};
 ghost use Rattle.mdconstructs_tables.specs.RowInvariant.{begun};
-ghost use Rattle.mdblock_leaf_machine.specs.FlowTable.{unchanged};
+ghost use Rattle.mdblock_leaf_rows.specs.FlowTable.{unchanged};
 
 use crate::blank_line::blank_line_start;
 use crate::code_fenced::{
@@ -46,7 +46,8 @@ use crate::thematic_break::{
     flow_before_thematic_break, thematic_break_at_break, thematic_break_before,
     thematic_break_sequence,
 };
-use crate::{html_flow, html_tags, names};
+use crate::{html_flow, html_tags};
+use mdblock_leaf_rows::names;
 use markdown_tokenizer::state::{ByteSet, Machine, MachineTypes, Name, State, no_bytes};
 use markdown_tokenizer::subtokenize::Subresult;
 use markdown_tokenizer::tokenizer::{Fault, Tokenizer};
@@ -67,8 +68,8 @@ impl MachineTypes for Flow {
 }
 
 impl Machine for Flow {
-    ghost use Rattle.mdblock_leaf_machine.specs.FlowKnows.{flow_rules};
-    ghost use Rattle.mdblock_leaf_machine.specs.Laws.Lawful.{flow-lawful};
+    ghost use Rattle.mdblock_leaf_rows.specs.FlowKnows.{flow_rules};
+    ghost use Rattle.mdblock_leaf_rows.specs.Laws.Lawful.{flow-lawful};
 
     ghost rules = { λ _. flow_rules };
 

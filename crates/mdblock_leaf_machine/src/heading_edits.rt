@@ -6,7 +6,7 @@ ghost use Rattle.std.specs.Prelude.{◌≡◌, ◌+◌, ◌<◌, ◌^◌, ◌∷
 ghost use Rattle.markdown_edits.specs.Edits.{removal_at};
 ghost use Rattle.markdown_tokenizer.specs.Calls.{with_local};
 ghost use Rattle.markdown_tokenizer.specs.Configuration.{at_configuration};
-ghost use Rattle.mdblock_leaf_machine.specs.HeadingEdits.{under, renamed, paragraph_begins, paragraph_ends, heading_ends, CanEndHeading};
+ghost use Rattle.mdblock_leaf_rows.specs.HeadingEdits.{under, renamed, paragraph_begins, paragraph_ends, heading_ends, CanEndHeading};
 
 use markdown_tokenizer::event::{self, Event};
 use markdown_tokenizer::state::MachineTypes;

@@ -3,13 +3,13 @@
 ghost use Rattle.std.specs.Prelude.{◌≡◌, IfOk};
 ghost use Rattle.markdown_tokenizer.specs.declared.waiting.Waits.TheVariants.{Byte};
 ghost use Rattle.mdconstructs_tables.specs.RowInvariant.{DoesAll, IsCallable, step_in};
-ghost use Rattle.mdblock_leaf_machine.specs.FlowBytes.{flow_byte};
-ghost use Rattle.mdblock_leaf_machine.specs.Steps.{rows_step};
-ghost use Rattle.mdblock_leaf_machine.specs.HeadingEdits.{CanEndHeading};
-ghost use Rattle.mdblock_leaf_machine.specs.HeadingSetext.{flow_before_heading_setext, heading_setext_look_after, further_dash, heading_setext_text_after, heading_setext_start, heading_setext_before, heading_setext_inside, heading_setext_after};
+ghost use Rattle.mdblock_leaf_rows.specs.FlowBytes.{flow_byte};
+ghost use Rattle.mdblock_leaf_rows.specs.Steps.{rows_step};
+ghost use Rattle.mdblock_leaf_rows.specs.HeadingEdits.{CanEndHeading};
+ghost use Rattle.mdblock_leaf_rows.specs.HeadingSetext.{flow_before_heading_setext, heading_setext_look_after, further_dash, heading_setext_text_after, heading_setext_start, heading_setext_before, heading_setext_inside, heading_setext_after};
 
 use crate::heading_edits::end_heading;
-use crate::names;
+use mdblock_leaf_rows::names;
 use crate::sizes::{add_to_size, at_mark, breaks_are_on, set_kind};
 use markdown_tokenizer::event;
 use markdown_tokenizer::state::{MachineTypes, Name, State};

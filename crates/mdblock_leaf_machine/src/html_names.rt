@@ -8,8 +8,8 @@ ghost use Rattle.markdown_base.specs.Texts.{html_block_names, html_raw_names};
 ghost use Rattle.markdown_tokenizer.specs.Calls.{with_local};
 ghost use Rattle.markdown_tokenizer.specs.Configuration.{at_configuration};
 ghost use Rattle.markdown_tokenizer.specs.Sight.{sight_of};
-ghost use Rattle.mdblock_leaf_machine.specs.HtmlNames.{digit_of, no_name, one_byte_more, is_number_in};
-ghost use Rattle.mdblock_leaf_machine.specs.HtmlWrites.{html_becomes, tag_closes, name_grows, raw_name_grows, html_is_on, html_is, ends_at_blank_line, is_passed_over, closes_tag, opens_raw, is_block_tag, is_raw_tag, cdata_byte, at_cdata};
+ghost use Rattle.mdblock_leaf_rows.specs.HtmlNames.{digit_of, no_name, one_byte_more, is_number_in};
+ghost use Rattle.mdblock_leaf_rows.specs.HtmlWrites.{html_becomes, tag_closes, name_grows, raw_name_grows, html_is_on, html_is, ends_at_blank_line, is_passed_over, closes_tag, opens_raw, is_block_tag, is_raw_tag, cdata_byte, at_cdata};
 
 use markdown_tokenizer::event;
 use markdown_tokenizer::state::MachineTypes;

@@ -2,15 +2,15 @@
 
 ghost use Rattle.std.specs.Prelude.{◌≡◌, IfOk};
 ghost use Rattle.markdown_tokenizer.specs.declared.waiting.Waits.TheVariants.{Byte};
-ghost use Rattle.mdblock_leaf_machine.specs.Steps.{rows_step};
+ghost use Rattle.mdblock_leaf_rows.specs.Steps.{rows_step};
 ghost use Rattle.mdconstructs_tables.specs.RowInvariant.{DoesAll, IsCallable, step_in};
-ghost use Rattle.mdblock_leaf_machine.specs.FlowBytes.{flow_byte};
-ghost use Rattle.mdblock_leaf_machine.specs.HtmlTags.{html_flow_open, html_flow_declaration_open, html_flow_comment_open_inside, html_flow_cdata_open_inside, html_flow_tag_close_start, html_flow_tag_name_goes_on, html_flow_tag_name, html_flow_basic_self_closing, html_flow_complete_closing_tag_after, html_flow_complete_end, html_flow_complete_attribute_name_before, html_flow_complete_attribute_name, html_flow_complete_attribute_name_after, html_flow_complete_attribute_value_before, html_flow_complete_attribute_value_quoted, html_flow_complete_attribute_value_quoted_after, html_flow_complete_attribute_value_unquoted, html_flow_complete_after};
+ghost use Rattle.mdblock_leaf_rows.specs.FlowBytes.{flow_byte};
+ghost use Rattle.mdblock_leaf_rows.specs.HtmlTags.{html_flow_open, html_flow_declaration_open, html_flow_comment_open_inside, html_flow_cdata_open_inside, html_flow_tag_close_start, html_flow_tag_name_goes_on, html_flow_tag_name, html_flow_basic_self_closing, html_flow_complete_closing_tag_after, html_flow_complete_end, html_flow_complete_attribute_name_before, html_flow_complete_attribute_name, html_flow_complete_attribute_name_after, html_flow_complete_attribute_value_before, html_flow_complete_attribute_value_quoted, html_flow_complete_attribute_value_quoted_after, html_flow_complete_attribute_value_unquoted, html_flow_complete_after};
 
 use crate::html_names::{
     NO_NAME, add_to_name, at_cdata, closes_tag, is_block_tag, opens_raw, set_closing, set_html,
 };
-use crate::names;
+use mdblock_leaf_rows::names;
 use crate::sizes::{add_to_size, at_mark, set_marker, set_size};
 use markdown_tokenizer::state::{MachineTypes, Name, State};
 use markdown_tokenizer::tokenizer::Tokenizer;

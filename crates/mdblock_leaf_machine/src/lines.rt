@@ -2,10 +2,10 @@
 
 ghost use Rattle.std.specs.Prelude.{◌≡◌, IfOk};
 ghost use Rattle.markdown_tokenizer.specs.declared.waiting.Waits.TheVariants.{Byte};
-ghost use Rattle.mdblock_leaf_machine.specs.Steps.{rows_step};
+ghost use Rattle.mdblock_leaf_rows.specs.Steps.{rows_step};
 ghost use Rattle.mdconstructs_tables.specs.RowInvariant.{DoesAll, IsCallable, step_in};
-ghost use Rattle.mdblock_leaf_machine.specs.FlowBytes.{flow_byte};
-ghost use Rattle.mdblock_leaf_machine.specs.Flow.{flow_start, content_definition_before, flow_blank_line_after, flow_after, blank_begins_line, mark_begins_line};
+ghost use Rattle.mdblock_leaf_rows.specs.FlowBytes.{flow_byte};
+ghost use Rattle.mdblock_leaf_rows.specs.Flow.{flow_start, content_definition_before, flow_blank_line_after, flow_after, blank_begins_line, mark_begins_line};
 
 use crate::sizes::{is_break, kind_is, set_count, set_indent};
 use markdown_tokenizer::event;

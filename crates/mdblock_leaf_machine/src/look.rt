@@ -2,13 +2,13 @@
 
 ghost use Rattle.std.specs.Prelude.{◌≡◌, IfOk};
 ghost use Rattle.markdown_tokenizer.specs.declared.waiting.Waits.TheVariants.{Byte};
-ghost use Rattle.mdblock_leaf_machine.specs.Steps.{rows_step};
+ghost use Rattle.mdblock_leaf_rows.specs.Steps.{rows_step};
 ghost use Rattle.mdconstructs_tables.specs.RowInvariant.{DoesAll, IsCallable, step_in};
-ghost use Rattle.mdblock_leaf_machine.specs.FlowBytes.{flow_byte};
-ghost use Rattle.mdblock_leaf_machine.specs.Look.{paragraph_look_start, flow_blank_line_before, heading_may_begin, break_may_begin, underline_may_begin, dash_may_begin, equals_may_begin, fence_may_begin, html_may_begin, text_may_begin};
+ghost use Rattle.mdblock_leaf_rows.specs.FlowBytes.{flow_byte};
+ghost use Rattle.mdblock_leaf_rows.specs.Look.{paragraph_look_start, flow_blank_line_before, heading_may_begin, break_may_begin, underline_may_begin, dash_may_begin, equals_may_begin, fence_may_begin, html_may_begin, text_may_begin};
 
 use crate::html_names::html_is_on;
-use crate::names;
+use mdblock_leaf_rows::names;
 use crate::sizes::{
     add_to_indent, breaks_are_on, fences_are_on, headings_are_on, is_indented, set_indent,
     set_kind, set_marker, set_size, underlines_are_on,

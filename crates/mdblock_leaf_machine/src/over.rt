@@ -1,8 +1,8 @@
 //! Bytes that states of leaf blocks read over: at them a call only consumes the byte, and the engine need not make it. Each is above CR.
 
 ghost use Rattle.std.specs.Prelude.{[], ◌∷◌};
-ghost use Rattle.mdblock_leaf_machine.specs.FlowBytes.{is_line_feed, is_blank, is_tick, is_less, is_dash, is_question, is_greater, is_closing};
-ghost use Rattle.mdblock_leaf_machine.specs.Over.{PassNone};
+ghost use Rattle.mdblock_leaf_rows.specs.FlowBytes.{is_line_feed, is_blank, is_tick, is_less, is_dash, is_question, is_greater, is_closing};
+ghost use Rattle.mdblock_leaf_rows.specs.Over.{PassNone};
 
 use markdown_tokenizer::state::ByteSet;
 

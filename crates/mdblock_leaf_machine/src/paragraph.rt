@@ -2,15 +2,15 @@
 
 ghost use Rattle.std.specs.Prelude.{IfOk};
 ghost use Rattle.mdconstructs_tables.specs.RowInvariant.{DoesAll, IsCallable, step_in};
-ghost use Rattle.mdblock_leaf_machine.specs.FlowBytes.{flow_byte};
-ghost use Rattle.mdblock_leaf_machine.specs.ChunkRows.{chunk_begins};
-ghost use Rattle.mdblock_leaf_machine.specs.Steps.{rows_step};
-ghost use Rattle.mdblock_leaf_machine.specs.Paragraph.{flow_before_content, paragraph_start, paragraph_inside, paragraph_line_start, paragraph_line_after};
-ghost use Rattle.mdconstructs_machines.specs.Paragraphs.{CanLinkChunk};
+ghost use Rattle.mdblock_leaf_rows.specs.FlowBytes.{flow_byte};
+ghost use Rattle.mdblock_leaf_rows.specs.ChunkRows.{chunk_begins};
+ghost use Rattle.mdblock_leaf_rows.specs.Steps.{rows_step};
+ghost use Rattle.mdblock_leaf_rows.specs.Paragraph.{flow_before_content, paragraph_start, paragraph_inside, paragraph_line_start, paragraph_line_after};
+ghost use Rattle.mdconstructs_tables.specs.Paragraphs.{CanLinkChunk};
 
 use crate::heading_edits::{begin_paragraph, end_paragraph};
 use crate::html_names::is_passed_over;
-use crate::names;
+use mdblock_leaf_rows::names;
 use crate::sizes::{TEXT, kind_is};
 use markdown_tokenizer::event;
 use markdown_tokenizer::state::{MachineTypes, Name, State};

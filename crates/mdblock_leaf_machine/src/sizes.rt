@@ -7,7 +7,7 @@ ghost use Rattle.std.specs.Prelude.{◌≡◌};
 ghost use Rattle.markdown_tokenizer.specs.Calls.{with_local};
 ghost use Rattle.markdown_tokenizer.specs.Configuration.{at_configuration};
 ghost use Rattle.markdown_tokenizer.specs.Sight.{sight_of};
-ghost use Rattle.mdblock_leaf_machine.specs.FlowWrites.{kind_becomes, mark_becomes, size_becomes, size_grows, indent_becomes, indent_grows, count_becomes, count_grows, text_grows, signs_end, signs_were_text, kind_is, is_indented, headings_are_on, underlines_are_on, breaks_are_on, is_break, fences_are_on, has_room, has_three, at_mark, is_tilde_fence, has_text, is_in_text, counts_to_four, may_be_indented, is_as_long, is_stripped, counts_to_indent};
+ghost use Rattle.mdblock_leaf_rows.specs.FlowWrites.{kind_becomes, mark_becomes, size_becomes, size_grows, indent_becomes, indent_grows, count_becomes, count_grows, text_grows, signs_end, signs_were_text, kind_is, is_indented, headings_are_on, underlines_are_on, breaks_are_on, is_break, fences_are_on, has_room, has_three, at_mark, is_tilde_fence, has_text, is_in_text, counts_to_four, may_be_indented, is_as_long, is_stripped, counts_to_indent};
 
 use markdown_tokenizer::event::{self, Content, Link};
 use markdown_tokenizer::state::MachineTypes;

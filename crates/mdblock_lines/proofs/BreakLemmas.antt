@@ -7,7 +7,7 @@ use Rattle.std.specs.List.{list_all, prefix_len}
 use Rattle.std.proofs.lemmas.List.{drop_more, drop-drop, get_or-drop, length-drop}
 use Rattle.std.proofs.Math.Dec.{leb-suc-zero}
 use Rattle.std.proofs.Math.Seq.{drop-length}
-use Rattle.mdconstructs_machines.specs.Breaks.{is_white}
+use Rattle.mdconstructs_tables.specs.Breaks.{is_white}
 use Rattle.mdblock_leaf_blocks.proofs.Looks.BreakLooks.{is_break_mark as is_looked_for, mark-no-white}
 use Rattle.mdblock_leaf_blocks.specs.LineKinds.{indent, is_break_of_marks, is_thematic_break, unindented}
 use Rattle.mdblock_lines.specs.declared.breaks.Walk.{Walk}

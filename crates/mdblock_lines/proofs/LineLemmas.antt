@@ -5,7 +5,7 @@ use Rattle.std.specs.List.{list_all, prefix_len}
 use Rattle.std.proofs.lemmas.List.{drop_more, drop-drop}
 use Rattle.std.proofs.Math.Dec.{eqb-suc-suc}
 use Rattle.std.proofs.Math.Seq.{drop-length}
-use Rattle.mdconstructs_machines.specs.Breaks.{is_white}
+use Rattle.mdconstructs_tables.specs.Breaks.{is_white}
 use Rattle.mdblock_leaf_blocks.specs.LineWords.{starts_with, holds, lower, first_passes, is_blank_line, indent, unindented}
 use Rattle.mdblock_leaf_blocks.specs.LineKinds.{blank, indented, is_far, kind_of_rest, line_kind}
 use Rattle.markdown_base.specs.declared.configuration.Constructs.{Constructs}

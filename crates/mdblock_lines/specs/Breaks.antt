@@ -1,6 +1,6 @@
 -- Thematic breaks at the columns of a line. What `breaks_in` answers is said of `is_thematic_break`; the walk is a part of its proof.
 use Rattle.std.specs.Prelude.{ℕ, ◌+◌, ◌==◌, ◌&&◌, ◌||◌, nat_le, nat_lt, Bool, cond, List, [], ◌∷◌, length, Option, None, Some, unwrap_or}
-use Rattle.mdconstructs_machines.specs.Breaks.{is_white}
+use Rattle.mdconstructs_tables.specs.Breaks.{is_white}
 use Rattle.mdblock_lines.specs.declared.breaks.Breaks.{Breaks}
 use Rattle.mdblock_lines.specs.declared.breaks.Walk.{Walk}
 

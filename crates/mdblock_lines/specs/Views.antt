@@ -1,7 +1,7 @@
 -- What values of the code mean. Below them are definitions cut into parts, one for each function that computes a part.
 use Rattle.std.specs.Prelude.{ℕ, suc, ◌+◌, [], ◌∷◌, cond, false, map, Option, Some, None, ◌&&◌, ◌||◌, nat_le, ◌==◌, not, Bool, List, take, drop, length}
 use Rattle.std.specs.Char.{is_ascii_alphanumeric}
-use Rattle.mdconstructs_machines.specs.Breaks.{is_white}
+use Rattle.mdconstructs_tables.specs.Breaks.{is_white}
 use Rattle.markdown_base.specs.declared.configuration.Constructs.{Constructs}
 use Rattle.mdblock_leaf_blocks.specs.LineWords.{first_passes, indent, is_blank_line, lower, starts_with, unindented}
 use Rattle.mdblock_leaf_blocks.specs.HtmlLines.{behind_attribute, ends_tag}

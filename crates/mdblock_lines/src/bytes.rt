@@ -1,7 +1,7 @@
 //! The bytes that a line begins with.
 
 ghost use Rattle.std.specs.Prelude.{◌≡◌, ◌≤◌, ◌+◌, ◌-◌, ℕ, nat_le, length, take, drop};
-ghost use Rattle.mdconstructs_machines.specs.Breaks.{is_white};
+ghost use Rattle.mdconstructs_tables.specs.Breaks.{is_white};
 ghost use Rattle.mdblock_leaf_blocks.specs.LineWords.{first_passes, indent, unindented, is_blank_line, begins_with, run};
 
 use mdconstructs_loop_counts::Turns;

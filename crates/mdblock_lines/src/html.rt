@@ -5,7 +5,7 @@ ghost use Rattle.markdown_base.specs.Texts.{html_raw_names};
 ghost use Rattle.std.specs.List.{prefix_len};
 ghost use Rattle.mdblock_lines.specs.Views.{html_kind_of, is_name_byte, next_in_tag, closes_tag, is_name, names_size};
 ghost use Rattle.std.specs.Char.{is_ascii_alphabetic};
-ghost use Rattle.mdconstructs_machines.specs.Breaks.{is_white};
+ghost use Rattle.mdconstructs_tables.specs.Breaks.{is_white};
 ghost use Rattle.mdblock_leaf_blocks.specs.LineWords.{indent, begins_with, starts_with, holds, first_passes, lower};
 ghost use Rattle.mdblock_leaf_blocks.specs.HtmlLines.{raw, declaration, block_tag, any_tag, tag_name, is_named, begins_attribute, goes_on_attribute, is_bare, behind_quote, behind_value, behind_attribute, ends_tag, ends_open_tag, is_open_tag, is_closing_tag, name_at, behind_name, ends_name, is_block_name, begins, html_kind, ends, waits_for_blank};
 

@@ -10,9 +10,9 @@ pub use Rattle.mdconstructs_tables.proofs.Numbers
 pub use Rattle.mdconstructs_tables.proofs.Rows
 pub use Rattle.mdconstructs_tables.proofs.Tables
 pub use Rattle.mdconstructs_tables.proofs.Unlinked
+pub use Rattle.mdconstructs_tables.proofs.ChunkEnters
 pub use Rattle.mdconstructs_machines.proofs.BlockReads
 pub use Rattle.mdconstructs_machines.proofs.Breaks
-pub use Rattle.mdconstructs_machines.proofs.ChunkEnters
 pub use Rattle.mdconstructs_machines.proofs.Columns
 pub use Rattle.mdconstructs_machines.proofs.Innermost
 pub use Rattle.mdconstructs_machines.proofs.LineExamples
@@ -102,12 +102,12 @@ pub use Rattle.mdinline_machine.proofs.StringChains
 pub use Rattle.mdinline_machine.proofs.StringReads
 pub use Rattle.mdinline_machine.proofs.StringRuns
 pub use Rattle.mdinline_machine.proofs.TailLooks
+pub use Rattle.mdblock_leaf_rows.proofs.Dashes
+pub use Rattle.mdblock_leaf_rows.proofs.NoRefusals as FlowNoRefusals
+pub use Rattle.mdblock_leaf_rows.proofs.TagNames
 pub use Rattle.mdblock_leaf_machine.proofs.ByteSets
 pub use Rattle.mdblock_leaf_machine.proofs.Called as FlowCalled
-pub use Rattle.mdblock_leaf_machine.proofs.Dashes
 pub use Rattle.mdblock_leaf_machine.proofs.HeadingEdits
-pub use Rattle.mdblock_leaf_machine.proofs.NoRefusals as FlowNoRefusals
-pub use Rattle.mdblock_leaf_machine.proofs.TagNames
 pub use Rattle.mdblock_leaf_blocks.proofs.Blocks as LeafReads
 pub use Rattle.mdblock_leaf_blocks.proofs.Fenced
 pub use Rattle.mdblock_leaf_blocks.proofs.Html as HtmlReads

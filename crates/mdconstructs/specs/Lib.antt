@@ -26,9 +26,13 @@ pub use Rattle.mdconstructs_tables.specs.Refusals
 pub use Rattle.mdconstructs_tables.specs.Stretches
 pub use Rattle.mdconstructs_tables.specs.Twins
 pub use Rattle.mdconstructs_tables.specs.Unlinked
+pub use Rattle.mdconstructs_tables.specs.Breaks
+pub use Rattle.mdconstructs_tables.specs.DataRows
+pub use Rattle.mdconstructs_tables.specs.Laws as TableLaws
+pub use Rattle.mdconstructs_tables.specs.Paragraphs
+pub use Rattle.mdconstructs_tables.specs.Tables
 pub use Rattle.mdconstructs_machines.specs.Costs
 pub use Rattle.mdconstructs_machines.specs.Back
-pub use Rattle.mdconstructs_machines.specs.Breaks
 pub use Rattle.mdconstructs_machines.specs.Deep
 pub use Rattle.mdconstructs_machines.specs.Fail
 pub use Rattle.mdconstructs_machines.specs.Innermost
@@ -36,13 +40,10 @@ pub use Rattle.mdconstructs_machines.specs.LineEvents
 pub use Rattle.mdconstructs_machines.specs.Lines
 pub use Rattle.mdconstructs_machines.specs.Messages
 pub use Rattle.mdconstructs_machines.specs.ParagraphEvents
-pub use Rattle.mdconstructs_machines.specs.Paragraphs
 pub use Rattle.mdconstructs_machines.specs.Peek
 pub use Rattle.mdconstructs_machines.specs.ReadAs
-pub use Rattle.mdconstructs_machines.specs.DataRows
 pub use Rattle.mdconstructs_machines.specs.Save
 pub use Rattle.mdconstructs_machines.specs.Spans
-pub use Rattle.mdconstructs_machines.specs.Tables
 pub use Rattle.mdconstructs_machines.specs.Unfit
 pub use Rattle.mdconstructs_machines.specs.WholeLooks
 pub use Rattle.mdconstructs_machines.specs.Words
@@ -120,32 +121,32 @@ pub use Rattle.mdinline_machine.specs.Over as InlinesOver
 pub use Rattle.mdinline_machine.specs.RunRows
 pub use Rattle.mdinline_machine.specs.StringEvents
 pub use Rattle.mdinline_machine.specs.StringTable
-pub use Rattle.mdblock_leaf_machine.specs.BlankLine
-pub use Rattle.mdblock_leaf_machine.specs.ChunkRows
-pub use Rattle.mdblock_leaf_machine.specs.CodeFenced
-pub use Rattle.mdblock_leaf_machine.specs.CodeIndented
-pub use Rattle.mdblock_leaf_machine.specs.Flow as FlowStates
-pub use Rattle.mdblock_leaf_machine.specs.FlowBytes
-pub use Rattle.mdblock_leaf_machine.specs.FlowCosts
-pub use Rattle.mdblock_leaf_machine.specs.FlowKnows
-pub use Rattle.mdblock_leaf_machine.specs.FlowTable
-pub use Rattle.mdblock_leaf_machine.specs.FlowWrites
-pub use Rattle.mdblock_leaf_machine.specs.HeadingAtx
-pub use Rattle.mdblock_leaf_machine.specs.HeadingEdits
-pub use Rattle.mdblock_leaf_machine.specs.HeadingSetext
-pub use Rattle.mdblock_leaf_machine.specs.HtmlFlow
-pub use Rattle.mdblock_leaf_machine.specs.HtmlNames
-pub use Rattle.mdblock_leaf_machine.specs.HtmlTags
-pub use Rattle.mdblock_leaf_machine.specs.HtmlWrites
-pub use Rattle.mdblock_leaf_machine.specs.LawStatements as FlowLawStatements
-pub use Rattle.mdblock_leaf_machine.specs.Laws as FlowLaws
-pub use Rattle.mdblock_leaf_machine.specs.Look
-pub use Rattle.mdblock_leaf_machine.specs.Over as FlowOver
-pub use Rattle.mdblock_leaf_machine.specs.Paragraph
-pub use Rattle.mdblock_leaf_machine.specs.QuietLooks
-pub use Rattle.mdblock_leaf_machine.specs.Renamings
-pub use Rattle.mdblock_leaf_machine.specs.Steps as FlowSteps
-pub use Rattle.mdblock_leaf_machine.specs.ThematicBreak
+pub use Rattle.mdblock_leaf_rows.specs.BlankLine
+pub use Rattle.mdblock_leaf_rows.specs.ChunkRows
+pub use Rattle.mdblock_leaf_rows.specs.CodeFenced
+pub use Rattle.mdblock_leaf_rows.specs.CodeIndented
+pub use Rattle.mdblock_leaf_rows.specs.Flow as FlowStates
+pub use Rattle.mdblock_leaf_rows.specs.FlowBytes
+pub use Rattle.mdblock_leaf_rows.specs.FlowCosts
+pub use Rattle.mdblock_leaf_rows.specs.FlowKnows
+pub use Rattle.mdblock_leaf_rows.specs.FlowTable
+pub use Rattle.mdblock_leaf_rows.specs.FlowWrites
+pub use Rattle.mdblock_leaf_rows.specs.HeadingAtx
+pub use Rattle.mdblock_leaf_rows.specs.HeadingEdits
+pub use Rattle.mdblock_leaf_rows.specs.HeadingSetext
+pub use Rattle.mdblock_leaf_rows.specs.HtmlFlow
+pub use Rattle.mdblock_leaf_rows.specs.HtmlNames
+pub use Rattle.mdblock_leaf_rows.specs.HtmlTags
+pub use Rattle.mdblock_leaf_rows.specs.HtmlWrites
+pub use Rattle.mdblock_leaf_rows.specs.LawStatements as FlowLawStatements
+pub use Rattle.mdblock_leaf_rows.specs.Laws as FlowLaws
+pub use Rattle.mdblock_leaf_rows.specs.Look
+pub use Rattle.mdblock_leaf_rows.specs.Over as FlowOver
+pub use Rattle.mdblock_leaf_rows.specs.Paragraph
+pub use Rattle.mdblock_leaf_rows.specs.QuietLooks
+pub use Rattle.mdblock_leaf_rows.specs.Renamings
+pub use Rattle.mdblock_leaf_rows.specs.Steps as FlowSteps
+pub use Rattle.mdblock_leaf_rows.specs.ThematicBreak
 pub use Rattle.mdblock_leaf_blocks.specs.BlockLines
 pub use Rattle.mdblock_leaf_blocks.specs.BlocksFormed
 pub use Rattle.mdblock_leaf_blocks.specs.BlocksRead

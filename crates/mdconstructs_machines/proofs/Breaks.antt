@@ -2,7 +2,7 @@
 use Rattle.mdconstructs_machines.proofs.Prelude.{◌≡◌, ℕ, ◌+◌, ◌==◌, ◌∷◌, List, [], Bool, true, false, cond, Option, Some, None, refl, sym, ap, ◌∙◌, map, nat_le, eqb-true, cond-itself, Event, Name, Ok, Nok, ThematicBreakAtBreak, Seat, Given, Local, at-byte, told, by-test, by-when, AreTestsOf, Look, scan, shows, unfed_look, loud, row, counts, is_white, BreakByte, star, white, line_feed, break_byte, is_star_class, is_white_class, is_line_feed_class, one_star_more, has_three, line_ends, break_cases, breaks, is_ok, is_break, BreaksAreScanned}
 use Rattle.markdown_base.specs.declared.event.Name.{Name as EventName}
 use Rattle.markdown_tokenizer.specs.Text.{Text}
-use Rattle.mdconstructs_machines.specs.Breaks.{other}
+use Rattle.mdconstructs_tables.specs.Breaks.{other}
 
 -- each test of classes is a test of bytes
 star-test : (b : ℕ) → is_star_class (break_byte b) ≡ (b == 42)

@@ -1,7 +1,6 @@
 -- The proof of each function is in a folder of its own, by its module.
 pub mod BlockReads
 pub mod Breaks
-pub mod ChunkEnters
 pub mod Columns
 pub mod Innermost
 pub mod LineExamples

@@ -1,6 +1,6 @@
 -- Paragraphs look no further than the byte that waits: their tests take nothing of the document.
 use Rattle.mdconstructs_machines.proofs.Prelude.{Option, Some, None, refl, AllByRecursion, LooksNoFurther, IsAnsweredAlike, tests, steps-alike, LineByte, line_ending, paragraphs, paragraphs_rules}
-use Rattle.mdconstructs_machines.specs.Tables.{other}
+use Rattle.mdconstructs_tables.specs.Tables.{other}
 
 paragraphs-tests : (previous current : Option LineByte) → AllByRecursion IsAnsweredAlike (tests paragraphs.states previous current)
 paragraphs-tests previous None = tt

@@ -51,25 +51,25 @@ pub use Rattle.mdconstructs_machines.specs.Innermost.{AccountFor, AccountsForDoc
 pub use Rattle.mdconstructs_machines.specs.Laws.Back.{back-none}
 pub use Rattle.mdconstructs_machines.specs.Laws.Deep.{deep-none, triangle-is}
 pub use Rattle.mdconstructs_machines.specs.Laws.Lines.{lines-none}
-pub use Rattle.mdconstructs_machines.specs.Laws.Paragraphs.{can-follow, known-before}
+pub use Rattle.mdconstructs_tables.specs.Laws.Paragraphs.{can-follow, known-before}
 pub use Rattle.mdconstructs_machines.specs.Laws.Peek.{peek-none}
 pub use Rattle.mdconstructs_machines.specs.Laws.Save.{save-none}
 pub use Rattle.mdconstructs_machines.specs.LineEvents.{all_of, back_events, data_events, data_line, ending_of, is_line_ending, joined, line_events, line_text, lines_in, paragraph_line, save_events}
 pub use Rattle.mdconstructs_machines.specs.Lines.{flow_start, lines, lines_rules, paragraph_inside, paragraph_inside_rows}
 pub use Rattle.mdconstructs_machines.specs.ParagraphEvents.{Block, Chunk, Marked, as_linked, begins, blank, block_marks, blocks_marks, blocks_of, chunk_at, chunk_of, continued, is_blank, is_quoted, line_marks, lines_marks, mark_of, marked_span, paragraph, paragraph_events, with_links}
-pub use Rattle.mdconstructs_machines.specs.Paragraphs.{CanLinkChunk, flow_start_rows, is_quote_mark, paragraph_line_start_rows, paragraph_start_rows, paragraphs, paragraphs_rules, text_link}
+pub use Rattle.mdconstructs_tables.specs.Paragraphs.{CanLinkChunk, flow_start_rows, is_quote_mark, paragraph_line_start_rows, paragraph_start_rows, paragraphs, paragraphs_rules, text_link}
 pub use Rattle.mdconstructs_machines.specs.Peek.{peek, peek_rules}
 pub use Rattle.mdconstructs_machines.specs.ReadAs.{IsReadAs}
 pub use Rattle.mdconstructs_machines.specs.Save.{save, save_rules}
 pub use Rattle.mdconstructs_machines.specs.Spans.{event, leaf, span}
-pub use Rattle.mdconstructs_machines.specs.Tables.{LineByte, counts, line_byte, line_ending, other}
+pub use Rattle.mdconstructs_tables.specs.Tables.{LineByte, counts, line_byte, line_ending, other}
 pub use Rattle.mdconstructs_machines.specs.Unfit.{breaking, editing, is_ending, uncounted_lines}
 pub use Rattle.mdconstructs_machines.specs.Words.{words}
 pub use Rattle.mdconstructs_machines.specs.Wrap.{renamed, wrap}
 pub use Rattle.markdown_base.proofs.Facts.Bools.{cond-itself}
 pub use Rattle.markdown_base.proofs.Seats.{end-after-append}
 pub use Rattle.markdown_tokenizer.specs.Alike.{LooksNoFurther}
-pub use Rattle.mdconstructs_machines.specs.Breaks.{BreakByte, BreaksAreScanned, break_byte, break_cases, breaks, has_three, is_break, is_line_feed_class, is_ok, is_star_class, is_white, is_white_class, line_ends, line_feed, one_star_more, star, white}
+pub use Rattle.mdconstructs_tables.specs.Breaks.{BreakByte, BreaksAreScanned, break_byte, break_cases, breaks, has_three, is_break, is_line_feed_class, is_ok, is_star_class, is_white, is_white_class, line_ends, line_feed, one_star_more, star, white}
 pub use Rattle.mdconstructs_machines.specs.WholeLooks.{LooksOverTheRest}
 pub use Rattle.mdconstructs_machines.specs.declared.wrap.Resolver.{Resolver}
 pub use Rattle.mdconstructs_tables.proofs.Cases.{at-byte}

@@ -9,7 +9,7 @@ use Rattle.markdown_tokenizer.specs.Rules.{Rules}
 use Rattle.markdown_tokenizer.specs.Plain.{plain}
 use Rattle.mdconstructs_tables.specs.Rows.{enter, exit, consume, choose, Rows, row, at_byte, at_a_byte, a_choice, StateRows, calls, state, Table}
 use Rattle.mdconstructs_tables.specs.RowInvariant.{table_rules}
-use Rattle.mdconstructs_machines.specs.Tables.{LineByte, line_ending, other, line_byte, is_any, counts}
+use Rattle.mdconstructs_tables.specs.Tables.{LineByte, line_ending, other, line_byte, is_any, counts}
 
 -- before the text: data begins at its first byte
 abbrev pub text_start_rows : (previous current : Option LineByte) → Rows Unit Unit

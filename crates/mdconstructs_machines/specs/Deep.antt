@@ -8,8 +8,8 @@ use Rattle.markdown_tokenizer.specs.Rules.{Rules}
 use Rattle.markdown_tokenizer.specs.Plain.{plain}
 use Rattle.mdconstructs_tables.specs.Rows.{consume, choose, Rows, row, a_choice, a_choice_once_read, StateRows, calls, costs, state, Table}
 use Rattle.mdconstructs_tables.specs.RowInvariant.{table_rules}
-use Rattle.mdconstructs_machines.specs.Tables.{LineByte, line_byte, counts}
-use Rattle.mdconstructs_machines.specs.DataRows.{data_start, data_inside}
+use Rattle.mdconstructs_tables.specs.Tables.{LineByte, line_byte, counts}
+use Rattle.mdconstructs_tables.specs.DataRows.{data_start, data_inside}
 
 -- at a byte to try something at, or at the end. If an attempt fails, data is read at the first byte, and later the rest is read once more.
 abbrev pub string_start_rows : (previous current : Option LineByte) → Rows Unit Unit

@@ -8,7 +8,7 @@ use Rattle.markdown_tokenizer.specs.Rules.{Rules}
 use Rattle.markdown_tokenizer.specs.Plain.{plain}
 use Rattle.mdconstructs_tables.specs.Rows.{consume, write, Rows, row, when, StateRows, calls, state, Table}
 use Rattle.mdconstructs_tables.specs.RowInvariant.{table_rules}
-use Rattle.mdconstructs_machines.specs.Tables.{LineByte, line_byte, counts}
+use Rattle.mdconstructs_tables.specs.Tables.{LineByte, line_byte, counts}
 use Rattle.mdconstructs_machines.specs.Messages.{refusal}
 
 -- one more call is counted

@@ -3,7 +3,6 @@ pub mod Back
 pub mod Deep
 pub mod Fail
 pub mod Lines
-pub mod Paragraphs
 pub mod Peek
 pub mod Save
 pub mod Words

@@ -1,6 +1,5 @@
 pub mod Costs
 pub mod Back
-pub mod Breaks
 pub mod Deep
 pub mod Fail
 pub mod Innermost
@@ -8,13 +7,10 @@ pub mod LineEvents
 pub mod Lines
 pub mod Messages
 pub mod ParagraphEvents
-pub mod Paragraphs
 pub mod Peek
 pub mod ReadAs
-pub mod DataRows
 pub mod Save
 pub mod Spans
-pub mod Tables
 pub mod Unfit
 pub mod WholeLooks
 pub mod Words

@@ -8,7 +8,7 @@ use Rattle.markdown_tokenizer.specs.Rules.{Rules}
 use Rattle.markdown_tokenizer.specs.Plain.{plain}
 use Rattle.mdconstructs_tables.specs.Rows.{enter, exit, consume, Rows, row, at_byte, StateRows, calls, state, Table}
 use Rattle.mdconstructs_tables.specs.RowInvariant.{table_rules}
-use Rattle.mdconstructs_machines.specs.Tables.{LineByte, line_ending, other, line_byte, is_other, counts}
+use Rattle.mdconstructs_tables.specs.Tables.{LineByte, line_ending, other, line_byte, is_other, counts}
 
 -- before a line
 abbrev pub flow_start_rows : (previous current : Option LineByte) → Rows Unit Unit

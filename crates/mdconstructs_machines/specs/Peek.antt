@@ -8,8 +8,8 @@ use Rattle.markdown_tokenizer.specs.Rules.{Rules}
 use Rattle.markdown_tokenizer.specs.Plain.{plain}
 use Rattle.mdconstructs_tables.specs.Rows.{consume, choose, Rows, row, a_choice, StateRows, calls, state, Table}
 use Rattle.mdconstructs_tables.specs.RowInvariant.{table_rules}
-use Rattle.mdconstructs_machines.specs.Tables.{LineByte, line_byte, counts}
-use Rattle.mdconstructs_machines.specs.DataRows.{data_start, data_inside}
+use Rattle.mdconstructs_tables.specs.Tables.{LineByte, line_byte, counts}
+use Rattle.mdconstructs_tables.specs.DataRows.{data_start, data_inside}
 
 -- before the look: a check begins, which goes on with data after Ok and after Nok
 abbrev pub text_start_rows : (previous current : Option LineByte) → Rows Unit Unit

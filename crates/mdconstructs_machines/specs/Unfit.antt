@@ -10,7 +10,7 @@ use Rattle.markdown_tokenizer.specs.Configuration.{Configuration, Local}
 use Rattle.markdown_tokenizer.specs.Text.{Text}
 use Rattle.mdconstructs_tables.specs.Numbers.{Price, by_left, TooLow}
 use Rattle.mdconstructs_tables.specs.Rows.{enter, exit, consume, write, choose, note, exit_noted, enter_noted, Rows, row, Called, before, here, a_choice, a_choice_for_ok, at_bytes, StateRows, calls, costs, state, Table}
-use Rattle.mdconstructs_machines.specs.Tables.{LineByte, line_ending, other, line_byte, is_other, counts}
+use Rattle.mdconstructs_tables.specs.Tables.{LineByte, line_ending, other, line_byte, is_other, counts}
 use Rattle.mdconstructs_machines.specs.Lines.{lines, flow_start_rows, flow_start, paragraph_inside}
 
 -- lines with other rows before a line

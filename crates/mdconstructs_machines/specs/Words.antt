@@ -17,7 +17,7 @@ use Rattle.markdown_tokenizer.specs.Rules.{Rules}
 use Rattle.markdown_tokenizer.specs.Engine.{EndsWellFormed}
 use Rattle.mdconstructs_tables.specs.Rows.{enter, exit, consume, write, Rows, row, when, here, at_a_byte, StateRows, calls, state, Table}
 use Rattle.mdconstructs_tables.specs.Knowledge.{knowing_rules}
-use Rattle.mdconstructs_machines.specs.Tables.{counts}
+use Rattle.mdconstructs_tables.specs.Tables.{counts}
 
 -- The classes of bytes: a blank, or another
 pub data WordByte : Type 0 where

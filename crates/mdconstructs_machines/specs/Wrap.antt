@@ -25,8 +25,8 @@ use Rattle.mdconstructs_tables.specs.RowInvariant.{table_rules}
 use Rattle.mdconstructs_machines.specs.contracts.wrap.Resolver.{the_type}
 use Rattle.mdconstructs_machines.specs.declared.wrap.Resolver.{Resolver}
 use Rattle.mdconstructs_machines.specs.declared.wrap.Resolver.TheVariants.{A, B, C}
-use Rattle.mdconstructs_machines.specs.Tables.{LineByte, line_byte, counts}
-use Rattle.mdconstructs_machines.specs.DataRows.{data_start, data_inside}
+use Rattle.mdconstructs_tables.specs.Tables.{LineByte, line_byte, counts}
+use Rattle.mdconstructs_tables.specs.DataRows.{data_start, data_inside}
 use Rattle.mdconstructs_machines.specs.Messages.{refusal}
 
 -- whether two names of resolvers are equal

@@ -3,7 +3,7 @@
 
 ghost use Rattle.std.specs.Prelude.{IfOk};
 ghost use Rattle.mdconstructs_tables.specs.RowInvariant.{DoesAll, IsCallable, step_in};
-ghost use Rattle.mdconstructs_machines.specs.Tables.{line_byte};
+ghost use Rattle.mdconstructs_tables.specs.Tables.{line_byte};
 ghost use Rattle.mdconstructs_machines.specs.Back.{text_start, text_before, data_start, data_inside, data_at_break, string_before};
 
 use crate::begin::begin;

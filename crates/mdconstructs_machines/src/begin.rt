@@ -2,7 +2,7 @@
 
 ghost use Rattle.std.specs.Prelude.{◌≡◌};
 ghost use Rattle.mdconstructs_tables.specs.RowInvariant.{begun};
-ghost use Rattle.mdconstructs_machines.specs.Tables.{counts};
+ghost use Rattle.mdconstructs_tables.specs.Tables.{counts};
 
 use markdown_tokenizer::state::MachineTypes;
 use markdown_tokenizer::tokenizer::Tokenizer;

@@ -3,8 +3,8 @@
 
 ghost use Rattle.std.specs.Prelude.{IfOk};
 ghost use Rattle.mdconstructs_tables.specs.RowInvariant.{DoesAll, IsCallable, step_in};
-ghost use Rattle.mdconstructs_machines.specs.Tables.{line_byte};
-ghost use Rattle.mdconstructs_machines.specs.Paragraphs.{flow_start, paragraph_line_start, paragraph_start, paragraph_inside, CanLinkChunk};
+ghost use Rattle.mdconstructs_tables.specs.Tables.{line_byte};
+ghost use Rattle.mdconstructs_tables.specs.Paragraphs.{flow_start, paragraph_line_start, paragraph_start, paragraph_inside, CanLinkChunk};
 
 use crate::begin::begin;
 use crate::reading::{data_inside, data_start};
@@ -39,8 +39,8 @@ impl MachineTypes for Paragraphs {
 
 impl Machine for Paragraphs {
     ghost use Rattle.mdconstructs_tables.proofs.Tables.Lawful.{knowing-lawful};
-    ghost use Rattle.mdconstructs_machines.specs.Paragraphs.{paragraphs, knows_chunk, paragraphs_rules};
-    ghost use Rattle.mdconstructs_machines.specs.Laws.Paragraphs.{paragraphs-fit, paragraphs-known};
+    ghost use Rattle.mdconstructs_tables.specs.Paragraphs.{paragraphs, knows_chunk, paragraphs_rules};
+    ghost use Rattle.mdconstructs_tables.specs.Laws.Paragraphs.{paragraphs-fit, paragraphs-known};
 
     ghost rules = { λ _. paragraphs_rules };
 

@@ -2,8 +2,8 @@
 
 ghost use Rattle.std.specs.Prelude.{IfOk};
 ghost use Rattle.mdconstructs_tables.specs.RowInvariant.{DoesAll, IsCallable, step_in};
-ghost use Rattle.mdconstructs_machines.specs.Tables.{line_byte};
-ghost use Rattle.mdconstructs_machines.specs.DataRows.{data_start, data_inside};
+ghost use Rattle.mdconstructs_tables.specs.Tables.{line_byte};
+ghost use Rattle.mdconstructs_tables.specs.DataRows.{data_start, data_inside};
 
 use markdown_tokenizer::event;
 use markdown_tokenizer::state::{MachineTypes, Name, State};

@@ -6,7 +6,7 @@ ghost use Rattle.markdown_tokenizer.specs.Configuration.{at_configuration};
 ghost use Rattle.markdown_edits.specs.Edits.{added_after, edit_at};
 ghost use Rattle.markdown_tokenizer.specs.Sight.{sight_of};
 ghost use Rattle.mdconstructs_tables.specs.RowInvariant.{DoesAll, IsCallable, step_in};
-ghost use Rattle.mdconstructs_machines.specs.Tables.{line_byte};
+ghost use Rattle.mdconstructs_tables.specs.Tables.{line_byte};
 ghost use Rattle.mdconstructs_machines.specs.Wrap.{text_start, renamed, one_definition, begins_paragraph, ends_paragraph};
 
 use crate::begin::begin;

@@ -11,3 +11,4 @@ mod Prelude
 pub mod Rows
 pub mod Tables
 pub mod Unlinked
+pub mod ChunkEnters

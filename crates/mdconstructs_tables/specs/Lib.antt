@@ -26,3 +26,8 @@ pub mod Refusals
 pub mod Stretches
 pub mod Twins
 pub mod Unlinked
+pub mod Breaks
+pub mod DataRows
+pub mod Laws
+pub mod Paragraphs
+pub mod Tables

@@ -92,8 +92,8 @@ pub use Rattle.mddocument.specs.declared.choice.Which.TheVariants.{Back, Deep, F
 pub use Rattle.mddocument.specs.declared.making.Unmade.{Unmade}
 pub use Rattle.mddocument.specs.declared.making.Unmade.TheVariants.{Fault as OfFault, NotReady}
 pub use Rattle.mddocument.specs.declared.ranges.ByteRange.{ByteRange}
-pub use Rattle.mdblock_leaf_machine.proofs.NoRefusals.{flow-refuses-nothing}
-pub use Rattle.mdblock_leaf_machine.specs.FlowKnows.{flow_rules}
+pub use Rattle.mdblock_leaf_rows.proofs.NoRefusals.{flow-refuses-nothing}
+pub use Rattle.mdblock_leaf_rows.specs.FlowKnows.{flow_rules}
 pub use Rattle.mdblock_leaf_blocks.proofs.Lines.Rooms.{has-room}
 pub use Rattle.mdblock_leaf_blocks.proofs.Lines.WholeLines.{IsWhole, body-and-last, part-behind, text-and-ending, three-parts, whole-behind, whole-lines, whole-part, whole-text}
 pub use Rattle.mdblock_leaf_blocks.proofs.Marks.BlocksFormed.{blocks-are-formed}
@@ -153,14 +153,14 @@ pub use Rattle.mdconstructs_machines.proofs.LineReads.Peek.{peek-reads}
 pub use Rattle.mdconstructs_machines.proofs.LineReads.Save.{save-reads}
 pub use Rattle.mdconstructs_machines.proofs.NoRefusals.{back-refuses-nothing, deep-refuses-nothing, lines-refuse-nothing, paragraphs-refuse-nothing, peek-refuses-nothing, save-refuses-nothing}
 pub use Rattle.mdconstructs_machines.specs.Back.{back_rules}
-pub use Rattle.mdconstructs_machines.specs.Breaks.{is_white}
+pub use Rattle.mdconstructs_tables.specs.Breaks.{is_white}
 pub use Rattle.mdconstructs_machines.specs.Deep.{deep_rules}
 pub use Rattle.mdconstructs_machines.specs.Innermost.{AccountFor, ended_next, innermost_spans, span_over, stretch_bytes}
-pub use Rattle.mdconstructs_machines.specs.Laws.Paragraphs.{paragraphs-fit, paragraphs-known}
+pub use Rattle.mdconstructs_tables.specs.Laws.Paragraphs.{paragraphs-fit, paragraphs-known}
 pub use Rattle.mdconstructs_machines.specs.LineEvents.{all_of, back_events, data_events, data_line, ending_of, is_line_ending, line_events, line_text, lines_in, paragraph_line, save_events}
 pub use Rattle.mdconstructs_machines.specs.Lines.{lines_rules}
 pub use Rattle.mdconstructs_machines.specs.ParagraphEvents.{paragraph_events}
-pub use Rattle.mdconstructs_machines.specs.Paragraphs.{knows_chunk, paragraphs, paragraphs_rules}
+pub use Rattle.mdconstructs_tables.specs.Paragraphs.{knows_chunk, paragraphs, paragraphs_rules}
 pub use Rattle.mdconstructs_machines.specs.Peek.{peek_rules}
 pub use Rattle.mdconstructs_machines.specs.ReadAs.{IsReadAs}
 pub use Rattle.mdconstructs_machines.specs.Save.{save_rules}

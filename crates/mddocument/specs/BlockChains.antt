@@ -12,7 +12,7 @@ use Rattle.markdown_children.specs.Ready.{IsReady}
 use Rattle.markdown_tokenizer.specs.declared.subtokenize.Subresult.{Subresult}
 use Rattle.markdown_tokenizer.specs.Text.{Given, Text, IsDocument, IsText}
 use Rattle.mdinline_text_machine.specs.ChainTexts.{chain_text}
-use Rattle.mdblock_leaf_machine.specs.FlowKnows.{flow_rules}
+use Rattle.mdblock_leaf_rows.specs.FlowKnows.{flow_rules}
 use Rattle.mdblock_leaf_blocks.specs.LeafEvents.{flow_events}
 
 -- a list whose chains of content can be read

@@ -9,7 +9,7 @@ ghost use Rattle.markdown_tokenizer.specs.Text.{IsDocument};
 ghost use Rattle.mdblock_definitions.specs.Blocks.{document_skeleton};
 ghost use Rattle.mdblock_definitions.specs.Labelled.{AreDefined};
 ghost use Rattle.mdblock_definitions.specs.Skeleton.{letters as letters_of, written_labels};
-ghost use Rattle.mdblock_leaf_machine.specs.FlowKnows.{flow_rules};
+ghost use Rattle.mdblock_leaf_rows.specs.FlowKnows.{flow_rules};
 ghost use Rattle.mdinline_machine.specs.InlineRules.{inlines_rules};
 ghost use Rattle.mdinline_labels.specs.Defined.{defines};
 ghost use Rattle.mddocument.specs.DocumentEvents.{document_events_by};

@@ -16,7 +16,7 @@ use Rattle.mddocument.specs.Tiles.{TilesDocuments}
 use Rattle.mddocument.specs.declared.choice.Which.TheVariants.{Document}
 use Rattle.markdown_children.specs.Reads.{IsSubtokenized}
 use Rattle.markdown_tokenizer.specs.Engine.{IsWellFormed}
-use Rattle.mdblock_leaf_machine.specs.FlowKnows.{flow_rules}
+use Rattle.mdblock_leaf_rows.specs.FlowKnows.{flow_rules}
 use Rattle.mdinline_machine.specs.InlineRules.{inlines_rules}
 use Rattle.mddocument_costs.proofs.ChainBytes.{bytes-within}
 use Rattle.mddocument_costs.proofs.ChainCount.{count-within}

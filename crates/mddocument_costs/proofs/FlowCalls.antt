@@ -2,8 +2,8 @@
 use Rattle.mddocument_costs.proofs.Prelude.{Some, [], arith, refl, subst, ◌*◌, ◌+◌, ◌≡◌, ◌≤◌, ◌∷◌, Content, Name, Next, start_configuration, content_at, text_from, ReadsWithin}
 use Rattle.markdown_base.specs.declared.event.Content.TheVariants as content
 use Rattle.markdown_base.specs.declared.state.TheConstants.Name.{ContentDefinitionBefore}
-use Rattle.mdblock_leaf_machine.specs.FlowKnows.{flow_rules}
-use Rattle.mdblock_leaf_machine.specs.LawStatements.{StartsWithin}
+use Rattle.mdblock_leaf_rows.specs.FlowKnows.{flow_rules}
+use Rattle.mdblock_leaf_rows.specs.LawStatements.{StartsWithin}
 use Rattle.mddocument_costs.proofs.ChainCalls.{calls-within, content-of, from-start, only-one}
 
 pub flow-linear : StartsWithin flow_rules ContentDefinitionBefore (λ n. 9 * n + 10) → ReadsWithin flow_rules (content.Content ∷ []) 9 10

@@ -5,7 +5,7 @@ use Rattle.markdown_base.specs.Virtual.{virtual}
 use Rattle.markdown_children.specs.Reads.{IsSubtokenized}
 use Rattle.markdown_tokenizer.specs.declared.subtokenize.Subresult.{Subresult}
 use Rattle.markdown_tokenizer.specs.Text.{Given, IsDocument}
-use Rattle.mdblock_leaf_machine.specs.FlowKnows.{flow_rules}
+use Rattle.mdblock_leaf_rows.specs.FlowKnows.{flow_rules}
 use Rattle.mdinline_machine.specs.InlineRules.{inlines_rules}
 use Rattle.mdblock_definitions.specs.Blocks.{document_skeleton, shown_as_text}
 use Rattle.mddocument_costs.specs.Chains.{calls_in}

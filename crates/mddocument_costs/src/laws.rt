@@ -2,14 +2,14 @@
 
 ghost use Rattle.std.specs.Prelude.{◌≡◌, [], ◌∷◌, ℕ, Bool, List};
 ghost use Rattle.markdown_base.specs.declared.event.Content.TheVariants.{Content, String, Text};
-ghost use Rattle.mdblock_leaf_machine.specs.FlowKnows.{flow_rules};
+ghost use Rattle.mdblock_leaf_rows.specs.FlowKnows.{flow_rules};
 ghost use Rattle.mdinline_machine.specs.InlineRules.{inlines_rules};
 ghost use Rattle.mddocument_costs.specs.Chains.{ChainsAreApart, ChainsAreFew, ReadsWithin};
 ghost use Rattle.mddocument_costs.specs.Documents.{DocumentsAreLinear};
 ghost use Rattle.mddocument_costs.specs.Examples.{measured};
 
 use mdblock_definitions::laws::innermost_spans_of_skeletons_account_for_documents;
-use mdblock_leaf_machine::laws::cost_at_the_start;
+use mdblock_leaf_rows::laws::cost_at_the_start;
 use mddocument::laws::innermost_spans_tile_documents_with_containers;
 
 /// The texts of all chains of a list together have at most as many virtual bytes as the document, if the events of the list are in order.

@@ -36,7 +36,7 @@ use Rattle.mdinline_machine.specs.Brackets.{Bracket, Memory, after_item, before_
 use Rattle.mdinline_machine.specs.InlineEvents.{begins_run, bracket_or_part, data_length, data_run, delimiter_run, inline_grammars, inline_item_at, line_break, run_length, run_or_part}
 use Rattle.mdinline_labels.specs.Labels.{hides, is_label}
 use Rattle.mdinline_labels.specs.Tails.{bare_behind, begins_with, is_plain, label_size, marked_size}
-use Rattle.mdconstructs_machines.specs.Breaks.{is_white}
+use Rattle.mdconstructs_tables.specs.Breaks.{is_white}
 use Rattle.mdinline_link_tails.proofs.Resources.Cuts.{string-cut}
 use Rattle.mdinline_link_tails.specs.Resource.{string_events}
 use Rattle.mddocument_parts.specs.Asked.{asked_from, asked_labels, if_label, label_ahead, label_behind, labels_at, looked_up, own_label}

@@ -17,7 +17,7 @@ use Rattle.mddocument.specs.Documents.{document}
 use Rattle.mdinline_constructs.specs.WhiteSpace.{white_space}
 use Rattle.mdinline_machine.specs.Brackets.{Memory, after_item, nothing_read}
 use Rattle.mdinline_machine.specs.InlineEvents.{inline_item_at}
-use Rattle.mdconstructs_machines.specs.Breaks.{is_white}
+use Rattle.mdconstructs_tables.specs.Breaks.{is_white}
 use Rattle.mddocument_parts.proofs.TextsOfBoth.{seats-of}
 use Rattle.mddocument_parts.specs.Asked.{asked_from, asked_labels, labels_at, looked_up}
 use Rattle.mddocument_parts.specs.BothDocuments.{blocks_of}

@@ -10,7 +10,7 @@ use Rattle.markdown_base.specs.declared.event.Name.{Name}
 use Rattle.markdown_base.specs.declared.event.Name.TheVariants as name
 use Rattle.markdown_base.specs.Virtual.{Seat}
 use Rattle.mdinline_labels.specs.Labels.{is_label}
-use Rattle.mdconstructs_machines.specs.Breaks.{is_white}
+use Rattle.mdconstructs_tables.specs.Breaks.{is_white}
 use Rattle.mdconstructs_machines.specs.Spans.{leaf, span}
 use Rattle.mdinline_labels.specs.declared.definitions.Stretch.{Stretch}
 use Rattle.mdinline_labels.specs.declared.resources.Resource.{Resource as Parts}

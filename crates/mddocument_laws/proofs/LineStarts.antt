@@ -6,7 +6,7 @@ use Rattle.std.specs.List.{list_all}
 use Rattle.std.specs.Char.{is_ascii_alphabetic}
 use Rattle.std.specs.Prelude.{◌&&◌, ◌||◌, codes, is_some}
 use Rattle.markdown_base.specs.Texts.{html_raw_names}
-use Rattle.mdconstructs_machines.specs.Breaks.{is_white}
+use Rattle.mdconstructs_tables.specs.Breaks.{is_white}
 use Rattle.mdblock_leaf_blocks.specs.HtmlLines.{HtmlKind, any_tag, begins, behind_name, block_tag, cdata, comment, declaration, ends_name, first_passes, html_kind, is_block_name, is_named, name_at, instruction, is_closing_tag, is_open_tag, raw, starts_with}
 use Rattle.mdblock_leaf_blocks.specs.LineKinds.{begins_with, is_break_of_marks, run}
 use Rattle.mdblock_lines.specs.Containers.{digits, first_byte, is_marker}

@@ -12,7 +12,7 @@ use Rattle.markdown_base.specs.declared.event.Name.TheVariants as name
 use Rattle.markdown_base.specs.Events.{is_enter, same_name}
 use Rattle.markdown_base.specs.Virtual.{Seat, end_after}
 use Rattle.markdown_edits.proofs.Balanced.{same_name-true}
-use Rattle.mdconstructs_machines.specs.Breaks.{is_white}
+use Rattle.mdconstructs_tables.specs.Breaks.{is_white}
 use Rattle.mdconstructs_machines.specs.Spans.{event, leaf, span}
 use Rattle.mdinline_text_machine.specs.Bytes.{has_byte_at, is_ampersand, is_line_feed}
 use Rattle.mdinline_text_machine.specs.Construct.{Found, if_on, or_else}

@@ -7,7 +7,7 @@ use Rattle.markdown_base.specs.declared.configuration.Constructs.{Constructs}
 use Rattle.markdown_base.specs.Virtual.{Seat}
 use Rattle.markdown_tokenizer.proofs.Positions.Order.{every-back, every-front}
 use Rattle.mdinline_labels.specs.Labels.{is_label}
-use Rattle.mdconstructs_machines.specs.Breaks.{is_white}
+use Rattle.mdconstructs_tables.specs.Breaks.{is_white}
 use Rattle.mdinline_text_machine.specs.Bytes.{has_byte_at}
 use Rattle.mdinline_text_machine.specs.Construct.{Found, first_there, or_else}
 use Rattle.mdinline_text_machine.specs.Items.{item_length}

@@ -5,7 +5,7 @@ use Rattle.std.specs.List.{prefix_len}
 use Rattle.markdown_base.specs.declared.configuration.Constructs.{Constructs}
 use Rattle.markdown_base.specs.declared.event.Name.TheVariants.{SpaceOrTab}
 use Rattle.markdown_base.specs.Virtual.{Seat}
-use Rattle.mdconstructs_machines.specs.Breaks.{is_white}
+use Rattle.mdconstructs_tables.specs.Breaks.{is_white}
 use Rattle.mdinline_text_machine.specs.Bytes.{has_byte_at}
 use Rattle.mdinline_text_machine.specs.Parts.{bytes_of}
 use Rattle.mdinline_constructs.specs.WhiteSpace.{white_space}

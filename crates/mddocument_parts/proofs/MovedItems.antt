@@ -13,7 +13,7 @@ use Rattle.mdinline_labels.specs.declared.resources.Resource.{Resource as Parts}
 use Rattle.mdinline_labels.specs.Definitions.{end}
 use Rattle.mdinline_labels.specs.Resources.{resource_at}
 use Rattle.mdinline_labels.specs.Tails.{begins_with, is_white as is_space_or_tab}
-use Rattle.mdconstructs_machines.specs.Breaks.{is_white}
+use Rattle.mdconstructs_tables.specs.Breaks.{is_white}
 use Rattle.mdconstructs_machines.specs.Spans.{leaf, span}
 use Rattle.mdinline_text_machine.specs.Autolink.{autolink, autolink_at, autolink_to, uri}
 use Rattle.mdinline_text_machine.specs.Bytes.{backticks, has_byte_at, is_line_feed}

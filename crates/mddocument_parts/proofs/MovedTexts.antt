@@ -14,7 +14,7 @@ use Rattle.markdown_base.specs.Events.{is_enter, same_name}
 use Rattle.markdown_base.specs.Places.{shown}
 use Rattle.markdown_base.specs.Virtual.{Seat}
 use Rattle.mdinline_labels.specs.Labels.{is_label}
-use Rattle.mdconstructs_machines.specs.Breaks.{is_white}
+use Rattle.mdconstructs_tables.specs.Breaks.{is_white}
 use Rattle.mdconstructs_machines.specs.Innermost.{ended_next, innermost_spans}
 use Rattle.mdinline_text_machine.specs.Bytes.{has_byte_at}
 use Rattle.mdinline_text_machine.specs.Construct.{Found, first_there, or_else}

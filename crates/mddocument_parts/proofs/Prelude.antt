@@ -18,7 +18,7 @@ pub use Rattle.mdblock_leaf_blocks.specs.HtmlLines.{HtmlKind, ends, waits_for_bl
 pub use Rattle.mdblock_leaf_blocks.specs.LeafBlocks.{LeafBlock, Line, atx_heading, blank_line, block_of_kind, blocks_in, break_line, bytes_of, content_at, ends_text, fenced_code, further_code, has_line, html_block, html_block_at, indented_code, interrupts, is_blank, is_indented, leaf_blocks, lines_through, lines_until, paragraph, setext_heading, text_of, underlined}
 pub use Rattle.mdblock_leaf_blocks.specs.LeafEvents.{Chunk, Mark, alone, block_around, block_span, body, break_marks, chunk_span, code_fenced_around, code_marks, fence_around, fenced_marks, flow_events, heading_around, html_marks, last_end, leaf_block_marks, leaf_blocks_marks, leaf_marks, line_end, lines_marks, linked_from, sequence_marks, span_marks, string_chunk, text_chunk, text_marks, underline_inside, underline_marks, white}
 pub use Rattle.mdblock_leaf_blocks.specs.LineKinds.{Fence, LineKind, blank, closes, fence, heading, heading_text, html, indent, indented, is_blank_line, line_kind, run, text, thematic_break, underline_rank, unindented}
-pub use Rattle.mdconstructs_machines.specs.Breaks.{is_white}
+pub use Rattle.mdconstructs_tables.specs.Breaks.{is_white}
 pub use Rattle.mdconstructs_machines.specs.LineEvents.{all_of, ending_of, is_line_ending, joined, line_text, lines_in}
 pub use Rattle.mdconstructs_machines.specs.Spans.{event}
 pub use Rattle.mddocument_parts.specs.Moved.{BlocksMove, BlocksOfBoth, EventsOfBoth, LinesAreCounted, LinesOfBoth, VirtualOfBoth, begins_at_rest, begins_line, first_at_rest, line_endings, moved_block, moved_event, moved_index, moved_line, moved_lines, moved_link, moved_point, moved_seat}

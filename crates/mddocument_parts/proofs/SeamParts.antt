@@ -10,7 +10,7 @@ use Rattle.markdown_base.proofs.Common.{every-append}
 use Rattle.markdown_base.specs.Virtual.{Seat, virtual}
 use Rattle.markdown_base.specs.declared.configuration.Constructs.{Constructs}
 use Rattle.markdown_base.specs.declared.event.Name.TheVariants as name
-use Rattle.mdconstructs_machines.specs.Breaks.{is_white}
+use Rattle.mdconstructs_tables.specs.Breaks.{is_white}
 use Rattle.mdconstructs_machines.specs.LineEvents.{ending_of, line_text, lines_in}
 use Rattle.mdblock_leaf_blocks.specs.LeafBlocks.{Line, blank_line, text_of}
 use Rattle.mdblock_leaf_blocks.specs.LeafEvents.{Mark, last_end, leaf_block_marks, leaf_blocks_marks, leaf_marks}

@@ -7,7 +7,7 @@ use Rattle.mddocument.specs.FlowTexts.{inline_seat_events}
 use Rattle.mddocument_parts.specs.Moved.{begins_line, moved_seat}
 use Rattle.mddocument_parts.specs.ReadTexts.{StandsBefore}
 use Rattle.mdinline_labels.specs.Labels.{is_label}
-use Rattle.mdconstructs_machines.specs.Breaks.{is_white}
+use Rattle.mdconstructs_tables.specs.Breaks.{is_white}
 use Rattle.mdinline_full_references.specs.FullReference.{label_length, label_text}
 use Rattle.mdinline_constructs.specs.WhiteSpace.{white_space}
 use Rattle.mdinline_machine.specs.Brackets.{Bracket, Memory, after_item, begins_end, bytes_before, nothing_read, spanned_bytes}

@@ -57,8 +57,8 @@ pub use Rattle.mdinline_constructs.specs.declared.names.TheConstants.{HtmlTextMa
 pub use Rattle.mdconstructs_machines.proofs.LineReads.Rows.{row_step}
 pub use Rattle.mdconstructs_machines.proofs.LineReads.Onward.{leads-step}
 pub use Rattle.mdconstructs_machines.proofs.LineReads.Steps.{at-front, held, place-behind}
-pub use Rattle.mdconstructs_machines.specs.Breaks.{is_white}
-pub use Rattle.mdconstructs_machines.specs.Tables.{counts}
+pub use Rattle.mdconstructs_tables.specs.Breaks.{is_white}
+pub use Rattle.mdconstructs_tables.specs.Tables.{counts}
 pub use Rattle.mdinline_characters.proofs.Names.{begins-so, found-so}
 pub use Rattle.mdinline_characters.proofs.Parts.{no_characters}
 pub use Rattle.mdinline_characters.proofs.Tables.{all_are_short}

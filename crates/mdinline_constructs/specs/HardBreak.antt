@@ -2,7 +2,7 @@
 use Rattle.std.specs.Prelude.{ℕ, ◌&&◌, nat_le, cond, List, Option, Some, None}
 use Rattle.std.specs.List.{prefix_len}
 use Rattle.markdown_base.specs.declared.event.Name.TheVariants.{HardBreakEscape, HardBreakTrailing}
-use Rattle.mdconstructs_machines.specs.Breaks.{is_white}
+use Rattle.mdconstructs_tables.specs.Breaks.{is_white}
 use Rattle.mdinline_text_machine.specs.Bytes.{has_byte_at, is_backslash, is_line_feed, is_space}
 use Rattle.mdinline_text_machine.specs.Construct.{Found, Grammar, plain}
 use Rattle.mdinline_text_machine.specs.Parts.{leaf}

@@ -8,7 +8,7 @@ use Rattle.mdinline_constructs.specs.declared.names.TheConstants.{HtmlTextMarkCl
 use Rattle.markdown_tokenizer.specs.Text.{Given}
 use Rattle.markdown_tokenizer.specs.Configuration.{Configuration, Local}
 use Rattle.markdown_tokenizer.specs.Sight.{Sight}
-use Rattle.mdconstructs_machines.specs.Breaks.{is_white}
+use Rattle.mdconstructs_tables.specs.Breaks.{is_white}
 use Rattle.mdconstructs_tables.specs.Rows.{enter, exit, consume, write, writes, Rows, row, when, at_bytes, StateRows, state}
 use Rattle.mdconstructs_tables.specs.Numbers.{Price, by_left}
 use Rattle.mdinline_text_machine.specs.Bytes.{is_greater_than, has_byte_at, passes}

@@ -2,7 +2,7 @@
 use Rattle.std.specs.Prelude.{ℕ, zero, suc, ◌-◌, ◌==◌, ◌||◌, not, Bool, cond, List, drop, length, Option, Some, None, option_map, option_and_then, codes}
 use Rattle.std.specs.List.{prefix_len}
 use Rattle.std.specs.Char.{is_ascii_alphabetic, is_ascii_alphanumeric}
-use Rattle.mdconstructs_machines.specs.Breaks.{is_white}
+use Rattle.mdconstructs_tables.specs.Breaks.{is_white}
 use Rattle.mdinline_text_machine.specs.Bytes.{has_byte_at, is_line_feed, is_less_than, is_greater_than, is_one_of}
 use Rattle.mdinline_text_machine.specs.Construct.{Found, Grammar}
 use Rattle.mdinline_constructs.specs.HtmlText.{html_of}

@@ -4,7 +4,7 @@ use Rattle.std.specs.List.{flat_map, prefix_len}
 use Rattle.markdown_base.specs.declared.event.Event.{Event}
 use Rattle.markdown_base.specs.declared.event.Name.TheVariants.{HtmlText, HtmlTextData, LineEnding, SpaceOrTab}
 use Rattle.markdown_base.specs.Virtual.{Seat}
-use Rattle.mdconstructs_machines.specs.Breaks.{is_white}
+use Rattle.mdconstructs_tables.specs.Breaks.{is_white}
 use Rattle.mdinline_text_machine.specs.Bytes.{has_byte_at, is_line_feed}
 use Rattle.mdinline_text_machine.specs.Construct.{Found, plain}
 use Rattle.mdinline_text_machine.specs.Parts.{cut, span, leaf}

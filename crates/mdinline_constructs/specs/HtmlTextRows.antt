@@ -9,7 +9,7 @@ use Rattle.markdown_tokenizer.specs.Calls.{exited, CanExit}
 use Rattle.markdown_tokenizer.specs.Configuration.{Configuration, Local, TokenizerValue, at_configuration}
 use Rattle.markdown_tokenizer.specs.Sight.{Sight, sight_of}
 use Rattle.markdown_tokenizer.specs.declared.waiting.Waits.TheVariants.{Byte}
-use Rattle.mdconstructs_machines.specs.Breaks.{is_white}
+use Rattle.mdconstructs_tables.specs.Breaks.{is_white}
 use Rattle.mdconstructs_tables.specs.Markers.{IsMarkable}
 use Rattle.mdconstructs_tables.specs.RowInvariant.{CanEnd, once_read}
 use Rattle.mdconstructs_tables.specs.Rows.{Act, enter, exit, consume, write, Rows, row, when, at_byte, StateRows, state}

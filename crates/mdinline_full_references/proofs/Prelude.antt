@@ -21,7 +21,7 @@ pub use Rattle.markdown_tokenizer.specs.declared.waiting.Waits.TheVariants.{Byte
 pub use Rattle.mdinline_labels.proofs.Steps.{behind-more, behind-none}
 pub use Rattle.mdconstructs_machines.proofs.LineReads.Rows.{row_step}
 pub use Rattle.mdconstructs_machines.proofs.LineReads.Steps.{at-front, held, place-behind}
-pub use Rattle.mdconstructs_machines.specs.Tables.{counts}
+pub use Rattle.mdconstructs_tables.specs.Tables.{counts}
 pub use Rattle.mdconstructs_tables.proofs.Rows.Calls.{byte-waits, can-exit, can-mark, then}
 pub use Rattle.mdconstructs_tables.specs.Rows.{Rows, class_of, consume, enter, exit, row, when, write, writes}
 pub use Rattle.mdinline_text_machine.proofs.Plain.Stretches.{goes-next, shows}

@@ -25,7 +25,7 @@ pub use Rattle.markdown_tokenizer.specs.declared.waiting.Waits.TheVariants.{Byte
 pub use Rattle.mdinline_labels.proofs.Steps.{behind-more, behind-none}
 pub use Rattle.mdconstructs_machines.proofs.LineReads.Rows.{row_step}
 pub use Rattle.mdconstructs_machines.proofs.LineReads.Steps.{at-front, held, place-behind}
-pub use Rattle.mdconstructs_machines.specs.Tables.{counts}
+pub use Rattle.mdconstructs_tables.specs.Tables.{counts}
 pub use Rattle.mdconstructs_tables.proofs.Rows.Calls.{byte-waits, can-exit, can-mark, then}
 pub use Rattle.mdconstructs_tables.specs.Rows.{Act, Rows, class_of, consume, enter, exit, row, when, write}
 pub use Rattle.mdinline_text_machine.proofs.CodeSpans.Parts.{more-is, size_b, with_b}

@@ -113,8 +113,8 @@ pub use Rattle.mdinline_machine.specs.declared.names.TheConstants.{DataSpace, Da
 pub use Rattle.mdconstructs_machines.proofs.LineReads.Onward.{leads-step, leads-unfed}
 pub use Rattle.mdconstructs_machines.proofs.LineReads.Rows.{line-ending-read, row_step}
 pub use Rattle.mdconstructs_machines.proofs.LineReads.Steps.{at-front, held}
-pub use Rattle.mdconstructs_machines.specs.Breaks.{is_white}
-pub use Rattle.mdconstructs_machines.specs.Tables.{counts}
+pub use Rattle.mdconstructs_tables.specs.Breaks.{is_white}
+pub use Rattle.mdconstructs_tables.specs.Tables.{counts}
 pub use Rattle.mdconstructs_tables.proofs.Calm.{behind-acts, behind-rows}
 pub use Rattle.mdconstructs_tables.proofs.Rows.Calls.{callable, never-called}
 pub use Rattle.mdconstructs_tables.proofs.Tables.NoFurther.{steps-alike}

@@ -7,7 +7,7 @@ use Rattle.markdown_base.specs.declared.event.Event.{Event}
 use Rattle.markdown_base.specs.declared.event.Name.TheVariants.{AttentionSequence, Data, LineEnding, SpaceOrTab}
 use Rattle.markdown_base.specs.Virtual.{Seat}
 use Rattle.markdown_tokenizer.specs.Text.{Given, Text}
-use Rattle.mdconstructs_machines.specs.Breaks.{is_white}
+use Rattle.mdconstructs_tables.specs.Breaks.{is_white}
 use Rattle.mdinline_links.specs.Linked.{with_links}
 use Rattle.mdinline_text_machine.specs.Autolink.{autolink_grammar}
 use Rattle.mdinline_text_machine.specs.Bytes.{has_byte_at, is_line_feed}

@@ -1,6 +1,6 @@
 -- Bytes that states of inline text read over, whatever the options are.
 use Rattle.std.specs.Prelude.{◌≡◌, ◌<◌, ℕ, ◌||◌, not, Bool, true, false, List, get_or}
-use Rattle.mdconstructs_machines.specs.Breaks.{is_white}
+use Rattle.mdconstructs_tables.specs.Breaks.{is_white}
 use Rattle.mdinline_text_machine.specs.Bytes.{is_backtick, is_greater_than, is_line_feed}
 use Rattle.mdinline_text_machine.specs.Construct.{some_first}
 use Rattle.mdinline_constructs.specs.HtmlMarkedRows.{is_mark_byte}

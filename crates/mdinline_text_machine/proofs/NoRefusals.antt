@@ -1,6 +1,6 @@
 -- The tables of texts and of paragraphs refuse no document, by the test of their rows.
 use Rattle.mdinline_text_machine.proofs.Prelude.{◌≡◌, [], Option, Some, None, refl, has_state, refusing, RulesRefuseNothing, table_step, table-steps, refuse-nothing, either-step, nothing-found, LineByte, TextByte, line_feed, texts, flow, text_rules}
-use Rattle.mdconstructs_machines.specs.Tables as lines
+use Rattle.mdconstructs_tables.specs.Tables as lines
 
 flow-none : (previous current : Option LineByte) → refusing flow previous current ≡ []
 flow-none previous None = refl

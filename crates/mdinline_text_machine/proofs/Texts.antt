@@ -8,6 +8,7 @@ pub mod Ends
 pub mod ItemsBuilt
 pub mod LineEndings
 pub mod NoFurther
+pub mod Passing
 pub mod Reads
 pub mod Steps
 pub mod Tight

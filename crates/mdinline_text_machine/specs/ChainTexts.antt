@@ -19,7 +19,7 @@ use Rattle.markdown_children.specs.Ready.{IsReady}
 use Rattle.markdown_children.specs.Reads.{text_of_chain, IsSubtokenized}
 use Rattle.mdconstructs_machines.specs.LineEvents.{data_events}
 use Rattle.mdconstructs_machines.specs.ParagraphEvents.{paragraph_events}
-use Rattle.mdconstructs_machines.specs.Paragraphs.{paragraphs_rules}
+use Rattle.mdconstructs_tables.specs.Paragraphs.{paragraphs_rules}
 pub use Rattle.mdinline_text_machine.specs.ReadChains.{chain_text, with_read}
 use Rattle.mdinline_text_machine.specs.TextEvents.{text_events}
 use Rattle.mdinline_text_machine.specs.TextRules.{text_rules}

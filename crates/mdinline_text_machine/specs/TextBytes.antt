@@ -1,7 +1,7 @@
 -- The classes of bytes of the machine of texts.
 use Rattle.std.specs.Prelude.{ℕ, ◌==◌, ◌||◌, nat_lt, Bool, true, false, cond, Option, Some, None}
 use Rattle.std.specs.Char.{is_ascii_alphabetic, is_ascii_alphanumeric, is_ascii_punctuation}
-use Rattle.mdconstructs_machines.specs.Breaks.{is_white}
+use Rattle.mdconstructs_tables.specs.Breaks.{is_white}
 use Rattle.mdinline_text_machine.specs.Bytes.{is_line_feed, is_backtick, is_less_than, is_greater_than, is_backslash, is_ampersand, is_colon, is_scheme_mark}
 
 -- The classes. Letters, digits and marks are the characters of schemes; white is a space or a tab, and a blank another ASCII control

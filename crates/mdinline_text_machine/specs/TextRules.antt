@@ -9,8 +9,8 @@ use Rattle.mdconstructs_tables.specs.Rows.{Table}
 use Rattle.mdconstructs_tables.specs.Joined.{has_state, joined_rules}
 use Rattle.mdconstructs_tables.specs.Knowledge.{knowing_rules}
 use Rattle.mdconstructs_tables.specs.Late.{late_rules}
-use Rattle.mdconstructs_machines.specs.Tables.{LineByte}
-use Rattle.mdconstructs_machines.specs.Paragraphs.{flow_start, paragraph_line_start, paragraph_start, paragraph_inside, paragraphs, knows_chunk}
+use Rattle.mdconstructs_tables.specs.Tables.{LineByte}
+use Rattle.mdconstructs_tables.specs.Paragraphs.{flow_start, paragraph_line_start, paragraph_start, paragraph_inside, paragraphs, knows_chunk}
 use Rattle.mdinline_text_machine.specs.TextTable.{texts, begins_construct, follows_construct}
 
 -- the states of the machine of paragraphs, without the states of its texts

@@ -6,7 +6,7 @@ use Rattle.markdown_base.specs.declared.state.State.TheVariants.{Next, Retry}
 use Rattle.markdown_base.specs.declared.state.TheConstants.Name.{TextStart, TextBefore, TextBeforeData, DataAtBreak, DataInside}
 use Rattle.mdconstructs_tables.specs.Rows.{enter, consume, Rows, row, at_byte, at_a_byte, StateRows, state, Table}
 use Rattle.mdconstructs_tables.specs.Numbers.{Price, by_left, by_class, numbers}
-use Rattle.mdconstructs_machines.specs.Tables.{counts}
+use Rattle.mdconstructs_tables.specs.Tables.{counts}
 use Rattle.mdinline_text_machine.specs.AutolinkRows.{autolinks, autolink_prices}
 use Rattle.mdinline_text_machine.specs.CodeSpanRows.{code_spans, code_span_prices}
 use Rattle.mdinline_text_machine.specs.Construct.{Found, Construct, between_texts, before_rows, data_rows, states_of, some_begun, some_follows}

@@ -13,7 +13,7 @@ ghost use Rattle.mdconstructs_machines.specs.Costs.{StartsAmong};
 ghost use Rattle.mdconstructs_machines.specs.Innermost.{AccountFor, AccountsForDocuments};
 ghost use Rattle.mdconstructs_machines.specs.LineEvents.{data_events};
 ghost use Rattle.mdconstructs_machines.specs.ParagraphEvents.{paragraph_events};
-ghost use Rattle.mdconstructs_machines.specs.Paragraphs.{paragraphs_rules};
+ghost use Rattle.mdconstructs_tables.specs.Paragraphs.{paragraphs_rules};
 ghost use Rattle.mdconstructs_machines.specs.ReadAs.{IsReadAs};
 ghost use Rattle.mdinline_text_machine.specs.ChainTexts.{AreReadAsData, AreReadAsTexts, AreReadAtPlaces, HasReadableChains, StaysReadyBy, StaysTight};
 ghost use Rattle.mdinline_text_machine.specs.ChainTexts.{chain_data, chain_events, paragraphs_of, with_data, with_texts};

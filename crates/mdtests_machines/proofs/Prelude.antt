@@ -13,7 +13,7 @@ pub use Rattle.markdown.specs.declared.state.State.TheVariants.{Error, Next, Nok
 pub use Rattle.mdconstructs_machines.specs.Laws.Wrap.{wrap-lawful}
 pub use Rattle.mdconstructs_tables.specs.RowInvariant.{IsStateAt}
 pub use Rattle.mdconstructs_tables.specs.Rows.{StateRows, named}
-pub use Rattle.mdconstructs_machines.specs.Tables.{LineByte}
+pub use Rattle.mdconstructs_tables.specs.Tables.{LineByte}
 pub use Rattle.mdconstructs_machines.specs.Wrap.{wrap, wrap_rules}
 pub use Rattle.mdconstructs_machines.specs.declared.wrap.Resolver.{Resolver}
 pub use Rattle.mdconstructs_machines.specs.declared.wrap.Wrap.{Wrap}

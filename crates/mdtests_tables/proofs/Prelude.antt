@@ -9,5 +9,5 @@ pub use Rattle.markdown.specs.declared.event.Content.TheVariants.{Flow, String}
 pub use Rattle.markdown.specs.declared.event.Event.{Event}
 pub use Rattle.markdown.specs.declared.state.Name.{Name}
 pub use Rattle.mdconstructs_tables.proofs.Rows.Calls.{callable, never-called}
-pub use Rattle.mdconstructs_machines.specs.Tables.{counts}
+pub use Rattle.mdconstructs_tables.specs.Tables.{counts}
 pub use Rattle.mdtests_tables.specs.Starved.{starved, text_start}

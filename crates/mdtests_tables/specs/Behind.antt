@@ -9,7 +9,7 @@ use Rattle.markdown.specs.Rules.{Rules}
 use Rattle.markdown.specs.Plain as shape
 use Rattle.mdconstructs_tables.specs.Rows.{enter, exit, consume, choose, Rows, row, a_choice, at_byte, at_bytes, StateRows, calls, state, Table}
 use Rattle.mdconstructs_tables.specs.RowInvariant.{table_rules}
-use Rattle.mdconstructs_machines.specs.Tables.{LineByte, line_ending, other, line_byte, is_other, counts}
+use Rattle.mdconstructs_tables.specs.Tables.{LineByte, line_ending, other, line_byte, is_other, counts}
 
 -- before a line: a paragraph begins, and its data is tried; whatever comes of that, the paragraph goes on
 abbrev pub text_start_rows : (previous current : Option LineByte) → Rows Unit Unit

@@ -9,7 +9,7 @@ use Rattle.markdown.specs.Rules.{Rules}
 use Rattle.markdown.specs.Plain as shape
 use Rattle.mdconstructs_tables.specs.Rows.{consume, choose, Rows, row, a_choice_for_ok, StateRows, calls, state, Table}
 use Rattle.mdconstructs_tables.specs.RowInvariant.{table_rules}
-use Rattle.mdconstructs_machines.specs.Tables.{LineByte, line_byte, counts}
+use Rattle.mdconstructs_tables.specs.Tables.{LineByte, line_byte, counts}
 
 -- at a byte what comes after it is tried; after Ok this goes on, and Nok is never returned
 abbrev pub text_start_rows : (previous current : Option LineByte) → Rows Unit Unit

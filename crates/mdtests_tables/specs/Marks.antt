@@ -10,7 +10,7 @@ use Rattle.markdown.specs.Rules.{Rules}
 use Rattle.markdown.specs.Plain as shape
 use Rattle.mdconstructs_tables.specs.Late.{late_rules}
 use Rattle.mdconstructs_tables.specs.Rows.{consume, choose, Rows, row, a_choice, at_a_byte, at_bytes, StateRows, calls, costs, state, Table}
-use Rattle.mdconstructs_machines.specs.Tables.{LineByte, line_ending, other, line_byte, is_other, counts}
+use Rattle.mdconstructs_tables.specs.Tables.{LineByte, line_ending, other, line_byte, is_other, counts}
 
 -- how many calls may come at a place where a line may be tried, and at one where that failed, if this many bytes are left
 abbrev pub before_line : ℕ → ℕ

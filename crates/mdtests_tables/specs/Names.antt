@@ -11,7 +11,7 @@ use Rattle.markdown.specs.Plain as shape
 use Rattle.mdconstructs_tables.specs.Folds.{folds}
 use Rattle.mdconstructs_tables.specs.Rows.{enter, exit, consume, write, writes, Rows, row, when, StateRows, calls, state, Table}
 use Rattle.mdconstructs_tables.specs.RowInvariant.{table_rules}
-use Rattle.mdconstructs_machines.specs.Tables.{LineByte, line_ending, other, line_byte, counts}
+use Rattle.mdconstructs_tables.specs.Tables.{LineByte, line_ending, other, line_byte, counts}
 
 -- The number of what was read, by the number of what was read before and the next byte: 0 is nothing, 1 is `p`, 2 is `pr`, 3 is `pre`, and 4 is
 -- what begins no name

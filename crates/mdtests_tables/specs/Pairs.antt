@@ -20,7 +20,7 @@ use Rattle.markdown_tokenizer.specs.Rules.{Rules}
 use Rattle.markdown_tokenizer.specs.Engine.{IsWellFormed}
 use Rattle.mdconstructs_tables.specs.Rows.{enter, enter_link, exit, consume, write, choose, Rows, row, when, a_choice, at_a_byte, at_bytes, costs, StateRows, state, Table}
 use Rattle.mdconstructs_tables.specs.Plans.{Plan, planned_rules}
-use Rattle.mdconstructs_machines.specs.Tables.{counts}
+use Rattle.mdconstructs_tables.specs.Tables.{counts}
 use Rattle.mdtests_tables.specs.declared.resolvers.StarResolver.{StarResolver}
 use Rattle.mdtests_tables.specs.declared.resolvers.StarResolver.TheVariants.{Strengthen}
 use Rattle.mdtests_tables.specs.Stars.{StarByte, star, other, star_byte, registers, registered_at, with_strong_name}

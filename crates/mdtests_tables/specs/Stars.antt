@@ -25,7 +25,7 @@ use Rattle.markdown.specs.Engine.{IsWellFormed, EndsWellFormed}
 use Rattle.markdown.specs.Plain.{HaveNoLinks}
 use Rattle.mdconstructs_tables.specs.Rows.{enter, exit, consume, write, Rows, row, StateRows, calls, state, Table}
 use Rattle.mdconstructs_tables.specs.RowInvariant.{table_rules}
-use Rattle.mdconstructs_machines.specs.Tables.{counts}
+use Rattle.mdconstructs_tables.specs.Tables.{counts}
 use Rattle.mdtests_tables.specs.declared.resolvers.StarResolver.{StarResolver}
 use Rattle.mdtests_tables.specs.declared.resolvers.StarResolver.TheVariants.{Strengthen}
 

@@ -9,7 +9,7 @@ use Rattle.markdown.specs.Rules.{Rules}
 use Rattle.markdown.specs.Plain as shape
 use Rattle.mdconstructs_tables.specs.Rows.{enter, exit, consume, Rows, row, StateRows, calls, state, Table}
 use Rattle.mdconstructs_tables.specs.RowInvariant.{table_rules}
-use Rattle.mdconstructs_machines.specs.Tables.{LineByte, line_byte, counts}
+use Rattle.mdconstructs_tables.specs.Tables.{LineByte, line_byte, counts}
 
 -- before a byte
 abbrev pub text_start_rows : (previous current : Option LineByte) → Rows Unit Unit

@@ -4,7 +4,7 @@ ghost use Rattle.std.specs.Prelude.{◌+◌, ◌*◌, IfOk};
 ghost use Rattle.markdown.specs.StateConstants.Name.{TextStart};
 ghost use Rattle.mdconstructs_machines.specs.Costs.{StartsAt};
 ghost use Rattle.mdconstructs_tables.specs.RowInvariant.{DoesAll, IsCallable, step_in};
-ghost use Rattle.mdconstructs_machines.specs.Tables.{line_byte};
+ghost use Rattle.mdconstructs_tables.specs.Tables.{line_byte};
 ghost use Rattle.mdtests_tables.specs.Behind.{behind_rules, data_inside, data_start, paragraph_inside, text_start};
 
 use crate::shown::assert_shown;

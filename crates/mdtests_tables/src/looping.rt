@@ -5,7 +5,7 @@ ghost use Rattle.markdown.specs.Lawful.{IsLawful};
 ghost use Rattle.markdown.specs.StateConstants.Name.{TextStart};
 ghost use Rattle.mdconstructs_machines.specs.Costs.{StartsAt};
 ghost use Rattle.mdconstructs_tables.specs.RowInvariant.{DoesAll, IsCallable, step_in};
-ghost use Rattle.mdconstructs_machines.specs.Tables.{line_byte};
+ghost use Rattle.mdconstructs_tables.specs.Tables.{line_byte};
 ghost use Rattle.mdtests_tables.specs.Looping.{data_inside, looping_rules, text_start};
 ghost use Rattle.mdtests_tables.specs.Marks.{marks_rules};
 

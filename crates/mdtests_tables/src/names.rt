@@ -6,7 +6,7 @@ ghost use Rattle.markdown.specs.Configuration.{at_configuration};
 ghost use Rattle.markdown.specs.StateConstants.Name.{TextStart};
 ghost use Rattle.mdconstructs_machines.specs.Costs.{StartsAt};
 ghost use Rattle.mdconstructs_tables.specs.RowInvariant.{DoesAll, IsCallable, step_in};
-ghost use Rattle.mdconstructs_machines.specs.Tables.{line_byte};
+ghost use Rattle.mdconstructs_tables.specs.Tables.{line_byte};
 ghost use Rattle.mdtests_tables.specs.Names.{NamesAreKnown, after_byte, is_number_of_name, names_rules, nothing_read, number_after, text_start};
 
 use crate::shown::assert_shown;

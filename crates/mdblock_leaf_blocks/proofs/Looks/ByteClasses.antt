@@ -1,6 +1,6 @@
 -- The tests of the classes of bytes are tests of bytes.
 use Rattle.mdblock_leaf_blocks.proofs.Prelude.{◌≡◌, ℕ, zero, suc, ◌<◌, ◌≤◌, ◌==◌, ◌||◌, ◌&&◌, not, Bool, true, false, cond, Option, Some, None, refl, sym, ap, ◌∙◌, subst, nat_lt, arith, is_ascii_alphabetic, is_ascii_alphanumeric, is_ascii_digit, eqb-true, and_parts, or_from, nat_tests, is_white, FlowByte, other, flow_byte, is_line_feed, is_blank, is_sign, is_star, is_underscore, is_tick, is_tilde, is_less, is_rule, is_fence, is_letter, is_slash, is_bang, is_question, is_dash, is_opening, is_closing, is_greater, is_equals, is_double, is_single, is_quote, begins_name, is_in_name, begins_no_value, is_in_no_value, name_byte, line_feed, blank, word_byte, begins_attribute, goes_on_attribute, word-is-word, word-no-feed, unlike}
-use Rattle.mdblock_leaf_machine.specs.FlowBytes.{is_underline}
+use Rattle.mdblock_leaf_rows.specs.FlowBytes.{is_underline}
 
 -- what holds of each byte below a bound
 abbrev all_below : (ℕ → Bool) → ℕ → Bool

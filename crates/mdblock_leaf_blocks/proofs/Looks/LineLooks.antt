@@ -1,6 +1,6 @@
 -- The look at a line: over its indentation, and on by its first other byte.
 use Rattle.mdblock_leaf_blocks.proofs.Prelude.{Bool, List, Option, Some, [], ap, arith, cond, drop, false, length, nat_le, refl, subst, suc, sym, true, zero, ℕ, ◌&&◌, ◌++◌, ◌+◌, ◌-◌, ◌<◌, ◌==◌, ◌^◌, ◌∙◌, ◌∷◌, ◌≡◌, ◌≤◌, and-false, eqb-true, le-leb, drop-next, Seat, Constructs, Event, EventName, BlankLineEnding, CodeIndented, Next, Nok, Ok, FlowBeforeHeadingAtx, FlowBeforeHeadingSetext, FlowBeforeRaw, FlowBeforeThematicBreak, FlowBlankLineBefore, HtmlFlowOpen, Configuration, Local, Sight, sight, Given, Text, flow_byte, unchanged, breaks_are_on, fences_are_on, headings_are_on, indent_grows, kind_becomes, mark_becomes, size_becomes, underlines_are_on, html_is_on, break_may_begin, dash_may_begin, equals_may_begin, fence_may_begin, flow_blank_line_before_rows, heading_may_begin, html_may_begin, text_may_begin, underline_may_begin, bytes_of, Fence, heading_text, indent, is_blank_line, is_thematic_break, run, unindented, FindsHtml, HtmlIsSeen, IsInLine, LeavesAll, LineEnds, LinesAreSeen, SeenKind, fence, heading, html, html_number, seen_kind, text, thematic_break, underline, is_white, one_more, AreTestsOf, Look, shows, Rows, consume, row, when, write, cond_both}
-use Rattle.mdblock_leaf_machine.specs.FlowWrites.{is_indented}
+use Rattle.mdblock_leaf_rows.specs.FlowWrites.{is_indented}
 use Rattle.mdblock_leaf_blocks.proofs.Lines.TestedKinds.{seen-is-tested, tested_rest}
 use Rattle.mdblock_leaf_blocks.specs.SeenKinds.{blank, indented}
 use Rattle.mdblock_leaf_blocks.proofs.Looks.BreakLooks.{break-found, is_break_mark}

@@ -1,7 +1,7 @@
 -- Underlines of setext headings are read as their definition says, up to their end.
 use Rattle.mdblock_leaf_blocks.proofs.Prelude.{Bool, List, Option, Some, [], ap, cond, drop, false, inl, inr, not, refl, subst, suc, sym, take, true, ℕ, ◌++◌, ◌+◌, ◌==◌, ◌∙◌, ◌∷◌, ◌≡◌, ◌⊎◌, and_parts, eqb-true, drop-drop, AllByRecursion, prefix_len, Seat, end_after, HeadingSetextUnderline, SpaceOrTab, Point, Name, Next, HeadingSetextAfter, HeadingSetextBefore, HeadingSetextInside, HeadingSetextStart, Configuration, Given, Text, FlowByte, blank, cased, dash, equals, flow_byte, is_blank, heading_setext_after_rows, heading_setext_start_rows, bytes_of, Mark, leaf_marks, underline_inside, white, begins_with, is_blank_line, is_underline_of_marks, run, unindented, LineEnds, is_white, Rows, class_of, consume, enter, picked, row}
 use Rattle.markdown_base.specs.declared.event.Name.TheVariants.{HeadingSetextUnderlineSequence as Marks}
-use Rattle.mdblock_leaf_machine.specs.FlowBytes.{is_underline}
+use Rattle.mdblock_leaf_rows.specs.FlowBytes.{is_underline}
 use Rattle.mdblock_leaf_blocks.proofs.Lines.{Goes, IsAt, IsUnwritten, IsWhite, Reads, all-white, all_kept, back, comes, counted, drop-back, drop-bytes, fails-line, front, front-all, front-back, goes, goes-by, is_dark, row-takes-on, run-from, seen, take-front, then, unwritten, white-is-blank, white-piece}
 use Rattle.mdblock_leaf_blocks.proofs.Looks.ByteClasses.{blank-is}
 use Rattle.mdblock_leaf_blocks.proofs.Looks.LineTests.{run-grows}

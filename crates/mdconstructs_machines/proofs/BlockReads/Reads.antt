@@ -1,6 +1,6 @@
 -- The lines of a text and the blocks that they are in, and what a machine that has the states of paragraphs reads, in small steps.
 use Rattle.mdconstructs_machines.proofs.Prelude.{◌≡◌, ℕ, zero, suc, ◌+◌, ◌-◌, ◌∷◌, ◌++◌, [], List, Bool, true, false, cond, refl, sym, ◌∙◌, ap, subst, Option, Some, None, arith, length, drop, slice_get, length-append, length-map, drop-next, Event, Enter, Exit, Paragraph, Data, Point, Name, Next, Retry, FlowStart, ParagraphLineStart, ParagraphStart, ParagraphInside, Seat, end_after, Nothing, Byte, End, Given, Text, Configuration, Local, Step, Sight, sight, end_place, end_or, point_or, Rows, row, enter_link, links, write, picked, step_of, updated_at, with_next, with_previous, linked_to, updated-length, is_line_ending, event, line_ending, other, counts, flow_start_rows, paragraph_line_start_rows, paragraph_start_rows, text_link, chunk_before, last_event, connected, Marked, as_linked, with_links, EventName, ◌≤◌, joined, lines_in, blank, paragraph, is_blank, continued, blocks_of}
-use Rattle.mdconstructs_machines.specs.Paragraphs.{paragraph_inside_rows}
+use Rattle.mdconstructs_tables.specs.Paragraphs.{paragraph_inside_rows}
 use Rattle.mdconstructs_machines.proofs.BlockReads.Links.{alone, KnowsLast, links-first, links-next}
 use Rattle.mdconstructs_machines.proofs.LineReads.Rows.{HasRows, is-class, leads-row}
 use Rattle.mdconstructs_machines.proofs.LineReads.Steps.{EndsWith, Leads, held, shows, goes-next, at-front, has_events}

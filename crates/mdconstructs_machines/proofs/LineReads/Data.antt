@@ -1,6 +1,6 @@
 -- Data reading: the states of data read each line as data, in every machine that ends in them.
 use Rattle.mdconstructs_machines.proofs.Prelude.{◌≡◌, ℕ, ◌+◌, ◌∷◌, ◌++◌, [], List, Bool, true, false, refl, sym, subst, Some, None, drop, Event, Enter, Exit, Data, Point, Name, Next, Retry, DataStart, DataInside, Seat, Nothing, Byte, End, Given, Text, Configuration, Local, Step, Sight, point_or, data_events, event, leaf, line_ending, other, counts}
-use Rattle.mdconstructs_machines.specs.DataRows.{data_start_rows, data_inside_rows}
+use Rattle.mdconstructs_tables.specs.DataRows.{data_start_rows, data_inside_rows}
 use Rattle.mdconstructs_machines.proofs.LineReads.Reads.{ReadsLines, from-both}
 use Rattle.mdconstructs_machines.proofs.LineReads.Rows.{HasRows, leads-row, is-class, line-ending-read}
 use Rattle.mdconstructs_machines.proofs.LineReads.Steps.{EndsWith, held, goes-next, has_events}

@@ -6,7 +6,7 @@ use Rattle.mdconstructs_tables.specs.RowInvariant.{PaysRows}
 use Rattle.mdconstructs_tables.specs.RowTest.{never}
 use Rattle.mdconstructs_tables.specs.Fitting.{IsFit}
 use Rattle.mdconstructs_tables.proofs.Tables.Tests.{tests, all-fit, all-plain, none-refuses}
-use Rattle.mdconstructs_machines.specs.Tables.{LineByte, line_ending, other}
+use Rattle.mdconstructs_tables.specs.Tables.{LineByte, line_ending, other}
 use Rattle.mdconstructs_machines.specs.Deep.{triangle, tries_cost, deep_cost, string_start, deep}
 
 -- the triangle of n is n * (n - 1) / 2

@@ -4,7 +4,7 @@ use Rattle.mdconstructs_tables.specs.PlainTables.{IsPlainEverywhere}
 use Rattle.mdconstructs_tables.specs.PlainWrites.{StatesWritePlain, WritesPlain}
 use Rattle.mdconstructs_tables.specs.Misfits.{misfits}
 use Rattle.mdconstructs_tables.specs.Fitting.{IsFit}
-use Rattle.mdconstructs_machines.specs.Tables.{LineByte, line_ending, other}
+use Rattle.mdconstructs_tables.specs.Tables.{LineByte, line_ending, other}
 use Rattle.mdconstructs_machines.specs.Fail.{counted, fail}
 
 fits : (at : ℕ) (previous current : Option LineByte) → misfits (fail at) previous current ≡ []

@@ -4,7 +4,7 @@ use Rattle.mdconstructs_tables.specs.PlainTables.{IsPlainTable}
 use Rattle.mdconstructs_tables.specs.Refusals.{refusing}
 use Rattle.mdconstructs_tables.specs.Fitting.{IsFit}
 use Rattle.mdconstructs_tables.proofs.Tables.Tests.{tests, all-fit, all-plain, none-refuses}
-use Rattle.mdconstructs_machines.specs.Tables.{LineByte, line_ending, other}
+use Rattle.mdconstructs_tables.specs.Tables.{LineByte, line_ending, other}
 use Rattle.mdconstructs_machines.specs.Lines.{lines}
 
 -- all states fit, none links or writes, and none refuses the document

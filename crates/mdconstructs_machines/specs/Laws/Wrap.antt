@@ -31,8 +31,8 @@ use Rattle.mdconstructs_tables.proofs.Tables.Plans.{formed-lawful}
 use Rattle.mdconstructs_tables.proofs.Tables.Prices.{all-fall, every-late}
 use Rattle.mdconstructs_machines.specs.declared.wrap.Resolver.{Resolver}
 use Rattle.mdconstructs_machines.specs.declared.wrap.Resolver.TheVariants.{A, B, C}
-use Rattle.mdconstructs_machines.specs.Tables.{LineByte, line_ending, other}
-use Rattle.mdconstructs_machines.specs.DataRows.{data_start, data_inside}
+use Rattle.mdconstructs_tables.specs.Tables.{LineByte, line_ending, other}
+use Rattle.mdconstructs_tables.specs.DataRows.{data_start, data_inside}
 use Rattle.mdconstructs_machines.specs.Messages.{refusal}
 use Rattle.mdconstructs_machines.specs.Wrap.{same_resolver, text_start, wrap, code_name, first_place, begin_event, end_event, one_definition, IsFlat, begins_paragraph, ends_paragraph, wrap_resolver, wrap_resolves, IsUnwrapped, IsOneParagraph, wrap_rules}
 

@@ -14,7 +14,7 @@ use Rattle.markdown_base.specs.declared.event.Point.{Point}
 use Rattle.markdown_base.specs.Events.{same_name}
 use Rattle.markdown_base.specs.Places.{follows_cr, shown}
 use Rattle.markdown_base.specs.Virtual.{Seat, begins_with_lf, in_tab, line_feed, other_byte, tab_width, virtual_from}
-use Rattle.mdconstructs_machines.specs.Breaks.{is_white}
+use Rattle.mdconstructs_tables.specs.Breaks.{is_white}
 use Rattle.mdconstructs_machines.specs.LineEvents.{ending_of, is_line_ending, joined, line_text, lines_in}
 use Rattle.mdblock_leaf_blocks.specs.LeafBlocks.{Line, bytes_of, setext_heading, text_of}
 use Rattle.mdblock_leaf_blocks.specs.LeafEvents.{Mark, body, last_end, leaf_marks, span_marks, underline_marks, white}

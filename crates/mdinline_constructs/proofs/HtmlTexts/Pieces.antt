@@ -1,28 +1,10 @@
 -- The events of raw HTML, piece by piece: data up to a line ending, a line ending, and the white space behind it.
 use Rattle.mdinline_constructs.proofs.Prelude.{◌≡◌, ℕ, ◌+◌, ◌<◌, ◌≤◌, ◌==◌, not, List, [], ◌∷◌, ◌++◌, Bool, true, false, cond, length, take, drop, refl, ap, ◌∙◌, arith, one-add, AllByRecursion, flat_map, prefix_len, append_assoc, take_at, drop_at, Event, HtmlTextData, LineEnding, SpaceOrTab, Seat, is_white, has_byte_at, is_line_feed, bytes_of, cut, leaf, cut-enough, drop-less, Piece, line_break, data_run, piece_at, piece_length, piece_events}
+pub use Rattle.mdinline_text_machine.proofs.Texts.Passing.{AllPass, StopsAt, one-passes-more, run-is}
 
 -- a byte of data
 abbrev pub is_no_line_feed : ℕ → Bool
 is_no_line_feed b = not (is_line_feed b)
-
--- each of these passes a test
-abbrev pub AllPass : (ℕ → Bool) → List Seat → Type 0
-AllPass test l = AllByRecursion (λ s. test s.byte ≡ true) l
-
--- the first of these, if there is one, does not
-abbrev pub StopsAt : (ℕ → Bool) → List Seat → Type 0
-StopsAt test l = has_byte_at (bytes_of l) 0 test ≡ false
-
-pub one-passes-more : (test : ℕ → Bool) (d : List Seat) (s : Seat) → AllPass test d → test s.byte ≡ true → AllPass test (d ++ s ∷ [])
-one-passes-more test [] s all h = (h, tt)
-one-passes-more test (x ∷ xs) s all h = (all.0, one-passes-more test xs s all.1 h)
-
--- so the run at the front is all of these
-pub run-is : (test : ℕ → Bool) (d y : List Seat) → AllPass test d → StopsAt test y → prefix_len test (bytes_of (d ++ y)) ≡ length d
-run-is test [] [] all stops = refl
-run-is test [] (s ∷ ss) all stops = ap (λ t. cond t (1 + prefix_len test (bytes_of ss)) 0) stops
-run-is test (x ∷ xs) y all stops =
-    ap (λ t. cond t (1 + prefix_len test (bytes_of (xs ++ y))) 0) all.0 ∙ ap (λ n. 1 + n) (run-is test xs y all.1 stops) ∙ one-add (length xs)
 
 no-feed : (b : ℕ) → is_no_line_feed b ≡ true → (b == 10) ≡ false
 no-feed b h = elim (b == 10) as (λ t. not t ≡ true → t ≡ false) [ true ↦ λ i. absurd (cc) | false ↦ λ i. refl ] h

@@ -6,7 +6,7 @@ use Rattle.mdinline_labels.specs.Labels.{hides}
 use Rattle.mdinline_labels.specs.Tails.{bare_behind, behind, is_white, marked_size, one_more}
 use Rattle.mdinline_link_tails.specs.Resource.{is_of_line, string_events}
 use Rattle.mdinline_link_tails.specs.ResourceLooks.{marked_look}
-use Rattle.mdinline_constructs.proofs.HtmlTexts.Pieces.{AllPass, one-passes-more}
+use Rattle.mdinline_text_machine.proofs.Texts.Passing.{AllPass, one-passes-more}
 use Rattle.mdinline_link_tails.proofs.Resources.Enclosed.{hidden-no, none-behind, plain-so}
 use Rattle.mdinline_link_tails.proofs.Resources.Steps.{Does, yes, no, here, seen, enters_at, exits_at, exits_past, line-ending-read}
 use Rattle.mdinline_link_tails.proofs.Resources.Titles.{Place, inside, escape, white, is_bare, is_hidden}

@@ -2,7 +2,7 @@
 use Rattle.mdinline_link_tails.proofs.Prelude.{◌≡◌, ℕ, zero, suc, ◌+◌, ◌<◌, ◌==◌, not, List, [], ◌∷◌, ◌++◌, true, false, cond, take, drop, length, refl, ap, ◌∙◌, arith, flat_map, prefix_len, take_at, drop_at, Data, LineEnding, Seat, bytes_of, leaf, cut-enough, drop-less}
 use Rattle.mdinline_text_machine.specs.Parts.{Part, line_ending, part_events, part_length, plain_run}
 use Rattle.mdinline_link_tails.specs.Resource.{is_of_line, line_part, string_events}
-use Rattle.mdinline_constructs.proofs.HtmlTexts.Pieces.{AllPass, StopsAt, run-is}
+use Rattle.mdinline_text_machine.proofs.Texts.Passing.{AllPass, StopsAt, run-is}
 
 -- each part is a byte at least
 pub part-positive : (b : ℕ) (bs : List ℕ) → 0 < part_length (line_part (b ∷ bs))

@@ -1,7 +1,7 @@
 -- What was read of a string, line by line, and its events where it ends.
 use Rattle.mdinline_link_tails.proofs.Prelude.{◌≡◌, ℕ, ◌+◌, ◌==◌, List, [], ◌∷◌, ◌++◌, true, refl, sym, ap, ◌∙◌, take, drop, append-nil, append_assoc, Event, Enter, Exit, EventName, Data, LineEnding, Seat, end_after, end_place, Given, Text, leaf}
 use Rattle.mdconstructs_machines.specs.Spans.{event}
-use Rattle.mdinline_constructs.proofs.HtmlTexts.Pieces.{AllPass}
+use Rattle.mdinline_text_machine.proofs.Texts.Passing.{AllPass}
 use Rattle.mdinline_link_tails.specs.Resource.{is_of_line, string_events}
 use Rattle.mdinline_link_tails.proofs.Resources.Lines.{feed-first, line-first, take-more}
 use Rattle.mdinline_link_tails.proofs.Resources.Steps.{exits_at}

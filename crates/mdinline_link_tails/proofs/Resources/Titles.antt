@@ -8,7 +8,7 @@ use Rattle.mdinline_link_tails.specs.declared.names.TheConstants.{ResourceTitleE
 use Rattle.mdinline_link_tails.specs.Resource.{is_of_line, string_events}
 use Rattle.mdinline_link_tails.specs.ResourceLooks.{marked_look}
 use Rattle.mdinline_link_tails.specs.ResourceRows.{ends_line, reads_on, title_escape_rows, title_inside_rows, title_line_rows, title_white_rows}
-use Rattle.mdinline_constructs.proofs.HtmlTexts.Pieces.{AllPass, one-passes-more}
+use Rattle.mdinline_text_machine.proofs.Texts.Passing.{AllPass, one-passes-more}
 use Rattle.mdinline_link_tails.proofs.Resources.Enclosed.{hidden-no, none-behind, plain-so}
 use Rattle.mdinline_link_tails.proofs.Resources.Lines.{line-first}
 use Rattle.mdinline_link_tails.proofs.Resources.Steps.{PlaysResources, Does, yes, no, here, seen, enters_at, exits_at, exits_past, Finds, stands, left, fails, fails-here, reads, stays, line-ending-read}

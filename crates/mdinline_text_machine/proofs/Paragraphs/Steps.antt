@@ -1,6 +1,6 @@
 -- In a whole document, what the states of paragraphs keep: of two chunks that are linked the one follows the other.
 use Rattle.mdinline_text_machine.proofs.Prelude.{◌≡◌, ℕ, ◌+◌, ◌-◌, List, [], ◌∷◌, ◌++◌, true, false, Option, Some, None, length, length-append, ◌⊎◌, inl, inr, refl, sym, ap, ◌∙◌, subst, arith, nat_lt, Event, Enter, Exit, Data, BlockQuoteMarker, Point, IsPointOf, Name, State, Next, Retry, Ok, Nok, Error, FlowStart, ParagraphLineStart, ParagraphStart, ParagraphInside, with_local, Configuration, Choice, Step, whole_text, fed, Sight, sight, Given, IsDocument, place_at, next_end, Rows, class_of, step_of, IsKept, EachRow, picked-row, LineByte, line_byte, counts, flow_start_rows, paragraph_line_start_rows, paragraph_start_rows, paragraph_inside_rows, chunk_before, chunk_enter, begins-chunk, get-front, waits_class}
-use Rattle.mdconstructs_machines.specs.Tables.{line_ending, other}
+use Rattle.mdconstructs_tables.specs.Tables.{line_ending, other}
 use Rattle.mdconstructs_machines.proofs.BlockReads.Reads.{ReadsBlocks}
 use Rattle.mdconstructs_machines.proofs.LineReads.Rows.{HasRows}
 use Rattle.mdinline_text_machine.proofs.Paragraphs.ChunkPairs.{last-get, place-at-event, front-place, Follows, IsPair, more-follows, linked-length, AreChunks, chunks-more, chunks-linked}

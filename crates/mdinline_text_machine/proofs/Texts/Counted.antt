@@ -3,7 +3,7 @@ use Rattle.std.proofs.Common.{◌≡◌, ℕ, ◌+◌, ◌≤◌, List, Bool, re
 use Rattle.markdown_tokenizer.specs.Configuration.{Local}
 use Rattle.markdown_tokenizer.specs.declared.tokenizer.state.ContainerState.{ContainerState}
 use Rattle.markdown_tokenizer.specs.declared.tokenizer.state.LabelStart.{LabelStart}
-use Rattle.mdconstructs_machines.specs.Tables.{counts}
+use Rattle.mdconstructs_tables.specs.Tables.{counts}
 use Rattle.mdinline_text_machine.proofs.CodeSpans.Parts.{with_b}
 use Rattle.mdinline_text_machine.proofs.Texts.Leads.{spent}
 

@@ -12,7 +12,7 @@ use Rattle.markdown_tokenizer.specs.Configuration.{Configuration, Local, Choice,
 use Rattle.markdown_tokenizer.specs.Sight.{Sight}
 use Rattle.markdown_tokenizer.specs.Text.{Given, Text}
 use Rattle.mdconstructs_machines.proofs.LineReads.Onward.{Ends, Goes, ended as ended-so, goes-next as next-so, held, shows}
-use Rattle.mdconstructs_machines.specs.Tables.{counts}
+use Rattle.mdconstructs_tables.specs.Tables.{counts}
 
 -- how many calls were counted
 abbrev pub spent : Local Unit Unit → ℕ

@@ -6,7 +6,7 @@ use Rattle.markdown_tokenizer.specs.Alike.{LooksNoFurther}
 use Rattle.mdconstructs_tables.specs.Joined.{has_state}
 use Rattle.mdconstructs_tables.specs.NoFurther.{IsAnsweredAlike, tests}
 use Rattle.mdconstructs_tables.proofs.Tables.NoFurther.{joined-looks, steps-alike}
-use Rattle.mdconstructs_machines.specs.Tables as line
+use Rattle.mdconstructs_tables.specs.Tables as line
 use Rattle.mdinline_text_machine.specs.AutolinkRows.{autolinks_are_on, has_room, has_scheme}
 use Rattle.mdinline_text_machine.specs.CodeSpanRows.{code_spans_are_on, sizes_are_equal}
 use Rattle.mdinline_text_machine.specs.EscapeRows.{escapes_are_on}

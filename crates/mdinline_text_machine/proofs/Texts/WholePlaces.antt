@@ -2,7 +2,7 @@
 use Rattle.mdinline_text_machine.proofs.Prelude.{◌≡◌, ℕ, zero, suc, ◌+◌, ◌<◌, ◌≤◌, ◌==◌, List, [], ◌∷◌, ◌++◌, Bool, true, false, cond, Option, Some, None, length, take, drop, refl, sym, ap, ◌∙◌, subst, arith, slice_get, slice_get_within, append-nil, drop-at, take-append-drop, Point, Seat, point, virtual, document_end, end_after, shown, IsShown, IsPointOf, Waits, Nothing, Byte, End, goes_on, end_at, whole_text, byte_of, end_or, end_place, point_or, point_of, current_of, next_place, Given, Text, IsDocument, IsText, pushed, IsChain, whole-chain, get-among, start-is-point, start-upto, same-self, end-is-point, end-of-is-point, chain-at, chain-split, after-shown, shown-line, class_of, LineByte, line_byte}
 use Rattle.markdown_tokenizer.proofs.Positions.Chains.{Begins}
 use Rattle.markdown_tokenizer.proofs.Positions.Standing.{seat-begins}
-use Rattle.mdconstructs_machines.specs.Tables.{line_ending, other}
+use Rattle.mdconstructs_tables.specs.Tables.{line_ending, other}
 use Rattle.mdinline_text_machine.proofs.DeepSpans.Places.{range-of}
 use Rattle.mdinline_text_machine.proofs.Plain.Stretches.{end-behind}
 

@@ -3,7 +3,7 @@ use Rattle.std.proofs.Common.{◌≡◌, [], Option, Some, None, refl, true}
 use Rattle.mdconstructs_tables.specs.PlainTables.{are_plain_states, IsPlainTable}
 use Rattle.mdconstructs_tables.specs.Misfits.{misfits}
 use Rattle.mdconstructs_tables.specs.Fitting.{IsFit}
-use Rattle.mdconstructs_machines.specs.Tables.{LineByte, line_ending, other}
+use Rattle.mdconstructs_tables.specs.Tables.{LineByte, line_ending, other}
 use Rattle.mdtests_tables.specs.Behind.{behind}
 
 fits : (previous current : Option LineByte) → misfits behind previous current ≡ []

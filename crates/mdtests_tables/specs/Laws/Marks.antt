@@ -5,7 +5,7 @@ use Rattle.mdconstructs_tables.specs.Late.{hasty, IsLate}
 use Rattle.mdconstructs_tables.specs.Misfits.{misfits}
 use Rattle.mdconstructs_tables.specs.PlainWrites.{StatesWritePlain, WritesPlain}
 use Rattle.mdconstructs_tables.specs.RowInvariant.{PaysRows}
-use Rattle.mdconstructs_machines.specs.Tables.{LineByte, line_ending, other}
+use Rattle.mdconstructs_tables.specs.Tables.{LineByte, line_ending, other}
 use Rattle.mdconstructs_tables.specs.Fitting.{IsFitBy}
 use Rattle.mdconstructs_tables.proofs.CostNumbers.{next-left, square-falls}
 use Rattle.mdtests_tables.specs.Marks.{before_line, after_line, text_before, text_before_data, begins_line, follows_line, marks}

@@ -9,7 +9,7 @@ use Rattle.mdconstructs_tables.specs.Fitting.{IsFit}
 use Rattle.markdown.specs.Configuration.{Configuration}
 use Rattle.markdown.specs.Plain.{IsPlain}
 use Rattle.markdown.specs.Calls.{with_local}
-use Rattle.mdconstructs_machines.specs.Tables.{LineByte, line_ending, other}
+use Rattle.mdconstructs_tables.specs.Tables.{LineByte, line_ending, other}
 use Rattle.mdtests_tables.specs.Names.{after_byte, nothing_read, number_of, is_number_of_name, NamesAreKnown, names}
 
 fits : (previous current : Option LineByte) → misfits names previous current ≡ []

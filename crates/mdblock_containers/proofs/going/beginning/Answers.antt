@@ -1,5 +1,5 @@
 use Rattle.std.proofs.Common.{◌≡◌, ◌≤◌, ◌+◌, ◌-◌, subst, sym, refl, map, drop, length, length-drop, List, arith}
-use Rattle.mdconstructs_machines.specs.Breaks.{is_white}
+use Rattle.mdconstructs_tables.specs.Breaks.{is_white}
 use Rattle.mdblock_leaf_blocks.specs.LineKinds.{indent}
 use Rattle.mdblock_lines.specs.declared.containers.Prefix.{Prefix}
 use Rattle.mdblock_lines.specs.Views.{prefix_of}

@@ -3,8 +3,8 @@ use Rattle.markdown_base.specs.declared.event.Name.TheVariants.{HtmlFlowData}
 use Rattle.markdown_tokenizer.specs.Sight.{sight_of}
 use Rattle.mdconstructs_tables.specs.Rows.{class_of, exit}
 use Rattle.mdconstructs_tables.proofs.Rows.Calls.{can-mark}
-use Rattle.mdblock_leaf_machine.specs.FlowBytes.{flow_byte, line_feed}
-use Rattle.mdblock_leaf_machine.specs.HtmlFlow.{html_flow_continuation}
+use Rattle.mdblock_leaf_rows.specs.FlowBytes.{flow_byte, line_feed}
+use Rattle.mdblock_leaf_rows.specs.HtmlFlow.{html_flow_continuation}
 use Rattle.mdconstructs_tables.proofs.Rows.Calls.{byte-waits}
 use Rattle.mdblock_leaf_machine.proofs.html_flow.continuation.Goals as goal
 

@@ -1,5 +1,5 @@
 use Rattle.std.proofs.Common.{rules}
-use Rattle.mdblock_leaf_machine.proofs.Dashes.{at-dash}
+use Rattle.mdblock_leaf_rows.proofs.Dashes.{at-dash}
 use Rattle.mdblock_leaf_machine.proofs.look.flow_blank_line_before.Goals as goal
 
 pub returns-in-Some-eq45 : goal.returns-in-Some-eq45

@@ -1,5 +1,5 @@
 use Rattle.std.proofs.Common.{true, sym, ◌∙◌, rules}
-use Rattle.mdconstructs_machines.proofs.ChunkEnters.{linkable, as_text}
+use Rattle.mdconstructs_tables.proofs.ChunkEnters.{linkable, as_text}
 use Rattle.mdblock_leaf_machine.proofs.paragraph.begin_chunk.Goals as goal
 
 pub link_chunk-requires : goal.link_chunk-requires

@@ -1,6 +1,6 @@
 use Rattle.std.proofs.Common.{◌∙◌, sym, arith}
 use Rattle.std.proofs.lemmas.List.Sums.{prefix_len-le-length}
-use Rattle.mdconstructs_machines.specs.Breaks.{is_white}
+use Rattle.mdconstructs_tables.specs.Breaks.{is_white}
 use Rattle.mdblock_lines.proofs.LineLemmas.{tag_begins, tag_step, tag_ends}
 use Rattle.mdblock_lines.proofs.html.ends_open_tag.Goals as goal
 

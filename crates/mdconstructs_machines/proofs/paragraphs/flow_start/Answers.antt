@@ -1,5 +1,5 @@
 use Rattle.mdconstructs_machines.proofs.Prelude.{◌≡◌, Some, refl, ap, sight_of, class_of, line_ending, line_byte}
-use Rattle.mdconstructs_machines.specs.Paragraphs.{flow_start}
+use Rattle.mdconstructs_tables.specs.Paragraphs.{flow_start}
 use Rattle.mdconstructs_machines.proofs.RowSteps.{by-row}
 use Rattle.mdconstructs_machines.proofs.paragraphs.flow_start.Goals as goal
 

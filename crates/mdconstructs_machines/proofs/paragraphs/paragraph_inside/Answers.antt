@@ -1,5 +1,5 @@
 use Rattle.mdconstructs_machines.proofs.Prelude.{◌≡◌, Some, refl, ap, rules, sight_of, class_of, line_ending, line_byte}
-use Rattle.mdconstructs_machines.specs.Paragraphs.{paragraph_inside}
+use Rattle.mdconstructs_tables.specs.Paragraphs.{paragraph_inside}
 use Rattle.mdconstructs_machines.proofs.RowSteps.{by-row}
 use Rattle.mdconstructs_machines.proofs.paragraphs.paragraph_inside.Goals as goal
 

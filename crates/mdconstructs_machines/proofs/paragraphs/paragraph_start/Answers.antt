@@ -1,4 +1,4 @@
-use Rattle.mdconstructs_machines.proofs.ChunkEnters.{linkable, as_text}
+use Rattle.mdconstructs_tables.proofs.ChunkEnters.{linkable, as_text}
 use Rattle.mdconstructs_machines.proofs.Prelude.{true, sym, ◌∙◌, rules}
 use Rattle.mdconstructs_machines.proofs.paragraphs.paragraph_start.Goals as goal
 

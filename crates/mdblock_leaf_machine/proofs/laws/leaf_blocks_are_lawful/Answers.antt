@@ -1,5 +1,0 @@
-use Rattle.mdblock_leaf_machine.specs.Laws.Lawful.{flow-lawful}
-use Rattle.mdblock_leaf_machine.proofs.laws.leaf_blocks_are_lawful.Goals as goal
-
-pub returns : goal.returns
-returns c = flow-lawful
