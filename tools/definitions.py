@@ -17,7 +17,7 @@ MARK = "<!-- The rest of this page is made by tools/definitions.py. -->\n"
 INNER = re.compile(r"^Inner: |An inner file: ")
 
 # the crate whose files have the states of a machine, and what is read stands in another one
-MACHINES = ("mdblock_leaf_machine",)
+MACHINES = ("mdblock_leaf_rows",)
 
 
 def read(path):

@@ -10,6 +10,9 @@ import os
 import re
 import sys
 
+sys.dont_write_bytecode = True
+import definitions  # noqa: E402
+
 TOP = os.path.dirname(os.path.dirname(os.path.realpath(__file__)))
 MOST_WORDS = 30_000  # in all pages
 MOST_IN_SENTENCE = 30  # but for one sentence a page
@@ -52,8 +55,8 @@ def long_ones(page):
 
 
 def words():
-    """Returns the words of each page, as `wc -w` counts them."""
-    return {page: len(read(page).split()) for page in pages()}
+    """Returns the words of each page, as `wc -w` counts them, without the list that tools/definitions.py makes."""
+    return {page: len(read(page).partition(definitions.MARK)[0].split()) for page in pages()}
 
 
 def of_readme():
