@@ -10,7 +10,7 @@ usage: tools/docs.py [--take] [--hand-in]
 A fence names its file behind the language, and the items that it shows: ```rust crates/C/src/f.rt item item. `*` is the whole
 file. With no item each stretch between blank lines is text of the file. A block of code that names no file fails. Shown with items
 are the `use` lines that they need, with the names that they use, but if `-` stands before the items. tools/definitions.py,
-tools/prose.py, tools/cases.py, tools/contracts.py and tools/reading.py are called, too.
+tools/prose.py, tools/cases.py, tools/contracts.py, tools/map.py and tools/reading.py are called, too.
 """
 
 import os
@@ -24,6 +24,7 @@ sys.dont_write_bytecode = True
 import cases  # noqa: E402
 import contracts  # noqa: E402
 import definitions  # noqa: E402
+import map as room_map  # noqa: E402
 import prose  # noqa: E402
 import reading  # noqa: E402
 import table  # noqa: E402
@@ -151,34 +152,9 @@ def names(page, text, source):
             failed.append(f"{page}: dead link {link}")
 
 
-def is_in(file, room):
-    """Whether a file is in a room of the map."""
-    front, star, back = room.partition("*")
-    name = file.rsplit(".", 1)[0]
-    parts = [name[: len(name) if i < 0 else i] for i in [name.find("/", len(front))]]
-    return name.startswith(front) and parts[0].endswith(back) if star else name == room or name.startswith(room + "/")
-
-
 def rooms():
-    """Holds the map: each name is there, and each file of src, specs and proofs is in a room. `proofs/Moved*` is all whose names begin so, and `proofs/*Names` all that end so."""
-    covered, crate = set(), None
-    for line in read(MAP).split("\n"):
-        crate = m[1] if (m := re.fullmatch(r"## `(\w+)`.*", line)) else crate if not line.startswith("## ") else None
-        if crate and line.startswith("- "):
-            for word in re.findall(r"`(src|specs|proofs)/([\w/]*\*?\w*)`", line.split(": ")[0]):
-                room = f"crates/{crate}/{word[0]}/{word[1]}"
-                covered.add(room)
-                if "*" in room:
-                    if sum(is_in(f, room) and f.count("/") == room.count("/") for f in FILES) < 2:
-                        failed.append(f"{MAP}: no two files {room}")
-                elif not {room, room + ".rt", room + ".antt"} & PATHS:
-                    failed.append(f"{MAP}: no {room}")
-    for file in FILES:
-        if m := re.fullmatch(r"crates/(\w+)/(src|specs|proofs)/([\w/+]+)\.(rt|antt)", file):
-            folder = m[3].split("/")[0]
-            of_code = m[2] == "proofs" and (folder[0].islower() or folder[0] == "+")
-            if m[3] not in ("lib", "main", "Lib", "Prelude", "util") and not of_code and not any(is_in(file, c) for c in covered):
-                failed.append(f"{MAP}: no room for {file}")
+    """Holds the map: each module and each file of a crate is in a room."""
+    failed.extend(room_map.disagreements())
 
 
 def counted(page, text, take):

@@ -89,11 +89,12 @@ ALSO = {
 
 
 def files(part, room):
-    """Yields the public files of a part's folder."""
+    """Returns the public files of a part's folder, by name: their order there is that of rooms."""
     path = f"{TOP}/crates/{part}/{room}/Lib.antt"
-    if os.path.exists(path):
-        with open(path, encoding="utf-8") as it:
-            yield from re.findall(r"^pub mod (\w+)$", it.read(), flags=re.M)
+    if not os.path.exists(path):
+        return []
+    with open(path, encoding="utf-8") as it:
+        return sorted(re.findall(r"^pub mod (\w+)$", it.read(), flags=re.M))
 
 
 def lib(facade, room):

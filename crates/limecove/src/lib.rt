@@ -4,23 +4,32 @@
 //! is returned for it. The caller owns all memory that is passed. A call frees what it allocates before it returns.
 #![tactic(auto)]
 
-mod choose;
+// numbers: the version, the codes, and the law of numbers; what is called stands in this file
 pub mod code;
-pub mod document;
+pub mod laws;
+#[cfg(test)]
+mod tests;
+
+// choices: options as numbers, and what they choose; options as records, for callers that compare layouts
+mod choose;
 mod echo;
+
+// records: events as records; the numbers of names; the loop that writes records
+mod record;
+
+// readings: what a caller keeps; a list as its pointer, proved by hand
+pub mod kept;
+mod loose;
+mod reading;
+
+// documents: documents that a caller edits
+pub mod document;
 pub mod editing;
 #[cfg(test)]
 mod editing_tests;
 pub mod edits;
 pub mod held;
 mod keeping;
-pub mod kept;
-pub mod laws;
-mod loose;
-mod reading;
-mod record;
-#[cfg(test)]
-mod tests;
 
 ghost use Rattle.std.specs.Prelude.{◌≡◌, ◌≢◌, ◌<◌, ◌≤◌, ◌-◌, ◌↔◌, ◌⊎◌, Err, IfErr, IfOk, IsOkAnd, drop, length, min};
 ghost use Rattle.markdown.specs.Virtual.{IsWithinLimit};

@@ -18,11 +18,11 @@ pub use Rattle.markdown_edits.proofs.LinkEnds
 pub use Rattle.markdown_edits.proofs.Mirrors
 pub use Rattle.markdown_edits.proofs.Results
 pub use Rattle.markdown_edits.proofs.SpanRuns
-pub use Rattle.markdown_tokenizer.proofs.Positions
+pub use Rattle.markdown_tokenizer.proofs.ByteSets
 pub use Rattle.markdown_tokenizer.proofs.Inside
+pub use Rattle.markdown_tokenizer.proofs.Positions
 pub use Rattle.markdown_tokenizer.proofs.Readings
 pub use Rattle.markdown_tokenizer.proofs.Runs
-pub use Rattle.markdown_tokenizer.proofs.ByteSets
 pub use Rattle.markdown_children.proofs.ChainOrder
 pub use Rattle.markdown_children.proofs.ChildReads
 pub use Rattle.markdown_children.proofs.Examples

@@ -5,6 +5,7 @@
 //! `markdown_children` (content in content).
 #![tactic(auto)]
 
+// paths: what the parts have, under the paths of the Rust crate
 pub mod laws;
 pub mod subtokenize;
 pub mod util;

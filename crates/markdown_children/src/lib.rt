@@ -2,12 +2,23 @@
 //! ready.
 #![tactic(auto)]
 
-mod byte_starts;
-mod chains;
+// subtokenizing: `subtokenize`: each chain is read, and its child put in place
 mod children;
-mod division;
-mod first_paragraph;
-pub mod laws;
-mod readiness;
 pub mod subtokenize;
+
+// division: `divide_events`: a child's parts, one a chunk
+mod division;
+
+// weaving: with no filter: the list, written once with these parts
 mod weaving;
+
+// readiness: `ready`, event by event, and where the bytes of a document begin
+mod byte_starts;
+mod readiness;
+
+// chains: along the links; the first paragraph of a list item
+mod chains;
+mod first_paragraph;
+
+// laws: of ready lists, parts and children; when a list is ready for the next content
+pub mod laws;

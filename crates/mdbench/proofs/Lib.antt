@@ -1,2 +1,3 @@
-mod Insertions
 mod Prelude
+-- insertions: edits that `main.rt` puts in a long list are apart in whatever order
+mod Insertions

@@ -1,27 +1,38 @@
-pub mod Ahead
+-- definition: containers without states: what goes on and begins, the skeleton, its blocks; loose lists; letters
 pub mod Blocks
-pub mod Chunks
-pub mod Costs
-pub mod Examples
-pub mod Frames
 pub mod Letters
+pub mod Lists
+pub mod Prefixes
+pub mod Rows
+pub mod Skeleton
+-- rows
+pub mod Over
+pub mod Views
+-- ahead
+pub mod Ahead
+-- writing
+pub mod Chunks
+pub mod Frames
+pub mod PlaceEvents
+pub mod SeatPlaces
+pub mod Stood
+-- lists
 pub mod ListExamples
 pub mod ListSeen
 pub mod ListShapes
 pub mod ListWalks
-pub mod Lists
-pub mod Over
-pub mod Parts
-pub mod PlaceEvents
-pub mod Prefixes
-pub mod Rest
-pub mod Rows
-pub mod SeatPlaces
-pub mod Skeleton
+-- letters
+pub mod Examples
 pub mod SkeletonLaws
-pub mod SkeletonSpans
-pub mod Spans
-pub mod Stood
-pub mod Stretches
-pub mod Views
+-- prefixes
 pub mod Written
+-- parts
+pub mod Parts
+pub mod Spans
+pub mod Stretches
+-- costs: turns of loops: the columns of a line pay for it
+pub mod Costs
+-- skeleton
+pub mod Rest
+-- whole skeletons: they are well formed, and their chains can be read
+pub mod SkeletonSpans

@@ -1,33 +1,22 @@
-pub mod BracketLemmas
-pub mod Covered
+-- fronts
 pub mod DefinedText
-pub mod DefinitionLines
-pub mod DefinitionMarks
-pub mod DefinitionParts
-pub mod DefinitionSpans
-pub mod DefinitionsWithin
-pub mod Examples
+pub mod TextLemmas
+-- held text
 pub mod HeldLemmas
 pub mod HeldTexts
+-- rows
+pub mod BracketLemmas
 pub mod KnownLemmas
 pub mod KnownReads
 pub mod KnownRows
-pub mod LaidParts
 pub mod LeftLines
-pub mod Linked
 pub mod Longer
-pub mod MarksCosts
-pub mod MarksCursor
-pub mod MarksFits
-pub mod MarksLoop
-pub mod MarksParts
-pub mod MarksPlaces
-pub mod MarksText
-pub mod PartSections
-pub mod PartTexts
-pub mod PlainDefinitions
 pub mod PlainLetters
 pub mod RowTexts
+pub mod Shorter
+pub mod Underlined
+-- sections
+pub mod Covered
 pub mod SectionCosts
 pub mod SectionCuts
 pub mod SectionFacts
@@ -42,8 +31,26 @@ pub mod SectionTight
 pub mod SectionTurns
 pub mod Sectioned
 pub mod SectionsReady
-pub mod Shorter
-pub mod TextLemmas
-pub mod Underlined
 pub mod Within
+-- marks
+pub mod DefinitionLines
+pub mod DefinitionMarks
+pub mod DefinitionParts
+pub mod DefinitionSpans
+pub mod DefinitionsWithin
+pub mod LaidParts
+pub mod MarksCosts
+pub mod MarksCursor
+pub mod MarksFits
+pub mod MarksLoop
+pub mod MarksParts
+pub mod MarksPlaces
+pub mod MarksText
+pub mod PlainDefinitions
+-- skeleton
+pub mod PartSections
+pub mod PartTexts
+-- laws
+pub mod Examples
+pub mod Linked
 pub mod Without

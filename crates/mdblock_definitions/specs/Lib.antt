@@ -1,16 +1,24 @@
+-- lines: with the open paragraph's text; parts, cut before and behind definitions
+pub mod Rows
+pub mod Sections
+-- definition: the events of definitions; the skeleton with them, the labels and the letters; the blocks
 pub mod Blocks
+pub mod Definitions
+pub mod Skeleton
+-- held text
+pub mod Held
+-- rows
+pub mod Known
+pub mod Seen
+-- sections
+pub mod Sectioned
+pub mod Within
+-- marks
 pub mod Costs
 pub mod Cursor
-pub mod Definitions
-pub mod Examples
-pub mod Held
-pub mod Known
+-- skeleton
 pub mod Labelled
+-- laws
+pub mod Examples
 pub mod Laws
-pub mod Rows
-pub mod Sectioned
-pub mod Sections
-pub mod Seen
-pub mod Skeleton
 pub mod SkeletonLaws
-pub mod Within

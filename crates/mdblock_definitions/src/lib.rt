@@ -1,12 +1,25 @@
 //! Link reference definitions in the skeleton of a document: the paragraphs that begin with definitions, and the events of these.
 #![tactic(auto)]
 
+// fronts: the text of a paragraph; its definitions
 pub mod fronts;
-pub mod held;
-pub mod laws;
-pub mod marks;
-pub mod parts;
-pub mod rows;
-pub mod sections;
-pub mod skeleton;
 pub mod texts;
+
+// held text: the text of lines of a paragraph
+pub mod held;
+
+// rows: the lines, each with what was known; an underline behind definitions alone
+pub mod rows;
+
+// sections: of a part, and what is in them
+pub mod sections;
+
+// marks: the events of definitions; turns of loops
+pub mod marks;
+
+// skeleton: part by part
+pub mod parts;
+pub mod skeleton;
+
+// laws: of skeletons; documents with their events
+pub mod laws;

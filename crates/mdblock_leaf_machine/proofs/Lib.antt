@@ -1,4 +1,7 @@
 -- The proof of each function is in a folder of its own, by its module.
+-- bytes
 pub mod ByteSets
+-- machine
 pub mod Called
+-- constructs
 pub mod HeadingEdits

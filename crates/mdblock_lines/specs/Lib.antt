@@ -1,4 +1,7 @@
-pub mod Breaks
-pub mod Containers
-pub mod Lines
+-- kinds
 pub mod Views
+-- containers
+pub mod Containers
+-- places
+pub mod Breaks
+pub mod Lines

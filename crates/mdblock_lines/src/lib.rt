@@ -2,10 +2,15 @@
 //! of std stands in place of one.
 #![tactic(auto)]
 
-pub mod breaks;
+// kinds: what a line is
 pub mod bytes;
-pub mod containers;
 pub mod html;
 pub mod kinds;
+
+// containers: of a line
+pub mod containers;
+
+// places: virtual lines and their places; thematic breaks
+pub mod breaks;
 pub mod laws;
 pub mod places;

@@ -13,6 +13,7 @@
 //! nothing, and its status is that of the program if all cases were answered.
 #![tactic(auto)]
 
+// cases: a case, and the events of its document, however it is cut. A person types cases into `data`
 mod answer;
 mod case;
 

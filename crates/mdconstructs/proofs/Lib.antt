@@ -1,5 +1,6 @@
 pub use Rattle.mdconstructs_tables.proofs.Calm
 pub use Rattle.mdconstructs_tables.proofs.Cases
+pub use Rattle.mdconstructs_tables.proofs.ChunkEnters
 pub use Rattle.mdconstructs_tables.proofs.CostNumbers
 pub use Rattle.mdconstructs_tables.proofs.GrowingTexts
 pub use Rattle.mdconstructs_tables.proofs.KeptByReading
@@ -10,7 +11,6 @@ pub use Rattle.mdconstructs_tables.proofs.Numbers
 pub use Rattle.mdconstructs_tables.proofs.Rows
 pub use Rattle.mdconstructs_tables.proofs.Tables
 pub use Rattle.mdconstructs_tables.proofs.Unlinked
-pub use Rattle.mdconstructs_tables.proofs.ChunkEnters
 pub use Rattle.mdconstructs_machines.proofs.BlockReads
 pub use Rattle.mdconstructs_machines.proofs.Breaks
 pub use Rattle.mdconstructs_machines.proofs.Columns
@@ -23,25 +23,25 @@ pub use Rattle.mdconstructs_machines.proofs.NoRefusals
 pub use Rattle.mdconstructs_machines.proofs.ParagraphExamples
 pub use Rattle.mdconstructs_machines.proofs.RowSteps
 pub use Rattle.mdconstructs_machines.proofs.Unfit
-pub use Rattle.mdinline_text_machine.proofs.Examples
-pub use Rattle.mdinline_text_machine.proofs.NoRefusals as TextNoRefusals
 pub use Rattle.mdinline_text_machine.proofs.Autolinks
 pub use Rattle.mdinline_text_machine.proofs.CodeSpans
 pub use Rattle.mdinline_text_machine.proofs.Constructs
 pub use Rattle.mdinline_text_machine.proofs.DeepSpans
 pub use Rattle.mdinline_text_machine.proofs.Escapes
-pub use Rattle.mdinline_text_machine.proofs.Plain
-pub use Rattle.mdinline_text_machine.proofs.Paragraphs as TextParagraphs
+pub use Rattle.mdinline_text_machine.proofs.Examples
+pub use Rattle.mdinline_text_machine.proofs.NoRefusals as TextNoRefusals
 pub use Rattle.mdinline_text_machine.proofs.ParagraphTexts
+pub use Rattle.mdinline_text_machine.proofs.Paragraphs as TextParagraphs
+pub use Rattle.mdinline_text_machine.proofs.Plain
 pub use Rattle.mdinline_text_machine.proofs.Texts
 pub use Rattle.mdinline_labels.proofs.Folded
 pub use Rattle.mdinline_labels.proofs.Fronts as LabelFronts
 pub use Rattle.mdinline_labels.proofs.GivenBack
 pub use Rattle.mdinline_labels.proofs.Known
 pub use Rattle.mdinline_labels.proofs.LabelSteps
+pub use Rattle.mdinline_labels.proofs.Paid
 pub use Rattle.mdinline_labels.proofs.Sizes
 pub use Rattle.mdinline_labels.proofs.Steps
-pub use Rattle.mdinline_labels.proofs.Paid
 pub use Rattle.mdinline_emphasis.proofs.Balance
 pub use Rattle.mdinline_emphasis.proofs.Beside
 pub use Rattle.mdinline_emphasis.proofs.Ends

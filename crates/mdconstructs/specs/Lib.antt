@@ -1,12 +1,15 @@
+pub use Rattle.mdconstructs_tables.specs.Breaks
 pub use Rattle.mdconstructs_tables.specs.Calm
 pub use Rattle.mdconstructs_tables.specs.Cases
 pub use Rattle.mdconstructs_tables.specs.Chunks
+pub use Rattle.mdconstructs_tables.specs.DataRows
 pub use Rattle.mdconstructs_tables.specs.DeepLooks
 pub use Rattle.mdconstructs_tables.specs.Fitting
 pub use Rattle.mdconstructs_tables.specs.Folds
 pub use Rattle.mdconstructs_tables.specs.Joined
 pub use Rattle.mdconstructs_tables.specs.Knowledge
 pub use Rattle.mdconstructs_tables.specs.Late
+pub use Rattle.mdconstructs_tables.specs.Laws as TableLaws
 pub use Rattle.mdconstructs_tables.specs.LinkShapes
 pub use Rattle.mdconstructs_tables.specs.LookKnowledge
 pub use Rattle.mdconstructs_tables.specs.Looks
@@ -15,27 +18,25 @@ pub use Rattle.mdconstructs_tables.specs.Misfits
 pub use Rattle.mdconstructs_tables.specs.NoFurther
 pub use Rattle.mdconstructs_tables.specs.Numbers
 pub use Rattle.mdconstructs_tables.specs.Over
-pub use Rattle.mdconstructs_tables.specs.RowInvariant
-pub use Rattle.mdconstructs_tables.specs.RowTest
-pub use Rattle.mdconstructs_tables.specs.Rows
+pub use Rattle.mdconstructs_tables.specs.Paragraphs
 pub use Rattle.mdconstructs_tables.specs.PlainTables
 pub use Rattle.mdconstructs_tables.specs.PlainWrites
 pub use Rattle.mdconstructs_tables.specs.Plans
 pub use Rattle.mdconstructs_tables.specs.Quiet
 pub use Rattle.mdconstructs_tables.specs.Refusals
+pub use Rattle.mdconstructs_tables.specs.RowInvariant
+pub use Rattle.mdconstructs_tables.specs.RowTest
+pub use Rattle.mdconstructs_tables.specs.Rows
 pub use Rattle.mdconstructs_tables.specs.Stretches
+pub use Rattle.mdconstructs_tables.specs.Tables
 pub use Rattle.mdconstructs_tables.specs.Twins
 pub use Rattle.mdconstructs_tables.specs.Unlinked
-pub use Rattle.mdconstructs_tables.specs.Breaks
-pub use Rattle.mdconstructs_tables.specs.DataRows
-pub use Rattle.mdconstructs_tables.specs.Laws as TableLaws
-pub use Rattle.mdconstructs_tables.specs.Paragraphs
-pub use Rattle.mdconstructs_tables.specs.Tables
-pub use Rattle.mdconstructs_machines.specs.Costs
 pub use Rattle.mdconstructs_machines.specs.Back
+pub use Rattle.mdconstructs_machines.specs.Costs
 pub use Rattle.mdconstructs_machines.specs.Deep
 pub use Rattle.mdconstructs_machines.specs.Fail
 pub use Rattle.mdconstructs_machines.specs.Innermost
+pub use Rattle.mdconstructs_machines.specs.Laws
 pub use Rattle.mdconstructs_machines.specs.LineEvents
 pub use Rattle.mdconstructs_machines.specs.Lines
 pub use Rattle.mdconstructs_machines.specs.Messages
@@ -48,7 +49,6 @@ pub use Rattle.mdconstructs_machines.specs.Unfit
 pub use Rattle.mdconstructs_machines.specs.WholeLooks
 pub use Rattle.mdconstructs_machines.specs.Words
 pub use Rattle.mdconstructs_machines.specs.Wrap
-pub use Rattle.mdconstructs_machines.specs.Laws
 pub use Rattle.mdinline_text_machine.specs.Autolink
 pub use Rattle.mdinline_text_machine.specs.AutolinkRows
 pub use Rattle.mdinline_text_machine.specs.Bytes
@@ -59,6 +59,7 @@ pub use Rattle.mdinline_text_machine.specs.Construct
 pub use Rattle.mdinline_text_machine.specs.Escape
 pub use Rattle.mdinline_text_machine.specs.EscapeRows
 pub use Rattle.mdinline_text_machine.specs.Items
+pub use Rattle.mdinline_text_machine.specs.Laws as TextLaws
 pub use Rattle.mdinline_text_machine.specs.ParagraphTexts
 pub use Rattle.mdinline_text_machine.specs.Parts
 pub use Rattle.mdinline_text_machine.specs.ReadChains
@@ -68,7 +69,6 @@ pub use Rattle.mdinline_text_machine.specs.TextEvents
 pub use Rattle.mdinline_text_machine.specs.TextRules
 pub use Rattle.mdinline_text_machine.specs.TextSizes
 pub use Rattle.mdinline_text_machine.specs.TextTable
-pub use Rattle.mdinline_text_machine.specs.Laws as TextLaws
 pub use Rattle.mdinline_labels.specs.Costs as LabelCosts
 pub use Rattle.mdinline_labels.specs.Defined
 pub use Rattle.mdinline_labels.specs.Definitions
@@ -116,8 +116,8 @@ pub use Rattle.mdinline_machine.specs.InlineRules
 pub use Rattle.mdinline_machine.specs.InlineTable
 pub use Rattle.mdinline_machine.specs.LawStatements as InlineLawStatements
 pub use Rattle.mdinline_machine.specs.Laws as InlineLaws
-pub use Rattle.mdinline_machine.specs.Registered
 pub use Rattle.mdinline_machine.specs.Over as InlinesOver
+pub use Rattle.mdinline_machine.specs.Registered
 pub use Rattle.mdinline_machine.specs.RunRows
 pub use Rattle.mdinline_machine.specs.StringEvents
 pub use Rattle.mdinline_machine.specs.StringTable

@@ -12,6 +12,7 @@
 //! lead to, and where labels are defined) and `mddocument_editing` (a document that can be edited).
 #![tactic(auto)]
 
+// paths: what the parts have; each machine stands at the root
 pub mod emphasis;
 pub mod laws;
 pub mod references;

@@ -4,7 +4,9 @@
 ghost use Rattle.std.specs.Prelude.{◌≡◌, OnOk};
 ghost use Rattle.mdconstructs_tables.specs.Markers.{IsMarkable, marked};
 
+// chunks: of a paragraph, each linked to the chunk before
 pub mod chunks;
+// laws: tables that fit have lawful rules
 pub mod laws;
 
 use markdown_tokenizer::event::Name;

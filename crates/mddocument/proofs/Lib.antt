@@ -1,12 +1,18 @@
+mod Prelude
+-- documents
+pub mod FlowTexts
+-- nested
+pub mod InContainers
+-- making
 mod DeepEvents
-pub mod Emphasis
 mod FlowChains
 mod FlowRuns
-pub mod FlowTexts
-mod FlowTiles
 mod Formed
-pub mod InContainers
+-- emphasis: inline text accounts for each byte, through emphasis
+pub mod Emphasis
+-- tiles
+mod FlowTiles
 pub mod Innermost
-mod Prelude
-mod RangeReads
 mod Tiled
+-- ranges
+mod RangeReads

@@ -1,3 +1,4 @@
+-- calls
 pub mod Chains
 pub mod Documents
 pub mod Examples

@@ -1,18 +1,27 @@
-pub mod Asking
-pub mod Cuts
+-- sections
 pub mod Divided
 pub mod Edits
-pub mod Finds
+-- cuts
 pub mod FirstRest
-pub mod Fronts
-pub mod InBrackets
+-- one section
 pub mod Kept
-pub mod Lookups
-pub mod Packed
-pub mod PackedEvents
-pub mod PositionParts
-pub mod Positions
-pub mod Put
+-- seams
 pub mod Seams
 pub mod Seen
 pub mod Settled
+-- putting in
+pub mod Asking
+pub mod InBrackets
+pub mod Put
+-- moved events
+pub mod Finds
+pub mod Fronts
+pub mod Lookups
+-- positions
+pub mod PositionParts
+pub mod Positions
+-- packed events
+pub mod Packed
+pub mod PackedEvents
+-- laws
+pub mod Cuts

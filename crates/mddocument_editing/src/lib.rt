@@ -1,17 +1,34 @@
 //! A document that can be edited: its sections, places as editors ask for them, and events in little memory.
 #![tactic(auto)]
 
-mod asking;
-mod cut;
+// sections: a document that can be edited
 pub mod edit;
+pub mod sections;
+
+// cuts: where it is cut
+mod cut;
+mod rests;
+
+// one section: its bytes, read
 mod kept;
-pub mod laws;
+mod section;
+
+// seams: sections that are cut again
+mod recut;
+
+// putting in: sections that changed; which others are read again
+mod asking;
+mod put;
+
+// moved events: events of sections, moved; lookups
 mod lookup;
 mod moved;
-pub mod packed;
+
+// positions: by line and character, and back
 pub mod positions;
-mod put;
-mod recut;
-mod rests;
-mod section;
-pub mod sections;
+
+// packed events: events in 24 bytes
+pub mod packed;
+
+// laws: of edits; `Below` has those of the crates below
+pub mod laws;

@@ -1,29 +1,36 @@
-pub mod BlockPlaces
-pub mod BlockWalk
-pub mod ChildEvents
+-- names
 pub mod ChildNames
 pub mod Chosen
 pub mod DocumentNames
-pub mod DocumentRanks
-pub mod DocumentReferences
-pub mod Emphasis
-pub mod EmphasisEvents
-mod Examples
-pub mod FlowHeads
 pub mod FlowNames
-pub mod HeadChildren
-pub mod Heads
-pub mod HtmlStarts
-pub mod InnerTexts
 pub mod Inside
 pub mod ItemNames
-pub mod LineStarts
-pub mod LinkEvents
 pub mod LinkNames
-pub mod MarksWalk
 pub mod Named
 pub mod PlainNames
+pub mod RowNames
+pub mod SkeletonNames
+pub mod SpanNames
+-- walks: what holds of single marks holds of skeletons and leaf blocks
+pub mod BlockWalk
+pub mod MarksWalk
+pub mod SkeletonWalk
+-- beginnings
+pub mod BlockPlaces
+mod Examples
+pub mod HtmlStarts
+pub mod LineStarts
+-- ranks
+pub mod DocumentRanks
+pub mod FlowHeads
+pub mod HeadChildren
+pub mod Heads
 pub mod Ranks
+-- emphasis
+pub mod Emphasis
+pub mod EmphasisEvents
+-- references
+pub mod DocumentReferences
 pub mod ReferenceBytes
 pub mod ReferenceChildren
 mod ReferenceExamples
@@ -34,8 +41,8 @@ pub mod ReferenceSeats
 pub mod ReferenceSpans
 pub mod ReferenceSpelling
 pub mod ReferencesStand
-pub mod RowNames
-pub mod SkeletonNames
-pub mod SkeletonWalk
-pub mod SpanNames
+-- children: where chains are replaced by what they are read as, or brackets by links: which events there are
+pub mod ChildEvents
+pub mod InnerTexts
+pub mod LinkEvents
 pub mod WholeSpans

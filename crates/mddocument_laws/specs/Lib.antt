@@ -1,9 +1,14 @@
-pub mod BlockPlaces
-pub mod EmphasisLaws
-pub mod EmphasisSpans
-pub mod LineStarts
+-- names
 pub mod Names
 pub mod NamesOff
-pub mod PairedApart
+-- beginnings: what a line begins with; where events of leaf blocks stand
+pub mod BlockPlaces
+pub mod LineStarts
+-- ranks: of headings
 pub mod Ranks
+-- emphasis: spans of emphasis are of pairs
+pub mod EmphasisLaws
+pub mod EmphasisSpans
+pub mod PairedApart
+-- references: where a document has a character reference, its events are its spans
 pub mod ReferencePlaces

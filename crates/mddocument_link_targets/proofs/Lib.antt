@@ -1,5 +1,9 @@
+-- spans
+pub mod SpanEnds
+-- strings
+pub mod Numerals
+-- targets
+pub mod Lookups
+-- laws
 pub mod CostLemmas
 pub mod Examples
-pub mod Lookups
-pub mod Numerals
-pub mod SpanEnds

@@ -1,6 +1,10 @@
-pub mod Costs
-pub mod Defined
-pub mod Examples
+-- spans
 pub mod Spans
+-- strings
 pub mod Strings
+-- targets
+pub mod Defined
 pub mod Targets
+-- laws
+pub mod Costs
+pub mod Examples

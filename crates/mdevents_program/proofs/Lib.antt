@@ -1,4 +1,6 @@
-pub mod Blocks
-pub mod OptionWords
-pub mod Pairs
 mod Prelude
+-- arguments
+pub mod OptionWords
+-- printing
+pub mod Blocks
+pub mod Pairs

@@ -1,6 +1,11 @@
+-- program
+pub mod Program
+-- arguments
 pub mod Arguments
 pub mod ArgumentsInner
-pub mod Failure
-pub mod Printed
-pub mod Program
+-- input and output
 pub mod Input
+-- printing
+pub mod Printed
+-- failure
+pub mod Failure

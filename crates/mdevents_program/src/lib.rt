@@ -2,15 +2,26 @@
 //! writer.
 #![tactic(auto)]
 
-pub mod arguments;
-mod buffer;
-pub mod call;
-mod digits;
-pub mod failure;
-mod last_point;
-pub mod laws;
-mod names;
-mod print;
+// program: `write_events`: reads, makes events, writes
 pub mod program;
+
+// arguments: what those of the command line choose
+pub mod arguments;
+
+// input and output: reading to the end, within the limit; writing
 pub mod read;
 pub mod write;
+
+// printing: lines of events, and what they are made of
+mod buffer;
+mod digits;
+mod last_point;
+mod names;
+mod print;
+
+// call: what a call does, for any system, reader and writer
+pub mod call;
+
+// failure: why the program fails; the law that the usage line stays
+pub mod failure;
+pub mod laws;

@@ -1,9 +1,17 @@
-pub mod Fields
+-- texts
+pub mod Texts
+-- headings
 pub mod Headings
-pub mod Kept
+-- labels
 pub mod Labels
-pub mod Laws
+-- text lines
+pub mod TextLines
+-- fields
+pub mod Fields
+-- kept
+pub mod Kept
+-- linter
 pub mod Linter
 pub mod Ranks
-pub mod TextLines
-pub mod Texts
+-- laws: the tables pass their tests; `call`
+pub mod Laws

@@ -1,7 +1,9 @@
-pub mod Fronts
-pub mod Names
+mod Prelude
+-- characters
 pub mod Orders
 pub mod Parts
-mod Prelude
 pub mod Searches
 pub mod Tables
+-- names: of character references are found by their beginnings
+pub mod Fronts
+pub mod Names

@@ -1,2 +1,3 @@
+-- characters
 pub mod CharacterReferences
 pub mod References

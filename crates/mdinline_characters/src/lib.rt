@@ -10,6 +10,7 @@ ghost use Rattle.std.specs.Prelude.{◌≡◌, ◌⊎◌, ◌+◌, ◌++◌, [],
 ghost use Rattle.std.specs.Str.Parse.{IsNumeral, digits_value};
 ghost use Rattle.mdinline_characters.specs.References.{IsCharacterAt, characters_of, characters_in, code_points, first_from, name_from, read};
 
+// characters: of character references, by name and by number
 pub mod laws;
 mod table;
 

@@ -1,3 +1,5 @@
 mod Prelude
+-- full references
 pub mod FullReferences
+-- looks
 pub mod Looks

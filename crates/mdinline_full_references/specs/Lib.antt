@@ -1,4 +1,6 @@
+-- full references
 pub mod FullReference
-pub mod FullReferenceLooks
 pub mod FullReferenceRows
+-- looks
+pub mod FullReferenceLooks
 pub mod Laws

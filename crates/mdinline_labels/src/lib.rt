@@ -4,10 +4,15 @@
 ghost use Rattle.std.specs.Prelude.{◌≡◌, ◌+◌, ◌≤◌, ◌<◌, IfOk, length};
 ghost use Rattle.mdinline_labels.specs.Labels.{is_label_white, begins_character, hides, is_bracket, is_label, collapsed, normalised};
 
-pub mod definitions;
+// labels: their normal form, a set of them
 pub mod labels;
-pub mod resources;
+
+// tails: sizes of labels, destinations, titles
 pub mod tails;
+
+// definitions: at the front of a text; resources
+pub mod definitions;
+pub mod resources;
 
 use mdconstructs_loop_counts::Turns;
 use std::alloc::{AllocError, Global};

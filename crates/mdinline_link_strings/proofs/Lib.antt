@@ -1,16 +1,20 @@
-pub mod Accounts
-pub mod Added
-pub mod Cuts
-mod Examples
+-- items
 pub mod Fronts
-pub mod Kept
-pub mod Laid
 pub mod Listed
-pub mod Nexts
-pub mod Orders
+-- places
 pub mod Places
-pub mod Plain
 pub mod PlainRanges
 pub mod Ranges
+-- strings
+pub mod Added
+pub mod Kept
+pub mod Laid
+pub mod Nexts
+pub mod Plain
 pub mod Rewritten
 pub mod Stretches
+-- laws
+pub mod Accounts
+pub mod Cuts
+mod Examples
+pub mod Orders

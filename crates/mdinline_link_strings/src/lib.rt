@@ -1,9 +1,16 @@
 //! Strings: the escapes and the character references of destinations, titles and labels, by plain code.
 #![tactic(auto)]
 
+// items: of a string
 mod items;
-pub mod laws;
+
+// places: bytes between places; events at them
 mod placed;
-mod rewriting;
 mod seats;
+
+// strings: of links in a list
+mod rewriting;
 pub mod strings;
+
+// laws: of strings
+pub mod laws;

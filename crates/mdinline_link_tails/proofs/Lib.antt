@@ -1,3 +1,5 @@
 mod Prelude
-pub mod Looks
+-- resources
 pub mod Resources
+-- looks
+pub mod Looks

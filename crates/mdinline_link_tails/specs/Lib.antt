@@ -1,4 +1,6 @@
-pub mod Laws
+-- resources
 pub mod Resource
-pub mod ResourceLooks
 pub mod ResourceRows
+-- looks
+pub mod Laws
+pub mod ResourceLooks

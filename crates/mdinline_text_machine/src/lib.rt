@@ -2,11 +2,18 @@
 //! data.
 #![tactic(auto)]
 
+// constructs: of each its events, rows, costs, code; that it is read
 pub mod autolink;
 pub mod code_span;
 pub mod escape;
-pub mod laws;
-pub mod names;
-pub mod read;
-pub mod sizes;
+
+// machine: its constructs, and its states between them; that it is lawful
 pub mod text;
+
+// sizes: names, sizes, classes and prices that constructs share
+pub mod names;
+pub mod sizes;
+
+// chains: `read_text`; laws of chains of text
+pub mod laws;
+pub mod read;

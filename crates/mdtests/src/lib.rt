@@ -1,6 +1,7 @@
 //! Tests of the program, of whole documents and of the examples, as a caller sees them, and the surface of the libraries.
 #![tactic(auto)]
 
+// tests: of the program, documents, public paths, examples
 #[cfg(test)]
 mod calls;
 #[cfg(test)]

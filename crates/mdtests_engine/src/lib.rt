@@ -1,6 +1,7 @@
 //! Tests of the engine, as a caller sees it: values, places, edits, walks, links and chunks, a tokenizer without a machine.
 #![tactic(auto)]
 
+// tests: of the engine without a machine
 #[cfg(test)]
 mod division;
 #[cfg(test)]

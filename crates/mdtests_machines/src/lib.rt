@@ -1,6 +1,7 @@
 //! Tests of the small machines and of `Text`: whole documents, ranges, gaps, every cut, children.
 #![tactic(auto)]
 
+// tests: of small machines and texts
 #[cfg(test)]
 mod every_cut;
 #[cfg(test)]

@@ -1,2 +1,3 @@
+-- tests
 pub mod StarEdits
 mod Prelude

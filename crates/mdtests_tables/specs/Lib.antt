@@ -1,3 +1,4 @@
+-- tests
 pub mod Behind
 pub mod Starved
 pub mod Laws

@@ -1,6 +1,7 @@
 //! Tests of machines as tables: machines that no library offers, each with what is rare among the others.
 #![tactic(auto)]
 
+// tests: of machines as tables
 #[cfg(test)]
 mod behind;
 #[cfg(test)]
