@@ -5,13 +5,13 @@ ghost use Rattle.mdconstructs_tables.specs.RowInvariant.{DoesAll, IsCallable, st
 ghost use Rattle.mdblock_leaf_rows.specs.FlowBytes.{flow_byte};
 ghost use Rattle.mdblock_leaf_rows.specs.CodeFenced.{raw_flow_at_non_lazy_break, raw_flow_close_start, raw_flow_before_sequence_close, raw_flow_sequence_close, raw_flow_after_sequence_close, raw_flow_content_before, raw_flow_content_start, raw_flow_before_content_chunk, raw_flow_content_chunk, raw_flow_after, raw_flow_close_before, raw_flow_close_blank, raw_flow_close_sequence, raw_flow_close_between};
 
-use mdblock_leaf_rows::names;
 use crate::sizes::{
     add_to_count, at_mark, counts_to_indent, is_as_long, is_stripped, may_be_indented, set_count,
 };
 use markdown_tokenizer::event;
 use markdown_tokenizer::state::{MachineTypes, Name, State};
 use markdown_tokenizer::tokenizer::Tokenizer;
+use mdblock_leaf_rows::names;
 use mdconstructs_tables::marker;
 use std::alloc::AllocError;
 

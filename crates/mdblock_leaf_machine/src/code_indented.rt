@@ -5,11 +5,11 @@ ghost use Rattle.mdconstructs_tables.specs.RowInvariant.{DoesAll, IsCallable, st
 ghost use Rattle.mdblock_leaf_rows.specs.FlowBytes.{flow_byte};
 ghost use Rattle.mdblock_leaf_rows.specs.CodeIndented.{code_indented_start, code_indented_at_break, code_indented_further_after, code_indented_inside, code_indented_line_after, code_indented_after, code_indented_further_begin, code_indented_further_start};
 
-use mdblock_leaf_rows::names;
 use crate::sizes::{add_to_count, counts_to_four, set_count};
 use markdown_tokenizer::event;
 use markdown_tokenizer::state::{MachineTypes, Name, State};
 use markdown_tokenizer::tokenizer::Tokenizer;
+use mdblock_leaf_rows::names;
 use mdconstructs_tables::marker;
 use std::alloc::AllocError;
 

@@ -7,11 +7,11 @@ ghost use Rattle.mdconstructs_tables.specs.RowInvariant.{DoesAll, IsCallable, st
 ghost use Rattle.mdblock_leaf_rows.specs.FlowBytes.{flow_byte};
 ghost use Rattle.mdblock_leaf_rows.specs.CodeFenced.{flow_before_raw, raw_flow_look_info, raw_flow_start, raw_flow_sequence_open, raw_flow_info_before, raw_flow_before_sequence_open, raw_flow_info, raw_flow_info_after, raw_flow_meta_before, raw_flow_meta, fence_ends};
 
-use mdblock_leaf_rows::names;
 use crate::sizes::{STRING, add_to_size, at_mark, has_three, is_tilde_fence, set_kind};
 use markdown_tokenizer::event;
 use markdown_tokenizer::state::{MachineTypes, Name, State};
 use markdown_tokenizer::tokenizer::Tokenizer;
+use mdblock_leaf_rows::names;
 use std::alloc::AllocError;
 
 /// A look: in the sequence of an opening fence.

@@ -47,10 +47,10 @@ use crate::thematic_break::{
     thematic_break_sequence,
 };
 use crate::{html_flow, html_tags};
-use mdblock_leaf_rows::names;
 use markdown_tokenizer::state::{ByteSet, Machine, MachineTypes, Name, State, no_bytes};
 use markdown_tokenizer::subtokenize::Subresult;
 use markdown_tokenizer::tokenizer::{Fault, Tokenizer};
+use mdblock_leaf_rows::names;
 use std::alloc::{AllocError, Global};
 
 /// Reads the leaf blocks of CommonMark. The options say which constructs are on. Paragraphs

@@ -9,7 +9,6 @@ ghost use Rattle.mdconstructs_tables.specs.RowInvariant.{DoesAll, IsCallable, st
 ghost use Rattle.mdblock_leaf_rows.specs.FlowBytes.{flow_byte};
 ghost use Rattle.mdblock_leaf_rows.specs.HeadingAtx.{flow_before_heading_atx, heading_atx_look_start, heading_atx_look_text, heading_atx_look_blank, heading_atx_look_signs, heading_atx_look_after, heading_atx_start, heading_atx_sequence_open, heading_atx_at_break, heading_atx_before, heading_atx_data, text_or_signs, text_goes_on};
 
-use mdblock_leaf_rows::names;
 use crate::sizes::{
     TEXT, add_to_count, add_to_size, count_text, end_signs, has_room, has_text, is_in_text,
     set_count, set_kind, set_size, take_signs_as_text,
@@ -17,6 +16,7 @@ use crate::sizes::{
 use markdown_tokenizer::event;
 use markdown_tokenizer::state::{MachineTypes, Name, State};
 use markdown_tokenizer::tokenizer::Tokenizer;
+use mdblock_leaf_rows::names;
 use std::alloc::AllocError;
 
 /// A look: in the number signs that open a heading. There are at most six.

@@ -9,11 +9,11 @@ ghost use Rattle.mdblock_leaf_rows.specs.HeadingEdits.{CanEndHeading};
 ghost use Rattle.mdblock_leaf_rows.specs.HeadingSetext.{flow_before_heading_setext, heading_setext_look_after, further_dash, heading_setext_text_after, heading_setext_start, heading_setext_before, heading_setext_inside, heading_setext_after};
 
 use crate::heading_edits::end_heading;
-use mdblock_leaf_rows::names;
 use crate::sizes::{add_to_size, at_mark, breaks_are_on, set_kind};
 use markdown_tokenizer::event;
 use markdown_tokenizer::state::{MachineTypes, Name, State};
 use markdown_tokenizer::tokenizer::Tokenizer;
+use mdblock_leaf_rows::names;
 use mdconstructs_tables::marker;
 use std::alloc::{AllocError, Global};
 

@@ -8,11 +8,11 @@ ghost use Rattle.mdblock_leaf_rows.specs.FlowBytes.{flow_byte};
 ghost use Rattle.mdblock_leaf_rows.specs.HtmlFlow.{html_flow_start, html_flow_continuation, html_flow_continuation_comment_inside, html_flow_continuation_cdata_inside, html_flow_continuation_declaration_inside, html_flow_continuation_raw_tag_open, html_flow_continuation_raw_end_tag_goes_on, html_flow_continuation_raw_end_tag, html_flow_continuation_close, html_flow_continuation_before, html_flow_blank_line_before, html_flow_blank_line_inside, html_flow_continuation_after, html_flow_continuation_start};
 
 use crate::html_names::{add_to_raw_name, ends_at_blank_line, html_is, is_raw_tag};
-use mdblock_leaf_rows::names;
 use crate::sizes::set_size;
 use markdown_tokenizer::event;
 use markdown_tokenizer::state::{MachineTypes, Name, State};
 use markdown_tokenizer::tokenizer::Tokenizer;
+use mdblock_leaf_rows::names;
 use mdconstructs_tables::marker;
 use std::alloc::AllocError;
 

@@ -10,10 +10,10 @@ ghost use Rattle.mdblock_leaf_rows.specs.HtmlTags.{html_flow_open, html_flow_dec
 use crate::html_names::{
     NO_NAME, add_to_name, at_cdata, closes_tag, is_block_tag, opens_raw, set_closing, set_html,
 };
-use mdblock_leaf_rows::names;
 use crate::sizes::{add_to_size, at_mark, set_marker, set_size};
 use markdown_tokenizer::state::{MachineTypes, Name, State};
 use markdown_tokenizer::tokenizer::Tokenizer;
+use mdblock_leaf_rows::names;
 use std::alloc::AllocError;
 
 /// A look behind a less-than sign.

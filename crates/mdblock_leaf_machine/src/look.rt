@@ -8,7 +8,6 @@ ghost use Rattle.mdblock_leaf_rows.specs.FlowBytes.{flow_byte};
 ghost use Rattle.mdblock_leaf_rows.specs.Look.{paragraph_look_start, flow_blank_line_before, heading_may_begin, break_may_begin, underline_may_begin, dash_may_begin, equals_may_begin, fence_may_begin, html_may_begin, text_may_begin};
 
 use crate::html_names::html_is_on;
-use mdblock_leaf_rows::names;
 use crate::sizes::{
     add_to_indent, breaks_are_on, fences_are_on, headings_are_on, is_indented, set_indent,
     set_kind, set_marker, set_size, underlines_are_on,
@@ -16,6 +15,7 @@ use crate::sizes::{
 use markdown_tokenizer::event;
 use markdown_tokenizer::state::{MachineTypes, Name, State};
 use markdown_tokenizer::tokenizer::Tokenizer;
+use mdblock_leaf_rows::names;
 use std::alloc::AllocError;
 
 /// At a line ending in a paragraph: looks at the next line.

@@ -10,11 +10,11 @@ ghost use Rattle.mdconstructs_tables.specs.Paragraphs.{CanLinkChunk};
 
 use crate::heading_edits::{begin_paragraph, end_paragraph};
 use crate::html_names::is_passed_over;
-use mdblock_leaf_rows::names;
 use crate::sizes::{TEXT, kind_is};
 use markdown_tokenizer::event;
 use markdown_tokenizer::state::{MachineTypes, Name, State};
 use markdown_tokenizer::tokenizer::Tokenizer;
+use mdblock_leaf_rows::names;
 use mdconstructs_tables::chunks::{connect, disconnect, is_connected, link_chunk};
 use std::alloc::AllocError;
 
