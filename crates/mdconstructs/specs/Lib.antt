@@ -9,7 +9,6 @@ pub use Rattle.mdconstructs_tables.specs.Folds
 pub use Rattle.mdconstructs_tables.specs.Joined
 pub use Rattle.mdconstructs_tables.specs.Knowledge
 pub use Rattle.mdconstructs_tables.specs.Late
-pub use Rattle.mdconstructs_tables.specs.Laws as TableLaws
 pub use Rattle.mdconstructs_tables.specs.LinkShapes
 pub use Rattle.mdconstructs_tables.specs.LookKnowledge
 pub use Rattle.mdconstructs_tables.specs.Looks

@@ -51,7 +51,7 @@ pub use Rattle.mdconstructs_machines.specs.Innermost.{AccountFor, AccountsForDoc
 pub use Rattle.mdconstructs_machines.specs.Laws.Back.{back-none}
 pub use Rattle.mdconstructs_machines.specs.Laws.Deep.{deep-none, triangle-is}
 pub use Rattle.mdconstructs_machines.specs.Laws.Lines.{lines-none}
-pub use Rattle.mdconstructs_tables.specs.Laws.Paragraphs.{can-follow, known-before}
+pub use Rattle.mdconstructs_tables.proofs.Paragraphs.{can-follow, known-before}
 pub use Rattle.mdconstructs_machines.specs.Laws.Peek.{peek-none}
 pub use Rattle.mdconstructs_machines.specs.Laws.Save.{save-none}
 pub use Rattle.mdconstructs_machines.specs.LineEvents.{all_of, back_events, data_events, data_line, ending_of, is_line_ending, joined, line_events, line_text, lines_in, paragraph_line, save_events}

@@ -40,7 +40,7 @@ impl MachineTypes for Paragraphs {
 impl Machine for Paragraphs {
     ghost use Rattle.mdconstructs_tables.proofs.Tables.Lawful.{knowing-lawful};
     ghost use Rattle.mdconstructs_tables.specs.Paragraphs.{paragraphs, knows_chunk, paragraphs_rules};
-    ghost use Rattle.mdconstructs_tables.specs.Laws.Paragraphs.{paragraphs-fit, paragraphs-known};
+    ghost use Rattle.mdconstructs_tables.proofs.Paragraphs.{paragraphs-fit, paragraphs-known};
 
     ghost rules = { λ _. paragraphs_rules };
 

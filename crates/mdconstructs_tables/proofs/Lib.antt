@@ -24,3 +24,4 @@ pub mod Tables
 pub mod Unlinked
 -- paragraphs
 pub mod ChunkEnters
+pub mod Paragraphs

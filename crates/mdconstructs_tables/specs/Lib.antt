@@ -53,7 +53,6 @@ pub mod Unlinked
 pub mod Breaks
 pub mod DataRows
 -- paragraphs: the machine of paragraphs, its knowledge and its laws
-pub mod Laws
 pub mod Paragraphs
 -- shared tables
 pub mod Tables

@@ -156,7 +156,7 @@ pub use Rattle.mdconstructs_machines.specs.Back.{back_rules}
 pub use Rattle.mdconstructs_tables.specs.Breaks.{is_white}
 pub use Rattle.mdconstructs_machines.specs.Deep.{deep_rules}
 pub use Rattle.mdconstructs_machines.specs.Innermost.{AccountFor, ended_next, innermost_spans, span_over, stretch_bytes}
-pub use Rattle.mdconstructs_tables.specs.Laws.Paragraphs.{paragraphs-fit, paragraphs-known}
+pub use Rattle.mdconstructs_tables.proofs.Paragraphs.{paragraphs-fit, paragraphs-known}
 pub use Rattle.mdconstructs_machines.specs.LineEvents.{all_of, back_events, data_events, data_line, ending_of, is_line_ending, line_events, line_text, lines_in, paragraph_line, save_events}
 pub use Rattle.mdconstructs_machines.specs.Lines.{lines_rules}
 pub use Rattle.mdconstructs_machines.specs.ParagraphEvents.{paragraph_events}

@@ -89,7 +89,7 @@ pub use Rattle.mdconstructs_machines.proofs.LineReads.Data.{data-read}
 pub use Rattle.mdconstructs_machines.proofs.LineReads.Rows.{line-ending-read, row_step, waits_class}
 pub use Rattle.mdconstructs_machines.proofs.LineReads.Steps.{at-front, held}
 pub use Rattle.mdconstructs_machines.specs.Innermost.{AccountFor, ended_next, innermost_spans, span_over, stretch_bytes}
-pub use Rattle.mdconstructs_tables.specs.Laws.Paragraphs.{begins-chunk, can-follow, chunk_enter, known-before, paragraphs-fit, paragraphs-known}
+pub use Rattle.mdconstructs_tables.proofs.Paragraphs.{begins-chunk, can-follow, chunk_enter, known-before, paragraphs-fit, paragraphs-known}
 pub use Rattle.mdconstructs_machines.specs.LineEvents.{all_of, data_events, data_line, ending_of, is_line_ending, joined, line_text, lines_in}
 pub use Rattle.mdconstructs_machines.specs.ParagraphEvents.{Block, Chunk, Marked, as_linked, block_marks, blocks_marks, blocks_of, chunk_of, line_marks, lines_marks, mark_of, marked_span, paragraph, paragraph_events}
 pub use Rattle.mdconstructs_tables.specs.Paragraphs.{CanLinkChunk, flow_start, flow_start_rows, knows_chunk, paragraph_inside, paragraph_inside_rows, paragraph_line_start, paragraph_line_start_rows, paragraph_start, paragraph_start_rows, paragraphs, paragraphs_rules}

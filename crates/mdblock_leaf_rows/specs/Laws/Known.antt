@@ -32,7 +32,7 @@ use Rattle.mdconstructs_tables.specs.LinkShapes.{AreInShape}
 use Rattle.mdconstructs_tables.specs.Rows.{Act, enter, enter_link, exit, consume, links, write, Rows, row, when, step_of}
 use Rattle.mdconstructs_tables.proofs.LinkShapes.{more-shape}
 use Rattle.mdconstructs_tables.specs.Paragraphs.{text_link}
-use Rattle.mdconstructs_tables.specs.Laws.Paragraphs.{chunk_enter, begins-chunk, ended-chunk, ends-with, ends-linked, last-index, linked-in-shape}
+use Rattle.mdconstructs_tables.proofs.Paragraphs.{chunk_enter, begins-chunk, ended-chunk, ends-with, ends-linked, last-index, linked-in-shape}
 use Rattle.mdblock_leaf_rows.specs.FlowBytes.{FlowByte, Cased, cased}
 use Rattle.mdblock_leaf_rows.specs.BlankLine.{blank_line_start_rows, blank_line_start}
 use Rattle.mdblock_leaf_rows.specs.CodeFenced.{flow_before_raw_rows, flow_before_raw, raw_flow_look_info_rows, raw_flow_look_info, raw_flow_start_rows, raw_flow_start, raw_flow_sequence_open_rows, raw_flow_sequence_open, raw_flow_info_before_rows, raw_flow_info_before, raw_flow_before_sequence_open_rows, raw_flow_before_sequence_open, raw_flow_info_rows, raw_flow_info, raw_flow_info_after_rows, raw_flow_info_after, raw_flow_meta_before_rows, raw_flow_meta_before, raw_flow_meta_rows, raw_flow_meta, raw_flow_at_non_lazy_break_rows, raw_flow_at_non_lazy_break, raw_flow_close_start_rows, raw_flow_close_start, raw_flow_before_sequence_close_rows, raw_flow_before_sequence_close, raw_flow_sequence_close_rows, raw_flow_sequence_close, raw_flow_after_sequence_close_rows, raw_flow_after_sequence_close, raw_flow_content_before_rows, raw_flow_content_before, raw_flow_content_start_rows, raw_flow_content_start, raw_flow_before_content_chunk_rows, raw_flow_before_content_chunk, raw_flow_content_chunk_rows, raw_flow_content_chunk, raw_flow_after_rows, raw_flow_after, raw_flow_close_before_rows, raw_flow_close_before, raw_flow_close_blank_rows, raw_flow_close_blank, raw_flow_close_sequence_rows, raw_flow_close_sequence, raw_flow_close_between_rows, raw_flow_close_between}

@@ -20,7 +20,7 @@ use Rattle.mdconstructs_tables.specs.Joined.{AreApart}
 use Rattle.mdconstructs_tables.proofs.Tables.Joined.{HaveOtherNames, fed-state, called-state, is-other, of-first, of-second}
 use Rattle.mdconstructs_tables.specs.Tables.{LineByte, line_ending, other}
 use Rattle.mdconstructs_tables.specs.Paragraphs.{knows_chunk}
-use Rattle.mdconstructs_tables.specs.Laws.Paragraphs.{paragraphs-known}
+use Rattle.mdconstructs_tables.proofs.Paragraphs.{paragraphs-known}
 use Rattle.mdinline_text_machine.specs.TextTable.{texts, begins_construct, follows_construct}
 use Rattle.mdinline_text_machine.specs.Laws.Table.{texts-late, texts-plain}
 use Rattle.mdinline_text_machine.specs.TextRules.{flow, flow_rules, inline_rules, text_rules}

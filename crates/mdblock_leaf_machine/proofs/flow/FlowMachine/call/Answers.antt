@@ -2,7 +2,7 @@ use Rattle.std.proofs.Common.{refl, rules, sym, subst}
 use Rattle.mdconstructs_tables.specs.RowInvariant.{begun}
 use Rattle.mdconstructs_tables.proofs.Rows.Calls.{callable, did-step, never-called}
 use Rattle.mdconstructs_tables.specs.Paragraphs.{CanLinkChunk}
-use Rattle.mdconstructs_tables.specs.Laws.Paragraphs.{can-follow}
+use Rattle.mdconstructs_tables.proofs.Paragraphs.{can-follow}
 use Rattle.mdblock_leaf_rows.specs.BlankLine.{blank_line_start}
 use Rattle.mdblock_leaf_rows.specs.CodeFenced.{flow_before_raw, raw_flow_look_info, raw_flow_start, raw_flow_sequence_open, raw_flow_info_before, raw_flow_before_sequence_open, raw_flow_info, raw_flow_info_after, raw_flow_meta_before, raw_flow_meta, raw_flow_at_non_lazy_break, raw_flow_close_start, raw_flow_before_sequence_close, raw_flow_sequence_close, raw_flow_after_sequence_close, raw_flow_content_before, raw_flow_content_start, raw_flow_before_content_chunk, raw_flow_content_chunk, raw_flow_after, raw_flow_close_before, raw_flow_close_blank, raw_flow_close_sequence, raw_flow_close_between}
 use Rattle.mdblock_leaf_rows.specs.CodeIndented.{code_indented_start, code_indented_at_break, code_indented_further_after, code_indented_inside, code_indented_line_after, code_indented_after, code_indented_further_begin, code_indented_further_start}
