@@ -45,7 +45,7 @@ CITED = re.compile(r"Rattle\.(\w+)\.(specs|proofs)((?:\.\w+)*)")
 NAME = re.compile(r"[A-Za-z_][\w-]{2,}")
 # Sentences with numbers of wrong bodies
 COUNTED = {
-    "docs/maintaining/GATE.md": "`wrong-bodies/LIST` has all {all} wrong bodies: `rt ci` tries {gate}, `wrong-bodies/try.sh` {prover}, and `wrong-bodies/by_tests.py` {tests}.",
+    "docs/maintaining/GATE.md": "`wrong-bodies/LIST` has all {all} wrong bodies: `rt ci` tries {gate}, `wrong-bodies/try.sh` {prover}, and `wrong-bodies/by_tests.py` {tests}. They break {promises} promises that have a name.",
     "README.md": "{outside} more wrong bodies are tried outside the gate. `wrong-bodies/LIST` has the commit at which each was last rejected, or `-` if it was not since its code changed.",
 }
 failed = []
@@ -162,7 +162,7 @@ def counted(page, text, take):
     if page not in COUNTED:
         return text
     of = [row.who if row.who in ("gate", "prover") else "tests" for row in table.read()[1]]
-    numbers = {"all": len(of), "outside": len(of) - of.count("gate"), **{who: of.count(who) for who in ("gate", "prover", "tests")}}
+    numbers = {"all": len(of), "outside": len(of) - of.count("gate"), **{who: of.count(who) for who in ("gate", "prover", "tests")}, "promises": len(table.promises())}
     wanted = COUNTED[page].format(**numbers)
     found = re.search(re.sub(r"\\{\w+\\}", r"\\d+", re.escape(COUNTED[page])), text)
     if found and take:

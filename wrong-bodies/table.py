@@ -3,9 +3,9 @@
 
 usage: wrong-bodies/table.py             updates LIST: a line for each new edit, none for one that is gone. Who tries a new edit of
                                          by-tests, and the promise that a new edit of the gate breaks, are written by hand, in
-                                         place of the question mark
+                                         place of the question mark; so is the promise of an edit that try.sh tries
        wrong-bodies/table.py --check     prints what does not agree, and ends with 1 if something does not. tools/docs.py does so too
-       wrong-bodies/table.py --promises  prints the promises that the gate's edits break, each with its edits
+       wrong-bodies/table.py --promises  prints the promises, each with the edits that break it and who tries them
 """
 
 import collections
@@ -166,11 +166,11 @@ def names(place):
 
 
 def promises():
-    """Returns the edits of the gate by the promise that they break."""
+    """Returns the rows of the edits that break a promise, by the promise."""
     found = {}
     for row in read()[1]:
-        if row.who == "gate":
-            found.setdefault(row.promise, []).append(f"{row.crate} {row.function}-{row.what}")
+        if row.promise != "-":
+            found.setdefault(row.promise, []).append(row)
     return found
 
 
@@ -206,12 +206,17 @@ def is_tried(row):
 
 
 def stands(row, found, is_code):
-    """Holds a row against what its edit turns: it names a promise if it is in the gate, and only then."""
+    """Holds a row against what its edit turns. One of the gate names the promise that it breaks. One that try.sh tries may name one: then
+    LIST has the commit at which it was rejected."""
     name, path = f"{row.function}-{row.what}", edit_of(row)
     if is_code and not any(row.function in names(it) for it in found):
         yield f"{path}: it turns {', '.join('.'.join(filter(None, (it.module, it.owner, it.name))) for it in found)}, and not what its name says"
-    if row.promise == "?" or (row.who == "gate") == (row.promise == "-"):
-        yield f"wrong-bodies/LIST: {name}: an edit is in the gate if it breaks a promise that has a name, and only then"
+    if row.promise == "?" or row.who == "gate" and row.promise == "-":
+        yield f"wrong-bodies/LIST: {name}: an edit of the gate breaks a promise that has a name"
+    if kind(row) == "tests" and row.promise != "-":
+        yield f"wrong-bodies/LIST: {name}: an edit that breaks a promise is rejected by the prover, and not by a test"
+    if row.who == "prover" and row.promise != "-" and not tried_at(row):
+        yield f"{path}: it breaks a promise, and was not rejected as it is now: wrong-bodies/try.sh --promises {row.crate}"
     if not is_tried(row):
         yield f"wrong-bodies/LIST: no test {row.who}, which should reject {name}"
 
@@ -266,8 +271,9 @@ def update():
         who = kind if kind == "gate" else row.who if row.who not in ("gate", "?") else {"prover": "prover", "tests": "?"}[kind]
         row = row._replace(who=who)
         row = row._replace(commit=row.commit if tried_at(row) else "-")
-        promise = row.promise if row.promise != "-" else moved.get((crate, what), "-")
-        new.append(row._replace(promise="-" if kind != "gate" else "?" if promise == "-" else promise))
+        is_new = (crate, function, what) not in old
+        promise = moved.get((crate, what), "-") if row.promise == "-" and (is_new or kind == "gate") else row.promise
+        new.append(row._replace(promise="-" if kind == "tests" else "?" if kind == "gate" and promise == "-" else promise))
     write(head, new)
 
 
@@ -284,7 +290,8 @@ if __name__ == "__main__":
         print("\n".join(found), end="\n" if found else "")
         sys.exit(1 if found else 0)
     if sys.argv[1:] == ["--promises"]:
-        print("\n".join(f"{promise}: {', '.join(edits)}" for promise, edits in promises().items()))
+        for promise, rows in promises().items():
+            print(f"{promise}: {', '.join(f'{row.crate} {row.function}-{row.what} ({row.who})' for row in rows)}")
     elif sys.argv[1:]:
         sys.exit(__doc__)
     else:

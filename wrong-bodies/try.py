@@ -1,12 +1,13 @@
 #!/usr/bin/env python3
 """Tries the wrong bodies of LIST that the prover must reject, and writes the commit of the crates into LIST for those that it does.
 
-usage: wrong-bodies/try.sh [--gate] [--since COMMIT | --old] [--log FILE] [--keep] [--show] [CRATE..] [WORD..]
+usage: wrong-bodies/try.sh [--gate] [--promises] [--since COMMIT | --old] [--log FILE] [--keep] [--show] [CRATE..] [WORD..]
   CRATE, WORD     only edits of these crates; only edits whose name has one of these words
   --since COMMIT  only edits that a change since COMMIT can reach, and edits that LIST has no commit for
   --old           only edits that a change can reach since the commit that LIST has for them, or that have none
   --log FILE      what a run of rt ci printed that proved these crates as they are here: they are not proved once more before their edits
   --gate          edits of the gate too
+  --promises      only edits that break a promise that has a name
   --keep          LIST stays as it is
   --show          only prints which edits would be tried
 
@@ -282,13 +283,14 @@ def is_old(edits):
 
 
 def main(words):
-    given = {word for word in words if word in ("--gate", "--old", "--keep", "--show")}
+    given = {word for word in words if word in ("--gate", "--promises", "--old", "--keep", "--show")}
     commit = words.pop(words.index("--since") + 1) if "--since" in words else None
     log = open(words.pop(words.index("--log") + 1), encoding="utf-8").read().split("\n") if "--log" in words else []
     words = [word for word in words if not word.startswith("--")]
     head, rows = table.read()
     wanted, parts = [it for it in words if it in table.crates()], [it for it in words if it not in table.crates()]
     edits = [Edit(row) for row in rows if row.who == "prover" or row.who == "gate" and "--gate" in given]
+    edits = [it for it in edits if it.row.promise != "-" or "--promises" not in given]
     edits = [it for it in edits if (not wanted or it.row.crate in wanted) and (not parts or any(part in it.path for part in parts))]
     if commit:
         since = Since(commit)
