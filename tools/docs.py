@@ -1,6 +1,6 @@
 #!/usr/bin/env python3
-"""Checks README.md and docs/ against the files that they name, and the wrong bodies against their table. Prints what fails, and ends
-with 1 if something does.
+"""Checks README.md and docs/ against the files that they name, the wrong bodies against their table, and crates.txt against what each
+crate names. Prints what fails, and ends with 1 if something does.
 
 usage: tools/docs.py [--take] [--hand-in]
   --take     each code block is first rewritten from the items that it names; the numbers of wrong bodies, the list of definitions and
@@ -29,8 +29,8 @@ import prose  # noqa: E402
 import reading  # noqa: E402
 import table  # noqa: E402
 
-FILES = subprocess.run(["git", "-C", TOP, "ls-files", "-co", "--exclude-standard"], capture_output=True, text=True).stdout.split("\n")
-FILES = [f for f in FILES if f and os.path.exists(f"{TOP}/{f}")]
+FILES = subprocess.run(["git", "-c", "safe.directory=*", "-C", TOP, "ls-files", "-co", "--exclude-standard"], capture_output=True, text=True).stdout.split("\n")
+FILES = [f for f in FILES if f and os.path.exists(f"{TOP}/{f}")] or sys.exit(f"git lists no files of {TOP}")
 PATHS = set(FILES) | {f[:i] for f in FILES for i in range(len(f)) if f[i] == "/"}
 PAGES = ["README.md"] + [f for f in FILES if f.startswith("docs/") and f.endswith(".md")]
 MAP = "docs/maintaining/MAP.md"
@@ -172,6 +172,22 @@ def counted(page, text, take):
     return text
 
 
+def lines_of_crates():
+    """Holds crates.txt: the line of a crate lists the crates that its files name, in paths of the code and in modules, and no others."""
+    crates = table.crates()
+    for crate, listed in crates.items():
+        named = {}
+        for file in FILES:
+            if re.match(rf"crates/{crate}/(src|specs|proofs)/.*\.(rt|antt)$", file):
+                text = re.sub(r"//.*" if file.endswith(".rt") else r"--.*", "", read(file))
+                for name in re.findall(r"\bRattle\.(\w+)\.|\b(\w+)::", text):
+                    named.setdefault("".join(name), file)
+        used = {name for name in named if name in crates and name != crate}
+        failed.extend(f"crates.txt: {crate} lists {name}, which none of its files names" for name in listed if name not in used)
+        failed.extend(f"crates.txt: {crate} does not list {name}, which {named[name]} names" for name in sorted(used - set(listed)))
+        failed.extend(f"crates.txt: {crate} lists {name} twice" for name in sorted(set(listed)) if listed.count(name) > 1)
+
+
 def last_gate(is_handed_in):
     """Holds the status of the README against the first row of the gate's page; before handing in also against what changed since."""
     row = re.search(r"^\| [\d-]+ \| (\w{7,40}), .*?`(\d+ passed, 0 failed)`", read("docs/maintaining/GATE.md"), flags=re.M)
@@ -203,6 +219,7 @@ def main():
                 it.write(new)
         names(page, new, source)
     rooms()
+    lines_of_crates()
     last_gate("--hand-in" in sys.argv[1:])
     if "--take" in sys.argv[1:]:
         definitions.write()
