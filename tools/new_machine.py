@@ -13,7 +13,7 @@ sys.dont_write_bytecode = True
 import docs  # noqa: E402
 
 FROM = "crates/mdexamples"
-TESTS = "crates/mdtests/src/examples.rt"
+TESTS = "crates/mdtests_examples/src/examples.rt"
 LIB = """//! A machine of headings.
 #![tactic(auto)]
 

@@ -15,8 +15,8 @@ import sys
 
 CRATES = os.path.join(os.path.dirname(os.path.abspath(__file__)), "../crates")
 # What the names of the tests begin with that have to pass, and of those that compare without showing.
-PASSES = ("mdtests_engine::no_memory::", "mdtests_machines::no_memory::", "mdtests::calls::memory_is_no_fault_of_the_reader")
-SILENT = ("mdtests::calls::", "mdtests::written::")
+PASSES = ("mdtests_engine::no_memory::", "mdtests_machines::no_memory::", "mdtests_program::calls::memory_is_no_fault_of_the_reader")
+SILENT = ("mdtests_program::calls::", "mdtests_program::written::")
 REFUSED = re.compile(r"Error: AllocError|Error: Memory$|left: .*out of memory|\bmemory\b", re.M)
 
 

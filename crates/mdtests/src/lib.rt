@@ -1,21 +1,11 @@
-//! Tests of the program, of whole documents and of the examples, as a caller sees them, and the surface of the libraries.
+//! Tests of whole documents, as a caller sees them, and the surface of the libraries.
 #![tactic(auto)]
 
 // tests: of the program, documents, public paths, examples
 #[cfg(test)]
-mod calls;
-#[cfg(test)]
 mod documents;
 #[cfg(test)]
 mod edits;
-#[cfg(test)]
-mod examples;
-#[cfg(test)]
-mod fakes;
-#[cfg(test)]
-mod kept;
-#[cfg(test)]
-mod linter;
 #[cfg(test)]
 mod lists;
 #[cfg(test)]
@@ -24,5 +14,3 @@ mod sections;
 mod shown;
 #[cfg(test)]
 mod surface;
-#[cfg(test)]
-mod written;

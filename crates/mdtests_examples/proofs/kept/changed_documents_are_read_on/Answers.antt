@@ -1,5 +1,5 @@
-use Rattle.mdtests.proofs.Prelude.{refl, point}
-use Rattle.mdtests.proofs.kept.changed_documents_are_read_on.Goals as goal
+use Rattle.mdtests_examples.proofs.Prelude.{refl, point}
+use Rattle.mdtests_examples.proofs.kept.changed_documents_are_read_on.Goals as goal
 
 pub read_on-requires-clause-cut : goal.read_on-requires-clause-cut
 read_on-requires-clause-cut g c = (point 2 1 2 0, refl, refl, tt)
