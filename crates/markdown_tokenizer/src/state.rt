@@ -36,7 +36,7 @@ pub fn no_bytes() -> &'static ByteSet
 /// (`resolver`), what holds before a list of resolvers runs (`resolves`), and what the machine promises of its final events
 /// (`ends`): those that resolvers and edits leave. The machine proves six laws about them.
 pub trait Machine: MachineTypes + Sized {
-    ghost use Rattle.std.specs.Prelude.{◌≡◌, ◌≢◌, [], IfOk, IfErr};
+    ghost use Rattle.std.specs.Prelude.{◌≡◌, ◌≢◌, [], IfOk, IfErr, IfSome};
     ghost use Rattle.markdown_base.specs.declared.state.State.TheVariants.{Retry};
     ghost use Rattle.markdown_tokenizer.specs.declared.waiting.Waits.TheVariants.{Nothing};
     ghost use Rattle.markdown_tokenizer.specs.declared.waiting.Phase.TheVariants.{Reading, Resolving};
@@ -72,11 +72,12 @@ pub trait Machine: MachineTypes + Sized {
         ensures call_is_step { IfOk result (DidStep t.old t.new (step_of (rules self.now) t.old name)) };
 
     /// The bytes that the state of this name reads over: wherever one of them waits, the call consumes it, does nothing else, and returns
-    /// `Next` of the same name. The engine then need not call it. Each of them is above CR. There need not be any.
-    fn reads_over(&self, _name: Name) -> &'static ByteSet
-        ensures { AreReadOver (rules self.now) _name result.now }
+    /// `Next` of the same name. The engine then need not call it. Each of them is above CR. It is `None` for a state that reads over none: the
+    /// engine then does not look at what comes next.
+    fn reads_over(&self, _name: Name) -> Option<&'static ByteSet>
+        ensures { IfSome result (λ set. AreReadOver (rules self.now) _name set.now) }
     {
-        no_bytes()
+        None
     }
 
     /// Runs the resolver of this name over the events. A flush that resolves calls it once all was read.

@@ -93,7 +93,9 @@ fn over_until<M: Machine>(machine: &M, name: Name, bytes: &[u8], from: usize, un
     ensures until { from < result → result ≤ until }
     ensures over { (k : ℕ) → from ≤ k → k < result → IsByteOver (M.rules machine.now) name (slice_index bytes.now k) }
 {
-    let over = machine.reads_over(name);
+    let Some(over) = machine.reads_over(name) else {
+        return from;
+    };
     let mut at = from;
     while at < until {
         if !over[bytes[at] as usize] {
