@@ -2,10 +2,13 @@
 
 ghost use Rattle.std.specs.Prelude.{◌≡◌, IfOk};
 
+use super::state::{ContainerState, Label, LabelStart};
 use super::{TokenizeState, Tokenizer};
 use crate::copies::{TryClone, copied};
 use crate::state::{MachineTypes, State};
-use markdown_base::owned::StaticBytes;
+use crate::waiting::KeptChoice;
+use markdown_base::event::{Event, Name};
+use markdown_base::owned::{Items, OwnedText, StaticBytes};
 use std::alloc::{AllocError, Global};
 
 /// A copy of a state, if one is there.
@@ -18,25 +21,74 @@ fn copied_state(state: &Option<State>, alloc: Global) -> Result<Option<State>, A
     }
 }
 
+/// What is kept of the document, in memory of its own.
+#[derive(Drop)]
+struct KeptDocument<D: Drop> {
+    document: Option<D>,
+    document_child_state: Option<State>,
+    document_container_stack: Items<ContainerState>,
+    document_exits: Items<Option<Items<Event>>>,
+}
+
+/// The labels and definitions, in memory of their own.
+#[derive(Drop)]
+struct KeptLabels {
+    label_starts: Items<LabelStart>,
+    label_starts_loose: Items<LabelStart>,
+    labels: Items<Label>,
+    definitions: Items<OwnedText>,
+    gfm_footnote_definitions: Items<OwnedText>,
+}
+
+/// A copy of what is kept of the document.
+fn copied_document<D: Drop + TryClone>(
+    state: &TokenizeState<D>,
+    alloc: Global,
+) -> Result<KeptDocument<D>, AllocError>
+    ensures { IfOk result (λ copy. copy ≡ record { document = state.now.document; document_child_state = state.now.document_child_state; document_container_stack = state.now.document_container_stack; document_exits = state.now.document_exits }) }
+{
+    let document = state.document.try_clone(alloc)?;
+    let document_child_state = copied_state(&state.document_child_state, alloc)?;
+    let document_container_stack = copied(&state.document_container_stack, alloc)?;
+    let document_exits = state.document_exits.try_clone(alloc)?;
+    Ok(KeptDocument {
+        document,
+        document_child_state,
+        document_container_stack,
+        document_exits,
+    })
+}
+
+/// A copy of the labels and definitions.
+fn copied_labels<D: Drop>(state: &TokenizeState<D>, alloc: Global) -> Result<KeptLabels, AllocError>
+    ensures { IfOk result (λ copy. copy ≡ record { label_starts = state.now.label_starts; label_starts_loose = state.now.label_starts_loose; labels = state.now.labels; definitions = state.now.definitions; gfm_footnote_definitions = state.now.gfm_footnote_definitions }) }
+{
+    let label_starts = copied(&state.label_starts, alloc)?;
+    let label_starts_loose = copied(&state.label_starts_loose, alloc)?;
+    let labels = copied(&state.labels, alloc)?;
+    let definitions = state.definitions.try_clone(alloc)?;
+    let gfm_footnote_definitions = state.gfm_footnote_definitions.try_clone(alloc)?;
+    Ok(KeptLabels {
+        label_starts,
+        label_starts_loose,
+        labels,
+        definitions,
+        gfm_footnote_definitions,
+    })
+}
+
 impl<D: Drop + TryClone> TryClone for TokenizeState<D> {
     /// The same, with what the machine keeps about the document copied by its own `try_clone`.
     fn try_clone(&self, alloc: Global) -> Result<Self, AllocError> {
-        let document = self.document.try_clone(alloc)?;
-        let document_child_state = copied_state(&self.document_child_state, alloc)?;
-        let document_container_stack = copied(&self.document_container_stack, alloc)?;
-        let document_exits = self.document_exits.try_clone(alloc)?;
-        let label_starts = copied(&self.label_starts, alloc)?;
-        let label_starts_loose = copied(&self.label_starts_loose, alloc)?;
-        let labels = copied(&self.labels, alloc)?;
-        let definitions = self.definitions.try_clone(alloc)?;
-        let gfm_footnote_definitions = self.gfm_footnote_definitions.try_clone(alloc)?;
+        let kept = copied_document(self, alloc)?;
+        let named = copied_labels(self, alloc)?;
         Ok(TokenizeState {
-            document,
-            document_child_state,
-            document_container_stack,
+            document: kept.document,
+            document_child_state: kept.document_child_state,
+            document_container_stack: kept.document_container_stack,
             document_continued: self.document_continued,
             document_data_index: self.document_data_index,
-            document_exits,
+            document_exits: kept.document_exits,
             document_lazy_accepting_before: self.document_lazy_accepting_before,
             document_at_first_paragraph_of_list_item: self.document_at_first_paragraph_of_list_item,
             space_or_tab_eol_content: self.space_or_tab_eol_content,
@@ -48,11 +100,11 @@ impl<D: Drop + TryClone> TryClone for TokenizeState<D> {
             space_or_tab_max: self.space_or_tab_max,
             space_or_tab_size: self.space_or_tab_size,
             space_or_tab_token: self.space_or_tab_token,
-            label_starts,
-            label_starts_loose,
-            labels,
-            definitions,
-            gfm_footnote_definitions,
+            label_starts: named.label_starts,
+            label_starts_loose: named.label_starts_loose,
+            labels: named.labels,
+            definitions: named.definitions,
+            gfm_footnote_definitions: named.gfm_footnote_definitions,
             connect: self.connect,
             marker: self.marker,
             marker_b: self.marker_b,
@@ -73,6 +125,40 @@ impl<D: Drop + TryClone> TryClone for TokenizeState<D> {
     }
 }
 
+/// Events, open spans, resolvers and choices, in memory of their own.
+#[derive(Drop)]
+struct KeptLists<R> {
+    events: Vec<Event>,
+    stack: Vec<Name>,
+    resolvers: Vec<R>,
+    kept_choices: Vec<KeptChoice>,
+}
+
+/// Copies of the lists of a tokenizer.
+fn copied_lists<R: Copy>(
+    events: &[Event],
+    stack: &[Name],
+    resolvers: &[R],
+    kept_choices: &[KeptChoice],
+    alloc: Global,
+) -> Result<KeptLists<R>, AllocError>
+    ensures events { IfOk result (λ copy. copy.events.items ≡ events.now) }
+    ensures stack { IfOk result (λ copy. copy.stack.items ≡ stack.now) }
+    ensures resolvers { IfOk result (λ copy. copy.resolvers.items ≡ resolvers.now) }
+    ensures kept_choices { IfOk result (λ copy. copy.kept_choices.items ≡ kept_choices.now) }
+{
+    let events = Vec::from_slice(alloc, events)?;
+    let stack = Vec::from_slice(alloc, stack)?;
+    let resolvers = Vec::from_slice(alloc, resolvers)?;
+    let kept_choices = Vec::from_slice(alloc, kept_choices)?;
+    Ok(KeptLists {
+        events,
+        stack,
+        resolvers,
+        kept_choices,
+    })
+}
+
 impl<'a, M: MachineTypes> Tokenizer<'a, M>
 where
     M::Document: TryClone,
@@ -84,12 +170,15 @@ where
     pub fn try_clone(&self, alloc: Global) -> Result<Self, AllocError>
         ensures { IfOk result (λ copy. copy ≡ self.now) }
     {
+        let lists = copied_lists(
+            &self.events,
+            &self.stack,
+            &self.resolvers,
+            &self.kept_choices,
+            alloc,
+        )?;
         let map = self.map.try_clone(alloc)?;
         let skips = self.skips.try_clone(alloc)?;
-        let events = Vec::from_slice(alloc, &self.events)?;
-        let stack = Vec::from_slice(alloc, &self.stack)?;
-        let resolvers = Vec::from_slice(alloc, &self.resolvers)?;
-        let kept_choices = Vec::from_slice(alloc, &self.kept_choices)?;
         let tokenize_state = self.tokenize_state.try_clone(alloc)?;
         let calls = self.calls.same();
         Ok(Tokenizer {
@@ -109,10 +198,10 @@ where
             byte: self.byte,
             plain_until: self.plain_until,
             bytes: self.bytes,
-            events,
-            stack,
-            resolvers,
-            kept_choices,
+            events: lists.events,
+            stack: lists.stack,
+            resolvers: lists.resolvers,
+            kept_choices: lists.kept_choices,
             tab_size: self.tab_size,
             closed: self.closed,
             phase: self.phase,
