@@ -140,7 +140,7 @@ def is_found(word, page, source):
         return there(word.replace(".", "/") + ".antt")
     if cited := CITED.fullmatch(word):
         return cited[1] == "std" or cited[3] in ("", ".X") or there((cited[2] + cited[3]).replace(".", "/") + ".antt")
-    return not NAME.fullmatch(word) or bool({word, word.rsplit("-", 1)[0]} & (source | FOREIGN))
+    return not NAME.fullmatch(word) or any(name in source or name in FOREIGN for name in (word, word.rsplit("-", 1)[0]))
 
 
 def names(page, text, source):

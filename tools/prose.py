@@ -1,5 +1,6 @@
 #!/usr/bin/env python3
-"""Holds the length of README.md and docs/: words in all, sentences over 30 words, lines and cells of the README, and that each bold
+"""Holds the length of README.md and docs/: words in all (but for what a tool makes and no one reads from end to end: the list of
+docs/DEFINITIONS.md and docs/CONTRACTS.txt), sentences over 30 words, lines and cells of the README, and that each bold
 sentence of the README has a name of the code beside it.
 
 usage: tools/prose.py [--words]     prints what fails, and ends with 1 if something does; --words prints the words of each page

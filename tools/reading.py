@@ -14,6 +14,7 @@ import sys
 TOP = os.path.dirname(os.path.dirname(os.path.realpath(__file__)))
 HEAD = re.compile(r"^(?P<space> *)(?:pub )?(?P<kind>abbrev|record|data|enum)?(?: ?pub)? ?(?P<name>[^ :(){}]+)(?: [({].*)? : ")
 WHOLE = ("document_events", "mddocument.specs.DocumentEvents")
+MADE = re.compile(r" +(?:pub )?([^\s:(){}]+)(?: [({].*)? : ")
 WORD = re.compile(r"[^\s(){}\[\],;λ∷→×≡]+")
 
 
@@ -26,19 +27,22 @@ def path_of(module):
 
 
 class File:
-    """A file of specs: what it imports, by the name it has there, and its definitions, by name."""
+    """A file of specs: what it imports, by the name it has there, and its definitions, by name; `inside` has the definition of each
+    constructor."""
 
     def __init__(self, module):
-        self.module, self.names, self.modules, self.parts, self.lines = module, {}, {}, {}, {}
+        self.module, self.names, self.modules, self.parts, self.lines, self.inside = module, {}, {}, {}, {}, {}
         with open(path_of(module), encoding="utf-8") as it:
             text = it.read()
         self.comment = text.split("\n", 1)[0].removeprefix("-- ")
         current, header = None, ""
         for line in text.split("\n"):
-            used = re.match(r"(?:pub )?use Rattle\.([\w.]+?)(?:\.\{(.*)\}| as (\S+))?$", line)
+            used = line.startswith(("use ", "pub use ")) and re.match(r"(?:pub )?use Rattle\.([\w.]+?)(?:\.\{(.*)\}| as (\S+))?$", line)
             if used:
                 if used.group(3):
                     self.modules[used.group(3)] = used.group(1)
+                elif used.group(2) is None:
+                    self.modules[used.group(1).split(".")[-1]] = used.group(1)
                 for said in re.split(r", *", used.group(2) or ""):
                     if said:
                         name, _, other = said.partition(" as ")
@@ -59,6 +63,8 @@ class File:
                 self.parts.setdefault(current, header)
                 self.lines.setdefault(current, 0)
             if current:
+                if (made := MADE.match(line)) and re.search(r"\b(data|enum)\b", self.parts[current]):
+                    self.inside.setdefault(made[1], current)
                 self.parts[current] += line + "\n"
                 self.lines[current] += 1
 
@@ -67,37 +73,92 @@ class File:
         return current is not None and re.search(r"\b(record|data|enum)\b", self.parts[current]) is not None
 
 
+class Library:
+    """The files of specs of all crates, read once, and where names lead: through what a file imports, and through the lists of facades."""
+
+    def __init__(self):
+        self.files, self.lists, self.met, self.found = {}, {}, {}, {}
+
+    def file(self, module):
+        """Returns a file of specs, or None if there is none: of std, or what code declares."""
+        if module not in self.files:
+            self.files[module] = File(module) if os.path.isfile(path_of(module)) else None
+        return self.files[module]
+
+    def placed(self, module):
+        """Returns where a module stands that a facade may pass on."""
+        crate, _, rest = module.partition(".specs.")
+        if not rest or os.path.isfile(path_of(module)):
+            return module
+        if crate not in self.lists:
+            path = path_of(f"{crate}.specs.Lib")
+            text = open(path, encoding="utf-8").read() if os.path.isfile(path) else ""
+            found = re.findall(r"^pub use Rattle\.([\w.]+)\.(\w+)(?: as (\w+))?$", text, flags=re.M)
+            self.lists[crate] = {other or name: f"{front}.{name}" for front, name, other in found}
+        first, dot, inner = rest.partition(".")
+        return self.lists[crate].get(first, f"{crate}.specs.{first}") + dot + inner
+
+    def defined(self, module, name):
+        """Returns the module and the definition that a name of a module leads to, or None if it leads out of specs."""
+        key = (module, name)
+        if key not in self.met:
+            self.met[key] = None
+            if file := self.file(self.placed(module)):
+                what = name if name in file.parts else file.inside.get(name)
+                self.met[key] = (file.module, what) if what else self.defined(*file.names[name]) if name in file.names else None
+        return self.met[key]
+
+    def cited(self, text, names, modules, own=None):
+        """Returns the definitions that a text cites, in their order in it. `names` are those that are imported, `modules` those of whole
+        files, and `own` is the module in which the text stands."""
+        found, here = {}, self.files[own] if own else None
+        for word in dict.fromkeys(WORD.findall(text)):
+            for name in dict.fromkeys((word, word.split(".")[0], word.strip(".:"))) if "." in word or ":" in word else (word,):
+                at = None
+                if here and (name in here.parts or name in here.inside):
+                    at = (own, name if name in here.parts else here.inside[name])
+                elif name in names:
+                    at = self.defined(*names[name])
+                elif name in modules and "." in word:
+                    at = self.defined(modules[name], word.split(".")[1])
+                if at:
+                    found[at] = None
+        return list(found)
+
+    def cited_by(self, at):
+        """Returns the definitions that a definition cites, without itself."""
+        if at not in self.found:
+            file = self.files[at[0]]
+            self.found[at] = [it for it in self.cited(file.parts[at[1]], file.names, file.modules, at[0]) if it != at]
+        return self.found[at]
+
+    def under(self, tops):
+        """Returns these definitions and all that they stand on, each with those that it cites."""
+        found, left = {}, list(tops)
+        while left:
+            at = left.pop()
+            if at not in found:
+                found[at] = self.cited_by(at)
+                left += found[at]
+        return found
+
+
 def stands_on(name, module):
     """Returns the files that a definition stands on, each with the definitions that are needed, in the order in which they are met from below."""
-    files, needed, order = {}, {}, []
+    library, needed, order = Library(), {}, []
 
-    def file(it):
-        if it not in files:
-            files[it] = File(it) if os.path.isfile(path_of(it)) else None
-        return files[it]
-
-    def need(where, what):
-        it = file(where)
-        if it is None or what in needed.setdefault(where, []):
+    def need(at):
+        if at[1] in needed.setdefault(at[0], []):
             return
-        if what not in it.parts:
-            if what in it.names:
-                need(*it.names[what])
-            return
-        needed[where].append(what)
-        for word in dict.fromkeys(WORD.findall(it.parts[what])):
-            for name in dict.fromkeys((word, word.split(".")[0], word.strip(".:"))):
-                if name != what and name in it.parts:
-                    need(where, name)
-                elif name in it.names:
-                    need(*it.names[name])
-                elif name in it.modules and "." in word:
-                    need(it.modules[name], word.split(".")[1])
-        if where not in order:
-            order.append(where)
+        needed[at[0]].append(at[1])
+        for it in library.cited_by(at):
+            need(it)
+        if at[0] not in order:
+            order.append(at[0])
 
-    need(module, name)
-    return [(it, files[it], needed[it]) for it in order if ".declared." not in it and not it.startswith("std.")]
+    if top := library.defined(module, name):
+        need(top)
+    return [(it, library.files[it], needed[it]) for it in order]
 
 
 def listed():
