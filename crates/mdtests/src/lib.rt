@@ -1,7 +1,7 @@
 //! Tests of whole documents, as a caller sees them, and the surface of the libraries.
 #![tactic(auto)]
 
-// tests: of the program, documents, public paths, examples
+// tests: of documents, edits and lists, and public paths
 #[cfg(test)]
 mod documents;
 #[cfg(test)]

@@ -2,6 +2,7 @@
 //! the program.
 #![tactic(auto)]
 
+// calls: arguments, what is written, and reads and writes that fail
 #[cfg(test)]
 mod calls;
 #[cfg(test)]
