@@ -98,13 +98,13 @@ def imported(text):
 
 
 class Sums:
-    """The sums of definitions and of clauses, and the definitions that clauses cite. Proofs, which are in `Laws`, have none."""
+    """The sums of definitions and of clauses, and the definitions that clauses cite. Proofs, also those in `Laws`, have none."""
 
     def __init__(self):
         self.library, self.known, self.tops = reading.Library(), {}, {}
 
     def is_definition(self, at):
-        return not re.search(r"\.specs\.Laws\b", at[0])
+        return re.search(r"\.specs\.(?!Laws\b)", at[0])
 
     def of(self, at):
         """Returns the sum of a definition: of its text without comments and white space, and of the names that it cites, with their files."""

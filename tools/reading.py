@@ -82,7 +82,8 @@ class Library:
     def file(self, module):
         """Returns a file of specs, or None if there is none: of std, or what code declares."""
         if module not in self.files:
-            self.files[module] = File(module) if os.path.isfile(path_of(module)) else None
+            is_spec = ".specs." in module and os.path.isfile(path_of(module))
+            self.files[module] = File(module) if is_spec else None
         return self.files[module]
 
     def placed(self, module):
