@@ -18,6 +18,8 @@ INNER = re.compile(r"^Inner: |An inner file: ")
 
 # the crate whose files have the states of a machine, and what is read stands in another one
 MACHINES = ("mdblock_leaf_rows",)
+# what the names of crates begin with that are no part of a public one
+NO_PARTS = ("mdcases", "mdexamples", "mdtests", "mdbench")
 
 
 def read(path):
@@ -27,8 +29,8 @@ def read(path):
 
 def crates():
     """Yields the public crates and their parts, the lowest first."""
-    for note, name in re.findall(r"^# (.*)\n(?:# .*\n)*(\w+)(?: staticlib)?:", read(f"{TOP}/crates.txt"), flags=re.M):
-        if not note.startswith("no part"):
+    for name in re.findall(r"^(\w+)(?: staticlib)?:", read(f"{TOP}/crates.txt"), flags=re.M):
+        if not name.startswith(NO_PARTS):
             yield name
 
 

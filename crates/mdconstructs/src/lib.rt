@@ -1,10 +1,11 @@
 //! State machines, each proved lawful, `read_text`, `events_of`, and what the author of a machine needs.
 //!
-//! This crate has no code. It re-exports its nineteen parts, which have the code and the proofs: `mdconstructs_tables` (machines as
+//! This crate has no code. It re-exports its parts, which have the code and the proofs: `mdconstructs_tables` (machines as
 //! tables), `mdconstructs_machines` (the small machines), `mdinline_text_machine` (`Text` and its definition), `mdinline_labels` (labels of
 //! links), `mdinline_emphasis` (emphasis, as edits), `mdinline_characters` (the characters of references),
 //! `mdinline_constructs` (further constructs of inline text), `mdinline_link_strings` (the strings of links, read in a list of
-//! events), `mdinline_machine` (`Inlines`, inline text and strings), `mdblock_leaf_machine` (`Flow`, the machine of leaf blocks),
+//! events), `mdinline_machine` (`Inlines`, inline text and strings), `mdblock_leaf_rows` (the table of `Flow`),
+//! `mdblock_leaf_machine` (`Flow`, the machine of leaf blocks),
 //! `mdblock_leaf_blocks` (what `Flow` reads, without states), `mdblock_lines` (what a line is and which containers it begins or goes
 //! on), `mdblock_containers` (block quotes and lists around leaf blocks), `mddocument` (how a document is read, and its
 //! events), `mddocument_costs` (how many calls of states that takes), `mddocument_laws` (laws of whole documents),
