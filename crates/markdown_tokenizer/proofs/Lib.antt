@@ -9,3 +9,4 @@ pub mod Readings
 pub mod Runs
 -- waiting
 pub mod ByteSets
+pub mod Blocks

@@ -36,7 +36,8 @@ pub fn no_bytes() -> &'static ByteSet
 /// (`resolver`), what holds before a list of resolvers runs (`resolves`), and what the machine promises of its final events
 /// (`ends`): those that resolvers and edits leave. The machine proves six laws about them.
 pub trait Machine: MachineTypes + Sized {
-    ghost use Rattle.std.specs.Prelude.{◌≡◌, ◌≢◌, [], IfOk, IfErr, IfSome};
+    ghost use Rattle.std.specs.Prelude.{◌≡◌, ◌≢◌, [], All, IfOk, IfErr, IfSome};
+    ghost use Rattle.std.specs.Bool.{OnTrue};
     ghost use Rattle.markdown_base.specs.declared.state.State.TheVariants.{Retry};
     ghost use Rattle.markdown_tokenizer.specs.declared.waiting.Waits.TheVariants.{Nothing};
     ghost use Rattle.markdown_tokenizer.specs.declared.waiting.Phase.TheVariants.{Reading, Resolving};
@@ -46,7 +47,7 @@ pub trait Machine: MachineTypes + Sized {
     ghost use Rattle.markdown_tokenizer.specs.Fault.{IfMessage};
     ghost use Rattle.markdown_tokenizer.specs.Rules.{Rules};
     ghost use Rattle.markdown_tokenizer.specs.Engine.{HoldsOf};
-    ghost use Rattle.markdown_tokenizer.specs.Over.{AreReadOver};
+    ghost use Rattle.markdown_tokenizer.specs.Over.{AreReadOver, IsByteOver};
     ghost use Rattle.markdown_tokenizer.specs.Lawful.{DidStep, IsLawful, step_of, CanResolve, resolver_of};
 
     /// Its rules on a document.
@@ -78,6 +79,14 @@ pub trait Machine: MachineTypes + Sized {
         ensures { IfSome result (λ set. AreReadOver (rules self.now) _name set.now) }
     {
         None
+    }
+
+    /// Whether the state of this name reads over all bytes of a block, as `reads_over` says it of one. It may be false where it does: the engine
+    /// then looks at each of them. It is for states that can tell it of all at once.
+    fn reads_over_all(&self, _name: Name, _block: &[u8]) -> bool
+        ensures { OnTrue result (All (IsByteOver (rules self.now) _name) _block.now) }
+    {
+        false
     }
 
     /// Runs the resolver of this name over the events. A flush that resolves calls it once all was read.

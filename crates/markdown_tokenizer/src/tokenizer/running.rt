@@ -82,10 +82,35 @@ fn read_cut<M: Machine>(
     tokenizer.flush(state, resolve)
 }
 
+/// Up to which index a state reads over whole blocks of 16 bytes from one index on, as far as the machine tells it of a block. It is at most
+/// `until`, if that is not before `from`; else it is `from`.
+#[inline(always)]
+fn over_blocks<M: Machine>(
+    machine: &M,
+    name: Name,
+    bytes: &[u8],
+    from: usize,
+    until: usize,
+) -> usize
+    requires inside { until ≤ length bytes.now }
+    ensures from { from ≤ result }
+    ensures until { from < result → result ≤ until }
+    ensures over { (k : ℕ) → from ≤ k → k < result → IsByteOver (M.rules machine.now) name (slice_index bytes.now k) }
+{
+    let mut at = from;
+    while at < until && until - at >= 16 {
+        if !machine.reads_over_all(name, &bytes[at..at + 16]) {
+            return at;
+        }
+        at += 16;
+    }
+    at
+}
+
 /// Up to which index a state reads over the bytes from one index on. It is at most `until`, if that is not before `from`; else it is
 /// `from`.
 ///
-/// The machine says once which bytes these are, so that the loop only looks each byte up.
+/// The machine says once which bytes these are, so that the loop only looks each byte up, and blocks of them at once where it can.
 #[inline(always)]
 fn over_until<M: Machine>(machine: &M, name: Name, bytes: &[u8], from: usize, until: usize) -> usize
     requires inside { until ≤ length bytes.now }
@@ -96,7 +121,7 @@ fn over_until<M: Machine>(machine: &M, name: Name, bytes: &[u8], from: usize, un
     let Some(over) = machine.reads_over(name) else {
         return from;
     };
-    let mut at = from;
+    let mut at = over_blocks(machine, name, bytes, from, until);
     while at < until {
         if !over[bytes[at] as usize] {
             return at;
