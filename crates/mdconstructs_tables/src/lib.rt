@@ -4,6 +4,8 @@
 ghost use Rattle.std.specs.Prelude.{◌≡◌, OnOk};
 ghost use Rattle.mdconstructs_tables.specs.Markers.{IsMarkable, marked};
 
+// answers: what most states do last
+pub mod answers;
 // chunks: of a paragraph, each linked to the chunk before
 pub mod chunks;
 // laws: tables that fit have lawful rules
