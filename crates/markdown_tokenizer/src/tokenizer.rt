@@ -21,7 +21,7 @@ use crate::places::bytes_are_below_256;
 pub use crate::places::{cuts_every, point_at};
 pub use crate::ranges::{AfterGap, follow_on};
 use crate::skips::Skips;
-use crate::state::{MachineTypes, State};
+use crate::state::{MachineTypes, Name as StateName, State};
 use crate::subtokenize;
 pub use crate::tokenizer::fault::Fault;
 pub use crate::tokenizer::noted::Noted;
@@ -120,6 +120,7 @@ ghost use Rattle.std.specs.Prelude.{◌≡◌, ◌+◌, ◌-◌, ◌≤◌, OnOk
 ghost use Rattle.markdown_base.specs.Places.{IsPointOf};
 ghost use Rattle.markdown_tokenizer.specs.Text.{FitsAfter, followed_by, passed, empty_text, IsDocument};
 ghost use Rattle.markdown_tokenizer.specs.Configuration.{at_configuration, start_seen};
+ghost use Rattle.markdown_base.specs.declared.state.State.TheVariants.{Next};
 ghost use Rattle.markdown_edits.specs.Links.{CanLink, linked_to};
 ghost use Rattle.markdown_tokenizer.specs.Calls.{consumed, linked, with_enter, with_exit, attempt_at, check_at, with_choice, CanExit, CanGoOn};
 ghost use Rattle.markdown_tokenizer.specs.Engine.{given_of};
@@ -345,6 +346,15 @@ impl<'a, M: MachineTypes> Tokenizer<'a, M> {
         let nok = GoesOn::of(nok);
         let saves = !matches!(nok, GoesOn::Nok);
         self.push_choice(AttemptKind::Attempt, GoesOn::of(ok), nok, saves)
+    }
+
+    /// As `attempt`, with two states that are called next: `ok` after `Ok`, and `nok` after `Nok`. If it runs out of memory, nothing changes.
+    pub fn attempt_next(&mut self, ok: StateName, nok: StateName) -> Result<(), AllocError>
+        ensures ok { OnOk result (self.new ≡ with_choice self.old (attempt_at (Next ok) (Next nok) self.old.configuration)) }
+        ensures err { OnErr result (self.new ≡ self.old) }
+    {
+        let (ok, nok) = (GoesOn::Next(ok), GoesOn::Next(nok));
+        self.push_choice(AttemptKind::Attempt, ok, nok, true)
     }
 
     /// As `attempt`, but only looks ahead: it goes back to this place after `Ok` too, and goes on with `ok`.
