@@ -106,7 +106,7 @@ fn weave_by<'a, M: Machine>(
     };
     for index in 0..events.len() {
         if begins_at(events, index, None) {
-            let more = read_again(alloc, tokenizer, events, index, parse_state, None)?;
+            let more = read_again(tokenizer, events, index, parse_state, None)?;
             let child = tokenizer.events();
             let (end, sums) = push_child(&mut chunks, &mut woven, events, index, child, from, acc)?;
             from = end;
@@ -150,7 +150,7 @@ fn read_child<M: Machine>(
     ensures err { IfErr result (GivesNoChild M.rules parse_state.now events.now index) }
 {
     let mut tokenizer = Tokenizer::new(alloc, Point::START, parse_state);
-    let read = read_again(alloc, &mut tokenizer, events, index, parse_state, filter);
+    let read = read_again(&mut tokenizer, events, index, parse_state, filter);
     let events = tokenizer.into_events();
     Ok((events, read?))
 }
@@ -158,7 +158,6 @@ fn read_child<M: Machine>(
 /// Reads the child of the chain that begins at `index`, by a tokenizer that begins anew: pushes its chunks, and passes the gaps
 /// between them.
 fn read_again<'a, M: Machine>(
-    alloc: Global,
     tokenizer: &mut Tokenizer<'a, M>,
     events: &[Event],
     index: usize,
@@ -175,7 +174,7 @@ fn read_again<'a, M: Machine>(
     let Some(start) = start_at(events, index) else {
         unreachable!();
     };
-    tokenizer.restart(alloc, place_at(events, index), parse_state);
+    tokenizer.restart(place_at(events, index), parse_state);
     read_chunks(tokenizer, events, index, parse_state, filter, start)
 }
 

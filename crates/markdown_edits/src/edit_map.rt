@@ -166,6 +166,14 @@ impl EditMap {
         Ok(())
     }
 
+    /// Takes out all edits. The memory of those that came in order is kept. Takes no memory.
+    pub fn clear(&mut self)
+        ensures { self.new ≡ [] }
+    {
+        self.front.clear();
+        self.behind.clear();
+    }
+
     /// Whether there are no edits.
     fn is_empty(&self) -> bool
         ensures { IsTrue result ↔ (self.now ≡ []) }
@@ -193,9 +201,20 @@ impl EditMap {
             return Ok(());
         }
         self.behind.move_into(&mut self.front)?;
-        *events = self.front.spliced(events.as_slice())?;
-        self.front.clear();
+        let spliced = self.front.spliced(events.as_slice())?;
+        put_in(events, spliced);
+        self.clear();
         Ok(())
+    }
+}
+
+/// Makes a list this one. If there is room for it, it is copied, so that the list keeps its room.
+fn put_in(events: &mut Vec<Event>, new: Vec<Event>)
+    ensures { events.new.items ≡ new.items }
+{
+    events.clear();
+    if new.len() > events.capacity() || events.extend_from_slice(new.as_slice()).is_err() {
+        *events = new;
     }
 }
 

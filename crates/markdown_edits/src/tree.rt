@@ -48,6 +48,13 @@ impl Tree {
         Ok(Tree { edits })
     }
 
+    /// Takes out all edits. Takes no memory.
+    pub(crate) fn clear(&mut self)
+        ensures { self.new ≡ [] }
+    {
+        self.edits.clear();
+    }
+
     /// Whether there are no edits.
     pub(crate) fn is_empty(&self) -> bool
         ensures { IsTrue result ↔ (self.now ≡ []) }

@@ -35,7 +35,6 @@ use crate::waiting::{AttemptKind, GoesOn, KeptChoice, Phase, Progress, Waits};
 use markdown_base::event::{Event, Link, Name, Point};
 use std::alloc::{AllocError, Global};
 use std::marker::Model;
-use std::mem::replace;
 
 /// The tokenizer.
 ///
@@ -188,7 +187,7 @@ impl<'a, M: MachineTypes> Tokenizer<'a, M> {
     /// Begins anew: becomes what [`Tokenizer::new`] gives, but keeps the memory of its lists for what is read next. Takes no memory.
     ///
     /// The point must be the point of a place of the document.
-    pub fn restart(&mut self, alloc: Global, point: Point, parse_state: &'a ParseState<'a, M>)
+    pub fn restart(&mut self, point: Point, parse_state: &'a ParseState<'a, M>)
         requires place { IsPointOf parse_state.now.options.now.tab_size parse_state.now.bytes.now point }
         ensures start { self.new ≡ start_seen (given_of parse_state.now) parse_state.now.machine.now (empty_text point) }
     {
@@ -196,9 +195,8 @@ impl<'a, M: MachineTypes> Tokenizer<'a, M> {
         self.tab_size = parse_state.options.tab_size.get();
         self.parse_state = parse_state;
         self.bytes = parse_state.bytes;
-        // Dropped as a whole, by a call: else the proof follows each of their fields.
-        drop(replace(&mut self.tokenize_state, TokenizeState::new(alloc)));
-        drop(replace(&mut self.map, EditMap::new(alloc)));
+        self.tokenize_state.reset();
+        self.map.clear();
         self.skips.clear();
         self.events.clear();
         self.stack.clear();

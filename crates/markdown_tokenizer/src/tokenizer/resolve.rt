@@ -20,6 +20,16 @@ use markdown_base::event::Event;
 use std::alloc::AllocError;
 use std::mem::replace;
 
+/// Gives a list that is empty the memory of another one. A list that is not stays as it is.
+fn give_back<R: Copy>(list: &mut Vec<R>, memory: Vec<R>)
+    ensures { list.new.items ≡ list.old.items }
+{
+    if list.is_empty() {
+        *list = memory;
+        list.clear();
+    }
+}
+
 impl<'a, M: MachineTypes> Tokenizer<'a, M> {
     /// Registers a resolver, after the ones that are there. The list never has duplicates: a resolver that is already
     /// there keeps its position.
@@ -73,12 +83,13 @@ impl<'a, M: MachineTypes> Tokenizer<'a, M> {
         self.map.consume(&mut self.events)
     }
 
-    /// Notes that a flush has resolved.
-    fn end_resolving(&mut self)
+    /// Notes that a flush has resolved. The memory of the list of resolvers that ran is kept, if none is registered.
+    fn end_resolving(&mut self, names: Vec<M::Resolver>)
         requires closed { self.old.closed ≡ true }
         ensures { self.new ≡ record self.old { phase = Resolved } }
     {
         self.phase = Phase::Resolved;
+        give_back(&mut self.resolvers, names);
     }
 }
 
@@ -148,7 +159,7 @@ impl<'a, M: Machine> Tokenizer<'a, M> {
     {
         let names = self.begin_resolving();
         let answer = self.resolve_each(names.as_slice(), sub);
-        self.end_resolving();
+        self.end_resolving(names);
         answer
     }
 }

@@ -192,4 +192,48 @@ impl<D: Drop> TokenizeState<D> {
             token_6: Name::Data,
         }
     }
+
+    /// Becomes what [`TokenizeState::new`] gives, but keeps the memory of its lists. Takes no memory.
+    pub fn reset(&mut self)
+        ensures { self.new ≡ start_state }
+    {
+        self.document = None;
+        self.document_child_state = None;
+        self.document_container_stack.clear();
+        self.document_continued = 0;
+        self.document_data_index = None;
+        self.document_exits.clear();
+        self.document_lazy_accepting_before = false;
+        self.document_at_first_paragraph_of_list_item = false;
+        self.space_or_tab_eol_content = None;
+        self.space_or_tab_eol_connect = false;
+        self.space_or_tab_eol_ok = false;
+        self.space_or_tab_connect = false;
+        self.space_or_tab_content = None;
+        self.space_or_tab_min = 0;
+        self.space_or_tab_max = 0;
+        self.space_or_tab_size = 0;
+        self.space_or_tab_token = Name::SpaceOrTab;
+        self.label_starts.clear();
+        self.label_starts_loose.clear();
+        self.labels.clear();
+        self.definitions.clear();
+        self.gfm_footnote_definitions.clear();
+        self.connect = false;
+        self.marker = 0;
+        self.marker_b = 0;
+        self.markers = StaticBytes::new(b"");
+        self.seen = false;
+        self.size = 0;
+        self.size_b = 0;
+        self.size_c = 0;
+        self.start = 0;
+        self.end = 0;
+        self.token_1 = Name::Data;
+        self.token_2 = Name::Data;
+        self.token_3 = Name::Data;
+        self.token_4 = Name::Data;
+        self.token_5 = Name::Data;
+        self.token_6 = Name::Data;
+    }
 }

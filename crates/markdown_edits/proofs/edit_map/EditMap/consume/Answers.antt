@@ -8,5 +8,5 @@ returns-then-is_empty-clause-ok c =
 
 pub returns-clause-ok : goal.returns-clause-ok
 returns-clause-ok c =
-    let told = rw (c.in_ok-move_into.ensures.ok.0 ∙ c.self.view_is, c.as_slice.ensures.value) at c.in_ok-events.ensures in
-    told ∙ sym (edited-spliced c.args.self.now c.args.events.now.items c.requires.disjoint c.requires.links)
+    let told = rw (c.in_ok-move_into.ensures.ok.0 ∙ c.self.view_is, c.as_slice.ensures.value) at c.in_ok-spliced.ensures in
+    c.put_in.ensures ∙ told ∙ sym (edited-spliced c.args.self.now c.args.events.now.items c.requires.disjoint c.requires.links)

@@ -3,4 +3,4 @@ use Rattle.markdown_tokenizer.specs.declared.waiting.Phase.TheVariants.{Resolved
 use Rattle.markdown_tokenizer.proofs.tokenizer.Tokenizer.end_resolving.Goals as goal
 
 pub invariant_of-self : goal.invariant_of-self
-invariant_of-self g c = phase-sound c.self.inside c.self.invariant Resolved c.self.inside.resolvers c.self.invariant.once (λ e. cc) (rw (← c.self.view_is) at c.requires.closed)
+invariant_of-self g c = phase-sound c.self.inside c.self.invariant Resolved c.give_back.new.list (let kept = c.give_back.ensures in rw kept c.self.invariant.once) (λ e. cc) (rw (← c.self.view_is) at c.requires.closed)

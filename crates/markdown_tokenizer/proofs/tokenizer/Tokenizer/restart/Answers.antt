@@ -13,7 +13,7 @@ invariant_of-self g c =
     let p = c.args.point in
     let here = start-end tab apart.0 bytes p c.requires.place in
     let none = start-empty tab apart.0 bytes p c.requires.place in
-    let skips = c.clear.ensures in
+    let skips = c.clear-2.ensures in
     record {
       placed = record {
         tab = c.get-self-inside.ensures.columns;
@@ -25,16 +25,16 @@ invariant_of-self g c =
         waiting = tt;
         ended = λ h. absurd cc;
       };
-      made = λ _. rw (c.clear-2.ensures.items, c.clear-3.ensures.items) (start-made tab apart.0 bytes p c.requires.place);
-      at_places = λ _. rw c.clear-2.ensures.items (All-nil (λ (e : Event). IsPointOf tab bytes e.point));
-      kept_choices = rw c.clear-5.ensures.items tt;
-      once = rw c.clear-4.ensures.items (none-twice g.M.Resolver.PartialEq.eq);
-      known = known-other c.clear.new.self p p.index bytes tab bytes refl 0 (plain-none c.clear.new.self p p.index) Nothing;
+      made = λ _. rw (c.clear-3.ensures.items, c.clear-4.ensures.items) (start-made tab apart.0 bytes p c.requires.place);
+      at_places = λ _. rw c.clear-3.ensures.items (All-nil (λ (e : Event). IsPointOf tab bytes e.point));
+      kept_choices = rw c.clear-6.ensures.items tt;
+      once = rw c.clear-5.ensures.items (none-twice g.M.Resolver.PartialEq.eq);
+      known = known-other c.clear-2.new.self p p.index bytes tab bytes refl 0 (plain-none c.clear-2.new.self p p.index) Nothing;
     }
 
 pub returns : goal.returns
 returns g c =
-    let s = c.args.parse_state.now in let skips = c.clear.ensures in
+    let s = c.args.parse_state.now in let skips = c.clear-2.ensures in
     let here = start-end s.options.now.tab_size s.tab_size.0 s.bytes.now c.args.point c.requires.place in
     let none = start-empty s.options.now.tab_size s.tab_size.0 s.bytes.now c.args.point c.requires.place in
-    record { start = rw (skips, here, none, c.clear-2.ensures.items, c.clear-3.ensures.items, c.clear-4.ensures.items, c.clear-5.ensures.items, c.replace-2.ensures.after, c.new-2.ensures, c.replace.ensures.after, c.new.ensures, c.new-self-inside.ensures) refl }
+    record { start = rw (skips, here, none, c.clear-3.ensures.items, c.clear-4.ensures.items, c.clear-5.ensures.items, c.clear-6.ensures.items, c.reset.ensures, c.clear.ensures, c.new-self-inside.ensures) refl }
