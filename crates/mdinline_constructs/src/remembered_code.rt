@@ -67,10 +67,7 @@ pub fn remembered_between<'a, M: MachineTypes>(
             Ok(State::Next(Name::RawTextBetween))
         }
         Some(b'`') => {
-            t.attempt(
-                State::Next(names::RawTextAfter),
-                State::Next(names::RawTextBackticksStart),
-            )?;
+            t.attempt_next(names::RawTextAfter, names::RawTextBackticksStart)?;
             t.enter(event::Name::CodeTextSequence)?;
             set_size_c(t, 0);
             Ok(State::Retry(Name::RawTextSequenceClose))
