@@ -7,19 +7,11 @@ mod behind;
 #[cfg(test)]
 mod looping;
 #[cfg(test)]
-mod names;
-#[cfg(test)]
 mod over;
-#[cfg(test)]
-mod pairs;
 #[cfg(test)]
 mod replacing;
 pub mod resolvers;
 #[cfg(test)]
 mod shown;
 #[cfg(test)]
-mod stars;
-#[cfg(test)]
 mod starved;
-#[cfg(test)]
-mod trail;
