@@ -7,7 +7,7 @@ at each length (the least of three runs), and how many times as long the longest
 With --count the rows have instructions a byte (callgrind's counts, less those of a run over nothing), for texts of a twentieth of those
 lengths; with --only-in NAME only those of the function whose symbol has this name.
 
-usage: bad_texts.py [--count [--only-in NAME]] [--only TEXT] PROGRAM [OPTIONS]. The options are `--machine document` if there are none.
+usage: tools/bad_texts.py [--count [--only-in NAME]] [--only TEXT] PROGRAM [OPTIONS]. The options are `--machine document` if there are none.
 """
 
 import argparse
@@ -17,6 +17,9 @@ import resource
 import subprocess
 import sys
 import tempfile
+
+sys.dont_write_bytecode = True
+import usage  # noqa: E402
 
 LENGTHS = (100_000, 200_000, 400_000)
 LONGEST = 20
@@ -113,7 +116,7 @@ def count(command, path, only_in):
 
 
 def main():
-    parser = argparse.ArgumentParser()
+    parser = usage.Words(__doc__)
     parser.add_argument("--count", action="store_true")
     parser.add_argument("--only-in")
     parser.add_argument("--only")

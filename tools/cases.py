@@ -1,8 +1,8 @@
 #!/usr/bin/env python3
-"""Writes crates/mdcases/stdin and stdout: the cases of crates/mdcases/data/*.txt as the program reads them, and what it must write.
+"""Holds crates/mdcases/stdin and stdout: the cases of crates/mdcases/data/*.txt as the program reads them, and what it must write.
 
-usage: tools/cases.py           writes both files
-       tools/cases.py --check   says what is not as the cases have it, and ends with 1 if something is not. tools/docs.py does so too
+usage: tools/cases.py           says what is not as the cases have it, and ends with 1 if something is not. tools/docs.py does so too
+       tools/cases.py --write   writes both files
        tools/cases.py --differ FILE    FILE is what the program wrote: shows each case whose answer is another one
 
 A line of a file of cases is one of these, or blank:
@@ -18,6 +18,9 @@ import glob
 import os
 import re
 import sys
+
+sys.dont_write_bytecode = True
+import usage  # noqa: E402
 
 TOP = os.path.dirname(os.path.dirname(os.path.realpath(__file__)))
 FOLDER = f"{TOP}/crates/mdcases"
@@ -99,7 +102,7 @@ def disagreements():
                 is_same = it.read() == text
         except OSError:
             is_same = False
-        failed += [] if is_same else [f"crates/mdcases/{name}: not what tools/cases.py writes"]
+        failed += [] if is_same else [f"crates/mdcases/{name}: not what tools/cases.py --write writes"]
     return failed
 
 
@@ -120,17 +123,17 @@ def differ(path):
 
 
 def main():
-    if sys.argv[1:2] == ["--differ"] and len(sys.argv) == 3:
-        return differ(sys.argv[2])
-    if sys.argv[1:] == ["--check"]:
-        failed = disagreements()
-    elif sys.argv[1:]:
-        sys.exit(__doc__)
-    else:
-        wanted, failed = texts()
-        for name, text in wanted.items():
+    parser = usage.Words(__doc__)
+    parser.add_argument("--write", action="store_true")
+    parser.add_argument("--differ", metavar="FILE")
+    given = parser.parse_args()
+    if given.differ:
+        return differ(given.differ)
+    if given.write:
+        for name, text in texts()[0].items():
             with open(f"{FOLDER}/{name}", "w", encoding="utf-8", newline="\n") as it:
                 it.write(text)
+    failed = disagreements()
     print("\n".join(failed), end="\n" if failed else "")
     sys.exit(1 if failed else 0)
 

@@ -19,7 +19,6 @@ begins and ends with a space loses both, unless it is all spaces; and a list is 
 between two items.
 """
 
-import argparse
 import collections
 import difflib
 import html.entities
@@ -28,6 +27,9 @@ import re
 import subprocess
 import sys
 import urllib.parse
+
+sys.dont_write_bytecode = True
+import usage  # noqa: E402
 
 EVENT = re.compile(r"(enter|exit) (\w+) \d+:(\d+) \((\d+)\+(\d+)\)")
 TAB = 4  # CommonMark's distance between tab stops
@@ -471,13 +473,13 @@ def self_test():
 
 
 def main():
-    parser = argparse.ArgumentParser(description=__doc__, formatter_class=argparse.RawDescriptionHelpFormatter, usage=argparse.SUPPRESS)
-    parser.add_argument("spec", nargs="?", help=argparse.SUPPRESS)
-    parser.add_argument("program", nargs="?", help=argparse.SUPPRESS)
-    parser.add_argument("--machine", default="flow", help=argparse.SUPPRESS)
-    parser.add_argument("--failing", action="store_true", help=argparse.SUPPRESS)
-    parser.add_argument("--example", type=int, help=argparse.SUPPRESS)
-    parser.add_argument("--self-test", action="store_true", help=argparse.SUPPRESS)
+    parser = usage.Words(__doc__)
+    parser.add_argument("spec", nargs="?")
+    parser.add_argument("program", nargs="?")
+    parser.add_argument("--machine", default="flow")
+    parser.add_argument("--failing", action="store_true")
+    parser.add_argument("--example", type=int)
+    parser.add_argument("--self-test", action="store_true")
     words = parser.parse_args()
     if words.self_test:
         sys.exit(self_test())

@@ -20,6 +20,7 @@ import sys
 
 sys.dont_write_bytecode = True
 import reading  # noqa: E402
+import usage  # noqa: E402
 
 TOP = os.path.dirname(os.path.dirname(os.path.realpath(__file__)))
 PAGE = f"{TOP}/docs/CONTRACTS.txt"
@@ -195,13 +196,17 @@ def disagreements():
 
 
 def main():
-    if sys.argv[1:] == ["--write"]:
+    parser = usage.Words(__doc__)
+    parser.add_argument("--write", action="store_true")
+    parser.add_argument("words", nargs="*", metavar="WORD")
+    given = parser.parse_args()
+    if given.write == bool(given.words):
+        parser.error("either words or --write")
+    if given.write:
         return write()
-    if len(sys.argv) == 1:
-        sys.exit(__doc__)
     crates = [os.path.basename(path) for path in sorted(glob.glob(f"{TOP}/crates/*"))]
-    named = [word for word in sys.argv[1:] if word in crates]
-    names = set(sys.argv[1:]) - set(named)
+    named = [word for word in given.words if word in crates]
+    names = set(given.words) - set(named)
     for crate in crates:
         if named and not any(crate == word or crate.startswith(f"{word}_") for word in named):
             continue

@@ -1,15 +1,18 @@
 #!/usr/bin/env python3
-"""Writes the list of definitions into docs/DEFINITIONS.md: of each file of `specs` of the public crates and of their parts, the first
+"""Holds the list of definitions in docs/DEFINITIONS.md: of each file of `specs` of the public crates and of their parts, the first
 sentence of its first comment, a long one up to its colon or first comma; of files with rows of states, costs, examples or statements of laws only the
 name. What stands above the list is written by hand.
 
-usage: tools/definitions.py [--check]     with --check it writes nothing, and prints what fails, and ends with 1 if something does
+usage: tools/definitions.py [--write]     prints what fails, and ends with 1 if something does; --write writes the list first
 """
 
 import glob
 import os
 import re
 import sys
+
+sys.dont_write_bytecode = True
+import usage  # noqa: E402
 
 TOP = os.path.dirname(os.path.dirname(os.path.realpath(__file__)))
 PAGE = f"{TOP}/docs/DEFINITIONS.md"
@@ -85,7 +88,7 @@ def disagreements():
     failed = [f"docs/DEFINITIONS.md: no first comment of {line[2:-2]}" for line in listed().split("\n") if line.endswith(": ")]
     if len(front.split()) > 600:
         failed.append(f"docs/DEFINITIONS.md: {len(front.split())} words above the list, and at most 600 are allowed")
-    return failed + ([] if mark and rest == listed() else ["docs/DEFINITIONS.md: run tools/definitions.py"])
+    return failed + ([] if mark and rest == listed() else ["docs/DEFINITIONS.md: run tools/definitions.py --write"])
 
 
 def write():
@@ -96,7 +99,9 @@ def write():
 
 
 def main():
-    if "--check" not in sys.argv[1:]:
+    parser = usage.Words(__doc__)
+    parser.add_argument("--write", action="store_true")
+    if parser.parse_args().write:
         write()
     failed = disagreements()
     print("\n".join(failed), end="\n" if failed else "")

@@ -2,8 +2,8 @@
 """Checks README.md and docs/ against the files that they name, the wrong bodies against their table, and crates.txt against what each
 crate names. Prints what fails, and ends with 1 if something does.
 
-usage: tools/docs.py [--take] [--hand-in]
-  --take     each code block is first rewritten from the items that it names; the numbers of wrong bodies, the list of definitions and
+usage: tools/docs.py [--write] [--hand-in]
+  --write    each code block is first rewritten from the items that it names; the numbers of wrong bodies, the list of definitions and
              the public contracts are put in
   --hand-in  also fails if crates changed since the last whole gate, or if a change can reach a wrong body since it was last rejected
 
@@ -28,6 +28,7 @@ import map as room_map  # noqa: E402
 import prose  # noqa: E402
 import reading  # noqa: E402
 import table  # noqa: E402
+import usage  # noqa: E402
 
 FILES = subprocess.run(["git", "-c", "safe.directory=*", "-C", TOP, "ls-files", "-co", "--exclude-standard"], capture_output=True, text=True).stdout.split("\n")
 FILES = [f for f in FILES if f and os.path.exists(f"{TOP}/{f}")] or sys.exit(f"git lists no files of {TOP}")
@@ -157,6 +158,12 @@ def rooms():
     failed.extend(room_map.disagreements())
 
 
+def tools_listed():
+    """Holds the list of tools: each has a line."""
+    said = read("tools/README.md")
+    failed.extend(f"tools/README.md: no line for {file}" for file in FILES if re.fullmatch(r"tools/\w+\.py", file) and f"\n| `{file[6:]}` |" not in said)
+
+
 def counted(page, text, take):
     """Holds the numbers of wrong bodies that a page has; with `take` they are written anew."""
     if page not in COUNTED:
@@ -207,21 +214,32 @@ def last_gate(is_handed_in):
         failed.extend(f"{line}: not rejected since a change that reaches it" for line in old.split())
 
 
+def words():
+    """Returns what was asked for: whether pages are written, and whether they are handed in."""
+    parser = usage.Words(__doc__)
+    parser.add_argument("--write", "--take", action="store_true")
+    parser.add_argument("--hand-in", action="store_true")
+    given = parser.parse_args()
+    return given.write, given.hand_in
+
+
 def main():
+    is_written, is_handed_in = words()
     code = "\n".join(read(f) for f in FILES if re.match(r"(crates|bench|bindings|tools|wrong-bodies)/.*\.(rt|antt|py|sh|rs|c|h)$", f) and f != "tools/docs.py")
     source = {"std", "core"} | set(re.findall(r"\w+", code)) | set(re.findall(r"[\w'-]+", code))
     source |= {part for p in PATHS for part in re.findall(r"[\w-]+", os.path.basename(p))} | set(re.findall(r"\w+", " ".join(PATHS)))
     for page in PAGES:
         text = read(page)
-        new = counted(page, blocks(page, text, "--take" in sys.argv[1:]), "--take" in sys.argv[1:])
+        new = counted(page, blocks(page, text, is_written), is_written)
         if new != text:
             with open(f"{TOP}/{page}", "w", encoding="utf-8") as it:
                 it.write(new)
         names(page, new, source)
     rooms()
+    tools_listed()
     lines_of_crates()
-    last_gate("--hand-in" in sys.argv[1:])
-    if "--take" in sys.argv[1:]:
+    last_gate(is_handed_in)
+    if is_written:
         definitions.write()
         contracts.write()
     failed.extend(definitions.disagreements() + prose.disagreements() + cases.disagreements() + contracts.disagreements() + reading.disagreements() + table.disagreements())

@@ -1,7 +1,7 @@
 #!/usr/bin/env python3
-"""Writes specs/Lib.antt and proofs/Lib.antt of the two facades, `markdown` and `mdconstructs`, from the ones of their parts.
+"""Holds specs/Lib.antt and proofs/Lib.antt of the two facades, `markdown` and `mdconstructs`, against the ones of their parts.
 
-usage: tools/facades.py [--check]        with --check it writes nothing, and ends with 1 if a file is not as it would be written
+usage: tools/facades.py [--write]     prints which file is not as it would be written, and ends with 1 if one is not; --write writes these
 
 A facade passes on each file of its parts under the file's own name. If two files have one name, or a file has the name of an item at
 the facade's root (the machine Paragraphs), it gets a name of its own here.
@@ -10,6 +10,9 @@ the facade's root (the machine Paragraphs), it gets a name of its own here.
 import os
 import re
 import sys
+
+sys.dont_write_bytecode = True
+import usage  # noqa: E402
 
 TOP = os.path.dirname(os.path.dirname(os.path.realpath(__file__)))
 PARTS = {
@@ -111,7 +114,9 @@ def lib(facade, room):
 
 
 def main():
-    other = []
+    parser = usage.Words(__doc__)
+    parser.add_argument("--write", action="store_true")
+    is_written, other = parser.parse_args().write, []
     for facade in PARTS:
         for room in ("specs", "proofs"):
             path, text = f"{TOP}/crates/{facade}/{room}/Lib.antt", lib(facade, room)
@@ -119,12 +124,12 @@ def main():
                 if it.read() == text:
                     continue
             other.append(path)
-            if "--check" not in sys.argv[1:]:
+            if is_written:
                 with open(path, "w", encoding="utf-8") as it:
                     it.write(text)
     for path in other:
         print(os.path.relpath(path, TOP))
-    sys.exit(1 if other and "--check" in sys.argv[1:] else 0)
+    sys.exit(1 if other and not is_written else 0)
 
 
 if __name__ == "__main__":

@@ -11,11 +11,13 @@ comment above them. All modules up to the next such line are in the room. The li
 the module of `src` that has its name.
 """
 
-import argparse
 import glob
 import os
 import re
 import sys
+
+sys.dont_write_bytecode = True
+import usage  # noqa: E402
 
 TOP = os.path.dirname(os.path.dirname(os.path.realpath(__file__)))
 LISTS = (("src", "src/lib.rt"), ("src", "src/main.rt"), ("specs", "specs/Lib.antt"), ("proofs", "proofs/Lib.antt"))
@@ -121,7 +123,7 @@ def show(crate, is_by_files):
 
 
 def main():
-    parser = argparse.ArgumentParser(usage=__doc__, add_help=True)
+    parser = usage.Words(__doc__)
     parser.add_argument("--check", action="store_true")
     parser.add_argument("--files", action="store_true")
     parser.add_argument("crates", nargs="*", metavar="CRATE")

@@ -11,12 +11,14 @@ import sys
 
 sys.dont_write_bytecode = True
 import docs  # noqa: E402
+import usage  # noqa: E402
 
 FROM = "crates/mdexamples"
 TESTS = "crates/mdtests_examples/src/examples.rt"
 LIB = """//! A machine of headings.
 #![tactic(auto)]
 
+// headings: the machine, its laws and its tests
 pub mod headings;
 #[cfg(test)]
 mod tests;
@@ -41,27 +43,31 @@ def files(crate):
         "src/lib.rt": LIB,
         "src/headings.rt": docs.read(f"{FROM}/src/headings.rt"),
         "src/tests.rt": tests(),
-        "specs/Lib.antt": "pub mod Headings\npub mod Laws\n",
+        "specs/Lib.antt": "-- headings\npub mod Headings\npub mod Laws\n",
         "specs/Headings.antt": docs.read(f"{FROM}/specs/Headings.antt"),
         "specs/Laws.antt": "-- The laws of the machine.\npub mod Headings\n",
         "specs/Laws/Headings.antt": docs.read(f"{FROM}/specs/Laws/Headings.antt"),
-        "proofs/Lib.antt": "-- The proof of each function is in a folder of its own, by its module.\npub mod Called\n",
+        "proofs/Lib.antt": "-- The proof of each function is in a folder of its own, by its module.\n-- headings\npub mod Called\n",
         "proofs/Called.antt": f"-- What holds when the machine is called is what its states require.\n{called}",
     }
     return {path: text.replace("mdexamples", crate) for path, text in made.items()}
 
 
 def main():
-    crate = sys.argv[1] if len(sys.argv) == 2 else ""
+    parser = usage.Words(__doc__)
+    parser.add_argument("crate", metavar="NAME")
+    crate = parser.parse_args().crate
     if not re.fullmatch(r"[a-z][a-z0-9_]*", crate) or os.path.exists(f"{docs.TOP}/crates/{crate}"):
-        sys.exit(__doc__)
-    libraries = re.search(r"^mdexamples: (.*)$", docs.read("crates.txt"), flags=re.M)[1]
-    for path, text in files(crate).items():
+        parser.error(f"{crate} is no name, or it is there")
+    made = files(crate)
+    libraries = re.search(r"^mdexamples: (.*)$", docs.read("crates.txt"), flags=re.M)[1].split()
+    named = {"".join(it) for it in re.findall(r"Rattle\.(\w+)|\b(\w+)::", "\n".join(made.values()))}
+    for path, text in made.items():
         os.makedirs(os.path.dirname(f"{docs.TOP}/crates/{crate}/{path}"), exist_ok=True)
         with open(f"{docs.TOP}/crates/{crate}/{path}", "w", encoding="utf-8") as it:
             it.write(text)
     with open(f"{docs.TOP}/crates.txt", "a", encoding="utf-8") as it:
-        it.write(f"{crate}: {libraries}\n")
+        it.write(f"{crate}: {' '.join(name for name in libraries if name in named)}\n")
     print(f"crates/{crate}: there `rt fmt` lays it out, `rt try --test` runs its test, and `rt check` and `rt test` prove it")
 
 

@@ -13,6 +13,7 @@ import sys
 
 sys.dont_write_bytecode = True
 import definitions  # noqa: E402
+import usage  # noqa: E402
 
 TOP = os.path.dirname(os.path.dirname(os.path.realpath(__file__)))
 MOST_WORDS = 30_000  # in all pages
@@ -88,7 +89,9 @@ def disagreements():
 
 
 def main():
-    if "--words" in sys.argv[1:]:
+    parser = usage.Words(__doc__)
+    parser.add_argument("--words", action="store_true")
+    if parser.parse_args().words:
         for page, count in words().items():
             print(f"{count:6} {page}")
         print(f"{sum(words().values()):6} in all")

@@ -24,7 +24,6 @@ usage: tools/random_documents.py PROGRAM COUNT [--seed S] [--machine NAME] [--cm
   --jobs J        so many documents at once; without it, 1
 """
 
-import argparse
 import collections
 import itertools
 import multiprocessing
@@ -34,7 +33,9 @@ import re
 import sys
 
 sys.path.insert(0, os.path.dirname(os.path.realpath(__file__)))
-import real_files
+sys.dont_write_bytecode = True
+import real_files  # noqa: E402
+import usage  # noqa: E402
 
 CONTAINERS = ["> ", ">", "- ", "* ", "+ ", "1. ", "2) ", "10. ", "-\n", "  ", "   ", "\t", "\n> ", "\n- ", "\n  ", "\n\t", "\n\n", "\n\n  ", "\n\n    "]
 LINES = ["a", "b c", "\n", "\n", "\n===", "\n---", "\n    ", "# ", "```\n", "~~~", "<div>", "<!--", "-->", "***", "`", "*x*", "\\", "&amp;"]
@@ -221,19 +222,19 @@ def show(beside, document, causes):
 
 
 def main():
-    parser = argparse.ArgumentParser(description=__doc__, formatter_class=argparse.RawDescriptionHelpFormatter, usage=argparse.SUPPRESS)
-    parser.add_argument("program", help=argparse.SUPPRESS)
-    parser.add_argument("count", type=int, help=argparse.SUPPRESS)
-    parser.add_argument("--seed", type=int, default=1, help=argparse.SUPPRESS)
-    parser.add_argument("--machine", default="document", help=argparse.SUPPRESS)
-    parser.add_argument("--cmark", default="cmark", help=argparse.SUPPRESS)
-    parser.add_argument("--show", type=int, default=0, help=argparse.SUPPRESS)
-    parser.add_argument("--pieces", type=int, default=24, help=argparse.SUPPRESS)
-    parser.add_argument("--wide", action="store_true", help=argparse.SUPPRESS)
-    parser.add_argument("--links", action="store_true", help=argparse.SUPPRESS)
-    parser.add_argument("--definitions", action="store_true", help=argparse.SUPPRESS)
-    parser.add_argument("--references", action="store_true", help=argparse.SUPPRESS)
-    parser.add_argument("--jobs", type=int, default=1, help=argparse.SUPPRESS)
+    parser = usage.Words(__doc__)
+    parser.add_argument("program")
+    parser.add_argument("count", type=int)
+    parser.add_argument("--seed", type=int, default=1)
+    parser.add_argument("--machine", default="document")
+    parser.add_argument("--cmark", default="cmark")
+    parser.add_argument("--show", type=int, default=0)
+    parser.add_argument("--pieces", type=int, default=24)
+    parser.add_argument("--wide", action="store_true")
+    parser.add_argument("--links", action="store_true")
+    parser.add_argument("--definitions", action="store_true")
+    parser.add_argument("--references", action="store_true")
+    parser.add_argument("--jobs", type=int, default=1)
     words = parser.parse_args()
     generator = random.Random(words.seed)
     documents = [one(generator, words.pieces, words.wide, words.links, words.definitions, words.references) for _ in range(words.count)]

@@ -11,6 +11,9 @@ import os
 import re
 import sys
 
+sys.dont_write_bytecode = True
+import usage  # noqa: E402
+
 TOP = os.path.dirname(os.path.dirname(os.path.realpath(__file__)))
 HEAD = re.compile(r"^(?P<space> *)(?:pub )?(?P<kind>abbrev|record|data|enum)?(?: ?pub)? ?(?P<name>[^ :(){}]+)(?: [({].*)? : ")
 WHOLE = ("document_events", "mddocument.specs.DocumentEvents")
@@ -184,13 +187,19 @@ def disagreements():
     ]
 
 
-def main(words):
-    if words[:1] == ["--check"]:
+def main():
+    parser = usage.Words(__doc__)
+    parser.add_argument("--check", action="store_true")
+    parser.add_argument("name", nargs="?", default=WHOLE[0], metavar="NAME")
+    parser.add_argument("module", nargs="?", default=WHOLE[1], metavar="MODULE")
+    given = parser.parse_args()
+    if given.check:
         failed = disagreements()
         print("\n".join(failed), end="\n" if failed else "")
         sys.exit(1 if failed else 0)
-    name, module = words + list(WHOLE)[len(words) :]
-    found = stands_on(name, module)
+    found = stands_on(given.name, given.module)
+    if not found:
+        parser.error(f"{given.module} has no {given.name}")
     for where, file, needed in found:
         lines = sum(file.lines[it] for it in needed)
         print(f"{where.replace('.specs.', ' ')}: {len(needed)} of {len(file.parts)} definitions, {lines} lines")
@@ -198,4 +207,4 @@ def main(words):
 
 
 if __name__ == "__main__":
-    main(sys.argv[1:])
+    main()

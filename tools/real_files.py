@@ -17,7 +17,6 @@ Files for a comparison: those of Debian's packages, by `apt-get download` of eac
 ends in .md.gz.
 """
 
-import argparse
 import collections
 import itertools
 import os
@@ -25,7 +24,9 @@ import subprocess
 import sys
 
 sys.path.insert(0, os.path.dirname(os.path.realpath(__file__)))
-import commonmark
+sys.dont_write_bytecode = True
+import commonmark  # noqa: E402
+import usage  # noqa: E402
 
 sys.setrecursionlimit(1_000_000)
 PACKAGES = """
@@ -85,13 +86,13 @@ def main():
     if sys.argv[1:] == ["--packages"]:
         print("\n".join(PACKAGES.split()))
         return
-    parser = argparse.ArgumentParser(description=__doc__, formatter_class=argparse.RawDescriptionHelpFormatter, usage=argparse.SUPPRESS)
-    parser.add_argument("folder", help=argparse.SUPPRESS)
-    parser.add_argument("program", help=argparse.SUPPRESS)
-    parser.add_argument("--machine", default="flow", choices=UNREAD, help=argparse.SUPPRESS)
-    parser.add_argument("--cmark", default="cmark", help=argparse.SUPPRESS)
-    parser.add_argument("--no-brackets", action="store_true", help=argparse.SUPPRESS)
-    parser.add_argument("--differing", action="store_true", help=argparse.SUPPRESS)
+    parser = usage.Words(__doc__)
+    parser.add_argument("folder")
+    parser.add_argument("program")
+    parser.add_argument("--machine", default="flow", choices=UNREAD)
+    parser.add_argument("--cmark", default="cmark")
+    parser.add_argument("--no-brackets", action="store_true")
+    parser.add_argument("--differing", action="store_true")
     words = parser.parse_args()
     files, right, size, why = files_in(words.folder), 0, 0, collections.Counter()
     for path in files:

@@ -1,6 +1,8 @@
 #!/usr/bin/env python3
 """Makes one allocation fail in each test of mdtests and of the other crates of tests, `mdtests_..`: the first one, then the second,
-and so on, up to a given number (default 20). Prints a row for each: how many tests passed, and how many ended as memory ran out.
+and so on, up to a given number. Prints a row for each: how many tests passed, and how many ended as memory ran out.
+
+usage: tools/refusals.py [COUNT]     up to this number; without it, 20
 
 Some tests must pass whichever allocation fails: the modules no_memory, and the test that memory is no fault of the reader. The other
 tests of the program may fail, as they compare without showing. Any other test passes, ends in AllocError or Memory, or shows "out of
@@ -12,6 +14,9 @@ import os
 import re
 import subprocess
 import sys
+
+sys.dont_write_bytecode = True
+import usage  # noqa: E402
 
 CRATES = os.path.join(os.path.dirname(os.path.abspath(__file__)), "../crates")
 # What the names of the tests begin with that have to pass, and of those that compare without showing.
@@ -59,7 +64,9 @@ def refuse(number):
 
 
 def main():
-    most = int(sys.argv[1]) if len(sys.argv) > 1 else 20
+    parser = usage.Words(__doc__)
+    parser.add_argument("count", nargs="?", type=int, default=20, metavar="COUNT")
+    most = parser.parse_args().count
     bad = False
     print("| Growth | Passed | Refused |")
     print("|---|---|---|")

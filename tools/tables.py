@@ -4,7 +4,7 @@
 
 usage: tools/tables.py             compares the two with one another, and each with Python's unicodedata. Ends with 1 if they differ in
                                    another code point than one that Python's version of Unicode has not assigned
-       tools/tables.py ROWS        writes both from the kit's rows of General_Category (`ucd_category/specs/GeneralCategoryRows.antt`,
+       tools/tables.py --write ROWS    writes both from the kit's rows of General_Category (`ucd_category/specs/GeneralCategoryRows.antt`,
                                    lines `(0x0021, 0x0023, OtherPunctuation)`), neighbours joined
 """
 
@@ -12,6 +12,9 @@ import os
 import re
 import sys
 import unicodedata
+
+sys.dont_write_bytecode = True
+import usage  # noqa: E402
 
 TOP = os.path.dirname(os.path.dirname(os.path.realpath(__file__)))
 CODE = f"{TOP}/crates/mdinline_emphasis/src/unicode.rt"
@@ -134,12 +137,14 @@ def check():
 
 
 def main():
-    if len(sys.argv) > 2 or sys.argv[1:] in (["-h"], ["--help"]):
-        sys.exit(__doc__)
-    if sys.argv[1:]:
-        write(sys.argv[1])
+    parser = usage.Words(__doc__)
+    parser.add_argument("--write", metavar="ROWS")
+    rows_of = parser.parse_args().write
+    if rows_of:
+        write(rows_of)
     elif not check():
         sys.exit(1)
 
 
-main()
+if __name__ == "__main__":
+    main()

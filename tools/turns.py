@@ -14,6 +14,9 @@ import subprocess
 import sys
 import time
 
+sys.dont_write_bytecode = True
+import usage  # noqa: E402
+
 HERE = os.path.dirname(os.path.dirname(os.path.realpath(__file__)))
 TURN, TICKS = 30, os.sysconf("SC_CLK_TCK")
 
@@ -80,7 +83,7 @@ class Gate:
         print(f"{self.name}: {clock:.0f} s of the clock; busy {busy:.0f}, idle {idle:.0f}, taken away {stolen:.0f}", flush=True)
 
 
-def main(other, log="gate"):
+def main(other, log):
     gates = [Gate("other", other, f"{log}.other"), Gate("this", HERE, f"{log}.this")]
     while left := [it for it in gates if it.running.poll() is None]:
         for gate in left:
@@ -89,6 +92,10 @@ def main(other, log="gate"):
 
 
 if __name__ == "__main__":
-    if len(sys.argv) not in (2, 3):
-        sys.exit(__doc__)
-    sys.exit(main(*sys.argv[1:]))
+    parser = usage.Words(__doc__)
+    parser.add_argument("other", metavar="OTHER")
+    parser.add_argument("log", nargs="?", default="gate", metavar="LOG")
+    given = parser.parse_args()
+    if not os.path.isdir(given.other):
+        parser.error(f"no folder {given.other}")
+    sys.exit(main(given.other, given.log))

@@ -15,13 +15,15 @@ The page knows no Markdown: it has the names and places of printed events, and t
 shown column by column. Bytes that are no UTF-8 are shown as U+FFFD.
 """
 
-import argparse
 import colorsys
 import html
 import os
 import re
 import subprocess
 import sys
+
+sys.dont_write_bytecode = True
+import usage  # noqa: E402
 
 HERE = os.path.dirname(os.path.dirname(os.path.realpath(__file__)))
 EVENT = re.compile(r"(enter|exit) (\w+) (\d+):(\d+) \((\d+)\+(\d+)\)")
@@ -187,7 +189,7 @@ def self_test():
 
 
 def main():
-    words = argparse.ArgumentParser(usage=__doc__.split("usage: ")[1].split("\n  FILE")[0])
+    words = usage.Words(__doc__)
     words.add_argument("file", nargs="?")
     words.add_argument("--program", default=f"{HERE}/crates/mdevents/out/mdevents")
     words.add_argument("--machine", default="document")
