@@ -33,7 +33,7 @@ pub use mdconstructs_machines::wrap::Wrap;
 pub use mdconstructs_machines::{
     back, begin, deep, fail, lines, paragraphs, peek, save, words, wrap,
 };
-pub use mdconstructs_tables::{chunks, marker};
+pub use mdconstructs_tables::{answers, chunks, marker};
 pub use mddocument::choice::{Choice, Which};
 pub use mddocument::documents::{
     events_of, options_with, read_document, read_leaf_blocks, text_events_of,

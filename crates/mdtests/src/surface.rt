@@ -32,6 +32,7 @@ use markdown::{
     CompileOptions as RootCompileOptions, Constructs as RootConstructs, Options as RootOptions,
     ParseOptions as RootParseOptions,
 };
+use mdconstructs::answers::{enter_over, exit_to};
 use mdconstructs::chunks::{connect, disconnect, is_connected, last_event, link_chunk};
 use mdconstructs::{
     Back, Choice, Deep, Fail, Inlines, Lines, Paragraphs, Peek, Save, Text, Which, Words, Wrap,
