@@ -37,7 +37,7 @@ use crate::heading_setext::{
 };
 use crate::lines::{content_definition_before, flow_after, flow_blank_line_after, flow_start};
 use crate::look::{flow_blank_line_before, paragraph_look_start};
-use crate::over::{in_html, in_info, in_line, in_word};
+use crate::over::{are_in_line, in_html, in_info, in_line, in_word};
 use crate::paragraph::{
     flow_before_content, paragraph_inside, paragraph_line_after, paragraph_line_start,
     paragraph_start,
@@ -47,7 +47,7 @@ use crate::thematic_break::{
     thematic_break_sequence,
 };
 use crate::{html_flow, html_tags};
-use markdown_tokenizer::state::{ByteSet, Machine, MachineTypes, Name, State, no_bytes};
+use markdown_tokenizer::state::{ByteSet, Machine, MachineTypes, Name, State};
 use markdown_tokenizer::subtokenize::Subresult;
 use markdown_tokenizer::tokenizer::{Fault, Tokenizer};
 use mdblock_leaf_rows::names;
@@ -75,17 +75,27 @@ impl Machine for Flow {
 
     /// States that read lines of text or code, info strings and HTML read over all bytes but those that may end what they read.
     #[inline(always)]
-    fn reads_over(&self, name: Name) -> &'static ByteSet {
+    fn reads_over(&self, name: Name) -> Option<&'static ByteSet> {
         match name {
-            Name::ParagraphInside => in_line(),
-            Name::RawFlowContentChunk => in_line(),
-            Name::CodeIndentedInside => in_line(),
-            Name::HtmlFlowContinuation => in_html(),
-            Name::HtmlFlowContinuationClose => in_line(),
-            Name::RawFlowInfo => in_word(),
-            Name::RawFlowMeta => in_line(),
-            names::RawFlowLookInfo => in_info(),
-            _ => no_bytes(),
+            Name::ParagraphInside => Some(in_line()),
+            Name::RawFlowContentChunk => Some(in_line()),
+            Name::CodeIndentedInside => Some(in_line()),
+            Name::HtmlFlowContinuation => Some(in_html()),
+            Name::HtmlFlowContinuationClose => Some(in_line()),
+            Name::RawFlowInfo => Some(in_word()),
+            Name::RawFlowMeta => Some(in_line()),
+            names::RawFlowLookInfo => Some(in_info()),
+            _ => None,
+        }
+    }
+
+    /// States that read lines of text or code read over all bytes above CR.
+    #[inline(always)]
+    fn reads_over_all(&self, name: Name, block: &[u8]) -> bool {
+        match name {
+            Name::ParagraphInside => are_in_line(block),
+            Name::RawFlowContentChunk => are_in_line(block),
+            _ => false,
         }
     }
 

@@ -1,6 +1,7 @@
 //! Bytes that states of leaf blocks read over: at them a call only consumes the byte, and the engine need not make it. Each is above CR.
 
-ghost use Rattle.std.specs.Prelude.{[], ◌∷◌};
+ghost use Rattle.std.specs.Bool.{OnTrue};
+ghost use Rattle.std.specs.Prelude.{[], ◌∷◌, ◌<◌, All};
 ghost use Rattle.mdblock_leaf_rows.specs.FlowBytes.{is_line_feed, is_blank, is_tick, is_less, is_dash, is_question, is_greater, is_closing};
 ghost use Rattle.mdblock_leaf_rows.specs.Over.{PassNone};
 
@@ -120,4 +121,17 @@ pub(crate) fn in_html() -> &'static ByteSet
     ensures { PassNone (is_line_feed ∷ is_less ∷ is_dash ∷ is_question ∷ is_greater ∷ is_closing ∷ []) result.now }
 {
     &IN_HTML
+}
+
+/// Whether all these bytes are above CR, and so bytes of a line. It looks at all of them: a loop that ends early is not made into comparisons
+/// of many bytes at once.
+#[inline(always)]
+pub(crate) fn are_in_line(block: &[u8]) -> bool
+    ensures { OnTrue result (All (λ byte. 13 < byte) block.now) }
+{
+    let mut all = true;
+    for byte in block {
+        all &= *byte > b'\r';
+    }
+    all
 }
