@@ -20,7 +20,7 @@ use crate::over::{in_code, in_data, in_marks, in_quotes, in_string, in_uri};
 use crate::strings::{string_before, string_before_data, string_data};
 use crate::{brackets, names};
 use markdown_tokenizer::event::{self, Event};
-use markdown_tokenizer::state::{ByteSet, Machine, MachineTypes, Name, State, no_bytes};
+use markdown_tokenizer::state::{ByteSet, Machine, MachineTypes, Name, State};
 use markdown_tokenizer::subtokenize::Subresult;
 use markdown_tokenizer::tokenizer::{Fault, Tokenizer};
 use markdown_tokenizer::util::edit_map::EditMap;
@@ -92,15 +92,15 @@ impl Machine for Inlines {
 
     /// Data reads over all bytes but those that may end it; and so do URIs of autolinks, raw HTML between marks, and values in quotes.
     #[inline(always)]
-    fn reads_over(&self, name: Name) -> &'static ByteSet {
+    fn reads_over(&self, name: Name) -> Option<&'static ByteSet> {
         match name {
-            Name::DataInside => in_data(),
-            Name::DataStart => in_string(),
-            Name::RawTextData => in_code(),
-            Name::AutolinkUrlInside => in_uri(),
-            construct_names::HtmlTextMarkInside => in_marks(),
-            Name::HtmlTextTagOpenAttributeValueQuoted => in_quotes(),
-            _ => no_bytes(),
+            Name::DataInside => Some(in_data()),
+            Name::DataStart => Some(in_string()),
+            Name::RawTextData => Some(in_code()),
+            Name::AutolinkUrlInside => Some(in_uri()),
+            construct_names::HtmlTextMarkInside => Some(in_marks()),
+            Name::HtmlTextTagOpenAttributeValueQuoted => Some(in_quotes()),
+            _ => None,
         }
     }
 

@@ -1,5 +1,3 @@
-use Rattle.std.proofs.Common.{◌∙◌, sym}
-use Rattle.std.proofs.lemmas.Bool.{false≢true}
 use Rattle.mdinline_labels.specs.Defined.{defines}
 use Rattle.mdinline_machine.proofs.Prelude.{rules}
 use Rattle.mdinline_machine.proofs.OverBytes.{code-over, data-over, mark-over, quote-over, string-over, uri-over}
@@ -13,9 +11,6 @@ returns-in-DataStart c = λ byte e. let is = c.in_string.ensures byte e in (is.0
 
 pub returns-in-RawTextData : goal.returns-in-RawTextData
 returns-in-RawTextData c = λ byte e. let is = c.in_code.ensures byte e in (is.0, code-over byte is.1 c.args.name (search rules) (defines c.args.self.now.labels))
-
-pub returns-in_default : goal.returns-in_default
-returns-in_default c = λ byte e. absurd (false≢true (sym (c.no_bytes.ensures byte) ∙ e))
 
 pub returns-in-AutolinkUrlInside : goal.returns-in-AutolinkUrlInside
 returns-in-AutolinkUrlInside c = λ byte e. let is = c.in_uri.ensures byte e in (is.0, uri-over byte is.1 c.args.name (search rules) (defines c.args.self.now.labels))
