@@ -8,7 +8,7 @@ ghost use Rattle.mdtests_tables.specs.Over.{data_inside, is_text, text_start};
 use crate::shown::assert_shown;
 use markdown::configuration::TabSize;
 use markdown::event::{self, Point};
-use markdown::state::{ByteSet, Machine, MachineTypes, Name, State, no_bytes};
+use markdown::state::{ByteSet, Machine, MachineTypes, Name, State};
 use markdown::subtokenize::Subresult;
 use markdown::tokenizer::{AfterGap, Fault, Tokenizer, follow_on, point_at};
 use mdconstructs_tables::marker;
@@ -51,13 +51,13 @@ impl Machine for Over {
         }
     }
 
-    fn reads_over(&self, name: Name) -> &'static ByteSet {
+    fn reads_over(&self, name: Name) -> Option<&'static ByteSet> {
         if !self.over {
-            return no_bytes();
+            return None;
         }
         match name {
-            Name::DataInside => data_bytes(),
-            _ => no_bytes(),
+            Name::DataInside => Some(data_bytes()),
+            _ => None,
         }
     }
 
