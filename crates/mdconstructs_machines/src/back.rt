@@ -11,6 +11,7 @@ use markdown_tokenizer::event;
 use markdown_tokenizer::state::{Machine, MachineTypes, Name, State};
 use markdown_tokenizer::subtokenize::Subresult;
 use markdown_tokenizer::tokenizer::{Fault, Tokenizer};
+use mdconstructs_tables::answers::exit_to;
 use std::alloc::{AllocError, Global};
 
 /// Reads the first line as data, with its line ending. Then it looks over the next line with its line ending, goes back
@@ -88,10 +89,7 @@ fn text_before<'a>(t: &mut Tokenizer<'a, Back>) -> Result<State, AllocError>
     ensures { IfOk result (DoesAll (step_in line_byte text_before t.old) t.old t.new) }
 {
     match t.current() {
-        None => {
-            t.exit(event::Name::Data)?;
-            Ok(State::Ok)
-        }
+        None => exit_to(t, event::Name::Data, State::Ok),
         Some(b'\n') => {
             t.consume();
             Ok(State::Next(Name::DataStart))
@@ -109,10 +107,7 @@ fn data_start<'a>(t: &mut Tokenizer<'a, Back>) -> Result<State, AllocError>
     ensures { IfOk result (DoesAll (step_in line_byte data_start t.old) t.old t.new) }
 {
     match t.current() {
-        None => {
-            t.exit(event::Name::Data)?;
-            Ok(State::Ok)
-        }
+        None => exit_to(t, event::Name::Data, State::Ok),
         Some(_) => {
             t.check(
                 State::Next(Name::DataAtBreak),
@@ -157,10 +152,7 @@ fn string_before<'a>(t: &mut Tokenizer<'a, Back>) -> Result<State, AllocError>
     ensures { IfOk result (DoesAll (step_in line_byte string_before t.old) t.old t.new) }
 {
     match t.current() {
-        None => {
-            t.exit(event::Name::Data)?;
-            Ok(State::Ok)
-        }
+        None => exit_to(t, event::Name::Data, State::Ok),
         Some(_) => {
             t.consume();
             Ok(State::Next(Name::StringBefore))

@@ -12,6 +12,7 @@ use markdown_tokenizer::event::{self, Content, Link};
 use markdown_tokenizer::state::{Machine, MachineTypes, Name, State};
 use markdown_tokenizer::subtokenize::Subresult;
 use markdown_tokenizer::tokenizer::{Fault, Tokenizer};
+use mdconstructs_tables::answers::exit_to;
 use mdconstructs_tables::chunks::{connect, disconnect, is_connected, link_chunk};
 use mdconstructs_tables::marker;
 use std::alloc::{AllocError, Global};
@@ -106,14 +107,8 @@ pub fn paragraph_line_start<'a, M: MachineTypes>(
     ensures { IfOk result (DoesAll (step_in line_byte paragraph_line_start t.old) t.old t.new) }
 {
     match t.current() {
-        None => {
-            t.exit(event::Name::Paragraph)?;
-            Ok(State::Retry(Name::FlowStart))
-        }
-        Some(b'\n') => {
-            t.exit(event::Name::Paragraph)?;
-            Ok(State::Retry(Name::FlowStart))
-        }
+        None => exit_to(t, event::Name::Paragraph, State::Retry(Name::FlowStart)),
+        Some(b'\n') => exit_to(t, event::Name::Paragraph, State::Retry(Name::FlowStart)),
         Some(b'>') => {
             marker(t, event::Name::BlockQuoteMarker)?;
             Ok(State::Next(Name::ParagraphStart))

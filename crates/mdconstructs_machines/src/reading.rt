@@ -8,6 +8,7 @@ ghost use Rattle.mdconstructs_tables.specs.DataRows.{data_start, data_inside};
 use markdown_tokenizer::event;
 use markdown_tokenizer::state::{MachineTypes, Name, State};
 use markdown_tokenizer::tokenizer::Tokenizer;
+use mdconstructs_tables::answers::exit_to;
 use mdconstructs_tables::marker;
 use std::alloc::AllocError;
 
@@ -37,14 +38,8 @@ pub(crate) fn data_inside<'a, M: MachineTypes>(
     ensures { IfOk result (DoesAll (step_in line_byte data_inside t.old) t.old t.new) }
 {
     match t.current() {
-        None => {
-            t.exit(event::Name::Data)?;
-            Ok(State::Ok)
-        }
-        Some(b'\n') => {
-            t.exit(event::Name::Data)?;
-            Ok(State::Retry(Name::DataStart))
-        }
+        None => exit_to(t, event::Name::Data, State::Ok),
+        Some(b'\n') => exit_to(t, event::Name::Data, State::Retry(Name::DataStart)),
         Some(_) => {
             t.consume();
             Ok(State::Next(Name::DataInside))

@@ -14,6 +14,7 @@ use markdown_tokenizer::owned::OwnedText;
 use markdown_tokenizer::state::{Machine, MachineTypes, Name, State};
 use markdown_tokenizer::subtokenize::Subresult;
 use markdown_tokenizer::tokenizer::{Fault, Tokenizer};
+use mdconstructs_tables::answers::{enter_over, exit_to};
 use mdconstructs_tables::marker;
 use std::alloc::{AllocError, Global};
 
@@ -101,10 +102,7 @@ fn blanks<'a>(alloc: Global, t: &mut Tokenizer<'a, Words>) -> Result<State, Allo
     ensures { IfOk result (DoesAll (step_in word_byte blanks t.old) t.old t.new) }
 {
     match t.current() {
-        None => {
-            t.exit(event::Name::SpaceOrTab)?;
-            Ok(State::Ok)
-        }
+        None => exit_to(t, event::Name::SpaceOrTab, State::Ok),
         Some(b' ') => {
             if are_two(t) {
                 return Ok(State::Error(refusal(alloc, THIRD_BLANK)?));
@@ -113,10 +111,7 @@ fn blanks<'a>(alloc: Global, t: &mut Tokenizer<'a, Words>) -> Result<State, Allo
             t.consume();
             Ok(State::Next(Name::SpaceOrTabInside))
         }
-        Some(_) => {
-            t.exit(event::Name::SpaceOrTab)?;
-            Ok(State::Retry(Name::DataStart))
-        }
+        Some(_) => exit_to(t, event::Name::SpaceOrTab, State::Retry(Name::DataStart)),
     }
 }
 
@@ -131,11 +126,7 @@ fn word_start<'a>(t: &mut Tokenizer<'a, Words>) -> Result<State, AllocError>
             t.enter(event::Name::Data)?;
             Ok(State::Next(Name::DataAtBreak))
         }
-        _ => {
-            t.enter(event::Name::Data)?;
-            t.consume();
-            Ok(State::Next(Name::DataInside))
-        }
+        _ => enter_over(t, event::Name::Data, State::Next(Name::DataInside)),
     }
 }
 
@@ -160,10 +151,7 @@ fn word<'a>(t: &mut Tokenizer<'a, Words>) -> Result<State, AllocError>
     ensures { IfOk result (DoesAll (step_in word_byte word t.old) t.old t.new) }
 {
     match t.current() {
-        None => {
-            t.exit(event::Name::Data)?;
-            Ok(State::Ok)
-        }
+        None => exit_to(t, event::Name::Data, State::Ok),
         Some(b' ') => {
             t.exit(event::Name::Data)?;
             t.enter(event::Name::SpaceOrTab)?;
