@@ -1,5 +1,5 @@
 use Rattle.std.proofs.Common.{[], ◌∷◌, refl}
-use Rattle.mdblock_leaf_rows.specs.declared.over.TheConstants.{IN_HTML}
+use Rattle.mdblock_leaf_machine.specs.declared.over.TheConstants.{IN_HTML}
 use Rattle.mdblock_leaf_rows.specs.FlowBytes.{is_line_feed, is_less, is_dash, is_question, is_greater, is_closing}
 use Rattle.mdblock_leaf_machine.proofs.ByteSets.{pass-none}
 use Rattle.mdblock_leaf_machine.proofs.over.in_html.Goals as goal

@@ -1,5 +1,5 @@
 use Rattle.std.proofs.Common.{[], ◌∷◌, refl}
-use Rattle.mdblock_leaf_rows.specs.declared.over.TheConstants.{IN_LINE}
+use Rattle.mdblock_leaf_machine.specs.declared.over.TheConstants.{IN_LINE}
 use Rattle.mdblock_leaf_rows.specs.FlowBytes.{is_line_feed}
 use Rattle.mdblock_leaf_machine.proofs.ByteSets.{pass-none}
 use Rattle.mdblock_leaf_machine.proofs.over.in_line.Goals as goal

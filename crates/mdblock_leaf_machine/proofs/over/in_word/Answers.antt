@@ -1,5 +1,5 @@
 use Rattle.std.proofs.Common.{[], ◌∷◌, refl}
-use Rattle.mdblock_leaf_rows.specs.declared.over.TheConstants.{IN_WORD}
+use Rattle.mdblock_leaf_machine.specs.declared.over.TheConstants.{IN_WORD}
 use Rattle.mdblock_leaf_rows.specs.FlowBytes.{is_line_feed, is_blank}
 use Rattle.mdblock_leaf_machine.proofs.ByteSets.{pass-none}
 use Rattle.mdblock_leaf_machine.proofs.over.in_word.Goals as goal
