@@ -8,6 +8,7 @@ ghost use Rattle.mdblock_leaf_rows.specs.BlankLine.{blank_line_start};
 use markdown_tokenizer::event;
 use markdown_tokenizer::state::{MachineTypes, Name, State};
 use markdown_tokenizer::tokenizer::Tokenizer;
+use mdconstructs_tables::answers::exit_to;
 use mdconstructs_tables::marker;
 use std::alloc::AllocError;
 
@@ -19,10 +20,7 @@ pub(crate) fn blank_line_start<'a, M: MachineTypes>(
     ensures { IfOk result (DoesAll (step_in flow_byte blank_line_start t.old) t.old t.new) }
 {
     match t.current() {
-        None => {
-            t.exit(event::Name::SpaceOrTab)?;
-            Ok(State::Ok)
-        }
+        None => exit_to(t, event::Name::SpaceOrTab, State::Ok),
         Some(b'\n') => {
             t.exit(event::Name::SpaceOrTab)?;
             marker(t, event::Name::BlankLineEnding)?;

@@ -12,6 +12,7 @@ use markdown_tokenizer::event;
 use markdown_tokenizer::state::{MachineTypes, Name, State};
 use markdown_tokenizer::tokenizer::Tokenizer;
 use mdblock_leaf_rows::names;
+use mdconstructs_tables::answers::{enter_over, exit_to};
 use mdconstructs_tables::marker;
 use std::alloc::AllocError;
 
@@ -23,10 +24,7 @@ pub(crate) fn raw_flow_at_non_lazy_break<'a, M: MachineTypes>(
     ensures { IfOk result (DoesAll (step_in flow_byte raw_flow_at_non_lazy_break t.old) t.old t.new) }
 {
     match t.current() {
-        None => {
-            t.exit(event::Name::CodeFenced)?;
-            Ok(State::Retry(Name::FlowAfter))
-        }
+        None => exit_to(t, event::Name::CodeFenced, State::Retry(Name::FlowAfter)),
         Some(b'\n') => {
             t.check(
                 State::Next(Name::RawFlowAfter),
@@ -155,15 +153,17 @@ pub(crate) fn raw_flow_content_start<'a, M: MachineTypes>(
                 t.consume();
                 return Ok(State::Next(Name::RawFlowBeforeContentChunk));
             }
-            t.enter(event::Name::CodeFlowChunk)?;
-            t.consume();
-            Ok(State::Next(Name::RawFlowContentChunk))
+            enter_over(
+                t,
+                event::Name::CodeFlowChunk,
+                State::Next(Name::RawFlowContentChunk),
+            )
         }
-        Some(_) => {
-            t.enter(event::Name::CodeFlowChunk)?;
-            t.consume();
-            Ok(State::Next(Name::RawFlowContentChunk))
-        }
+        Some(_) => enter_over(
+            t,
+            event::Name::CodeFlowChunk,
+            State::Next(Name::RawFlowContentChunk),
+        ),
     }
 }
 
@@ -175,10 +175,11 @@ pub(crate) fn raw_flow_before_content_chunk<'a, M: MachineTypes>(
     ensures { IfOk result (DoesAll (step_in flow_byte raw_flow_before_content_chunk t.old) t.old t.new) }
 {
     match t.current() {
-        None | Some(b'\n') => {
-            t.exit(event::Name::SpaceOrTab)?;
-            Ok(State::Retry(Name::RawFlowAtNonLazyBreak))
-        }
+        None | Some(b'\n') => exit_to(
+            t,
+            event::Name::SpaceOrTab,
+            State::Retry(Name::RawFlowAtNonLazyBreak),
+        ),
         Some(b'\t' | b' ') => {
             if counts_to_indent(t) {
                 add_to_count(t);
@@ -186,15 +187,19 @@ pub(crate) fn raw_flow_before_content_chunk<'a, M: MachineTypes>(
                 return Ok(State::Next(Name::RawFlowBeforeContentChunk));
             }
             t.exit(event::Name::SpaceOrTab)?;
-            t.enter(event::Name::CodeFlowChunk)?;
-            t.consume();
-            Ok(State::Next(Name::RawFlowContentChunk))
+            enter_over(
+                t,
+                event::Name::CodeFlowChunk,
+                State::Next(Name::RawFlowContentChunk),
+            )
         }
         Some(_) => {
             t.exit(event::Name::SpaceOrTab)?;
-            t.enter(event::Name::CodeFlowChunk)?;
-            t.consume();
-            Ok(State::Next(Name::RawFlowContentChunk))
+            enter_over(
+                t,
+                event::Name::CodeFlowChunk,
+                State::Next(Name::RawFlowContentChunk),
+            )
         }
     }
 }
@@ -207,10 +212,11 @@ pub(crate) fn raw_flow_content_chunk<'a, M: MachineTypes>(
     ensures { IfOk result (DoesAll (step_in flow_byte raw_flow_content_chunk t.old) t.old t.new) }
 {
     match t.current() {
-        None | Some(b'\n') => {
-            t.exit(event::Name::CodeFlowChunk)?;
-            Ok(State::Retry(Name::RawFlowAtNonLazyBreak))
-        }
+        None | Some(b'\n') => exit_to(
+            t,
+            event::Name::CodeFlowChunk,
+            State::Retry(Name::RawFlowAtNonLazyBreak),
+        ),
         Some(_) => {
             t.consume();
             Ok(State::Next(Name::RawFlowContentChunk))
@@ -237,21 +243,22 @@ pub(crate) fn raw_flow_close_before<'a, M: MachineTypes>(
     ensures { IfOk result (DoesAll (step_in flow_byte raw_flow_close_before t.old) t.old t.new) }
 {
     match t.current() {
-        None | Some(b'\n') => {
-            t.exit(event::Name::CodeFenced)?;
-            Ok(State::Retry(Name::FlowAfter))
-        }
+        None | Some(b'\n') => exit_to(t, event::Name::CodeFenced, State::Retry(Name::FlowAfter)),
         Some(b'\t' | b' ') => {
             t.enter(event::Name::CodeFencedFence)?;
-            t.enter(event::Name::SpaceOrTab)?;
-            t.consume();
-            Ok(State::Next(names::RawFlowCloseBlank))
+            enter_over(
+                t,
+                event::Name::SpaceOrTab,
+                State::Next(names::RawFlowCloseBlank),
+            )
         }
         Some(_) => {
             t.enter(event::Name::CodeFencedFence)?;
-            t.enter(event::Name::CodeFencedFenceSequence)?;
-            t.consume();
-            Ok(State::Next(names::RawFlowCloseSequence))
+            enter_over(
+                t,
+                event::Name::CodeFencedFenceSequence,
+                State::Next(names::RawFlowCloseSequence),
+            )
         }
     }
 }
@@ -268,10 +275,11 @@ pub(crate) fn raw_flow_close_blank<'a, M: MachineTypes>(
             t.consume();
             Ok(State::Next(names::RawFlowCloseBlank))
         }
-        _ => {
-            t.exit(event::Name::SpaceOrTab)?;
-            Ok(State::Retry(names::RawFlowCloseBetween))
-        }
+        _ => exit_to(
+            t,
+            event::Name::SpaceOrTab,
+            State::Retry(names::RawFlowCloseBetween),
+        ),
     }
 }
 
@@ -287,10 +295,11 @@ pub(crate) fn raw_flow_close_sequence<'a, M: MachineTypes>(
             t.consume();
             Ok(State::Next(names::RawFlowCloseSequence))
         }
-        _ => {
-            t.exit(event::Name::CodeFencedFenceSequence)?;
-            Ok(State::Retry(names::RawFlowCloseBetween))
-        }
+        _ => exit_to(
+            t,
+            event::Name::CodeFencedFenceSequence,
+            State::Retry(names::RawFlowCloseBetween),
+        ),
     }
 }
 
@@ -304,18 +313,17 @@ pub(crate) fn raw_flow_close_between<'a, M: MachineTypes>(
     match t.current() {
         None | Some(b'\n') => {
             t.exit(event::Name::CodeFencedFence)?;
-            t.exit(event::Name::CodeFenced)?;
-            Ok(State::Retry(Name::FlowAfter))
+            exit_to(t, event::Name::CodeFenced, State::Retry(Name::FlowAfter))
         }
-        Some(b'\t' | b' ') => {
-            t.enter(event::Name::SpaceOrTab)?;
-            t.consume();
-            Ok(State::Next(names::RawFlowCloseBlank))
-        }
-        Some(_) => {
-            t.enter(event::Name::CodeFencedFenceSequence)?;
-            t.consume();
-            Ok(State::Next(names::RawFlowCloseSequence))
-        }
+        Some(b'\t' | b' ') => enter_over(
+            t,
+            event::Name::SpaceOrTab,
+            State::Next(names::RawFlowCloseBlank),
+        ),
+        Some(_) => enter_over(
+            t,
+            event::Name::CodeFencedFenceSequence,
+            State::Next(names::RawFlowCloseSequence),
+        ),
     }
 }

@@ -10,6 +10,7 @@ use markdown_tokenizer::event;
 use markdown_tokenizer::state::{MachineTypes, Name, State};
 use markdown_tokenizer::tokenizer::Tokenizer;
 use mdblock_leaf_rows::names;
+use mdconstructs_tables::answers::{enter_over, exit_to};
 use mdconstructs_tables::marker;
 use std::alloc::AllocError;
 
@@ -27,13 +28,17 @@ pub(crate) fn code_indented_start<'a, M: MachineTypes>(
                 t.consume();
                 return Ok(State::Next(Name::CodeIndentedStart));
             }
-            t.exit(event::Name::SpaceOrTab)?;
-            Ok(State::Retry(Name::CodeIndentedAtBreak))
+            exit_to(
+                t,
+                event::Name::SpaceOrTab,
+                State::Retry(Name::CodeIndentedAtBreak),
+            )
         }
-        _ => {
-            t.exit(event::Name::SpaceOrTab)?;
-            Ok(State::Retry(Name::CodeIndentedAtBreak))
-        }
+        _ => exit_to(
+            t,
+            event::Name::SpaceOrTab,
+            State::Retry(Name::CodeIndentedAtBreak),
+        ),
     }
 }
 
@@ -45,10 +50,7 @@ pub(crate) fn code_indented_at_break<'a, M: MachineTypes>(
     ensures { IfOk result (DoesAll (step_in flow_byte code_indented_at_break t.old) t.old t.new) }
 {
     match t.current() {
-        None => {
-            t.exit(event::Name::CodeIndented)?;
-            Ok(State::Retry(Name::FlowAfter))
-        }
+        None => exit_to(t, event::Name::CodeIndented, State::Retry(Name::FlowAfter)),
         Some(b'\n') => {
             marker(t, event::Name::LineEnding)?;
             Ok(State::Next(Name::CodeIndentedFurtherBegin))
@@ -70,8 +72,7 @@ pub(crate) fn code_indented_further_after<'a, M: MachineTypes>(
     match t.current() {
         None => {
             t.exit(event::Name::CodeFlowChunk)?;
-            t.exit(event::Name::CodeIndented)?;
-            Ok(State::Retry(Name::FlowAfter))
+            exit_to(t, event::Name::CodeIndented, State::Retry(Name::FlowAfter))
         }
         Some(b'\n') => {
             t.exit(event::Name::CodeFlowChunk)?;
@@ -99,8 +100,7 @@ pub(crate) fn code_indented_inside<'a, M: MachineTypes>(
     match t.current() {
         None => {
             t.exit(event::Name::CodeFlowChunk)?;
-            t.exit(event::Name::CodeIndented)?;
-            Ok(State::Retry(Name::FlowAfter))
+            exit_to(t, event::Name::CodeIndented, State::Retry(Name::FlowAfter))
         }
         Some(b'\n') => {
             t.check(
@@ -136,8 +136,7 @@ pub(crate) fn code_indented_after<'a, M: MachineTypes>(
     ensures { IfOk result (DoesAll (step_in flow_byte code_indented_after t.old) t.old t.new) }
 {
     t.exit(event::Name::CodeFlowChunk)?;
-    t.exit(event::Name::CodeIndented)?;
-    Ok(State::Retry(Name::FlowAfter))
+    exit_to(t, event::Name::CodeIndented, State::Retry(Name::FlowAfter))
 }
 
 /// Before a further line of indented code.
@@ -148,10 +147,7 @@ pub(crate) fn code_indented_further_begin<'a, M: MachineTypes>(
     ensures { IfOk result (DoesAll (step_in flow_byte code_indented_further_begin t.old) t.old t.new) }
 {
     match t.current() {
-        None => {
-            t.exit(event::Name::CodeIndented)?;
-            Ok(State::Retry(Name::FlowAfter))
-        }
+        None => exit_to(t, event::Name::CodeIndented, State::Retry(Name::FlowAfter)),
         Some(b'\n') => {
             // A blank line. The look behind the last line saw that an indented one follows.
             marker(t, event::Name::LineEnding)?;
@@ -163,11 +159,11 @@ pub(crate) fn code_indented_further_begin<'a, M: MachineTypes>(
             t.consume();
             Ok(State::Next(Name::CodeIndentedStart))
         }
-        Some(_) => {
-            t.enter(event::Name::CodeFlowChunk)?;
-            t.consume();
-            Ok(State::Next(Name::CodeIndentedInside))
-        }
+        Some(_) => enter_over(
+            t,
+            event::Name::CodeFlowChunk,
+            State::Next(Name::CodeIndentedInside),
+        ),
     }
 }
 

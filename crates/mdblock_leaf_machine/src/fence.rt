@@ -12,6 +12,7 @@ use markdown_tokenizer::event;
 use markdown_tokenizer::state::{MachineTypes, Name, State};
 use markdown_tokenizer::tokenizer::Tokenizer;
 use mdblock_leaf_rows::names;
+use mdconstructs_tables::answers::{enter_over, exit_to};
 use std::alloc::AllocError;
 
 /// A look: in the sequence of an opening fence.
@@ -68,14 +69,17 @@ pub(crate) fn raw_flow_start<'a, M: MachineTypes>(
         }
         Some(b'`' | b'~') => {
             t.exit(event::Name::SpaceOrTab)?;
-            t.enter(event::Name::CodeFencedFenceSequence)?;
-            t.consume();
-            Ok(State::Next(Name::RawFlowSequenceOpen))
+            enter_over(
+                t,
+                event::Name::CodeFencedFenceSequence,
+                State::Next(Name::RawFlowSequenceOpen),
+            )
         }
-        _ => {
-            t.exit(event::Name::SpaceOrTab)?;
-            Ok(State::Retry(Name::RawFlowInfoBefore))
-        }
+        _ => exit_to(
+            t,
+            event::Name::SpaceOrTab,
+            State::Retry(Name::RawFlowInfoBefore),
+        ),
     }
 }
 
@@ -92,13 +96,17 @@ pub(crate) fn raw_flow_sequence_open<'a, M: MachineTypes>(
                 t.consume();
                 return Ok(State::Next(Name::RawFlowSequenceOpen));
             }
-            t.exit(event::Name::CodeFencedFenceSequence)?;
-            Ok(State::Retry(Name::RawFlowInfoBefore))
+            exit_to(
+                t,
+                event::Name::CodeFencedFenceSequence,
+                State::Retry(Name::RawFlowInfoBefore),
+            )
         }
-        _ => {
-            t.exit(event::Name::CodeFencedFenceSequence)?;
-            Ok(State::Retry(Name::RawFlowInfoBefore))
-        }
+        _ => exit_to(
+            t,
+            event::Name::CodeFencedFenceSequence,
+            State::Retry(Name::RawFlowInfoBefore),
+        ),
     }
 }
 
@@ -110,15 +118,16 @@ pub(crate) fn raw_flow_info_before<'a, M: MachineTypes>(
     ensures { IfOk result (DoesAll (step_in flow_byte raw_flow_info_before t.old) t.old t.new) }
 {
     match t.current() {
-        None | Some(b'\n') => {
-            t.exit(event::Name::CodeFencedFence)?;
-            Ok(State::Retry(Name::RawFlowAtNonLazyBreak))
-        }
-        Some(b'\t' | b' ') => {
-            t.enter(event::Name::SpaceOrTab)?;
-            t.consume();
-            Ok(State::Next(Name::RawFlowBeforeSequenceOpen))
-        }
+        None | Some(b'\n') => exit_to(
+            t,
+            event::Name::CodeFencedFence,
+            State::Retry(Name::RawFlowAtNonLazyBreak),
+        ),
+        Some(b'\t' | b' ') => enter_over(
+            t,
+            event::Name::SpaceOrTab,
+            State::Next(Name::RawFlowBeforeSequenceOpen),
+        ),
         Some(_) => {
             t.enter(event::Name::CodeFencedFenceInfo)?;
             t.enter_link(event::Name::Data, STRING)?;
@@ -139,10 +148,11 @@ pub(crate) fn raw_flow_before_sequence_open<'a, M: MachineTypes>(
             t.consume();
             Ok(State::Next(Name::RawFlowBeforeSequenceOpen))
         }
-        _ => {
-            t.exit(event::Name::SpaceOrTab)?;
-            Ok(State::Retry(Name::RawFlowInfoBefore))
-        }
+        _ => exit_to(
+            t,
+            event::Name::SpaceOrTab,
+            State::Retry(Name::RawFlowInfoBefore),
+        ),
     }
 }
 
@@ -157,15 +167,20 @@ pub(crate) fn raw_flow_info<'a, M: MachineTypes>(
         None | Some(b'\n') => {
             t.exit(event::Name::Data)?;
             t.exit(event::Name::CodeFencedFenceInfo)?;
-            t.exit(event::Name::CodeFencedFence)?;
-            Ok(State::Retry(Name::RawFlowAtNonLazyBreak))
+            exit_to(
+                t,
+                event::Name::CodeFencedFence,
+                State::Retry(Name::RawFlowAtNonLazyBreak),
+            )
         }
         Some(b'\t' | b' ') => {
             t.exit(event::Name::Data)?;
             t.exit(event::Name::CodeFencedFenceInfo)?;
-            t.enter(event::Name::SpaceOrTab)?;
-            t.consume();
-            Ok(State::Next(names::RawFlowInfoAfter))
+            enter_over(
+                t,
+                event::Name::SpaceOrTab,
+                State::Next(names::RawFlowInfoAfter),
+            )
         }
         Some(_) => {
             t.consume();
@@ -186,10 +201,11 @@ pub(crate) fn raw_flow_info_after<'a, M: MachineTypes>(
             t.consume();
             Ok(State::Next(names::RawFlowInfoAfter))
         }
-        _ => {
-            t.exit(event::Name::SpaceOrTab)?;
-            Ok(State::Retry(Name::RawFlowMetaBefore))
-        }
+        _ => exit_to(
+            t,
+            event::Name::SpaceOrTab,
+            State::Retry(Name::RawFlowMetaBefore),
+        ),
     }
 }
 
@@ -201,10 +217,11 @@ pub(crate) fn raw_flow_meta_before<'a, M: MachineTypes>(
     ensures { IfOk result (DoesAll (step_in flow_byte raw_flow_meta_before t.old) t.old t.new) }
 {
     match t.current() {
-        None | Some(b'\n') => {
-            t.exit(event::Name::CodeFencedFence)?;
-            Ok(State::Retry(Name::RawFlowAtNonLazyBreak))
-        }
+        None | Some(b'\n') => exit_to(
+            t,
+            event::Name::CodeFencedFence,
+            State::Retry(Name::RawFlowAtNonLazyBreak),
+        ),
         Some(_) => {
             t.enter(event::Name::CodeFencedFenceMeta)?;
             t.enter_link(event::Name::Data, STRING)?;
@@ -224,8 +241,11 @@ pub(crate) fn raw_flow_meta<'a, M: MachineTypes>(
         None | Some(b'\n') => {
             t.exit(event::Name::Data)?;
             t.exit(event::Name::CodeFencedFenceMeta)?;
-            t.exit(event::Name::CodeFencedFence)?;
-            Ok(State::Retry(Name::RawFlowAtNonLazyBreak))
+            exit_to(
+                t,
+                event::Name::CodeFencedFence,
+                State::Retry(Name::RawFlowAtNonLazyBreak),
+            )
         }
         Some(_) => {
             t.consume();

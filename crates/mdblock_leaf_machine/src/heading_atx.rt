@@ -17,6 +17,7 @@ use markdown_tokenizer::event;
 use markdown_tokenizer::state::{MachineTypes, Name, State};
 use markdown_tokenizer::tokenizer::Tokenizer;
 use mdblock_leaf_rows::names;
+use mdconstructs_tables::answers::{enter_over, exit_to};
 use std::alloc::AllocError;
 
 /// A look: in the number signs that open a heading. There are at most six.
@@ -194,14 +195,17 @@ pub(crate) fn heading_atx_start<'a, M: MachineTypes>(
         }
         Some(b'#') => {
             t.exit(event::Name::SpaceOrTab)?;
-            t.enter(event::Name::HeadingAtxSequence)?;
-            t.consume();
-            Ok(State::Next(Name::HeadingAtxSequenceOpen))
+            enter_over(
+                t,
+                event::Name::HeadingAtxSequence,
+                State::Next(Name::HeadingAtxSequenceOpen),
+            )
         }
-        _ => {
-            t.exit(event::Name::SpaceOrTab)?;
-            Ok(State::Retry(Name::HeadingAtxAtBreak))
-        }
+        _ => exit_to(
+            t,
+            event::Name::SpaceOrTab,
+            State::Retry(Name::HeadingAtxAtBreak),
+        ),
     }
 }
 
@@ -217,10 +221,11 @@ pub(crate) fn heading_atx_sequence_open<'a, M: MachineTypes>(
             t.consume();
             Ok(State::Next(Name::HeadingAtxSequenceOpen))
         }
-        _ => {
-            t.exit(event::Name::HeadingAtxSequence)?;
-            Ok(State::Retry(Name::HeadingAtxAtBreak))
-        }
+        _ => exit_to(
+            t,
+            event::Name::HeadingAtxSequence,
+            State::Retry(Name::HeadingAtxAtBreak),
+        ),
     }
 }
 
@@ -232,15 +237,12 @@ pub(crate) fn heading_atx_at_break<'a, M: MachineTypes>(
     ensures { IfOk result (DoesAll (step_in flow_byte heading_atx_at_break t.old) t.old t.new) }
 {
     match t.current() {
-        None | Some(b'\n') => {
-            t.exit(event::Name::HeadingAtx)?;
-            Ok(State::Retry(Name::FlowAfter))
-        }
-        Some(b'\t' | b' ') => {
-            t.enter(event::Name::SpaceOrTab)?;
-            t.consume();
-            Ok(State::Next(Name::HeadingAtxBefore))
-        }
+        None | Some(b'\n') => exit_to(t, event::Name::HeadingAtx, State::Retry(Name::FlowAfter)),
+        Some(b'\t' | b' ') => enter_over(
+            t,
+            event::Name::SpaceOrTab,
+            State::Next(Name::HeadingAtxBefore),
+        ),
         Some(_) => text_or_signs(t),
     }
 }
@@ -257,10 +259,11 @@ pub(crate) fn heading_atx_before<'a, M: MachineTypes>(
             t.consume();
             Ok(State::Next(Name::HeadingAtxBefore))
         }
-        _ => {
-            t.exit(event::Name::SpaceOrTab)?;
-            Ok(State::Retry(Name::HeadingAtxAtBreak))
-        }
+        _ => exit_to(
+            t,
+            event::Name::SpaceOrTab,
+            State::Retry(Name::HeadingAtxAtBreak),
+        ),
     }
 }
 
@@ -275,8 +278,7 @@ pub(crate) fn heading_atx_data<'a, M: MachineTypes>(
         None | Some(b'\n') => {
             t.exit(event::Name::Data)?;
             t.exit(event::Name::HeadingAtxText)?;
-            t.exit(event::Name::HeadingAtx)?;
-            Ok(State::Retry(Name::FlowAfter))
+            exit_to(t, event::Name::HeadingAtx, State::Retry(Name::FlowAfter))
         }
         Some(_) => text_goes_on(t),
     }
@@ -295,9 +297,11 @@ fn text_or_signs<'a, M: MachineTypes>(t: &mut Tokenizer<'a, M>) -> Result<State,
         t.consume();
         return Ok(State::Next(Name::HeadingAtxData));
     }
-    t.enter(event::Name::HeadingAtxSequence)?;
-    t.consume();
-    Ok(State::Next(Name::HeadingAtxSequenceOpen))
+    enter_over(
+        t,
+        event::Name::HeadingAtxSequence,
+        State::Next(Name::HeadingAtxSequenceOpen),
+    )
 }
 
 /// In the text of a heading, or behind it: the look counted how long it is.

@@ -14,6 +14,7 @@ use markdown_tokenizer::event;
 use markdown_tokenizer::state::{MachineTypes, Name, State};
 use markdown_tokenizer::tokenizer::Tokenizer;
 use mdblock_leaf_rows::names;
+use mdconstructs_tables::answers::{enter_over, exit_to};
 use mdconstructs_tables::marker;
 use std::alloc::{AllocError, Global};
 
@@ -105,15 +106,19 @@ pub(crate) fn heading_setext_start<'a, M: MachineTypes>(
         Some(b'\n') => Ok(State::Retry(Name::FlowAfter)),
         Some(b'\t' | b' ') => {
             t.enter(event::Name::HeadingSetextUnderline)?;
-            t.enter(event::Name::SpaceOrTab)?;
-            t.consume();
-            Ok(State::Next(Name::HeadingSetextBefore))
+            enter_over(
+                t,
+                event::Name::SpaceOrTab,
+                State::Next(Name::HeadingSetextBefore),
+            )
         }
         Some(_) => {
             t.enter(event::Name::HeadingSetextUnderline)?;
-            t.enter(event::Name::HeadingSetextUnderlineSequence)?;
-            t.consume();
-            Ok(State::Next(Name::HeadingSetextInside))
+            enter_over(
+                t,
+                event::Name::HeadingSetextUnderlineSequence,
+                State::Next(Name::HeadingSetextInside),
+            )
         }
     }
 }
@@ -130,10 +135,11 @@ pub(crate) fn heading_setext_before<'a, M: MachineTypes>(
             t.consume();
             Ok(State::Next(Name::HeadingSetextBefore))
         }
-        _ => {
-            t.exit(event::Name::SpaceOrTab)?;
-            Ok(State::Retry(Name::HeadingSetextAfter))
-        }
+        _ => exit_to(
+            t,
+            event::Name::SpaceOrTab,
+            State::Retry(Name::HeadingSetextAfter),
+        ),
     }
 }
 
@@ -149,10 +155,11 @@ pub(crate) fn heading_setext_inside<'a, M: MachineTypes>(
             t.consume();
             Ok(State::Next(Name::HeadingSetextInside))
         }
-        _ => {
-            t.exit(event::Name::HeadingSetextUnderlineSequence)?;
-            Ok(State::Retry(Name::HeadingSetextAfter))
-        }
+        _ => exit_to(
+            t,
+            event::Name::HeadingSetextUnderlineSequence,
+            State::Retry(Name::HeadingSetextAfter),
+        ),
     }
 }
 
@@ -171,15 +178,15 @@ pub(crate) fn heading_setext_after<'a, M: MachineTypes>(
             end_heading(alloc, t)?;
             Ok(State::Retry(Name::FlowAfter))
         }
-        Some(b'\t' | b' ') => {
-            t.enter(event::Name::SpaceOrTab)?;
-            t.consume();
-            Ok(State::Next(Name::HeadingSetextBefore))
-        }
-        Some(_) => {
-            t.enter(event::Name::HeadingSetextUnderlineSequence)?;
-            t.consume();
-            Ok(State::Next(Name::HeadingSetextInside))
-        }
+        Some(b'\t' | b' ') => enter_over(
+            t,
+            event::Name::SpaceOrTab,
+            State::Next(Name::HeadingSetextBefore),
+        ),
+        Some(_) => enter_over(
+            t,
+            event::Name::HeadingSetextUnderlineSequence,
+            State::Next(Name::HeadingSetextInside),
+        ),
     }
 }

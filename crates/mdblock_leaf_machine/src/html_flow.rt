@@ -13,6 +13,7 @@ use markdown_tokenizer::event;
 use markdown_tokenizer::state::{MachineTypes, Name, State};
 use markdown_tokenizer::tokenizer::Tokenizer;
 use mdblock_leaf_rows::names;
+use mdconstructs_tables::answers::exit_to;
 use mdconstructs_tables::marker;
 use std::alloc::AllocError;
 
@@ -24,8 +25,7 @@ pub(crate) fn start<'a, M: MachineTypes>(t: &mut Tokenizer<'a, M>) -> Result<Sta
     match t.current() {
         None | Some(b'\n') => {
             t.exit(event::Name::HtmlFlowData)?;
-            t.exit(event::Name::HtmlFlow)?;
-            Ok(State::Retry(Name::FlowAfter))
+            exit_to(t, event::Name::HtmlFlow, State::Retry(Name::FlowAfter))
         }
         Some(b'\t' | b' ') => {
             t.consume();
@@ -49,8 +49,7 @@ pub(crate) fn continuation<'a, M: MachineTypes>(
     match t.current() {
         None => {
             t.exit(event::Name::HtmlFlowData)?;
-            t.exit(event::Name::HtmlFlow)?;
-            Ok(State::Retry(Name::FlowAfter))
+            exit_to(t, event::Name::HtmlFlow, State::Retry(Name::FlowAfter))
         }
         Some(b'\n') => {
             if ends_at_blank_line(t) {
@@ -229,8 +228,7 @@ pub(crate) fn continuation_close<'a, M: MachineTypes>(
     match t.current() {
         None | Some(b'\n') => {
             t.exit(event::Name::HtmlFlowData)?;
-            t.exit(event::Name::HtmlFlow)?;
-            Ok(State::Retry(Name::FlowAfter))
+            exit_to(t, event::Name::HtmlFlow, State::Retry(Name::FlowAfter))
         }
         Some(_) => {
             t.consume();
@@ -247,10 +245,7 @@ pub(crate) fn continuation_before<'a, M: MachineTypes>(
     ensures { IfOk result (DoesAll (step_in flow_byte html_flow_continuation_before t.old) t.old t.new) }
 {
     match t.current() {
-        None => {
-            t.exit(event::Name::HtmlFlow)?;
-            Ok(State::Retry(Name::FlowAfter))
-        }
+        None => exit_to(t, event::Name::HtmlFlow, State::Retry(Name::FlowAfter)),
         Some(b'\n') => {
             marker(t, event::Name::LineEnding)?;
             Ok(State::Next(Name::HtmlFlowContinuationBefore))
@@ -298,8 +293,7 @@ pub(crate) fn continuation_after<'a, M: MachineTypes>(
     ensures { IfOk result (DoesAll (step_in flow_byte html_flow_continuation_after t.old) t.old t.new) }
 {
     t.exit(event::Name::HtmlFlowData)?;
-    t.exit(event::Name::HtmlFlow)?;
-    Ok(State::Retry(Name::FlowAfter))
+    exit_to(t, event::Name::HtmlFlow, State::Retry(Name::FlowAfter))
 }
 
 /// At the end of a line that another one follows.

@@ -11,6 +11,7 @@ use crate::sizes::{is_break, kind_is, set_count, set_indent};
 use markdown_tokenizer::event;
 use markdown_tokenizer::state::{MachineTypes, Name, State};
 use markdown_tokenizer::tokenizer::Tokenizer;
+use mdconstructs_tables::answers::enter_over;
 use mdconstructs_tables::marker;
 use std::alloc::AllocError;
 
@@ -57,17 +58,21 @@ pub(crate) fn flow_blank_line_after<'a, M: MachineTypes>(
         Some(b'\t' | b' ') => blank_begins_line(t),
         Some(b'#') => {
             t.enter(event::Name::HeadingAtx)?;
-            t.enter(event::Name::HeadingAtxSequence)?;
-            t.consume();
-            Ok(State::Next(Name::HeadingAtxSequenceOpen))
+            enter_over(
+                t,
+                event::Name::HeadingAtxSequence,
+                State::Next(Name::HeadingAtxSequenceOpen),
+            )
         }
         Some(b'*' | b'_' | b'-') => mark_begins_line(t),
         Some(b'`' | b'~') => {
             t.enter(event::Name::CodeFenced)?;
             t.enter(event::Name::CodeFencedFence)?;
-            t.enter(event::Name::CodeFencedFenceSequence)?;
-            t.consume();
-            Ok(State::Next(Name::RawFlowSequenceOpen))
+            enter_over(
+                t,
+                event::Name::CodeFencedFenceSequence,
+                State::Next(Name::RawFlowSequenceOpen),
+            )
         }
         Some(b'<') => {
             t.enter(event::Name::HtmlFlow)?;
@@ -99,9 +104,11 @@ fn blank_begins_line<'a, M: MachineTypes>(t: &mut Tokenizer<'a, M>) -> Result<St
     ensures { IfOk result (DoesAll (rows_step blank_begins_line t.old) t.old t.new) }
 {
     if kind_is(t, event::Name::BlankLineEnding) {
-        t.enter(event::Name::SpaceOrTab)?;
-        t.consume();
-        return Ok(State::Next(Name::BlankLineStart));
+        return enter_over(
+            t,
+            event::Name::SpaceOrTab,
+            State::Next(Name::BlankLineStart),
+        );
     }
     if kind_is(t, event::Name::CodeIndented) {
         t.enter(event::Name::CodeIndented)?;
@@ -112,28 +119,32 @@ fn blank_begins_line<'a, M: MachineTypes>(t: &mut Tokenizer<'a, M>) -> Result<St
     }
     if kind_is(t, event::Name::HeadingAtx) {
         t.enter(event::Name::HeadingAtx)?;
-        t.enter(event::Name::SpaceOrTab)?;
-        t.consume();
-        return Ok(State::Next(Name::HeadingAtxStart));
+        return enter_over(
+            t,
+            event::Name::SpaceOrTab,
+            State::Next(Name::HeadingAtxStart),
+        );
     }
     if kind_is(t, event::Name::CodeFenced) {
         t.enter(event::Name::CodeFenced)?;
         t.enter(event::Name::CodeFencedFence)?;
-        t.enter(event::Name::SpaceOrTab)?;
-        t.consume();
-        return Ok(State::Next(Name::RawFlowStart));
+        return enter_over(t, event::Name::SpaceOrTab, State::Next(Name::RawFlowStart));
     }
     if kind_is(t, event::Name::HtmlFlow) {
         t.enter(event::Name::HtmlFlow)?;
-        t.enter(event::Name::HtmlFlowData)?;
-        t.consume();
-        return Ok(State::Next(Name::HtmlFlowStart));
+        return enter_over(
+            t,
+            event::Name::HtmlFlowData,
+            State::Next(Name::HtmlFlowStart),
+        );
     }
     if is_break(t) {
         t.enter(event::Name::ThematicBreak)?;
-        t.enter(event::Name::SpaceOrTab)?;
-        t.consume();
-        return Ok(State::Next(Name::ThematicBreakBefore));
+        return enter_over(
+            t,
+            event::Name::SpaceOrTab,
+            State::Next(Name::ThematicBreakBefore),
+        );
     }
     Ok(State::Retry(Name::FlowBeforeContent))
 }
@@ -146,9 +157,11 @@ fn mark_begins_line<'a, M: MachineTypes>(t: &mut Tokenizer<'a, M>) -> Result<Sta
 {
     if is_break(t) {
         t.enter(event::Name::ThematicBreak)?;
-        t.enter(event::Name::ThematicBreakSequence)?;
-        t.consume();
-        return Ok(State::Next(Name::ThematicBreakSequence));
+        return enter_over(
+            t,
+            event::Name::ThematicBreakSequence,
+            State::Next(Name::ThematicBreakSequence),
+        );
     }
     Ok(State::Retry(Name::FlowBeforeContent))
 }

@@ -15,6 +15,7 @@ use markdown_tokenizer::event;
 use markdown_tokenizer::state::{MachineTypes, Name, State};
 use markdown_tokenizer::tokenizer::Tokenizer;
 use mdblock_leaf_rows::names;
+use mdconstructs_tables::answers::exit_to;
 use mdconstructs_tables::chunks::{connect, disconnect, is_connected, link_chunk};
 use std::alloc::AllocError;
 
@@ -40,10 +41,7 @@ pub(crate) fn paragraph_start<'a, M: MachineTypes>(
     ensures { IfOk result (DoesAll (step_in flow_byte paragraph_start t.old) t.old t.new) }
 {
     match t.current() {
-        None | Some(b'\n') => {
-            t.exit(event::Name::Paragraph)?;
-            Ok(State::Retry(Name::FlowAfter))
-        }
+        None | Some(b'\n') => exit_to(t, event::Name::Paragraph, State::Retry(Name::FlowAfter)),
         Some(_) => begin_chunk(t),
     }
 }
@@ -58,8 +56,7 @@ pub(crate) fn paragraph_inside<'a, M: MachineTypes>(
     match t.current() {
         None => {
             t.exit(event::Name::Data)?;
-            t.exit(event::Name::Paragraph)?;
-            Ok(State::Retry(Name::FlowAfter))
+            exit_to(t, event::Name::Paragraph, State::Retry(Name::FlowAfter))
         }
         Some(b'\n') => {
             t.check(
@@ -93,8 +90,7 @@ pub(crate) fn paragraph_line_start<'a, M: MachineTypes>(
         return Ok(State::Retry(names::HeadingSetextTextAfter));
     }
     t.exit(event::Name::Data)?;
-    t.exit(event::Name::Paragraph)?;
-    Ok(State::Retry(Name::FlowAfter))
+    exit_to(t, event::Name::Paragraph, State::Retry(Name::FlowAfter))
 }
 
 /// At the end of a line of a paragraph that goes on: the line ending is in the chunk.
@@ -105,8 +101,7 @@ pub(crate) fn paragraph_line_after<'a, M: MachineTypes>(
     ensures { IfOk result (DoesAll (step_in flow_byte paragraph_line_after t.old) t.old t.new) }
 {
     t.consume();
-    t.exit(event::Name::Data)?;
-    Ok(State::Next(Name::ParagraphStart))
+    exit_to(t, event::Name::Data, State::Next(Name::ParagraphStart))
 }
 
 /// Begins a chunk, and links it to the one before, if there is one.

@@ -9,6 +9,7 @@ use crate::sizes::{add_to_size, at_mark, has_three, set_kind};
 use markdown_tokenizer::event;
 use markdown_tokenizer::state::{MachineTypes, Name, State};
 use markdown_tokenizer::tokenizer::Tokenizer;
+use mdconstructs_tables::answers::{enter_over, exit_to};
 use std::alloc::AllocError;
 
 /// A look: in the markers and the white space of a thematic break.
@@ -54,10 +55,11 @@ pub(crate) fn thematic_break_before<'a, M: MachineTypes>(
             t.consume();
             Ok(State::Next(Name::ThematicBreakBefore))
         }
-        _ => {
-            t.exit(event::Name::SpaceOrTab)?;
-            Ok(State::Retry(Name::ThematicBreakAtBreak))
-        }
+        _ => exit_to(
+            t,
+            event::Name::SpaceOrTab,
+            State::Retry(Name::ThematicBreakAtBreak),
+        ),
     }
 }
 
@@ -69,20 +71,17 @@ pub(crate) fn thematic_break_at_break<'a, M: MachineTypes>(
     ensures { IfOk result (DoesAll (step_in flow_byte thematic_break_at_break t.old) t.old t.new) }
 {
     match t.current() {
-        None | Some(b'\n') => {
-            t.exit(event::Name::ThematicBreak)?;
-            Ok(State::Retry(Name::FlowAfter))
-        }
-        Some(b'\t' | b' ') => {
-            t.enter(event::Name::SpaceOrTab)?;
-            t.consume();
-            Ok(State::Next(Name::ThematicBreakBefore))
-        }
-        Some(_) => {
-            t.enter(event::Name::ThematicBreakSequence)?;
-            t.consume();
-            Ok(State::Next(Name::ThematicBreakSequence))
-        }
+        None | Some(b'\n') => exit_to(t, event::Name::ThematicBreak, State::Retry(Name::FlowAfter)),
+        Some(b'\t' | b' ') => enter_over(
+            t,
+            event::Name::SpaceOrTab,
+            State::Next(Name::ThematicBreakBefore),
+        ),
+        Some(_) => enter_over(
+            t,
+            event::Name::ThematicBreakSequence,
+            State::Next(Name::ThematicBreakSequence),
+        ),
     }
 }
 
@@ -98,9 +97,10 @@ pub(crate) fn thematic_break_sequence<'a, M: MachineTypes>(
             t.consume();
             Ok(State::Next(Name::ThematicBreakSequence))
         }
-        _ => {
-            t.exit(event::Name::ThematicBreakSequence)?;
-            Ok(State::Retry(Name::ThematicBreakAtBreak))
-        }
+        _ => exit_to(
+            t,
+            event::Name::ThematicBreakSequence,
+            State::Retry(Name::ThematicBreakAtBreak),
+        ),
     }
 }
