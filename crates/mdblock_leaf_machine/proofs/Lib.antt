@@ -5,3 +5,5 @@ pub mod ByteSets
 pub mod Called
 -- constructs
 pub mod HeadingEdits
+-- bytes
+pub mod LineBytes
