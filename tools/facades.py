@@ -24,6 +24,7 @@ NAMED = {
     ("mdinline_emphasis", "specs", "Costs"): "PairCosts",
     ("mdinline_emphasis", "specs", "Emphasis"): "EmphasisEvents",
     ("mdinline_emphasis", "specs", "LawStatements"): "EmphasisLawStatements",
+    ("mdinline_emphasis", "proofs", "Markers"): "RunMarkers",
     ("mdinline_emphasis", "specs", "Places"): "RunPlaces",
     ("mdinline_emphasis", "specs", "Runs"): "DelimiterRuns",
     ("mdblock_leaf_blocks", "proofs", "Blocks"): "LeafReads",

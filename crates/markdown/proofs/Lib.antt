@@ -18,6 +18,7 @@ pub use Rattle.markdown_edits.proofs.LinkEnds
 pub use Rattle.markdown_edits.proofs.Mirrors
 pub use Rattle.markdown_edits.proofs.Results
 pub use Rattle.markdown_edits.proofs.SpanRuns
+pub use Rattle.markdown_tokenizer.proofs.Blocks
 pub use Rattle.markdown_tokenizer.proofs.ByteSets
 pub use Rattle.markdown_tokenizer.proofs.Inside
 pub use Rattle.markdown_tokenizer.proofs.Positions
