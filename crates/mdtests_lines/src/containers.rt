@@ -63,20 +63,12 @@ fn open_containers_are_cut(rt: HostRuntime) {
             list: 1,
         },
     ];
+    let (first, rest) = (first_of(&stack, 1), rest_of(&stack, 1));
     assert!(rt;
-        first_of(&stack, 1)
-            .iter()
-            .all(|open| open.container.is_quote)
+        first.iter().all(|open| open.container.is_quote)
+            && rest.iter().all(|open| !open.container.is_quote)
     );
-    assert!(rt;
-        rest_of(&stack, 1)
-            .iter()
-            .all(|open| !open.container.is_quote)
-    );
-    assert_eq!(rt;
-        (first_of(&stack, 1).len(), rest_of(&stack, 1).len()),
-        (1, 1)
-    );
+    assert_eq!(rt; (first.len(), rest.len()), (1, 1));
 }
 
 /// Lines, whether a paragraph may go on before each, how many containers begin in it, and the columns of their prefixes. A thematic break is no
@@ -223,8 +215,7 @@ fn leaf_blocks_go_on_behind_lines(rt: HostRuntime) {
         let found = [is_paragraph(*leaf), is_raw(*leaf), holds_ending(*leaf)];
         assert_eq!(rt; found, *want);
     }
-    assert!(rt; behind(Leaf::Paragraph, b"# a").1);
-    assert!(rt; !behind(Leaf::Paragraph, b"    # a").1);
+    assert!(rt; behind(Leaf::Paragraph, b"# a").1 && !behind(Leaf::Paragraph, b"    # a").1);
 }
 
 /// Appends a line with its containers: how many go on, how many begin, the columns of their prefixes, and what else is true of it.
@@ -367,11 +358,15 @@ fn lines_have_places(rt: HostRuntime) {
         next: 9,
         size: 3,
     };
-    assert_eq!(rt; start_of(line), at(2, 1, 4, 0));
-    assert_eq!(rt; text_end_of(line), at(2, 4, 7, 0));
-    assert_eq!(rt; end_of(line), at(3, 1, 9, 0));
     let last = Span { next: 7, ..line };
-    assert_eq!(rt; end_of(last), at(2, 4, 7, 0));
+    for (place, want) in [
+        (start_of(line), at(2, 1, 4, 0)),
+        (text_end_of(line), at(2, 4, 7, 0)),
+        (end_of(line), at(3, 1, 9, 0)),
+        (end_of(last), at(2, 4, 7, 0)),
+    ] {
+        assert_eq!(rt; place, want);
+    }
 }
 
 #[test]

@@ -22,9 +22,11 @@ use std::vec::Vec;
 
 /// What a line is asked for.
 #[derive(Clone, Copy)]
-struct Answered {
+struct Answered<'a> {
     /// The columns of white space that come first.
     columns: usize,
+    /// The line behind these.
+    rest: &'a [u8],
     /// There is only white space, or nothing.
     is_blank: bool,
     /// It is too far to the right.
@@ -35,6 +37,8 @@ struct Answered {
     behind_two: LineKind,
     /// Of an underline.
     rank: Option<u8>,
+    /// Whether it closes a fence of four tildes.
+    closes: bool,
     /// As in `MARKED`.
     marks: [bool; 5],
     /// Where its rest is a thematic break.
@@ -43,8 +47,15 @@ struct Answered {
     html: Option<HtmlKind>,
 }
 
+/// A fence of four tildes.
+const TILDES: Fence = Fence {
+    byte: b'~',
+    size: 4,
+    indent: 0,
+};
+
 /// What a line is asked for, counted from nothing.
-fn asked_from<L: Ledger>(on: &Constructs, t: &[u8], blank: Blank) -> Answered
+fn asked_from<'a, L: Ledger>(on: &Constructs, t: &'a [u8], blank: Blank) -> Answered<'a>
     requires name { blank.name ≡ L.name }
     requires parts { blank.parts ≡ L.parts }
     requires some { 0 < blank.parts }
@@ -52,11 +63,13 @@ fn asked_from<L: Ledger>(on: &Constructs, t: &[u8], blank: Blank) -> Answered
     let mut turns = Turns::<L>::new(blank);
     Answered {
         columns: indent(t, &mut turns),
+        rest: unindented(t, &mut turns),
         is_blank: is_blank_line(t, &mut turns),
         is_far: is_far(on, t, &mut turns),
         kind: line_kind(on, t, &mut turns),
         behind_two: kind_of_rest(on, 2, t, &mut turns),
         rank: underline_rank(on, t, &mut turns),
+        closes: closes(on, TILDES, t, &mut turns),
         marks: [
             is_thematic_break(t, &mut turns),
             is_atx_heading(t, &mut turns),
@@ -70,54 +83,58 @@ fn asked_from<L: Ledger>(on: &Constructs, t: &[u8], blank: Blank) -> Answered
 }
 
 /// What a line is asked for.
-fn asked(on: &Constructs, t: &[u8]) -> Answered {
+fn asked<'a>(on: &Constructs, t: &'a [u8]) -> Answered<'a> {
     asked_from::<Brand>(on, t, Blank::new(1))
 }
+
+/// A kind of lines as a letter, and of HTML the number of its start condition (CommonMark, 4.6).
+fn shown_kind(kind: LineKind) -> (char, usize) {
+    match kind {
+        LineKind::Blank => ('-', 0),
+        LineKind::Indented => ('i', 0),
+        LineKind::Heading => ('#', 0),
+        LineKind::Fence(_) => ('f', 0),
+        LineKind::Html(kind) => ('<', condition(kind)),
+        LineKind::ThematicBreak => ('*', 0),
+        LineKind::Text => ('t', 0),
+    }
+}
+
+/// Lines and their kinds.
+const KINDS: &[(&[u8], (char, usize))] = &[
+    (b" ", ('-', 0)),
+    (b"    a", ('i', 0)),
+    (b"## a", ('#', 0)),
+    (b"#a", ('t', 0)),
+    (b"<!-- a", ('<', 2)),
+    (b"- - -", ('*', 0)),
+    (b"===", ('t', 0)),
+];
 
 #[test]
 fn lines_have_kinds(rt: HostRuntime) {
     let on = Constructs::default();
-    assert!(rt; matches!(asked(&on, b" ").kind, LineKind::Blank));
-    assert!(rt; matches!(asked(&on, b"    a").kind, LineKind::Indented));
-    assert!(rt; matches!(asked(&on, b"## a").kind, LineKind::Heading));
-    assert!(rt; matches!(asked(&on, b"#a").kind, LineKind::Text));
-    assert!(rt;
-        matches!(
-            asked(&on, b"<!-- a").kind,
-            LineKind::Html(HtmlKind::Comment)
-        )
-    );
-    assert!(rt; matches!(asked(&on, b"- - -").kind, LineKind::ThematicBreak));
-    assert!(rt; matches!(asked(&on, b"===").kind, LineKind::Text));
+    for (line, kind) in KINDS {
+        assert_eq!(rt; shown_kind(asked(&on, line).kind), *kind);
+    }
 }
 
-/// Whether a line closes a fence, counted from nothing.
-fn closed_from<L: Ledger>(on: &Constructs, fence: Fence, t: &[u8], blank: Blank) -> bool
-    requires name { blank.name ≡ L.name }
-    requires parts { blank.parts ≡ L.parts }
-    requires some { 0 < blank.parts }
-{
-    closes(on, fence, t, &mut Turns::<L>::new(blank))
-}
-
-/// Whether a line closes a fence.
-fn closed(on: &Constructs, fence: Fence, t: &[u8]) -> bool {
-    closed_from::<Brand>(on, fence, t, Blank::new(1))
-}
+/// Lines, the rank of each as an underline, and whether it closes a fence of four tildes.
+const UNDER: &[(&[u8], Option<u8>, bool)] = &[
+    (b"=== ", Some(1), false),
+    (b"--", Some(2), false),
+    (b"=-", None, false),
+    (b"~~~~~ ", None, true),
+    (b"~~~", None, false),
+];
 
 #[test]
 fn underlines_have_ranks_and_fences_close(rt: HostRuntime) {
     let on = Constructs::default();
-    assert_eq!(rt; asked(&on, b"=== ").rank, Some(1));
-    assert_eq!(rt; asked(&on, b"--").rank, Some(2));
-    assert_eq!(rt; asked(&on, b"=-").rank, None);
-    let fence = Fence {
-        byte: b'~',
-        size: 4,
-        indent: 0,
-    };
-    assert_eq!(rt; closed(&on, fence, b"~~~~~ "), true);
-    assert_eq!(rt; closed(&on, fence, b"~~~"), false);
+    for (line, rank, closes) in UNDER {
+        let found = asked(&on, line);
+        assert_eq!(rt; (found.rank, found.closes), (*rank, *closes));
+    }
 }
 
 /// Whether a container begins with a line, counted from nothing.
@@ -151,11 +168,18 @@ fn containers_go_on_and_begin(rt: HostRuntime) {
         digits: 0,
         is_blank: false,
     };
-    assert_eq!(rt; goes_on(&quote, 2, b"> a", 0), Some(2));
-    assert_eq!(rt; goes_on(&quote, 2, b"a", 0), None);
-    assert_eq!(rt; begun(false, b"- a", false), true);
-    assert_eq!(rt; begun(true, b"2. a", false), false);
-    assert_eq!(rt; begun(false, b"---", true), false);
+    assert_eq!(rt;
+        [goes_on(&quote, 2, b"> a", 0), goes_on(&quote, 2, b"a", 0)],
+        [Some(2), None]
+    );
+    assert_eq!(rt;
+        [
+            begun(false, b"- a", false),
+            begun(true, b"2. a", false),
+            begun(false, b"---", true)
+        ],
+        [true, false, false]
+    );
 }
 
 /// The index of a line's ending, counted from nothing.
@@ -202,15 +226,6 @@ fn places_move_over_columns(rt: HostRuntime) {
     assert_eq!(rt; (place.index, place.column), (1, 2));
 }
 
-/// A line behind the white space that comes first, counted from nothing.
-fn unindented_from<'a, L: Ledger>(t: &'a [u8], blank: Blank) -> &'a [u8]
-    requires name { blank.name ≡ L.name }
-    requires parts { blank.parts ≡ L.parts }
-    requires some { 0 < blank.parts }
-{
-    unindented(t, &mut Turns::<L>::new(blank))
-}
-
 /// Of a line: the columns of white space before it, and what is behind these.
 const INDENTS: &[(&[u8], usize, &[u8])] = &[
     (b"", 0, b""),
@@ -224,12 +239,15 @@ fn lines_begin_with_white_space(rt: HostRuntime) {
     let on = Constructs::default();
     for (line, columns, rest) in INDENTS {
         let found = asked(&on, line);
-        assert_eq!(rt; found.columns, *columns);
-        assert_eq!(rt; unindented_from::<Brand>(line, Blank::new(1)), *rest);
-        assert_eq!(rt; found.is_blank, rest.is_empty());
+        assert_eq!(rt;
+            (found.columns, found.rest, found.is_blank),
+            (*columns, *rest, rest.is_empty())
+        );
     }
-    assert_eq!(rt; front(b"abc", 1), b"a".as_slice());
-    assert_eq!(rt; behind(b"abc", 1), b"bc".as_slice());
+    assert_eq!(rt;
+        (front(b"abc", 1), behind(b"abc", 1)),
+        (b"a".as_slice(), b"bc".as_slice())
+    );
 }
 
 /// Lines without the white space before them, and whether each is a thematic break, an ATX heading, an underline of `=`, an opening fence of
@@ -285,25 +303,24 @@ fn lines_may_be_too_far_to_the_right(rt: HostRuntime) {
                 size: 4,
                 indent: 2
             })
-        )
+        ) && matches!(asked(&on, b"a").behind_two, LineKind::Text)
     );
-    assert!(rt; matches!(asked(&on, b"a").behind_two, LineKind::Text));
 }
 
-/// Where the rest of a line is a thematic break: also behind the marker of an item, or of a quote.
+/// Lines, and whether the rest of each from the columns 0, 2, 4 and 6 on is a thematic break: also behind the marker of an item, or of a quote.
+const BREAKS: &[(&[u8], [bool; 4])] = &[
+    (b"> - - -", [false, true, false, false]),
+    (b"- * * * *", [false, true, true, false]),
+];
+
 #[test]
 fn thematic_breaks_are_found_behind_markers(rt: HostRuntime) {
     let on = Constructs::default();
-    let breaks = asked(&on, b"> - - -").breaks;
-    assert_eq!(rt;
-        [breaks.has(0), breaks.has(2), breaks.has(4), breaks.has(6)],
-        [false, true, false, false]
-    );
-    let breaks = asked(&on, b"- * * * *").breaks;
-    assert_eq!(rt;
-        [breaks.has(0), breaks.has(2), breaks.has(4), breaks.has(6)],
-        [false, true, true, false]
-    );
+    for (line, want) in BREAKS {
+        let breaks = asked(&on, line).breaks;
+        let found = [breaks.has(0), breaks.has(2), breaks.has(4), breaks.has(6)];
+        assert_eq!(rt; found, *want);
+    }
 }
 
 /// Lines that begin HTML, and its kind.
@@ -364,17 +381,20 @@ fn bounds(kind: HtmlKind, line: &[u8], last: &[u8]) -> (bool, bool) {
 fn html_begins_and_ends_by_its_kind(rt: HostRuntime) {
     let on = Constructs::default();
     for (line, kind) in HTML {
-        assert_eq!(rt;
-            asked(&on, line).html.map(condition),
-            Some(condition(*kind))
-        );
+        let found = asked(&on, line).html.map(condition);
         let last = last_line(*kind);
-        assert_eq!(rt; waits_for_blank(*kind), last.is_empty());
-        assert_eq!(rt; bounds(*kind, line, last), (true, !last.is_empty()));
-        assert_eq!(rt; bounds(*kind, line, b"a"), (true, false));
+        assert_eq!(rt;
+            (found, waits_for_blank(*kind)),
+            (Some(condition(*kind)), last.is_empty())
+        );
+        assert_eq!(rt;
+            (bounds(*kind, line, last), bounds(*kind, line, b"a")),
+            ((true, !last.is_empty()), (true, false))
+        );
     }
-    assert!(rt; asked(&on, b"<a href='b'> c").html.is_none());
-    assert!(rt; asked(&on, b"<1>").html.is_none());
+    for line in [b"<a href='b'> c".as_slice(), b"<1>".as_slice()] {
+        assert!(rt; asked(&on, line).html.is_none());
+    }
 }
 
 /// CR LF is one line ending.
