@@ -238,6 +238,18 @@ def plain(text):
     return [line for line in text.split("\n") if not re.match(r"\s*(//|--|$)", line)]
 
 
+def texts_at(commit, files):
+    """Returns the texts of these files at a commit, by file; of one that was not there it is empty."""
+    asked = "".join(f"{commit}:{file}\n" for file in files).encode()
+    said = subprocess.run(["git", "-C", table.TOP, "cat-file", "--batch"], input=asked, capture_output=True).stdout
+    texts, at = {}, 0
+    for file in files:
+        head, at = said[at : said.index(b"\n", at)], said.index(b"\n", at) + 1
+        size = 0 if head.endswith(b" missing") else int(head.split()[-1]) + 1
+        texts[file], at = said[at : at + size - (size > 0)].decode(), at + size
+    return texts
+
+
 class Since:
     """What changed in the crates since a commit."""
 
@@ -248,12 +260,12 @@ class Since:
             sys.exit(f"no commit {commit} here: {found.stderr.strip()}")
         new = git("ls-files", "-o", "--exclude-standard", "--", "crates").stdout.split()
         self.files, self.around = set(), set()
-        for file in {*found.stdout.split(), *new}:
+        olds = texts_at(commit, sorted({*found.stdout.split(), *new}))
+        for file, old in olds.items():
             if file == "crates.txt":
-                old = table.crates(git("show", f"{commit}:{file}").stdout)
+                old = table.crates(old)
                 self.around |= {crate for crate, uses in table.crates().items() if old.get(crate) != uses}
             elif m := re.match(r"crates/(\w+)/((src|specs|proofs)/.*\.(?:rt|antt))$", file):
-                old = git("show", f"{commit}:{file}").stdout
                 now = open(f"{table.TOP}/{file}", encoding="utf-8").read() if os.path.exists(f"{table.TOP}/{file}") else ""
                 if plain(old) != plain(now):
                     self.files.add(file)
