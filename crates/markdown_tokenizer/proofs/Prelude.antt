@@ -91,7 +91,7 @@ pub use Rattle.markdown_tokenizer.specs.Rules.{Rules}
 pub use Rattle.markdown_tokenizer.specs.Sight.{Sight, byte_of, current_of, end_or, end_place, point_of, point_or, seat_before, sight, sight_in, sight_of}
 pub use Rattle.markdown_tokenizer.specs.Text.{CanFollow, FitsAfter, Given, IsDocument, IsText, Piece, Text, empty_text, followed_by, followed_by_all, in_range, passed, pushed}
 pub use Rattle.markdown_tokenizer.specs.Turns.{AreCalledAlike, EndsFrom, Stand, Turns, no_turn, one_turn, stand, stand_of, turn}
-pub use Rattle.markdown_tokenizer.specs.Over.{step_over, over_one, ReadsOver, IsByteOver, IsOver, HasReadOver}
+pub use Rattle.markdown_tokenizer.specs.Over.{step_over, step_noted, over_one, noted_one, noted_upto, ReadsOver, NotesByte, GoesBack, IsByteOver, IsPairOver, IsOver, IsPair, HasReadOver, none_over, one_over, two_over, AreOverUpto, no_byte, one_byte, two_bytes}
 pub use Rattle.markdown_tokenizer.specs.Unwound.{AreWithin, Unwinding, continuation_of, ended_by, progress_at, saved_for, unwinding, unwound}
 pub use Rattle.markdown_tokenizer.specs.View.{AreNested, ByteWaits, EndWaits, NextByteIsKnown, IsPlaced, IsProgress, IsReadTo, IsSound, IsWhatWaits, can_feed, choice_at, choice_of, end_point, events_of, position_from, reach, saved_at_place, saved_of, seats_between, seen, stack_of, standing, state_of, tab_of, text_within}
 pub use Rattle.markdown_tokenizer.specs.Work.{EndsClosed, HoldsAll, IsInText, LeadsAll, OnlyWorked, Stops, TakesUp, answer_in, answer_of, extended, resolved_in, settled_all, settled_to, ComesTo}

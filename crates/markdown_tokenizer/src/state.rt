@@ -47,7 +47,7 @@ pub trait Machine: MachineTypes + Sized {
     ghost use Rattle.markdown_tokenizer.specs.Fault.{IfMessage};
     ghost use Rattle.markdown_tokenizer.specs.Rules.{Rules};
     ghost use Rattle.markdown_tokenizer.specs.Engine.{HoldsOf};
-    ghost use Rattle.markdown_tokenizer.specs.Over.{AreReadOver, IsByteOver};
+    ghost use Rattle.markdown_tokenizer.specs.Over.{AreReadOver, AreNotedOver, IsByteOver};
     ghost use Rattle.markdown_tokenizer.specs.Lawful.{DidStep, IsLawful, step_of, CanResolve, resolver_of};
 
     /// Its rules on a document.
@@ -87,6 +87,15 @@ pub trait Machine: MachineTypes + Sized {
         ensures { OnTrue result (All (IsByteOver (rules self.now) _name) _block.now) }
     {
         false
+    }
+
+    /// The bytes that the state of this name notes and reads over, and the bytes before which it does: wherever one of the first set waits, and
+    /// one of the second stands behind it, two calls note the place before both, consume them, do nothing else, and return `Next` of the same
+    /// name. The engine then need not make them. Each of the bytes is above CR. It is `None` for a state that does so at none.
+    fn notes_over(&self, _name: Name) -> Option<(&'static ByteSet, &'static ByteSet)>
+        ensures { IfSome result (λ sets. AreNotedOver (rules self.now) _name sets.0.now sets.1.now) }
+    {
+        None
     }
 
     /// Runs the resolver of this name over the events. A flush that resolves calls it once all was read.

@@ -1,5 +1,5 @@
 -- The work from the start to a turn: what holds at a call, and after it.
-use Rattle.markdown_tokenizer.proofs.Prelude.{◌≡◌, ◌≢◌, ◌-◌, ◌<◌, List, [], Bool, false, inl, inr, refl, sym, ap, subst, ◌∙◌, arith, Name, State, Next, Retry, Ok, Nok, Error, Nothing, Byte, End, IsSome, lt-ltb, length, Given, IsText, followed_by_all, Configuration, Choice, TokenizerValue, at_configuration, fed, Sight, sight, Rules, stepped, DidStep, IsLawful, LeadsOn, budget, HoldsAll, Stops, settled_all, settled_to, EndsClosed, TakesUp, IsInText, answer_in, Waits, no_turn, ℕ, zero, suc, ◌≤◌, over_one, IsOver, HasReadOver}
+use Rattle.markdown_tokenizer.proofs.Prelude.{◌≡◌, ◌≢◌, ◌-◌, ◌<◌, List, [], Bool, false, inl, inr, refl, sym, ap, subst, ◌∙◌, arith, Name, State, Next, Retry, Ok, Nok, Error, Nothing, Byte, End, IsSome, lt-ltb, length, Given, IsText, followed_by_all, Configuration, Choice, TokenizerValue, at_configuration, fed, Sight, sight, Rules, stepped, DidStep, IsLawful, LeadsOn, budget, HoldsAll, Stops, settled_all, settled_to, EndsClosed, TakesUp, IsInText, answer_in, Waits, no_turn, ◌≤◌, Step, step_over, step_noted, over_one, noted_one, IsOver, IsPair, HasReadOver, none_over, one_over, two_over}
 use Rattle.std.specs.declared.result.Result.TheVariants as result
 use Rattle.markdown_tokenizer.proofs.Readings.Bounds.{fed-ends, called-ends}
 use Rattle.markdown_tokenizer.proofs.Readings.Turns.{turns-by-one, turns-on, turns-settled, turn-feeds, turn-calls, waits-seen}
@@ -161,33 +161,61 @@ module _ {M R D : Type 0} {rules : M → Given → Rules R D} (laws : (m : M) (g
         let calls = taken-calls flush (settled_to u e) w e.answer next takes ∙ ap (λ q. q.calls) called.became in
         omega (arith, paid, calls)
 
+  -- a call at the next byte has this step
+  module _ {flush : Bool} {t u : TokenizerValue M R D} {a : State} {n : Name} (is : IsText t.given t.text) (k : KeptFrom flush t a u (Next n)) (more : u.configuration.position < length u.text.seats) where
+    -- the byte is fed
+    abbrev once_fed : TokenizerValue M R D
+    once_fed = at_configuration u (fed u.text u.configuration)
+
+    text-here : IsText u.given u.text
+    text-here = let given = k.same.given in rw given (text-worked t.given t u is k.same)
+
+    kept-fed : KeptFrom flush t a once_fed (Retry n)
+    kept-fed = kept-next is k once_fed n (refl, refl, λ _. more)
+
+    kept-step : (s : Step R D) (next : Name) → (rules u.machine u.given).step (sight u.given u.text once_fed.configuration) once_fed.configuration n ≡ s → s.answer ≡ Next next
+        → KeptFrom flush t a (stepped once_fed s) (Next next)
+    kept-step s next step answer =
+        let did : DidCall once_fed (stepped once_fed s) n s.answer = record { answered = ap (λ (q : Step R D). q.answer) (sym step); became = ap (λ (q : Step R D). stepped once_fed q) (sym step) } in
+        let seats = lt-ltb u.configuration.position (length u.text.seats) more in
+        kept-called is kept-fed (rw seats (omega (arith, more))) (λ _. rw seats more) did answer
+
   -- a byte is read over: the state would have been called, and done the same
   kept-one : {flush : Bool} {t u : TokenizerValue M R D} {a : State} {n : Name} → IsText t.given t.text → KeptFrom flush t a u (Next n) → IsOver (rules u.machine) n u
       → KeptFrom flush t a (over_one u) (Next n)
   kept-one {flush} {t} {u} {a} {n} is k over =
-      let w = at_configuration u (fed u.text u.configuration) in
-      let at : KeptFrom flush t a w (Retry n) = kept-next is k w n (refl, refl, λ _. over.0) in
-      let given = k.same.given in
-      let here : IsText u.given u.text = rw given (text-worked t.given t u is k.same) in
-      let step = over.1.2 u.text w.configuration u.choices n here (holds-there at) refl over.1.1 in
-      let did : DidCall w (over_one u) n (Next n) = record { answered = ap (λ s. s.answer) (sym step); became = ap (λ s. stepped w s) (sym step) } in
-      let more = lt-ltb u.configuration.position (length u.text.seats) over.0 in
-      kept-called is at (rw more (omega (arith, over.0))) (λ _. rw more over.0) did refl
+      let w = fed u.text u.configuration in
+      kept-step is k over.0 (step_over w n) n (over.1.2 u.text w u.choices n (text-here is k over.0) (holds-there (kept-fed is k over.0)) refl over.1.1) refl
+
+  -- a byte is noted and read over, and so is the one behind it: two states would have been called
+  kept-two : {flush : Bool} {t u : TokenizerValue M R D} {a : State} {n : Name} → IsText t.given t.text → KeptFrom flush t a u (Next n) → IsPair (rules u.machine) n u
+      → KeptFrom flush t a (over_one (noted_one u)) (Next n)
+  kept-two {flush} {t} {u} {a} {n} is k pair =
+      let w = fed u.text u.configuration in
+      let first : KeptFrom flush t a (noted_one u) (Next pair.other) =
+      kept-step is k pair.more (step_noted (sight u.given u.text w) w pair.other) pair.other (pair.notes u.text w u.choices n (text-here is k pair.more) (holds-there (kept-fed is k pair.more)) refl pair.is) refl in
+      let x = fed u.text (noted_one u).configuration in
+      kept-step is first pair.more_behind (step_over x n) n (pair.goes_back u.text x u.choices pair.other (text-here is first pair.more_behind) (holds-there (kept-fed is first pair.more_behind)) refl pair.is_behind) refl
 
   -- the work leads on over all that is read over
-  pub kept-over : {flush : Bool} {t u v : TokenizerValue M R D} {a : State} {n : Name} (m : ℕ) → IsText t.given t.text → KeptFrom flush t a u (Next n)
-      → HasReadOver (rules u.machine) n m u v → KeptFrom flush t a v (Next n)
-  kept-over zero is k h = rw h k
-  kept-over {flush} {t} {u} {v} {a} {n} (suc m) is k h = kept-over {u = over_one u} m is (kept-one is k h.0) h.1
+  pub kept-over : {flush : Bool} {t u : TokenizerValue M R D} {a : State} {n : Name} {v : TokenizerValue M R D} → IsText t.given t.text → KeptFrom flush t a u (Next n)
+      → HasReadOver (rules u.machine) n u v → KeptFrom flush t a v (Next n)
+  kept-over is k none_over = k
+  kept-over {flush} {t} {u} {a} {n} {v} is k (one_over {new = w} h over) =
+      let there = kept-over is k h in let machine : u.machine ≡ w.machine = k.same.machine ∙ sym there.same.machine in
+      kept-one is there (subst (λ (m : M). IsOver (rules m) n w) machine over)
+  kept-over {flush} {t} {u} {a} {n} {v} is k (two_over {new = w} h pair) =
+      let there = kept-over is k h in let machine : u.machine ≡ w.machine = k.same.machine ∙ sym there.same.machine in
+      kept-two is there (subst (λ (m : M). IsPair (rules m) n w) machine pair)
 
   -- a call, after which bytes are read over and a state is taken up, leaves fewer
-  pub fewer-over : {flush : Bool} {t before u : TokenizerValue M R D} {a answer : State} {n m : Name} (v : TokenizerValue M R D) (c : ℕ) → IsText t.given t.text → KeptFrom flush t a u (Next m)
-      → DidCall before u n answer → HasReadOver (rules u.machine) m c u v → (w : TokenizerValue M R D) (next : Name) → TakesUp flush v w (Next m) (result.Ok next)
+  pub fewer-over : {flush : Bool} {t before u : TokenizerValue M R D} {a answer : State} {n m : Name} (v : TokenizerValue M R D) → IsText t.given t.text → KeptFrom flush t a u (Next m)
+      → DidCall before u n answer → HasReadOver (rules u.machine) m u v → (w : TokenizerValue M R D) (next : Name) → TakesUp flush v w (Next m) (result.Ok next)
       → let all = budget (rules t.machine t.given) t.text t a in all - w.calls < all - before.calls
-  fewer-over {flush} {t} {before} {u} {a} {answer} {n} {m} v c is k called h w next takes =
-      let last = kept-next is (kept-over c is k h) w next takes in
+  fewer-over {flush} {t} {before} {u} {a} {answer} {n} {m} v is k called h w next takes =
+      let last = kept-next is (kept-over is k h) w next takes in
       let text = last.same.text in let paid = rw text at ((last.leads [] tt (λ _. refl)).paid) in
       let calls = taken-calls flush v w (Next m) next takes in
-      let more = over-counts (rules u.machine) m c u v h in
+      let more = over-counts (rules u.machine) m h in
       let first = ap (λ q. q.calls) called.became in
       omega (arith, paid, calls, more, first)

@@ -1,7 +1,8 @@
 //! The work of a tokenizer: it calls states until a range is used up, or until the reading has ended.
 
-ghost use Rattle.std.specs.Prelude.{◌≡◌, ◌≢◌, ◌≤◌, ◌<◌, ℕ, slice_index, Contains, length, [], Option, false, true, IfOk, IfErr, IsErrOf, IsTrue};
-ghost use Rattle.markdown_tokenizer.specs.Over.{IsByteOver, HasReadOver};
+ghost use Rattle.std.specs.Prelude.{◌≡◌, ◌≢◌, ◌≤◌, ◌<◌, ◌+◌, ◌-◌, ◌^◌, ℕ, slice_index, Contains, length, [], Option, false, true, IfOk, IfErr, IfSome, IsErrOf, IsTrue};
+ghost use Rattle.markdown_tokenizer.specs.Over.{AreOverUpto, AreReadOver, HasReadOver, IsByteOver, IsPairOver, noted_upto};
+ghost use Rattle.std.specs.Bool.{OnTrue};
 ghost use Rattle.markdown_base.specs.Virtual.{point};
 ghost use Rattle.markdown_tokenizer.specs.declared.waiting.Waits.TheVariants.{Nothing, End};
 ghost use Rattle.markdown_tokenizer.specs.Configuration.{at_configuration, start_seen};
@@ -14,10 +15,10 @@ ghost use Rattle.markdown_tokenizer.specs.Text.{IsDocument, IsText, empty_text, 
 ghost use Rattle.markdown_tokenizer.specs.View.{taken_continuation};
 ghost use Rattle.markdown_tokenizer.specs.Work.{IsInText, extended, answer_of, HoldsAll, LeadsAll, ComesTo, OnlyWorked, Stops, settled_all, EndsClosed, GoesOnTo, taken_up, taken_by_next};
 
-use super::{Fault, Tokenizer};
+use super::{Fault, Noted, Tokenizer};
 use crate::cursor::{Moves, next_byte_from, pass_over, plain_until, quick_byte};
 use crate::parser::ParseState;
-use crate::state::{Machine, MachineTypes, Name, State};
+use crate::state::{ByteSet, Machine, MachineTypes, Name, State};
 use crate::subtokenize::Subresult;
 use crate::waiting::{GoesOn, Phase, Waits, unwind};
 use markdown_base::event::{Event, Point};
@@ -107,28 +108,96 @@ fn over_blocks<M: Machine>(
     at
 }
 
-/// Up to which index a state reads over the bytes from one index on. It is at most `until`, if that is not before `from`; else it is
-/// `from`.
+/// Up to which index a state reads over the bytes from one index on, and the index of the last of them that it notes. It is at most `until`, if
+/// that is not before `from`; else it is `from`.
 ///
-/// The machine says once which bytes these are, so that the loop only looks each byte up, and blocks of them at once where it can.
+/// The machine says once which bytes these are, so that the loops only look each byte up, and blocks of them at once where it can.
 #[inline(always)]
-fn over_until<M: Machine>(machine: &M, name: Name, bytes: &[u8], from: usize, until: usize) -> usize
+fn over_until<M: Machine>(
+    machine: &M,
+    name: Name,
+    bytes: &[u8],
+    from: usize,
+    until: usize,
+) -> (usize, Option<usize>)
     requires inside { until ≤ length bytes.now }
-    ensures from { from ≤ result }
-    ensures until { from < result → result ≤ until }
-    ensures over { (k : ℕ) → from ≤ k → k < result → IsByteOver (M.rules machine.now) name (slice_index bytes.now k) }
+    ensures from { from ≤ result.0 }
+    ensures until { from < result.0 → result.0 ≤ until }
+    ensures over { AreOverUpto (M.rules machine.now) name bytes.now from result.0 result.1 }
 {
     let Some(over) = machine.reads_over(name) else {
-        return from;
+        return (from, None);
     };
-    let mut at = over_blocks(machine, name, bytes, from, until);
+    let at = over_blocks(machine, name, bytes, from, until);
+    over_from(machine, name, bytes, from, at, until, over)
+}
+
+/// As `over_until`, by bytes of this set, and by two bytes of which the machine notes the first, from a later index on.
+#[inline(always)]
+fn over_from<M: Machine>(
+    machine: &M,
+    name: Name,
+    bytes: &[u8],
+    from: usize,
+    later: usize,
+    until: usize,
+    over: &ByteSet,
+) -> (usize, Option<usize>)
+    requires inside { until ≤ length bytes.now }
+    requires later { from ≤ later }
+    requires before { from < later → later ≤ until }
+    requires read { (k : ℕ) → from ≤ k → k < later → IsByteOver (M.rules machine.now) name (slice_index bytes.now k) }
+    requires over { AreReadOver (M.rules machine.now) name over.now }
+    ensures from { from ≤ result.0 }
+    ensures until { from < result.0 → result.0 ≤ until }
+    ensures over { AreOverUpto (M.rules machine.now) name bytes.now from result.0 result.1 }
+{
+    let mut at = later;
+    let mut last = None;
     while at < until {
-        if !over[bytes[at] as usize] {
-            return at;
+        if over[bytes[at] as usize] {
+            at += 1;
+        } else if until - at >= 2 && is_pair_over(machine, name, bytes[at], bytes[at + 1]) {
+            last = Some(at);
+            at += 2;
+        } else {
+            return (at, last);
         }
-        at += 1;
     }
-    at
+    (at, last)
+}
+
+/// Whether a state notes one byte and reads over it and the one behind it, as the machine says.
+#[inline(always)]
+fn is_pair_over<M: Machine>(machine: &M, name: Name, byte: u8, next: u8) -> bool
+    ensures { OnTrue result (IsPairOver (M.rules machine.now) name byte next) }
+{
+    match machine.notes_over(name) {
+        Some((noted, behind)) => noted[byte as usize] && behind[next as usize],
+        None => false,
+    }
+}
+
+/// What is noted once bytes were read over from this place on: the place of the last of them that was, if one was.
+#[inline(always)]
+fn noted_upto(last: Option<usize>, place: &Point, noted: Noted) -> Noted
+    requires from { IfSome last (λ n. place.now.index ≤ n) }
+    requires column { IfSome last (λ n. place.now.column + (n - place.now.index) < 2 ^ 64) }
+    requires flat { place.now.vs ≡ 0 }
+    ensures { result ≡ noted_upto last place.now noted }
+{
+    match last {
+        None => noted,
+        Some(last) => {
+            let mut place = *place;
+            let passed = last - place.index;
+            pass_over(&mut place, passed);
+            Noted {
+                exit: place,
+                enter: place,
+            }
+        }
+    }
 }
 
 impl<'a, M: MachineTypes> Tokenizer<'a, M> {
@@ -358,13 +427,14 @@ impl<'a, M: Machine> Tokenizer<'a, M> {
     /// It looks at the bytes first, and then moves once over all of them.
     #[inline(always)]
     fn read_over(&mut self, name: Name)
-        ensures { (n : ℕ) × HasReadOver (M.rules self.old.machine) name n self.old self.new }
+        ensures { HasReadOver (M.rules self.old.machine) name self.old self.new }
     {
         let from = self.after_previous.index;
         let until = self.plain_until;
-        let to = over_until(self.parse_state.machine, name, self.bytes, from, until);
+        let (to, last) = over_until(self.parse_state.machine, name, self.bytes, from, until);
         if from < to {
             let byte = self.bytes[to - 1];
+            self.noted = noted_upto(last, &self.after_previous, self.noted);
             pass_over(&mut self.after_previous, to - from);
             self.byte = byte;
             self.previous = Some(byte);

@@ -1,5 +1,5 @@
-use Rattle.markdown_tokenizer.proofs.Prelude.{◌-◌, ◌≤◌, length, arith, seen}
-use Rattle.markdown_tokenizer.proofs.Inside.Over.{passed-fits, passed-sound, passed-over}
+use Rattle.markdown_tokenizer.proofs.Prelude.{◌≤◌, length, arith, seen, none_over}
+use Rattle.markdown_tokenizer.proofs.Inside.Over.{noted-fits, noted-from, passed-fits, passed-sound, passed-over}
 use Rattle.markdown_tokenizer.proofs.Inside.Steps.{end-inside}
 use Rattle.markdown_tokenizer.proofs.tokenizer.Tokenizer.read_over.Goals as goal
 
@@ -16,22 +16,33 @@ bounds-self-inside-to g c =
     let more = c.if-from-to.true in let upto = c.over_until-to.ensures.until more in
     omega (arith, inside, before, more, upto)
 
+pub noted_upto-self-inside-requires-clause-from : goal.noted_upto-self-inside-requires-clause-from
+noted_upto-self-inside-requires-clause-from g c =
+    let t = c.self.inside in let h = c.over_until-to in let more = c.if-from-to.true in
+    noted-from (g.M.Machine.rules (seen t).machine) c.args.name t c.self.invariant h.result.0 h.result.1 more (h.ensures.until more) h.ensures.over
+
+pub noted_upto-self-inside-requires-clause-column : goal.noted_upto-self-inside-requires-clause-column
+noted_upto-self-inside-requires-clause-column g c =
+    let t = c.self.inside in let h = c.over_until-to in let more = c.if-from-to.true in
+    noted-fits (g.M.Machine.rules (seen t).machine) c.args.name t c.self.invariant h.result.0 h.result.1 more (h.ensures.until more) h.ensures.over
+
 pub pass_over-requires-clause-column : goal.pass_over-requires-clause-column
 pass_over-requires-clause-column g c =
     let t = c.self.inside in let h = c.over_until-to in let more = c.if-from-to.true in
-    passed-fits (g.M.Machine.rules (seen t).machine) c.args.name t c.self.invariant h.result more (h.ensures.until more) h.ensures.over
+    passed-fits (g.M.Machine.rules (seen t).machine) c.args.name t c.self.invariant h.result.0 h.result.1 more (h.ensures.until more) h.ensures.over
 
 pub invariant_of-self : goal.invariant_of-self
 invariant_of-self g c =
     let t = c.self.inside in let h = c.over_until-to in let more = c.if-from-to.true in
-    passed-sound (g.M.Machine.rules (seen t).machine) c.args.name t c.self.invariant h.result more (h.ensures.until more) h.ensures.over
-    c.pass_over.new.point c.pass_over.ensures c.more-self-inside.result c.more-self-inside.ensures
+    passed-sound (g.M.Machine.rules (seen t).machine) c.args.name t c.self.invariant h.result.0 h.result.1 more (h.ensures.until more) h.ensures.over
+    c.pass_over.new.point c.pass_over.ensures c.more-self-inside.result c.more-self-inside.ensures c.noted_upto-self-inside.result c.noted_upto-self-inside.ensures
 
 pub returns-then-from-to : goal.returns-then-from-to
 returns-then-from-to g c =
     let t = c.self.inside in let h = c.over_until-to in let more = c.if-from-to.true in
-    rw (← c.self.view_is) (
-      h.result - t.after_previous.index,
-      passed-over (g.M.Machine.rules (seen t).machine) c.args.name t c.self.invariant h.result more (h.ensures.until more) h.ensures.over
-          c.pass_over.new.point c.pass_over.ensures c.more-self-inside.result c.more-self-inside.ensures,
-    )
+    rw (← c.self.view_is)
+    (passed-over (g.M.Machine.rules (seen t).machine) c.args.name t c.self.invariant h.result.0 h.result.1 more (h.ensures.until more) h.ensures.over
+    c.pass_over.new.point c.pass_over.ensures c.more-self-inside.result c.more-self-inside.ensures c.noted_upto-self-inside.result c.noted_upto-self-inside.ensures)
+
+pub returns-else-from-to : goal.returns-else-from-to
+returns-else-from-to g c = none_over

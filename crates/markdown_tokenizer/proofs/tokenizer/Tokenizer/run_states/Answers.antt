@@ -36,13 +36,13 @@ go_on-requires-in-Nok-clause-ends g c =
 pub feed_next-requires : goal.feed_next-requires
 feed_next-requires g c =
     let k = kept-answer g.met.M.Machine.lawful c.requires.text c.loop-answer.invariant c.shows_in_text.ensures c.in-Ok.ensures c.in-Next.is in
-    let o = kept-over g.met.M.Machine.lawful c.read_over.ensures.0 c.requires.text k c.read_over.ensures.1 in
+    let o = kept-over g.met.M.Machine.lawful c.requires.text k c.read_over.ensures in
     record { closed = o.same.closed ∙ c.requires.closed }
 
 pub returns-else-feed_next : goal.returns-else-feed_next
 returns-else-feed_next g c =
     let k = kept-answer g.met.M.Machine.lawful c.requires.text c.loop-answer.invariant c.shows_in_text.ensures c.in-Ok.ensures c.in-Next.is in
-    let o = kept-over g.met.M.Machine.lawful c.read_over.ensures.0 c.requires.text k c.read_over.ensures.1 in
+    let o = kept-over g.met.M.Machine.lawful c.requires.text k c.read_over.ensures in
     let e = kept-last g.met.M.Machine.lawful c.requires.text o c.feed_next.new.self (Next c.in-Next.next) (c.if-feed_next.ensures c.in-Next.next) in
     record { same = e.0.same; leads = e.0.leads; comes = e.0.comes; stops = e.1; message = e.0.message }
 
@@ -69,12 +69,12 @@ returns-in-Error-clause-leads g c =
 pub loop-answer-smaller-then-feed_next : goal.loop-answer-smaller-then-feed_next
 loop-answer-smaller-then-feed_next g c =
     let k = kept-answer g.met.M.Machine.lawful c.requires.text c.loop-answer.invariant c.shows_in_text.ensures c.in-Ok.ensures c.in-Next.is in
-    fewer-over g.met.M.Machine.lawful c.read_over.new.self c.read_over.ensures.0 c.requires.text k c.in-Ok.ensures c.read_over.ensures.1 c.feed_next.new.self c.in-Next.next (c.if-feed_next.ensures c.in-Next.next)
+    fewer-over g.met.M.Machine.lawful c.read_over.new.self c.requires.text k c.in-Ok.ensures c.read_over.ensures c.feed_next.new.self c.in-Next.next (c.if-feed_next.ensures c.in-Next.next)
 
 pub loop-answer-preserved-then-feed_next : goal.loop-answer-preserved-then-feed_next
 loop-answer-preserved-then-feed_next g c =
     let k = kept-answer g.met.M.Machine.lawful c.requires.text c.loop-answer.invariant c.shows_in_text.ensures c.in-Ok.ensures c.in-Next.is in
-    let o = kept-over g.met.M.Machine.lawful c.read_over.ensures.0 c.requires.text k c.read_over.ensures.1 in
+    let o = kept-over g.met.M.Machine.lawful c.requires.text k c.read_over.ensures in
     kept-next g.met.M.Machine.lawful c.requires.text o c.feed_next.new.self c.in-Next.next (c.if-feed_next.ensures c.in-Next.next)
 
 pub loop-answer-smaller-in-Ok-go_on : goal.loop-answer-smaller-in-Ok-go_on
