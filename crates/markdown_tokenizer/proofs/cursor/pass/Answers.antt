@@ -1,4 +1,4 @@
-use Rattle.markdown_tokenizer.proofs.Prelude.{◌≡◌, ◌≢◌, ◌<◌, ℕ, List, true, false, arith, refl, sym, ap, ◌∙◌, Point, Seat, goes_on, IsPlace, IsSeatAt}
+use Rattle.markdown_tokenizer.proofs.Prelude.{ℕ, true, false, sym, ap, ◌∙◌, goes_on}
 use Rattle.markdown_tokenizer.proofs.Positions.Seats.{byte-there, not-feed-in-tab}
 use Rattle.markdown_tokenizer.proofs.Positions.Standing.{end-of-line, end-of-other}
 use Rattle.markdown_tokenizer.proofs.cursor.pass.Goals as goal
