@@ -10,7 +10,7 @@ ghost use Rattle.markdown_tokenizer.specs.Lawful.{IsLawful};
 ghost use Rattle.markdown_tokenizer.specs.Plain.{plain};
 ghost use Rattle.markdown_tokenizer.specs.Sight.{Sight};
 ghost use Rattle.markdown_tokenizer.specs.Text.{Given, Text};
-ghost use Rattle.mdconstructs_tables.specs.Over.{PickedReadOver, RowsReadOver, TableReadsOver};
+ghost use Rattle.mdconstructs_tables.specs.Over.{PickedPairsOver, PickedReadOver, RowsReadOver, TableReadsOver};
 ghost use Rattle.mdconstructs_tables.specs.Calm.{Calmness, CalmCasesKeep, CalmRowsKeep};
 ghost use Rattle.mdconstructs_tables.specs.Cases.{AreByBytes, AreOneByOne};
 ghost use Rattle.mdconstructs_tables.specs.DeepLooks.{DeepLooksAreScans};
@@ -239,10 +239,13 @@ pub fn checks_are_looks<L: Looking>()
 {}
 
 /// A state of a table reads over a byte (`reads_over` of `Machine`) if its rows there consume it, do nothing else, and return `Next` of
-/// the same name, whatever the previous byte was. The table writes nothing first. So it does too where tests pick such a row (`picked`).
+/// the same name, whatever the previous byte was. The table writes nothing first. So it does too where tests pick such a row (`picked`). It notes
+/// a byte and reads over it and the one behind it (`notes_over`) if its rows note the first, consume it, and go on with a state whose rows
+/// consume the second and go back (`pairs`).
 pub fn rows_read_over<W, R, D>()
     ensures steps { RowsReadOver W R D }
     ensures picked { PickedReadOver W R D }
+    ensures pairs { PickedPairsOver W R D }
     ensures rules { TableReadsOver W R D }
 {}
 
