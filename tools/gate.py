@@ -148,6 +148,12 @@ def main(top, command):
 if __name__ == "__main__":
     words = sys.argv[1:]
     top = HERE
+    if words in (["--help"], ["-h"]):
+        print(__doc__.strip())
+        sys.exit(0)
+    if words[:1] == ["--write"] and len(words) != 2 or words == ["-C"]:
+        print("usage: " + __doc__.partition("usage: ")[2].partition("\n\n")[0], file=sys.stderr)
+        sys.exit(2)
     if words[:1] == ["--write"] and len(words) == 2:
         sys.exit(write(words[1]))
     if words[:1] == ["-C"] and len(words) > 1:
