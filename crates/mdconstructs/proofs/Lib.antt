@@ -111,6 +111,7 @@ pub use Rattle.mdblock_leaf_rows.proofs.TagNames
 pub use Rattle.mdblock_leaf_machine.proofs.ByteSets
 pub use Rattle.mdblock_leaf_machine.proofs.Called as FlowCalled
 pub use Rattle.mdblock_leaf_machine.proofs.HeadingEdits
+pub use Rattle.mdblock_leaf_machine.proofs.LineBytes
 pub use Rattle.mdblock_leaf_blocks.proofs.Blocks as LeafReads
 pub use Rattle.mdblock_leaf_blocks.proofs.Fenced
 pub use Rattle.mdblock_leaf_blocks.proofs.Html as HtmlReads
