@@ -49,7 +49,6 @@ pub mod Resolved
 -- data
 mod Room
 -- runs
-pub mod RunBytes
 mod RunReads
 -- registered
 pub mod Starts
