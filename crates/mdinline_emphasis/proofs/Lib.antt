@@ -14,8 +14,6 @@ mod CodeTables
 mod Costs
 pub mod Ends
 mod InTurn
--- pairs
-pub mod Markers
 -- edits
 pub mod PairsKeep
 mod Prelude
