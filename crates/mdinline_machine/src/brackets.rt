@@ -220,7 +220,10 @@ pub(crate) fn not_resource<'a, M: MachineTypes>(
     requires { IsCallable text_byte not_resource t.old }
     ensures { IfOk result (DoesAll (step_in text_byte not_resource t.old) t.old t.new) }
 {
-    t.attempt_next(Name::LabelEndOk, Name::LabelEndReferenceNotFull)?;
+    t.attempt(
+        State::Next(Name::LabelEndOk),
+        State::Next(Name::LabelEndReferenceNotFull),
+    )?;
     Ok(State::Retry(names::LabelEndReferenceStart))
 }
 
@@ -287,7 +290,7 @@ pub(crate) fn end_after<'a, M: MachineTypes>(t: &mut Tokenizer<'a, M>) -> Result
             if !bracket_is_next(t) {
                 return Ok(State::Retry(Name::LabelEndOk));
             }
-            t.attempt_next(Name::LabelEndOk, Name::LabelEndOk)?;
+            t.attempt(State::Next(Name::LabelEndOk), State::Next(Name::LabelEndOk))?;
             Ok(State::Retry(Name::LabelEndReferenceCollapsed))
         }
     }

@@ -338,36 +338,54 @@ fn inline_before<'a>(t: &mut Tokenizer<'a, Inlines>) -> Result<State, AllocError
             if !code_spans_are_on(t) {
                 return Ok(State::Retry(Name::TextBeforeData));
             }
-            t.attempt_next(Name::TextBefore, Name::TextBeforeData)?;
+            t.attempt(
+                State::Next(Name::TextBefore),
+                State::Next(Name::TextBeforeData),
+            )?;
             Ok(State::Retry(Name::RawTextStart))
         }
         Some(b'<') => {
             if autolinks_are_on(t) {
-                t.attempt_next(Name::TextBefore, names::TextBeforeEmail)?;
+                t.attempt(
+                    State::Next(Name::TextBefore),
+                    State::Next(names::TextBeforeEmail),
+                )?;
                 return Ok(State::Retry(Name::AutolinkStart));
             }
             if !html_is_on(t) {
                 return Ok(State::Retry(Name::TextBeforeData));
             }
-            t.attempt_next(Name::TextBefore, names::TextBeforeTag)?;
+            t.attempt(
+                State::Next(Name::TextBefore),
+                State::Next(names::TextBeforeTag),
+            )?;
             Ok(State::Retry(construct_names::HtmlTextMarkStart))
         }
         Some(b'\\') => {
             if escapes_are_on(t) {
-                t.attempt_next(Name::TextBefore, Name::TextBeforeHardBreakEscape)?;
+                t.attempt(
+                    State::Next(Name::TextBefore),
+                    State::Next(Name::TextBeforeHardBreakEscape),
+                )?;
                 return Ok(State::Retry(Name::CharacterEscapeStart));
             }
             if !break_escapes_are_on(t) {
                 return Ok(State::Retry(Name::TextBeforeData));
             }
-            t.attempt_next(Name::TextBefore, Name::TextBeforeData)?;
+            t.attempt(
+                State::Next(Name::TextBefore),
+                State::Next(Name::TextBeforeData),
+            )?;
             Ok(State::Retry(Name::HardBreakEscapeStart))
         }
         Some(b'&') => {
             if !references_are_on(t) {
                 return Ok(State::Retry(Name::TextBeforeData));
             }
-            t.attempt_next(Name::TextBefore, Name::TextBeforeData)?;
+            t.attempt(
+                State::Next(Name::TextBefore),
+                State::Next(Name::TextBeforeData),
+            )?;
             Ok(State::Retry(Name::CharacterReferenceStart))
         }
         Some(b' ' | b'\t') => note_white(t, names::TextSpace, names::TextWhite),
@@ -390,11 +408,17 @@ fn bracket<'a>(t: &mut Tokenizer<'a, Inlines>) -> Result<State, AllocError>
         return Ok(State::Retry(Name::LabelStartLinkStart));
     }
     if brackets::image_begins(t) {
-        t.attempt_next(Name::TextBefore, Name::TextBeforeData)?;
+        t.attempt(
+            State::Next(Name::TextBefore),
+            State::Next(Name::TextBeforeData),
+        )?;
         return Ok(State::Retry(Name::LabelStartImageStart));
     }
     if brackets::end_may_make(t) {
-        t.attempt_next(Name::LabelEndOk, names::LabelEndNotResource)?;
+        t.attempt(
+            State::Next(Name::LabelEndOk),
+            State::Next(names::LabelEndNotResource),
+        )?;
         return Ok(State::Retry(Name::LabelEndStart));
     }
     if brackets::end_is_awaited(t) {
@@ -411,7 +435,10 @@ fn before_hard_break_escape<'a>(t: &mut Tokenizer<'a, Inlines>) -> Result<State,
     if !break_escapes_are_on(t) {
         return Ok(State::Retry(Name::TextBeforeData));
     }
-    t.attempt_next(Name::TextBefore, Name::TextBeforeData)?;
+    t.attempt(
+        State::Next(Name::TextBefore),
+        State::Next(Name::TextBeforeData),
+    )?;
     Ok(State::Retry(Name::HardBreakEscapeStart))
 }
 
@@ -421,13 +448,19 @@ fn before_email<'a>(t: &mut Tokenizer<'a, Inlines>) -> Result<State, AllocError>
     ensures { IfOk result (DoesAll (step_in text_byte before_email t.old) t.old t.new) }
 {
     if autolinks_are_on(t) {
-        t.attempt_next(Name::TextBefore, Name::TextBeforeHtml)?;
+        t.attempt(
+            State::Next(Name::TextBefore),
+            State::Next(Name::TextBeforeHtml),
+        )?;
         return Ok(State::Retry(Name::AutolinkEmailAtSignOrDot));
     }
     if !html_is_on(t) {
         return Ok(State::Retry(Name::TextBeforeData));
     }
-    t.attempt_next(Name::TextBefore, names::TextBeforeTag)?;
+    t.attempt(
+        State::Next(Name::TextBefore),
+        State::Next(names::TextBeforeTag),
+    )?;
     Ok(State::Retry(construct_names::HtmlTextMarkStart))
 }
 
@@ -439,7 +472,10 @@ fn before_html<'a>(t: &mut Tokenizer<'a, Inlines>) -> Result<State, AllocError>
     if !html_is_on(t) {
         return Ok(State::Retry(Name::TextBeforeData));
     }
-    t.attempt_next(Name::TextBefore, names::TextBeforeTag)?;
+    t.attempt(
+        State::Next(Name::TextBefore),
+        State::Next(names::TextBeforeTag),
+    )?;
     Ok(State::Retry(construct_names::HtmlTextMarkStart))
 }
 
@@ -451,7 +487,10 @@ fn before_tag<'a>(t: &mut Tokenizer<'a, Inlines>) -> Result<State, AllocError>
     if !html_is_on(t) {
         return Ok(State::Retry(Name::TextBeforeData));
     }
-    t.attempt_next(Name::TextBefore, Name::TextBeforeData)?;
+    t.attempt(
+        State::Next(Name::TextBefore),
+        State::Next(Name::TextBeforeData),
+    )?;
     Ok(State::Retry(Name::HtmlTextStart))
 }
 
