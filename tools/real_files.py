@@ -5,6 +5,7 @@ reads all of them, the causes that tools/random_documents.py names.
 
 usage: tools/real_files.py DIR PROGRAM [--machine NAME] [--cmark CMARK] [--no-brackets] [--differing]
        tools/real_files.py --packages
+       tools/real_files.py --fetch DIR
   DIR             a folder: its files that end in .md or .markdown, at any depth, links passed over
   PROGRAM         mdevents, or what prints events as it does
   --machine NAME  the machine that reads the files; without it, flow
@@ -12,16 +13,18 @@ usage: tools/real_files.py DIR PROGRAM [--machine NAME] [--cmark CMARK] [--no-br
   --no-brackets   each `[` is read as `(`, so that no file has links, images and definitions
   --differing     also each file that differs: its name, the constructs or causes, and the first line that differs
   --packages      the names of packages of Debian 12 whose files were compared
-
-Files for a comparison: those of Debian's packages, by `apt-get download` of each and `dpkg -x` into one folder. Then `gunzip` each file that
-ends in .md.gz.
+  --fetch DIR     downloads these packages into DIR/packages by `apt-get` (55 MB), and writes their Markdown files into DIR/files (6 MB),
+                  unpacked
 """
 
 import collections
+import glob
+import gzip
 import itertools
 import os
 import subprocess
 import sys
+import tarfile
 
 sys.path.insert(0, os.path.dirname(os.path.realpath(__file__)))
 sys.dont_write_bytecode = True
@@ -46,6 +49,35 @@ def files_in(folder):
     """The Markdown files under a folder, in order."""
     found = [os.path.join(at, name) for at, _, names in os.walk(folder) for name in names if name.lower().endswith((".md", ".markdown"))]
     return sorted(it for it in found if os.path.isfile(it) and not os.path.islink(it))
+
+
+def unpack(package, folder):
+    """Writes the Markdown files of a package into a folder, each where it stands in the package. Those that end in .gz are unpacked."""
+    tar = subprocess.Popen(["dpkg-deb", "--fsys-tarfile", package], stdout=subprocess.PIPE)
+    with tarfile.open(fileobj=tar.stdout, mode="r|") as parts:
+        for part in parts:
+            packed = part.name.lower().endswith(".gz")
+            name = os.path.normpath(part.name[:-3] if packed else part.name)
+            if part.isreg() and name.lower().endswith((".md", ".markdown")) and not name.startswith(("..", "/")):
+                content = parts.extractfile(part).read()
+                os.makedirs(os.path.dirname(os.path.join(folder, name)), exist_ok=True)
+                with open(os.path.join(folder, name), "wb") as it:
+                    it.write(gzip.decompress(content) if packed else content)
+    if tar.wait() != 0:
+        sys.exit(f"{package} is no package")
+
+
+def fetch(folder, names):
+    """Downloads packages into a folder, and writes their Markdown files beside them. Returns the folder of these."""
+    packages, files = os.path.join(folder, "packages"), os.path.join(folder, "files")
+    os.makedirs(packages, exist_ok=True)
+    run = subprocess.run(["apt-get", "download", *names], cwd=packages, capture_output=True, text=True)
+    if run.returncode != 0:
+        sys.exit(run.stderr)
+    for name in names:
+        for package in glob.glob(os.path.join(packages, f"{name}_*.deb")):
+            unpack(package, files)
+    return files
 
 
 def by_cmark(cmark, document, form):
@@ -85,6 +117,10 @@ def causes_of(document, words):
 def main():
     if sys.argv[1:] == ["--packages"]:
         print("\n".join(PACKAGES.split()))
+        return
+    if sys.argv[1:2] == ["--fetch"] and len(sys.argv) == 3 and not sys.argv[2].startswith("-"):
+        files = fetch(sys.argv[2], PACKAGES.split())
+        print(f"{len(files_in(files))} files in {files}")
         return
     parser = usage.Words(__doc__)
     parser.add_argument("folder")
