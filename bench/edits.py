@@ -73,5 +73,6 @@ def main(library):
 
 if __name__ == "__main__":
     if "--help" in sys.argv:
-        sys.exit(__doc__)
+        print(__doc__.strip())
+        sys.exit()
     sys.exit(main(sys.argv[1] if len(sys.argv) > 1 else f"{HERE}/../bindings/out/liblimecove.a"))

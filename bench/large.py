@@ -82,5 +82,8 @@ def main(program, folder):
 
 
 if __name__ == "__main__":
+    if len(sys.argv) != 2 or "--help" in sys.argv:
+        print(__doc__.strip())
+        sys.exit(0 if "--help" in sys.argv else 2)
     with tempfile.TemporaryDirectory() as scratch:
         main(sys.argv[1], scratch)

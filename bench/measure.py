@@ -20,6 +20,8 @@ input and writes the events of the machine of lines, as mdevents does without op
 
        measure.py --documents MDEVENTS [COMMIT]. Only the table of whole documents, of the pages as they were at a commit.
 
+Texts that people have, and processor time, are in beside.py.
+
 glibc copies and fills long stretches by one instruction that callgrind counts once a byte, so that is switched off here.
 """
 
@@ -32,7 +34,7 @@ import sys
 import tempfile
 import time
 
-os.environ["GLIBC_TUNABLES"] = "glibc.cpu.x86_rep_movsb_threshold=100000000:glibc.cpu.x86_rep_stosb_threshold=100000000"
+TUNED = {**os.environ, "GLIBC_TUNABLES": "glibc.cpu.x86_rep_movsb_threshold=100000000:glibc.cpu.x86_rep_stosb_threshold=100000000"}
 TOP = os.path.dirname(os.path.dirname(os.path.realpath(__file__)))
 
 # bytes of an event in memory
@@ -98,7 +100,7 @@ COMPARED = [("plain", PLAIN), ("columns", COLUMNS), ("tabs", TABS), ("short", SH
 
 
 def once(program, options, document):
-    """The seconds that a run takes, and its page faults."""
+    """The seconds that a run takes, and what it used, as the kernel counts it."""
     with open(document) as text:
         start = time.perf_counter()
         run = subprocess.Popen([program, *options], stdin=text, stdout=subprocess.DEVNULL)
@@ -107,20 +109,20 @@ def once(program, options, document):
     run.returncode = os.waitstatus_to_exitcode(status)
     if run.returncode != 0:
         raise subprocess.CalledProcessError(run.returncode, run.args)
-    return took, used.ru_minflt
+    return took, used
 
 
 def fastest(program, options, document):
     """The seconds that the fastest of five runs takes, and the fewest page faults of one."""
     runs = [once(program, options, document) for _ in range(5)]
-    return min(took for took, _ in runs), min(faults for _, faults in runs)
+    return min(took for took, _ in runs), min(used.ru_minflt for _, used in runs)
 
 
 def valgrind(tool, settings, program, options, document):
     """Runs the program under a tool of valgrind."""
     command = ["valgrind", f"--tool={tool}", *settings, program, *options]
     with open(document) as text:
-        subprocess.run(command, stdin=text, stdout=subprocess.DEVNULL, stderr=subprocess.DEVNULL, check=True)
+        subprocess.run(command, env=TUNED, stdin=text, stdout=subprocess.DEVNULL, stderr=subprocess.DEVNULL, check=True)
 
 
 def peak(program, options, document, counts):
@@ -300,6 +302,9 @@ def compare(program, other, folder):
 
 
 if __name__ == "__main__":
+    if len(sys.argv) < 3 or "--help" in sys.argv:
+        print(__doc__.strip())
+        sys.exit(0 if "--help" in sys.argv else 2)
     with tempfile.TemporaryDirectory() as scratch:
         if sys.argv[1] == "--documents":
             documents(sys.argv[2], scratch, *sys.argv[3:])

@@ -178,4 +178,7 @@ def main(words):
 
 
 if __name__ == "__main__":
+    if len(sys.argv) < 2 or "--help" in sys.argv:
+        print(__doc__.strip())
+        sys.exit(0 if "--help" in sys.argv else 2)
     main(sys.argv[1:])
