@@ -1,0 +1,10 @@
+pub mod AddressLemmas
+pub mod Behind
+pub mod Bools
+pub mod CheckSteps
+pub mod FlowSafe
+pub mod Orders
+pub mod SafeLemmas
+pub mod Tested
+pub mod Texts
+pub mod Waits

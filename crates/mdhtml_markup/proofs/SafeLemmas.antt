@@ -1,0 +1,112 @@
+-- The bytes of safe pieces are safe HTML.
+use Rattle.std.proofs.Common.{◌≡◌, ℕ, List, [], ◌∷◌, ◌++◌, ap, sym, refl, subst, ◌∙◌, Option, None, Some}
+use Rattle.std.specs.Char.{is_ascii_whitespace}
+use Rattle.std.specs.Fmt.{decimal}
+use Rattle.std.specs.List.{flat_map, list_all}
+use Rattle.std.specs.Prelude.{Bool, true, false, not, cond, bytes_eq, codes}
+use Rattle.mdhtml_markup.specs.Addresses.{written_address}
+use Rattle.mdhtml_markup.specs.declared.addresses.Place.TheVariants as place
+use Rattle.mdhtml_markup.specs.declared.elements.AttributeName.{AttributeName}
+use Rattle.mdhtml_markup.specs.declared.elements.AttributeName.TheVariants as name
+use Rattle.mdhtml_markup.specs.declared.elements.Element.{Element}
+use Rattle.mdhtml_markup.specs.Escapes.{escaped}
+use Rattle.mdhtml_markup.specs.Laws.{SafePiecesAreSafeHtml}
+use Rattle.mdhtml_markup.specs.Pieces.{Alt, Attribute, Close, Feed, Fresh, Href, Kept, Language, Open, Piece, Src, Start, Text, Title, Void, attribute, html_from, written}
+use Rattle.mdhtml_markup.specs.SafeHtml as safe
+use Rattle.mdhtml_markup.specs.SafeHtml.{AreAttributes, IsSafeHtml, attribute_name, attributes_of, is_language, is_text, is_value, quoted}
+use Rattle.mdhtml_markup.specs.SafePieces.{AreAllowedBy, AreSafe, Closes, IsAllowed, later, name_of_attribute}
+use Rattle.mdhtml_markup.proofs.AddressLemmas.{addresses-safe}
+use Rattle.mdhtml_markup.proofs.Bools.{Then, and-both, no}
+use Rattle.mdhtml_markup.proofs.Texts.{decimal-digits, escaped-first, escaped-solid, escaped-text}
+
+-- an attribute by its name and value
+abbrev value_of : Attribute → List ℕ
+value_of (Alt t) = escaped t
+value_of (Href url) = written_address url
+value_of (Language t) = codes "language-" ++ escaped t
+value_of (Src url) = written_address url
+value_of (Start n) = decimal n
+value_of (Title t) = escaped t
+
+attribute-quoted : (a : Attribute) → attribute a ≡ quoted (name_of_attribute a) (value_of a)
+attribute-quoted (Alt t) = refl
+attribute-quoted (Href url) = refl
+attribute-quoted (Language t) = refl
+attribute-quoted (Src url) = refl
+attribute-quoted (Start n) = refl
+attribute-quoted (Title t) = refl
+
+value-is : (a : Attribute) → IsAllowed a → is_value (name_of_attribute a) (value_of a) ≡ true
+value-is (Alt t) h = escaped-text t
+value-is (Href url) h = addresses-safe place.Href url h
+value-is (Language t) h = and-both (is_text (escaped t)) (list_all (λ b. not (is_ascii_whitespace b)) (escaped t)) (escaped-text t) (escaped-solid t h)
+value-is (Src url) h = addresses-safe place.Src url h
+value-is (Start n) h = decimal-digits n
+value-is (Title t) h = escaped-text t
+
+-- names that are written the same are the same
+pub same-name : (n m : AttributeName) → bytes_eq (attribute_name n) (attribute_name m) ≡ true → n ≡ m
+same-name name.Alt m h = elim m as (λ x. (bytes_eq (attribute_name name.Alt) (attribute_name x) ≡ true) → name.Alt ≡ x) [ name.Alt ↦ λ e. refl | name.Class ↦ λ e. absurd (no e) | name.Href ↦ λ e. absurd (no e) | name.Src ↦ λ e. absurd (no e) | name.Start ↦ λ e. absurd (no e) | name.Title ↦ λ e. absurd (no e) ] h
+same-name name.Class m h = elim m as (λ x. (bytes_eq (attribute_name name.Class) (attribute_name x) ≡ true) → name.Class ≡ x) [ name.Alt ↦ λ e. absurd (no e) | name.Class ↦ λ e. refl | name.Href ↦ λ e. absurd (no e) | name.Src ↦ λ e. absurd (no e) | name.Start ↦ λ e. absurd (no e) | name.Title ↦ λ e. absurd (no e) ] h
+same-name name.Href m h = elim m as (λ x. (bytes_eq (attribute_name name.Href) (attribute_name x) ≡ true) → name.Href ≡ x) [ name.Alt ↦ λ e. absurd (no e) | name.Class ↦ λ e. absurd (no e) | name.Href ↦ λ e. refl | name.Src ↦ λ e. absurd (no e) | name.Start ↦ λ e. absurd (no e) | name.Title ↦ λ e. absurd (no e) ] h
+same-name name.Src m h = elim m as (λ x. (bytes_eq (attribute_name name.Src) (attribute_name x) ≡ true) → name.Src ≡ x) [ name.Alt ↦ λ e. absurd (no e) | name.Class ↦ λ e. absurd (no e) | name.Href ↦ λ e. absurd (no e) | name.Src ↦ λ e. refl | name.Start ↦ λ e. absurd (no e) | name.Title ↦ λ e. absurd (no e) ] h
+same-name name.Start m h = elim m as (λ x. (bytes_eq (attribute_name name.Start) (attribute_name x) ≡ true) → name.Start ≡ x) [ name.Alt ↦ λ e. absurd (no e) | name.Class ↦ λ e. absurd (no e) | name.Href ↦ λ e. absurd (no e) | name.Src ↦ λ e. absurd (no e) | name.Start ↦ λ e. refl | name.Title ↦ λ e. absurd (no e) ] h
+same-name name.Title m h = elim m as (λ x. (bytes_eq (attribute_name name.Title) (attribute_name x) ≡ true) → name.Title ≡ x) [ name.Alt ↦ λ e. absurd (no e) | name.Class ↦ λ e. absurd (no e) | name.Href ↦ λ e. absurd (no e) | name.Src ↦ λ e. absurd (no e) | name.Start ↦ λ e. absurd (no e) | name.Title ↦ λ e. refl ] h
+
+all-missing : (names : List AttributeName) → AreAttributes names []
+all-missing [] = safe.AreAttributes.none
+all-missing (n ∷ names) = safe.AreAttributes.missing n names (all-missing names)
+
+-- an attribute of a name that is one of these, and attributes of later names
+first-by : (n m : AttributeName) (names : List AttributeName) (value more : List ℕ) (same : Bool) → is_value n value ≡ true → bytes_eq (attribute_name n) (attribute_name m) ≡ same
+    → Then (cond same (Some names) (later n names)) (λ o. AreAttributes o more) → (Then (later n names) (λ o. AreAttributes o more) → AreAttributes names (quoted n value ++ more))
+    → AreAttributes (m ∷ names) (quoted n value ++ more)
+first-by n m names value more true v e h rest =
+    let is = same-name n m e in
+    safe.AreAttributes.given m names value more (ap (λ x. quoted x value ++ more) is) (ap (λ x. is_value x value) (sym is) ∙ v) h
+first-by n m names value more false v e h rest = safe.AreAttributes.missing m names (rest h)
+
+first-given : (n : AttributeName) (names : List AttributeName) (value more : List ℕ) → is_value n value ≡ true → Then (later n names) (λ o. AreAttributes o more)
+    → AreAttributes names (quoted n value ++ more)
+first-given n [] value more v h = absurd h
+first-given n (m ∷ names) value more v h = first-by n m names value more (bytes_eq (attribute_name n) (attribute_name m)) v refl h (first-given n names value more v)
+
+-- what is allowed of an attribute and of those behind it
+allowed-by : (o : Option (List AttributeName)) (a : Attribute) (attributes : List Attribute)
+    → elim o as (λ _. Type 0) [ None ↦ ⊥ | Some more ↦ IsAllowed a × AreAllowedBy more attributes ]
+    → ((names : List AttributeName) → AreAllowedBy names attributes → AreAttributes names (flat_map attribute attributes))
+    → IsAllowed a × Then o (λ names. AreAttributes names (flat_map attribute attributes))
+allowed-by None a attributes h rest = absurd h
+allowed-by (Some more) a attributes h rest = (h.0, rest more h.1)
+
+attributes-are : (attributes : List Attribute) (names : List AttributeName) → AreAllowedBy names attributes → AreAttributes names (flat_map attribute attributes)
+attributes-are [] names h = all-missing names
+attributes-are (a ∷ attributes) names h =
+    let both = allowed-by (later (name_of_attribute a) names) a attributes h (attributes-are attributes) in
+    subst (λ w. AreAttributes names (w ++ flat_map attribute attributes)) (sym (attribute-quoted a))
+    (first-given (name_of_attribute a) names (value_of a) (flat_map attribute attributes) (value-is a both.0) both.1)
+
+fresh-line : (tags : List Element) (fresh : Bool) (h : List ℕ) → IsSafeHtml tags h → IsSafeHtml tags (cond fresh [] (10 ∷ []) ++ h)
+fresh-line tags true h s = s
+fresh-line tags false h s = safe.IsSafeHtml.text tags 10 h refl refl s
+
+-- the innermost open tag is closed
+closed-tag : (tags : List Element) (e : Element) (ps : List Piece) (h : List ℕ) → Closes tags e (λ o. AreSafe o ps) → ((o : List Element) → AreSafe o ps → IsSafeHtml o h)
+    → IsSafeHtml tags (written true (Close e) ++ h)
+closed-tag [] e ps h c s = absurd c
+closed-tag (d ∷ tags) e ps h c s = subst (λ x. IsSafeHtml (x ∷ tags) (written true (Close e) ++ h)) (sym c.0) (safe.IsSafeHtml.closed tags e h refl (s tags c.1))
+
+safe-from : (ps : List Piece) (tags : List Element) (fresh : Bool) → AreSafe tags ps → IsSafeHtml tags (html_from fresh ps)
+safe-from [] tags fresh h = subst (λ o. IsSafeHtml o []) (sym h) safe.IsSafeHtml.end
+safe-from (Open e attributes ∷ ps) tags fresh h =
+    safe.IsSafeHtml.opened tags e (flat_map attribute attributes) _ refl (h.0).kind (h.0).stands (attributes-are attributes (attributes_of e) (h.0).allowed) (safe-from ps (e ∷ tags) _ h.1)
+safe-from (Void e attributes ∷ ps) tags fresh h =
+    safe.IsSafeHtml.void tags e (flat_map attribute attributes) _ refl (h.0).kind (h.0).stands (attributes-are attributes (attributes_of e) (h.0).allowed) (safe-from ps tags _ h.1)
+safe-from (Close e ∷ ps) tags fresh h = closed-tag tags e ps _ h (λ o a. safe-from ps o _ a)
+safe-from (Text t ∷ ps) tags fresh h = escaped-first tags t _ (safe-from ps tags _ h)
+safe-from (Kept t ∷ ps) tags fresh h = absurd h
+safe-from (Feed ∷ ps) tags fresh h = safe.IsSafeHtml.text tags 10 _ refl refl (safe-from ps tags _ h)
+safe-from (Fresh ∷ ps) tags fresh h = fresh-line tags fresh _ (safe-from ps tags _ h)
+
+pub pieces-safe : SafePiecesAreSafeHtml
+pieces-safe fresh tags ps h = safe-from ps tags fresh h

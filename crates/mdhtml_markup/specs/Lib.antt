@@ -1,0 +1,9 @@
+pub mod Addresses
+pub mod Escapes
+pub mod Examples
+pub mod Flow
+pub mod Laws
+pub mod Pieces
+pub mod SafeChecks
+pub mod SafeHtml
+pub mod SafePieces

@@ -1,0 +1,63 @@
+-- Pieces whose bytes are safe HTML. Nothing here need be believed: it is by the law that it serves.
+use Rattle.std.specs.Char.{is_ascii_whitespace}
+use Rattle.std.specs.List.{list_all}
+use Rattle.std.specs.Prelude.{◌≡◌, not, ⊤, Bool, true, false, cond, List, [], ◌∷◌, Option, None, Some, bytes_eq}
+use Rattle.mdhtml_markup.specs.declared.addresses.Place.TheVariants as place
+use Rattle.mdhtml_markup.specs.declared.elements.AttributeName.{AttributeName}
+use Rattle.mdhtml_markup.specs.declared.elements.AttributeName.TheVariants as name
+use Rattle.mdhtml_markup.specs.declared.elements.Element.{Element}
+use Rattle.mdhtml_markup.specs.Pieces.{Alt, Attribute, Close, Feed, Fresh, Href, Kept, Language, Open, Piece, Src, Start, Text, Title, Void}
+use Rattle.mdhtml_markup.specs.SafeHtml.{attribute_name, attributes_of, is_allowed, is_void, stands_in}
+
+-- an attribute by what it says: an address is allowed, a language has no white space
+abbrev pub IsAllowed : Attribute → Type 0
+IsAllowed (Alt t) = ⊤
+IsAllowed (Href url) = is_allowed place.Href url ≡ true
+IsAllowed (Language t) = list_all (λ b. not (is_ascii_whitespace b)) t ≡ true
+IsAllowed (Src url) = is_allowed place.Src url ≡ true
+IsAllowed (Start n) = ⊤
+IsAllowed (Title t) = ⊤
+
+abbrev pub name_of_attribute : Attribute → AttributeName
+name_of_attribute (Alt t) = name.Alt
+name_of_attribute (Href url) = name.Href
+name_of_attribute (Language t) = name.Class
+name_of_attribute (Src url) = name.Src
+name_of_attribute (Start n) = name.Start
+name_of_attribute (Title t) = name.Title
+
+-- the names behind a name, if it is one of them
+abbrev pub later : AttributeName → List AttributeName → Option (List AttributeName)
+later a [] = None
+later a (n ∷ names) = cond (bytes_eq (attribute_name a) (attribute_name n)) (Some names) (later a names)
+
+-- attributes of these names, in this order, each once at most; and allowed
+abbrev pub AreAllowedBy : List AttributeName → List Attribute → Type 0
+AreAllowedBy names [] = ⊤
+AreAllowedBy names (a ∷ attributes) =
+    elim (later (name_of_attribute a) names) [ None ↦ ⊥ | Some more ↦ IsAllowed a × AreAllowedBy more attributes ]
+
+-- and of an element
+abbrev pub AreAllowed : Element → List Attribute → Type 0
+AreAllowed e attributes = AreAllowedBy (attributes_of e) attributes
+
+-- a tag that may be written behind tags that are open, with or without a close tag
+pub record IsTag (void : Bool) (tags : List Element) (e : Element) (attributes : List Attribute) : Type 0 where
+  pub kind : is_void e ≡ void
+  pub stands : stands_in e tags ≡ true
+  pub allowed : AreAllowed e attributes
+
+abbrev pub Closes : (tags : List Element) → Element → (rest : (tags : List Element) → Type 0) → Type 0
+Closes [] e rest = ⊥
+Closes (d ∷ tags) e rest = (d ≡ e) × rest tags
+
+-- Pieces behind tags that are open, the innermost first: each tag may stand where it is and is closed in order, and no HTML is kept
+abbrev pub AreSafe : (tags : List Element) → List Piece → Type 0
+AreSafe tags [] = tags ≡ []
+AreSafe tags (Open e attributes ∷ ps) = IsTag false tags e attributes × AreSafe (e ∷ tags) ps
+AreSafe tags (Void e attributes ∷ ps) = IsTag true tags e attributes × AreSafe tags ps
+AreSafe tags (Close e ∷ ps) = Closes tags e (λ o. AreSafe o ps)
+AreSafe tags (Text t ∷ ps) = AreSafe tags ps
+AreSafe tags (Kept h ∷ ps) = ⊥
+AreSafe tags (Feed ∷ ps) = AreSafe tags ps
+AreSafe tags (Fresh ∷ ps) = AreSafe tags ps

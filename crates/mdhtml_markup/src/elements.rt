@@ -1,0 +1,103 @@
+//! The elements of HTML that are written, and their attributes, by name.
+
+ghost use Rattle.std.specs.Prelude.{◌≡◌};
+ghost use Rattle.mdhtml_markup.specs.SafeHtml.{is_void, name_of};
+
+/// An element.
+#[derive(Clone, Copy, Debug, PartialEq, Eq)]
+pub enum Element {
+    /// A link: `a`.
+    Anchor,
+    /// A quotation: `blockquote`.
+    BlockQuote,
+    /// A line break: `br`.
+    Break,
+    /// Code: `code`.
+    Code,
+    /// Emphasis: `em`.
+    Emphasis,
+    /// A heading of the first rank: `h1`.
+    Heading1,
+    /// A heading of the second rank: `h2`.
+    Heading2,
+    /// A heading of the third rank: `h3`.
+    Heading3,
+    /// A heading of the fourth rank: `h4`.
+    Heading4,
+    /// A heading of the fifth rank: `h5`.
+    Heading5,
+    /// A heading of the sixth rank: `h6`.
+    Heading6,
+    /// An image: `img`.
+    Image,
+    /// An item of a list: `li`.
+    ListItem,
+    /// A list with numbers: `ol`.
+    OrderedList,
+    /// A paragraph: `p`.
+    Paragraph,
+    /// Text whose lines and spaces stay: `pre`.
+    Preformatted,
+    /// Strong emphasis: `strong`.
+    Strong,
+    /// A line between blocks: `hr`.
+    ThematicBreak,
+    /// A list without numbers: `ul`.
+    UnorderedList,
+}
+
+impl Element {
+    /// The name in its tags.
+    pub fn name(self) -> &'static [u8]
+        ensures { result.now ≡ name_of self }
+    {
+        match self {
+            Element::Anchor => b"a",
+            Element::BlockQuote => b"blockquote",
+            Element::Break => b"br",
+            Element::Code => b"code",
+            Element::Emphasis => b"em",
+            Element::Heading1 => b"h1",
+            Element::Heading2 => b"h2",
+            Element::Heading3 => b"h3",
+            Element::Heading4 => b"h4",
+            Element::Heading5 => b"h5",
+            Element::Heading6 => b"h6",
+            Element::Image => b"img",
+            Element::ListItem => b"li",
+            Element::OrderedList => b"ol",
+            Element::Paragraph => b"p",
+            Element::Preformatted => b"pre",
+            Element::Strong => b"strong",
+            Element::ThematicBreak => b"hr",
+            Element::UnorderedList => b"ul",
+        }
+    }
+
+    /// Whether it holds nothing, and has no close tag.
+    pub fn is_void(self) -> bool
+        ensures { result ≡ is_void self }
+    {
+        matches!(
+            self,
+            Element::Break | Element::Image | Element::ThematicBreak
+        )
+    }
+}
+
+/// An attribute, without its value.
+#[derive(Clone, Copy, Debug, PartialEq, Eq)]
+pub enum AttributeName {
+    /// What stands in place of an image: `alt`.
+    Alt,
+    /// The language of code: `class`.
+    Class,
+    /// Where a link leads: `href`.
+    Href,
+    /// Where an image is: `src`.
+    Src,
+    /// The number of the first item: `start`.
+    Start,
+    /// A title: `title`.
+    Title,
+}
