@@ -1,10 +1,20 @@
+-- addresses
 pub mod AddressLemmas
+-- safe HTML
 pub mod Behind
+-- safe HTML
 pub mod Bools
+-- safe HTML
 pub mod CheckSteps
+-- content models
 pub mod FlowSafe
+-- safe HTML
 pub mod Orders
+-- pieces
 pub mod SafeLemmas
+-- safe HTML
 pub mod Tested
+-- text
 pub mod Texts
+-- text
 pub mod Waits
