@@ -60,7 +60,8 @@ const FRONTS: &[(&[u8], usize, usize)] = &[
 fn definitions_stand_at_the_front(rt: HostRuntime) {
     for (text, count, end) in FRONTS {
         let front = definitions_in(text);
-        assert_eq!(rt; (front.count, front.end), (*count, *end));
+        assert_eq!(rt; front.count, *count);
+        assert_eq!(rt; front.end, *end);
     }
 }
 
@@ -108,6 +109,31 @@ fn labels_are_short_and_have_no_brackets(rt: HostRuntime) -> Result<(), AllocErr
 /// The size of the label, the destination and the title that a text begins with, if it begins with one, and of white space.
 type Sizes = (Option<usize>, Option<usize>, Option<usize>, usize);
 
+/// The sizes of what a text begins with. The turns of loops are counted on.
+fn sizes_counted<L: Ledger>(bytes: &[u8], turns: &mut Turns<L>) -> Sizes {
+    (
+        label_size(bytes, turns),
+        destination_size(bytes, turns),
+        title_size(bytes, turns),
+        gap(bytes, turns),
+    )
+}
+
+/// The sizes of what a text begins with, counted from nothing.
+fn sizes_from<L: Ledger>(bytes: &[u8], blank: Blank) -> Sizes
+    requires name { blank.name ≡ L.name }
+    requires parts { blank.parts ≡ L.parts }
+    requires some { 0 < blank.parts }
+{
+    let mut turns = Turns::<L>::new(blank);
+    sizes_counted(bytes, &mut turns)
+}
+
+/// The sizes of what a text begins with.
+fn sizes(bytes: &[u8]) -> Sizes {
+    sizes_from::<Brand>(bytes, Blank::new(1))
+}
+
 /// Texts, and the sizes of what they begin with. A label is read behind its `[`. Escaped marks end nothing. A destination without `<` ends
 /// at white space, and its parentheses are balanced; one with `<` ends in its line. A title may go over lines, but over no blank one.
 /// White space has one line ending at most.
@@ -133,6 +159,13 @@ const SIZES: &[(&[u8], Sizes)] = &[
     (b" \n b", (None, None, None, 3)),
     (b"\n\nb", (None, None, None, 1)),
 ];
+
+#[test]
+fn parts_of_links_have_their_sizes(rt: HostRuntime) {
+    for (text, want) in SIZES {
+        assert_eq!(rt; sizes(text), *want);
+    }
+}
 
 /// A stretch of a text, as tests write it: the index of its first byte, and its size.
 type Written = (usize, usize);
@@ -175,60 +208,37 @@ const DEFINITIONS: &[(&[u8], Option<(Written, Written, Option<Written>, usize)>)
     (b"[foo]: <bar>(baz)", None),
 ];
 
-/// What a text begins with, as it is found while the turns of loops are counted.
-#[derive(Drop)]
-struct Counted {
-    /// Its parts.
-    sizes: Sizes,
-    definition: Option<Definition>,
-    /// Definitions.
-    front: Front,
-    resource: Option<Resource>,
-    /// Whether all of it is a label.
-    is_label: bool,
-}
+/// What a text begins with: a definition, definitions, and a resource; and whether it is a label.
+type Found = (Option<Definition>, Front, Option<Resource>, bool);
 
 /// What a text begins with, with the turns of loops counted from nothing.
-fn counted_from<L: Ledger>(bytes: &[u8], blank: Blank) -> Counted
+fn counted_from<L: Ledger>(bytes: &[u8], blank: Blank) -> Found
     requires name { blank.name ≡ L.name }
     requires parts { blank.parts ≡ L.parts }
     requires some { 0 < blank.parts }
 {
     let mut turns = Turns::<L>::new(blank);
-    Counted {
-        sizes: (
-            label_size(bytes, &mut turns),
-            destination_size(bytes, &mut turns),
-            title_size(bytes, &mut turns),
-            gap(bytes, &mut turns),
-        ),
-        definition: definition_counted(bytes, &mut turns),
-        front: definitions_counted(bytes, &mut turns),
-        resource: resource_counted(bytes, &mut turns),
-        is_label: is_label_counted(bytes, &mut turns),
-    }
+    (
+        definition_counted(bytes, &mut turns),
+        definitions_counted(bytes, &mut turns),
+        resource_counted(bytes, &mut turns),
+        is_label_counted(bytes, &mut turns),
+    )
 }
 
 /// What a text begins with, with the turns of loops counted.
-fn counted(bytes: &[u8]) -> Counted {
+fn counted(bytes: &[u8]) -> Found {
     counted_from::<Brand>(bytes, Blank::new(1))
-}
-
-#[test]
-fn parts_of_links_have_their_sizes(rt: HostRuntime) {
-    for (text, want) in SIZES {
-        assert_eq!(rt; counted(text).sizes, *want);
-    }
 }
 
 #[test]
 fn definitions_have_their_parts(rt: HostRuntime) {
     for (text, want) in DEFINITIONS {
         assert_eq!(rt; definition_at(text).map(parts_of), *want);
-        let found = counted(text);
-        assert_eq!(rt; found.definition.map(parts_of), *want);
-        let count = if want.is_some() { 1 } else { 0 };
-        assert!(rt; found.front.count == count && found.resource.is_none() && !found.is_label);
+        let (definition, front, resource, is_label) = counted(text);
+        assert_eq!(rt; definition.map(parts_of), *want);
+        assert_eq!(rt; front.count, if want.is_some() { 1 } else { 0 });
+        assert!(rt; resource.is_none() && !is_label);
     }
 }
 
@@ -264,8 +274,8 @@ const RESOURCES: &[(&[u8], Option<(Option<Written>, Option<Written>, usize)>)] =
 fn resources_have_their_parts(rt: HostRuntime) {
     for (text, want) in RESOURCES {
         assert_eq!(rt; resource_at(text).map(parts_within), *want);
-        let found = counted(text);
-        assert_eq!(rt; found.resource.map(parts_within), *want);
-        assert!(rt; found.definition.is_none() && found.front.end == 0);
+        let (definition, front, resource, _) = counted(text);
+        assert_eq!(rt; resource.map(parts_within), *want);
+        assert!(rt; definition.is_none() && front.end == 0);
     }
 }
