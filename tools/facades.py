@@ -32,6 +32,7 @@ NAMED = {
     ("mdblock_leaf_blocks", "proofs", "Lines"): "LineParts",
     ("mdblock_leaf_blocks", "proofs", "Looks"): "LineLooks",
     ("mdblock_leaf_blocks", "proofs", "Paragraphs"): "LeafParagraphs",
+    ("mdconstructs_tables", "proofs", "Paragraphs"): "ParagraphLaws",
     ("mdconstructs_tables", "specs", "Laws"): "TableLaws",
     ("mdblock_leaf_rows", "specs", "Flow"): "FlowStates",
     ("mdinline_machine", "specs", "Over"): "InlinesOver",

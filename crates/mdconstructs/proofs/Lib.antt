@@ -8,7 +8,7 @@ pub use Rattle.mdconstructs_tables.proofs.LinkShapes
 pub use Rattle.mdconstructs_tables.proofs.Looks
 pub use Rattle.mdconstructs_tables.proofs.Markers
 pub use Rattle.mdconstructs_tables.proofs.Numbers
-pub use Rattle.mdconstructs_tables.proofs.Paragraphs
+pub use Rattle.mdconstructs_tables.proofs.Paragraphs as ParagraphLaws
 pub use Rattle.mdconstructs_tables.proofs.Rows
 pub use Rattle.mdconstructs_tables.proofs.Tables
 pub use Rattle.mdconstructs_tables.proofs.Unlinked
