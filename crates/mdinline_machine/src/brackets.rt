@@ -220,10 +220,7 @@ pub(crate) fn not_resource<'a, M: MachineTypes>(
     requires { IsCallable text_byte not_resource t.old }
     ensures { IfOk result (DoesAll (step_in text_byte not_resource t.old) t.old t.new) }
 {
-    t.attempt(
-        State::Next(Name::LabelEndOk),
-        State::Next(Name::LabelEndReferenceNotFull),
-    )?;
+    t.attempt_next(Name::LabelEndOk, Name::LabelEndReferenceNotFull)?;
     Ok(State::Retry(names::LabelEndReferenceStart))
 }
 
@@ -290,7 +287,7 @@ pub(crate) fn end_after<'a, M: MachineTypes>(t: &mut Tokenizer<'a, M>) -> Result
             if !bracket_is_next(t) {
                 return Ok(State::Retry(Name::LabelEndOk));
             }
-            t.attempt(State::Next(Name::LabelEndOk), State::Next(Name::LabelEndOk))?;
+            t.attempt_next(Name::LabelEndOk, Name::LabelEndOk)?;
             Ok(State::Retry(Name::LabelEndReferenceCollapsed))
         }
     }

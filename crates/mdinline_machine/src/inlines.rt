@@ -338,54 +338,36 @@ fn inline_before<'a>(t: &mut Tokenizer<'a, Inlines>) -> Result<State, AllocError
             if !code_spans_are_on(t) {
                 return Ok(State::Retry(Name::TextBeforeData));
             }
-            t.attempt(
-                State::Next(Name::TextBefore),
-                State::Next(Name::TextBeforeData),
-            )?;
+            t.attempt_next(Name::TextBefore, Name::TextBeforeData)?;
             Ok(State::Retry(Name::RawTextStart))
         }
         Some(b'<') => {
             if autolinks_are_on(t) {
-                t.attempt(
-                    State::Next(Name::TextBefore),
-                    State::Next(names::TextBeforeEmail),
-                )?;
+                t.attempt_next(Name::TextBefore, names::TextBeforeEmail)?;
                 return Ok(State::Retry(Name::AutolinkStart));
             }
             if !html_is_on(t) {
                 return Ok(State::Retry(Name::TextBeforeData));
             }
-            t.attempt(
-                State::Next(Name::TextBefore),
-                State::Next(names::TextBeforeTag),
-            )?;
+            t.attempt_next(Name::TextBefore, names::TextBeforeTag)?;
             Ok(State::Retry(construct_names::HtmlTextMarkStart))
         }
         Some(b'\\') => {
             if escapes_are_on(t) {
-                t.attempt(
-                    State::Next(Name::TextBefore),
-                    State::Next(Name::TextBeforeHardBreakEscape),
-                )?;
+                t.attempt_next(Name::TextBefore, Name::TextBeforeHardBreakEscape)?;
                 return Ok(State::Retry(Name::CharacterEscapeStart));
             }
             if !break_escapes_are_on(t) {
                 return Ok(State::Retry(Name::TextBeforeData));
             }
-            t.attempt(
-                State::Next(Name::TextBefore),
-                State::Next(Name::TextBeforeData),
-            )?;
+            t.attempt_next(Name::TextBefore, Name::TextBeforeData)?;
             Ok(State::Retry(Name::HardBreakEscapeStart))
         }
         Some(b'&') => {
             if !references_are_on(t) {
                 return Ok(State::Retry(Name::TextBeforeData));
             }
-            t.attempt(
-                State::Next(Name::TextBefore),
-                State::Next(Name::TextBeforeData),
-            )?;
+            t.attempt_next(Name::TextBefore, Name::TextBeforeData)?;
             Ok(State::Retry(Name::CharacterReferenceStart))
         }
         Some(b' ' | b'\t') => note_white(t, names::TextSpace, names::TextWhite),
@@ -408,17 +390,11 @@ fn bracket<'a>(t: &mut Tokenizer<'a, Inlines>) -> Result<State, AllocError>
         return Ok(State::Retry(Name::LabelStartLinkStart));
     }
     if brackets::image_begins(t) {
-        t.attempt(
-            State::Next(Name::TextBefore),
-            State::Next(Name::TextBeforeData),
-        )?;
+        t.attempt_next(Name::TextBefore, Name::TextBeforeData)?;
         return Ok(State::Retry(Name::LabelStartImageStart));
     }
     if brackets::end_may_make(t) {
-        t.attempt(
-            State::Next(Name::LabelEndOk),
-            State::Next(names::LabelEndNotResource),
-        )?;
+        t.attempt_next(Name::LabelEndOk, names::LabelEndNotResource)?;
         return Ok(State::Retry(Name::LabelEndStart));
     }
     if brackets::end_is_awaited(t) {
@@ -435,10 +411,7 @@ fn before_hard_break_escape<'a>(t: &mut Tokenizer<'a, Inlines>) -> Result<State,
     if !break_escapes_are_on(t) {
         return Ok(State::Retry(Name::TextBeforeData));
     }
-    t.attempt(
-        State::Next(Name::TextBefore),
-        State::Next(Name::TextBeforeData),
-    )?;
+    t.attempt_next(Name::TextBefore, Name::TextBeforeData)?;
     Ok(State::Retry(Name::HardBreakEscapeStart))
 }
 
@@ -448,19 +421,13 @@ fn before_email<'a>(t: &mut Tokenizer<'a, Inlines>) -> Result<State, AllocError>
     ensures { IfOk result (DoesAll (step_in text_byte before_email t.old) t.old t.new) }
 {
     if autolinks_are_on(t) {
-        t.attempt(
-            State::Next(Name::TextBefore),
-            State::Next(Name::TextBeforeHtml),
-        )?;
+        t.attempt_next(Name::TextBefore, Name::TextBeforeHtml)?;
         return Ok(State::Retry(Name::AutolinkEmailAtSignOrDot));
     }
     if !html_is_on(t) {
         return Ok(State::Retry(Name::TextBeforeData));
     }
-    t.attempt(
-        State::Next(Name::TextBefore),
-        State::Next(names::TextBeforeTag),
-    )?;
+    t.attempt_next(Name::TextBefore, names::TextBeforeTag)?;
     Ok(State::Retry(construct_names::HtmlTextMarkStart))
 }
 
@@ -472,10 +439,7 @@ fn before_html<'a>(t: &mut Tokenizer<'a, Inlines>) -> Result<State, AllocError>
     if !html_is_on(t) {
         return Ok(State::Retry(Name::TextBeforeData));
     }
-    t.attempt(
-        State::Next(Name::TextBefore),
-        State::Next(names::TextBeforeTag),
-    )?;
+    t.attempt_next(Name::TextBefore, names::TextBeforeTag)?;
     Ok(State::Retry(construct_names::HtmlTextMarkStart))
 }
 
@@ -487,10 +451,7 @@ fn before_tag<'a>(t: &mut Tokenizer<'a, Inlines>) -> Result<State, AllocError>
     if !html_is_on(t) {
         return Ok(State::Retry(Name::TextBeforeData));
     }
-    t.attempt(
-        State::Next(Name::TextBefore),
-        State::Next(Name::TextBeforeData),
-    )?;
+    t.attempt_next(Name::TextBefore, Name::TextBeforeData)?;
     Ok(State::Retry(Name::HtmlTextStart))
 }
 

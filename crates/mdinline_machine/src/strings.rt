@@ -30,20 +30,14 @@ pub(crate) fn string_before<'a, M: MachineTypes>(
             if !escapes_are_on(t) {
                 return Ok(State::Retry(Name::StringBeforeData));
             }
-            t.attempt(
-                State::Next(Name::StringBefore),
-                State::Next(Name::StringBeforeData),
-            )?;
+            t.attempt_next(Name::StringBefore, Name::StringBeforeData)?;
             Ok(State::Retry(Name::CharacterEscapeStart))
         }
         Some(b'&') => {
             if !references_are_on(t) {
                 return Ok(State::Retry(Name::StringBeforeData));
             }
-            t.attempt(
-                State::Next(Name::StringBefore),
-                State::Next(Name::StringBeforeData),
-            )?;
+            t.attempt_next(Name::StringBefore, Name::StringBeforeData)?;
             Ok(State::Retry(Name::CharacterReferenceStart))
         }
         Some(_) => Ok(State::Retry(Name::StringBeforeData)),
