@@ -2,7 +2,8 @@
 --
 -- `Leaves es` says that a list opens and closes nothing, whatever is open. What is between two runs that wait leaves all as it was: what the
 -- first one opens, the runs behind it, and what the next one closes.
-use Rattle.mdinline_emphasis.proofs.Prelude.{◌≡◌, ℕ, zero, suc, Bool, true, false, cond, List, [], ◌∷◌, ◌++◌, Option, Some, None, refl, sym, ap, ◌∙◌, subst, append_assoc, append-nil, nat_lt, ◌&&◌, Event, Name, Data, Emphasis, EmphasisText, Strong, StrongText, Point, IsBalanced, names_after, names_after_all, names_after_all-append, names_after_balanced, balanced_from_open, same_name-refl, Run, may_pair, is_strong, markers_of, later, closings, openings, data_of, markers_of_all, head_events, tail_events, run_events, events_of_runs, Waiting, SoFar, Found, opening, closing, put_behind, put, put_back, last_fitting, close, in_turn_from, all_waiting, none_read, paired_in_turn, AreFresh, LeavesBalanced}
+use Rattle.mdinline_emphasis.proofs.Prelude.{◌≡◌, ℕ, zero, suc, Bool, true, false, cond, List, [], ◌∷◌, ◌++◌, Option, Some, None, refl, sym, ap, ◌∙◌, subst, append_assoc, append-nil, nat_lt, ◌&&◌, Event, Name, Data, Point, IsBalanced, names_after, names_after_all, names_after_all-append, names_after_balanced, balanced_from_open, same_name-refl, Run, may_pair, markers_of, later, closings, openings, data_of, markers_of_all, head_events, tail_events, run_events, events_of_runs, Waiting, SoFar, Found, opening, closing, put_behind, put, put_back, last_fitting, close, in_turn_from, all_waiting, none_read, paired_in_turn, AreFresh, LeavesBalanced, Style, style_of, inner_name, outer_name}
+use Rattle.mdinline_emphasis.proofs.Markers.{names-between}
 use Rattle.mdinline_emphasis.proofs.InTurn.{paired-in-turn}
 
 -- ---- lists that leave what is open
@@ -44,24 +45,23 @@ names-alike (x ∷ xs) (y ∷ ys) h (Some st) = rw (h.0, h.1) (names-alike xs ys
 leaves-alike : (xs ys : List Event) → Alike xs ys → Leaves ys → Leaves xs
 leaves-alike xs ys h leaves st = names-alike xs ys h (Some st) ∙ leaves st
 
-openings-alike : (p q : Point) (ss : List Bool) → Alike (openings p ss) (openings q ss)
+openings-alike : (p q : Point) (ss : List Style) → Alike (openings p ss) (openings q ss)
 openings-alike p q [] = tt
 openings-alike p q (s ∷ ss) = (refl, refl, (refl, refl, (refl, refl, (refl, refl, openings-alike (later (markers_of s) p) (later (markers_of s) q) ss))))
 
 -- one pair more is closed
-closings-alike : (p q c : Point) (ss : List Bool) (s : Bool) → Alike (closings p (ss ++ s ∷ [])) (closings q ss ++ closings c (s ∷ []))
+closings-alike : (p q c : Point) (ss : List Style) (s : Style) → Alike (closings p (ss ++ s ∷ [])) (closings q ss ++ closings c (s ∷ []))
 closings-alike p q c [] s = (refl, refl, (refl, refl, (refl, refl, (refl, refl, tt))))
 closings-alike p q c (t ∷ ss) s = (refl, refl, (refl, refl, (refl, refl, (refl, refl, closings-alike (later (markers_of t) p) (later (markers_of t) q) c ss s))))
 
 -- ---- a pair around a list
 
-leaves-around : (s : Bool) (p : Point) (inside : List Event) → Leaves inside → Leaves (openings p (s ∷ []) ++ (inside ++ closings p (s ∷ [])))
-leaves-around true p inside h st =
-    let opened : List Name = StrongText ∷ Strong ∷ st in
-    names_after_all-append (Some opened) inside (closings p (true ∷ [])) ∙ ap (λ o. names_after_all o (closings p (true ∷ []))) (h opened)
-leaves-around false p inside h st =
-    let opened : List Name = EmphasisText ∷ Emphasis ∷ st in
-    names_after_all-append (Some opened) inside (closings p (false ∷ [])) ∙ ap (λ o. names_after_all o (closings p (false ∷ []))) (h opened)
+leaves-around : (s : Style) (p : Point) (inside : List Event) → Leaves inside → Leaves (openings p (s ∷ []) ++ (inside ++ closings p (s ∷ [])))
+leaves-around s p inside h st =
+    let names = names-between s p st in
+    let opened : List Name = inner_name s ∷ outer_name s ∷ st in
+    names_after_all-append (Some st) (openings p (s ∷ [])) (inside ++ closings p (s ∷ [])) ∙ ap (λ o. names_after_all o (inside ++ closings p (s ∷ []))) names.0
+    ∙ names_after_all-append (Some opened) inside (closings p (s ∷ [])) ∙ ap (λ o. names_after_all o (closings p (s ∷ []))) (h opened) ∙ names.1
 
 module _ (texts : ℕ → List Event) where
   -- ---- runs
@@ -147,7 +147,7 @@ module _ (texts : ℕ → List Event) where
       (found-good r base (w.opener ∷ (w.behind ++ behind)) ws f tail (drop base there ws tail good)) e
 
   -- a pair of it and the run that closes
-  pair-good : (s : Bool) (r : Run) (base : List Run) (w : Waiting) (ws : List Waiting) → Good base (w ∷ ws) ((head_events texts) r)
+  pair-good : (s : Style) (r : Run) (base : List Run) (w : Waiting) (ws : List Waiting) → Good base (w ∷ ws) ((head_events texts) r)
       → Good base (record w { opener = opening s w.opener } ∷ ws) ((head_events texts) (closing s r))
   pair-good s r base w ws h =
       let o = opening s w.opener in
@@ -189,12 +189,12 @@ module _ (texts : ℕ → List Event) where
       → IsGood (elim o [
         | None ↦ put r z
         | Some f ↦
-            let s = is_strong f.last.opener r in
+            let s = style_of f.last.opener r in
             close n (closing s r) (put_back (record f.last { opener = opening s f.last.opener }) z.base f.before)
       ]) tail
   close-by n r z tail None none done h more e = done
   close-by n r z tail (Some f) none done h more e =
-      let s = is_strong f.last.opener r in
+      let s = style_of f.last.opener r in
       let w = record f.last { opener = opening s f.last.opener } in
       more (closing s r) (put_back w z.base f.before) none
       (put_back-good (nat_lt 0 w.opener.left) z.base w f.before ((head_events texts) (closing s r))
@@ -207,7 +207,7 @@ module _ (texts : ℕ → List Event) where
       cond-good (r.closes && nat_lt 0 r.left) (elim (last_fitting r [] z.waiting) [
         | None ↦ put r z
         | Some f ↦
-            let s = is_strong f.last.opener r in
+            let s = style_of f.last.opener r in
             close n (closing s r) (put_back (record f.last { opener = opening s f.last.opener }) z.base f.before)
       ]) (put r z) tail (close-by n r z tail (last_fitting r [] z.waiting) none done h (close-good n tail k) refl) done
 

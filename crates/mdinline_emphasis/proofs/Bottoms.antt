@@ -1,5 +1,6 @@
 -- Of the runs that wait before the place of a search of its kind that found nothing, none fits: this stays so.
-use Rattle.mdinline_emphasis.proofs.Prelude.{◌≡◌, ◌≢◌, ℕ, zero, suc, ◌+◌, ◌-◌, ◌==◌, ◌<◌, ◌≤◌, Bool, true, false, cond, List, [], ◌∷◌, ◌++◌, Option, Some, None, take, length, set, refl, sym, ap, ◌∙◌, arith, inl, inr, get_or-set_same, get_or-set_other, slice_get_within, slice_get-get_or, slice_get, slice_index, ◌&&◌, ◌||◌, not, nat_tests, Run, same, may_pair, is_strong, opening, closing, last_of, may_pair_there, run_there, with_pair, with_pair_of, third, kind, AreBottoms, AreInOrder, NoneFitsBefore, cases_eq}
+use Rattle.mdinline_emphasis.proofs.Prelude.{◌≡◌, ◌≢◌, ℕ, zero, suc, ◌+◌, ◌-◌, ◌*◌, ◌==◌, ◌<◌, ◌≤◌, Bool, true, false, cond, List, [], ◌∷◌, ◌++◌, Option, Some, None, take, length, set, refl, sym, ap, ◌∙◌, arith, inl, inr, get_or-set_same, get_or-set_other, slice_get_within, slice_get-get_or, slice_get, slice_index, ◌&&◌, ◌||◌, not, nat_tests, Run, same, may_pair, opening, closing, last_of, may_pair_there, run_there, with_pair, with_pair_of, third, kind, AreBottoms, AreInOrder, NoneFitsBefore, cases_eq, style_of, Marker, marker_number}
+use Rattle.mdinline_emphasis.proofs.Markers.{number-is}
 use Rattle.mdinline_emphasis.proofs.Stands.{pushed-at}
 
 -- ---- the kind of a run
@@ -15,34 +16,23 @@ third-most true q = omega arith
 third-most false true = omega arith
 third-most false false = omega arith
 
-parts : (a b a' b' : Bool) (t t' : ℕ) → t ≤ 2 → t' ≤ 2 → (cond a 6 0 + cond b 3 0) + t ≡ (cond a' 6 0 + cond b' 3 0) + t' → (a ≡ a') × (b ≡ b') × (t ≡ t')
-parts true true true true t t' m m' e = (refl, refl, omega (arith, e))
-parts true false true false t t' m m' e = (refl, refl, omega (arith, e))
-parts false true false true t t' m m' e = (refl, refl, omega (arith, e))
-parts false false false false t t' m m' e = (refl, refl, omega (arith, e))
-parts true true true false t t' m m' e = absurd (omega (arith, e, m, m'))
-parts true true false true t t' m m' e = absurd (omega (arith, e, m, m'))
-parts true true false false t t' m m' e = absurd (omega (arith, e, m, m'))
-parts true false true true t t' m m' e = absurd (omega (arith, e, m, m'))
-parts true false false true t t' m m' e = absurd (omega (arith, e, m, m'))
-parts true false false false t t' m m' e = absurd (omega (arith, e, m, m'))
-parts false true true true t t' m m' e = absurd (omega (arith, e, m, m'))
-parts false true true false t t' m m' e = absurd (omega (arith, e, m, m'))
-parts false true false false t t' m m' e = absurd (omega (arith, e, m, m'))
-parts false false true true t t' m m' e = absurd (omega (arith, e, m, m'))
-parts false false true false t t' m m' e = absurd (omega (arith, e, m, m'))
-parts false false false true t t' m m' e = absurd (omega (arith, e, m, m'))
+parts : (a a' : ℕ) (b b' : Bool) (t t' : ℕ) → t ≤ 2 → t' ≤ 2 → (6 * a + cond b 3 0) + t ≡ (6 * a' + cond b' 3 0) + t' → (a ≡ a') × (b ≡ b') × (t ≡ t')
+parts a a' true true t t' m m' e = (omega (arith, e, m, m'), refl, omega (arith, e, m, m'))
+parts a a' false false t t' m m' e = (omega (arith, e, m, m'), refl, omega (arith, e, m, m'))
+parts a a' true false t t' m m' e = absurd (omega (arith, e, m, m'))
+parts a a' false true t t' m m' e = absurd (omega (arith, e, m, m'))
 
-abbrev fits_by : Run → Bool → Bool → Bool → Bool → Bool
-fits_by o is_star opens one two = same o.is_star is_star && ((not (o.closes || opens)) || not (((o.rest == 1) && two) || ((o.rest == 2) && one)))
+abbrev fits_by : Run → Marker → Bool → Bool → Bool → Bool
+fits_by o marker opens one two = same o.marker marker && ((not (o.closes || opens)) || not (((o.rest == 1) && two) || ((o.rest == 2) && one)))
 
 fits-kind : (o r r' : Run) → kind r ≡ kind r' → may_pair o r ≡ may_pair o r'
 fits-kind o r r' e =
-    let p = parts r.is_star r.opens r'.is_star r'.opens (third r.rest) (third r'.rest) (third-most (r.rest == 1) (r.rest == 2)) (third-most (r'.rest == 1) (r'.rest == 2)) e in
+    let p = parts (marker_number r.marker) (marker_number r'.marker) r.opens r'.opens (third r.rest) (third r'.rest) (third-most (r.rest == 1) (r.rest == 2)) (third-most (r'.rest == 1) (r'.rest == 2)) e in
+    let marker : r.marker ≡ r'.marker = number-is r.marker r'.marker p.0 in
     let one : (r.rest == 1) ≡ (r'.rest == 1) = third-one r.rest ∙ ap (λ t. t == 1) p.2 ∙ sym (third-one r'.rest) in
     let two : (r.rest == 2) ≡ (r'.rest == 2) = third-two r.rest ∙ ap (λ t. t == 2) p.2 ∙ sym (third-two r'.rest) in
-    ap (λ x. fits_by o x r.opens (r.rest == 1) (r.rest == 2)) p.0 ∙ ap (λ x. fits_by o r'.is_star x (r.rest == 1) (r.rest == 2)) p.1
-    ∙ ap (λ x. fits_by o r'.is_star r'.opens x (r.rest == 2)) one ∙ ap (fits_by o r'.is_star r'.opens (r'.rest == 1)) two
+    ap (λ x. fits_by o x r.opens (r.rest == 1) (r.rest == 2)) marker ∙ ap (λ x. fits_by o r'.marker x (r.rest == 1) (r.rest == 2)) p.1
+    ∙ ap (λ x. fits_by o r'.marker r'.opens x (r.rest == 2)) one ∙ ap (fits_by o r'.marker r'.opens (r'.rest == 1)) two
 
 fits-there-kind : (o : Option Run) (r r' : Run) → kind r ≡ kind r' → may_pair_there o r ≡ may_pair_there o r'
 fits-there-kind None r r' e = refl
@@ -103,14 +93,14 @@ taken-at (suc n) (x ∷ xs) (suc k) m e = taken-at n xs k m e
 -- ---- after a pair
 
 module _ (rs : List Run) (i j : ℕ) (o c : Run) (at : slice_get rs i ≡ Some o) (next : slice_get rs j ≡ Some c) where
-  made : with_pair rs i j ≡ set (set rs i (opening (is_strong o c) o)) j (closing (is_strong o c) c)
+  made : with_pair rs i j ≡ set (set rs i (opening (style_of o c) o)) j (closing (style_of o c) c)
   made = ap (λ x. with_pair_of rs i j x (slice_get rs j)) at ∙ ap (with_pair_of rs i j (Some o)) next
 
   fits-after : (r : Run) (m : ℕ) → m < j → may_pair_there (slice_get (with_pair rs i j) m) r ≡ may_pair_there (slice_get rs m) r
   fits-after r m before =
-      let o' = opening (is_strong o c) o in
+      let o' = opening (style_of o c) o in
       let one : slice_get (with_pair rs i j) m ≡ slice_get (set rs i o') m =
-      ap (λ xs. slice_get xs m) made ∙ slice_get-set_other (set rs i o') j m (closing (is_strong o c) c) (λ e. absurd (omega (arith, before, e))) in
+      ap (λ xs. slice_get xs m) made ∙ slice_get-set_other (set rs i o') j m (closing (style_of o c) c) (λ e. absurd (omega (arith, before, e))) in
       ap (λ x. may_pair_there x r) one ∙ elim (cases_eq m i) [
         | inl same ↦
             ap (λ k. may_pair_there (slice_get (set rs i o') k) r) same ∙ ap (λ x. may_pair_there x r) (slice_get-set_same rs i o' (slice_get_within rs i o at))

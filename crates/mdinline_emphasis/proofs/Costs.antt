@@ -1,5 +1,5 @@
 -- What the loops that pair runs cost: what is to be paid pays for it.
-use Rattle.mdinline_emphasis.proofs.Prelude.{◌≡◌, ℕ, zero, suc, ◌+◌, ◌-◌, ◌<◌, ◌≤◌, Bool, true, false, cond, List, [], ◌∷◌, ◌++◌, Some, length, set, take, drop, refl, ap, ◌∙◌, arith, nat_lt, slice_get, slice_index, drop_more, Run, is_strong, opening, closing, with_pair, with_pair_of, markers_left, above, waiting_from, same_Some}
+use Rattle.mdinline_emphasis.proofs.Prelude.{◌≡◌, ℕ, zero, suc, ◌+◌, ◌-◌, ◌<◌, ◌≤◌, Bool, true, false, cond, List, [], ◌∷◌, ◌++◌, Some, length, set, take, drop, refl, ap, ◌∙◌, arith, nat_lt, slice_get, slice_index, drop_more, Run, opening, closing, with_pair, with_pair_of, markers_left, above, waiting_from, same_Some, style_of}
 use Rattle.std.proofs.lemmas.Bool.{le-ltb, lt-ltb}
 use Rattle.mdinline_emphasis.proofs.Steps.{fewer}
 
@@ -22,7 +22,7 @@ set-other (x ∷ xs) (suc i) (suc m) v h = set-other xs i m v (omega (arith, h))
 -- a pair takes one marker or more of those that are left
 pub pair-takes : (rs : List Run) (i j : ℕ) (o c : Run) → slice_get rs i ≡ Some o → slice_get rs j ≡ Some c → i < j → 0 < c.left → markers_left (with_pair rs i j) < markers_left rs
 pair-takes rs i j o c at next before some =
-    let s = is_strong o c in
+    let s = style_of o c in
     let made : with_pair rs i j ≡ set (set rs i (opening s o)) j (closing s c) = ap (λ x. with_pair_of rs i j x (slice_get rs j)) at ∙ ap (with_pair_of rs i j (Some o)) next in
     let one = set-left rs i o (opening s o) at in
     let two = set-left (set rs i (opening s o)) j c (closing s c) (set-other rs i j (opening s o) before ∙ next) in

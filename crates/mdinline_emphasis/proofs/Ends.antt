@@ -2,22 +2,22 @@
 use Rattle.std.proofs.lemmas.List.{length-reverse}
 use Rattle.markdown_base.proofs.Orders.{InOrder}
 use Rattle.markdown_base.specs.Places.{stands_before}
-use Rattle.mdinline_emphasis.proofs.Prelude.{◌≡◌, ℕ, suc, ◌+◌, ◌-◌, ◌*◌, ◌<◌, ◌≤◌, Bool, true, false, cond, List, [], ◌∷◌, ◌++◌, Option, Some, None, map, take, drop, length, get_or, refl, sym, ap, ◌∙◌, arith, length-append, ◌==◌, ◌&&◌, reverse, slice_get, reverse-append, nat_tests, take-suc, take-append-drop, map-append, All-head, All-tail, Event, Point, Delimiters, as_run, Run, Pair, markers_of_all, strengths, in_lists, in_pairs, all_in_pairs, Standing, standing, markers, HasRoom, ArePlacesInside, ends_at, ends_of_pairs, markers_left, is_sequence, index_of_event, depth_after, run_at, runs_from, runs_in, EndsTakeMarkers, RunsAreFew}
+use Rattle.mdinline_emphasis.proofs.Prelude.{◌≡◌, ℕ, suc, ◌+◌, ◌-◌, ◌*◌, ◌<◌, ◌≤◌, true, false, cond, List, [], ◌∷◌, ◌++◌, Option, Some, None, map, take, drop, length, get_or, refl, sym, ap, ◌∙◌, arith, length-append, ◌==◌, ◌&&◌, reverse, slice_get, reverse-append, nat_tests, take-suc, take-append-drop, map-append, All-head, All-tail, Event, Point, Delimiters, as_run, Run, Pair, markers_of_all, styles, in_lists, in_pairs, all_in_pairs, Standing, standing, markers, HasRoom, ArePlacesInside, ends_at, ends_of_pairs, markers_left, is_sequence, index_of_event, depth_after, run_at, runs_from, runs_in, EndsTakeMarkers, RunsAreFew, Style}
+use Rattle.mdinline_emphasis.proofs.Markers.{takes-some}
 use Rattle.mdinline_emphasis.proofs.InTurn.{markers-more}
 use Rattle.mdinline_emphasis.proofs.PairsKeep.{pairs-keep}
 
 -- ---- each end of a pair takes a marker
 
-few-ends : (ss : List Bool) → length ss ≤ markers_of_all ss
+few-ends : (ss : List Style) → length ss ≤ markers_of_all ss
 few-ends [] = omega arith
-few-ends (true ∷ ss) = let more = few-ends ss in omega (arith, more)
-few-ends (false ∷ ss) = let more = few-ends ss in omega (arith, more)
+few-ends (s ∷ ss) = let more = few-ends ss in let one = takes-some s in omega (arith, more, one)
 
-markers-append : (ss ts : List Bool) → markers_of_all (ss ++ ts) ≡ markers_of_all ss + markers_of_all ts
+markers-append : (ss ts : List Style) → markers_of_all (ss ++ ts) ≡ markers_of_all ss + markers_of_all ts
 markers-append [] ts = omega arith
 markers-append (s ∷ ss) ts = let more = markers-append ss ts in omega (arith, more)
 
-markers-turned : (ss : List Bool) → markers_of_all (reverse ss) ≡ markers_of_all ss
+markers-turned : (ss : List Style) → markers_of_all (reverse ss) ≡ markers_of_all ss
 markers-turned [] = refl
 markers-turned (s ∷ ss) =
     let more = markers-turned ss in
@@ -25,7 +25,7 @@ markers-turned (s ∷ ss) =
     omega (arith, more, last)
 
 -- a run with more pairs, whose markers are as many as before
-one-run : (r : Run) (cs os : List Bool) → markers (in_lists r cs os) ≡ markers r → ends_at (in_lists r cs os) + (in_lists r cs os).left ≤ ends_at r + r.left
+one-run : (r : Run) (cs os : List Style) → markers (in_lists r cs os) ≡ markers r → ends_at (in_lists r cs os) + (in_lists r cs os).left ≤ ends_at r + r.left
 one-run r cs os same =
     let closed = markers-append r.closed cs in
     let opened = markers-append (reverse os) r.opened in
@@ -43,7 +43,7 @@ all-runs ps n [] h = omega arith
 all-runs ps n (r ∷ rs) h =
     let first : standing (in_pairs ps n r) ≡ standing r = cc in
     let others : map standing (all_in_pairs ps (n + 1) rs) ≡ map standing rs = cc in
-    let here = one-run r (strengths (λ p. p.closer == n) ps) (strengths (λ p. p.opener == n) ps) (ap (λ (s : Standing). s.markers) first) in
+    let here = one-run r (styles (λ p. p.closer == n) ps) (styles (λ p. p.opener == n) ps) (ap (λ (s : Standing). s.markers) first) in
     let more = all-runs ps (n + 1) rs others in
     omega (arith, here, more)
 

@@ -1,41 +1,41 @@
 -- `paired` gives what reading the runs in turn gives.
 --
 -- In turn, a pair changes two runs in their places; a delimiter on the stack stands for a run that waits, with as many markers left.
-use Rattle.mdinline_emphasis.proofs.Prelude.{◌≡◌, ◌≢◌, ℕ, zero, suc, ◌+◌, ◌-◌, ◌<◌, ◌≤◌, Bool, true, false, cond, List, [], ◌∷◌, ◌++◌, Option, Some, None, inl, inr, map, length, refl, sym, ap, ◌∙◌, subst, arith, append_assoc, append-nil, length-append, ◌==◌, ◌&&◌, ◌⊎◌, nat_lt, reverse, filter, and_parts, eqb-true, eq-eqb, ne_eqb, map-append, reverse-append, filter-append, Run, Pair, Delimiter, may_pair, is_strong, markers_of, markers_of_all, opens_yet, closes_yet, gave, on_stack, look_back, close_pairs, pairs_from, strengths, in_lists, in_pairs, all_in_pairs, paired, Waiting, SoFar, Found, opening, closing, put_behind, put, put_back, last_fitting, close, in_turn_from, all_waiting, all_runs, none_read, paired_in_turn}
+use Rattle.mdinline_emphasis.proofs.Prelude.{◌≡◌, ◌≢◌, ℕ, zero, suc, ◌+◌, ◌-◌, ◌<◌, ◌≤◌, Bool, true, false, cond, List, [], ◌∷◌, ◌++◌, Option, Some, None, inl, inr, map, length, refl, sym, ap, ◌∙◌, subst, arith, append_assoc, append-nil, length-append, ◌==◌, ◌&&◌, ◌⊎◌, nat_lt, reverse, filter, and_parts, eqb-true, eq-eqb, ne_eqb, map-append, reverse-append, filter-append, Run, Pair, Delimiter, may_pair, markers_of, markers_of_all, opens_yet, closes_yet, gave, on_stack, look_back, close_pairs, pairs_from, styles, in_lists, in_pairs, all_in_pairs, paired, Waiting, SoFar, Found, opening, closing, put_behind, put, put_back, last_fitting, close, in_turn_from, all_waiting, all_runs, none_read, paired_in_turn, Style, style_of}
 
 -- ---- a pair more
 
 -- a run with a pair more, if it is one of its two
 abbrev in_pair : Pair → ℕ → Run → Run
-in_pair p n r = cond (p.opener == n) (opening p.strong r) (cond (p.closer == n) (closing p.strong r) r)
+in_pair p n r = cond (p.opener == n) (opening p.style r) (cond (p.closer == n) (closing p.style r) r)
 
 abbrev add_pair : Pair → ℕ → List Run → List Run
 add_pair p n [] = []
 add_pair p n (r ∷ rs) = in_pair p n r ∷ add_pair p (n + 1) rs
 
-pub markers-more : (ss : List Bool) (s : Bool) → markers_of_all (ss ++ s ∷ []) ≡ markers_of_all ss + markers_of s
+pub markers-more : (ss : List Style) (s : Style) → markers_of_all (ss ++ s ∷ []) ≡ markers_of_all ss + markers_of s
 markers-more [] s = omega arith
 markers-more (t ∷ ss) s = let more = markers-more ss s in omega (arith, more)
 
-abbrev one_if : (b s : Bool) → List Bool
+abbrev one_if : (b : Bool) (s : Style) → List Style
 one_if b s = cond b (s ∷ []) []
 
-strengths-more : (takes : Pair → Bool) (ps : List Pair) (p : Pair) → strengths takes (ps ++ p ∷ []) ≡ strengths takes ps ++ one_if (takes p) p.strong
-strengths-more takes ps p =
-    ap (map (λ (q : Pair). q.strong)) (filter-append takes ps (p ∷ [])) ∙ map-append (λ (q : Pair). q.strong) (filter takes ps) (filter takes (p ∷ []))
-    ∙ ap (λ xs. strengths takes ps ++ xs) (one (takes p))
+styles-more : (takes : Pair → Bool) (ps : List Pair) (p : Pair) → styles takes (ps ++ p ∷ []) ≡ styles takes ps ++ one_if (takes p) p.style
+styles-more takes ps p =
+    ap (map (λ (q : Pair). q.style)) (filter-append takes ps (p ∷ [])) ∙ map-append (λ (q : Pair). q.style) (filter takes ps) (filter takes (p ∷ []))
+    ∙ ap (λ xs. styles takes ps ++ xs) (one (takes p))
   where
-    one : (b : Bool) → map (λ (q : Pair). q.strong) (cond b (p ∷ []) []) ≡ one_if b p.strong
+    one : (b : Bool) → map (λ (q : Pair). q.style) (cond b (p ∷ []) []) ≡ one_if b p.style
     one true = refl
     one false = refl
 
-abbrev parts : Run → List Bool → ℕ → List Bool → Run
+abbrev parts : Run → List Style → ℕ → List Style → Run
 parts r cs n os = record r { closed = cs; left = n; opened = os }
 
-parts-same : (r : Run) (cs cs' : List Bool) (n n' : ℕ) (os os' : List Bool) → cs ≡ cs' → n ≡ n' → os ≡ os' → parts r cs n os ≡ parts r cs' n' os'
+parts-same : (r : Run) (cs cs' : List Style) (n n' : ℕ) (os os' : List Style) → cs ≡ cs' → n ≡ n' → os ≡ os' → parts r cs n os ≡ parts r cs' n' os'
 parts-same r cs cs' n n' os os' e f g = ap (λ x. parts r x n os) e ∙ ap (λ x. parts r cs' x os) f ∙ ap (parts r cs' n') g
 
-in-lists-more : (a b s : Bool) (r : Run) (cs os : List Bool) → (a ≡ true → b ≡ true → ⊥)
+in-lists-more : (a b : Bool) (s : Style) (r : Run) (cs os : List Style) → (a ≡ true → b ≡ true → ⊥)
     → in_lists r (cs ++ one_if b s) (os ++ one_if a s) ≡ cond a (opening s (in_lists r cs os)) (cond b (closing s (in_lists r cs os)) (in_lists r cs os))
 in-lists-more true true s r cs os both = absurd (both refl refl)
 in-lists-more true false s r cs os both =
@@ -50,11 +50,11 @@ in-lists-more false false s r cs os both = ap (λ xs. in_lists r xs (os ++ [])) 
 
 in-pairs-more : (p : Pair) (ps : List Pair) (n : ℕ) (r : Run) → p.opener ≢ p.closer → in_pairs (ps ++ p ∷ []) n r ≡ in_pair p n (in_pairs ps n r)
 in-pairs-more p ps n r differ =
-    let cs = strengths (λ q. q.closer == n) ps in
-    let os = strengths (λ q. q.opener == n) ps in
-    ap (λ xs. in_lists r xs (strengths (λ q. q.opener == n) (ps ++ p ∷ []))) (strengths-more (λ q. q.closer == n) ps p)
-    ∙ ap (in_lists r (cs ++ one_if (p.closer == n) p.strong)) (strengths-more (λ q. q.opener == n) ps p)
-    ∙ in-lists-more (p.opener == n) (p.closer == n) p.strong r cs os (λ h k. differ (eqb-true p.opener n h ∙ sym (eqb-true p.closer n k)))
+    let cs = styles (λ q. q.closer == n) ps in
+    let os = styles (λ q. q.opener == n) ps in
+    ap (λ xs. in_lists r xs (styles (λ q. q.opener == n) (ps ++ p ∷ []))) (styles-more (λ q. q.closer == n) ps p)
+    ∙ ap (in_lists r (cs ++ one_if (p.closer == n) p.style)) (styles-more (λ q. q.opener == n) ps p)
+    ∙ in-lists-more (p.opener == n) (p.closer == n) p.style r cs os (λ h k. differ (eqb-true p.opener n h ∙ sym (eqb-true p.closer n k)))
 
 all-more : (p : Pair) (ps : List Pair) (n : ℕ) (rs : List Run) → p.opener ≢ p.closer → all_in_pairs (ps ++ p ∷ []) n rs ≡ add_pair p n (all_in_pairs ps n rs)
 all-more p ps n [] differ = refl
@@ -93,12 +93,12 @@ outside-others k n many (inr h) = inr (omega (arith, h))
 add-outside : (p : Pair) (n : ℕ) (xs : List Run) → IsOutside p.opener n (length xs) → IsOutside p.closer n (length xs) → add_pair p n xs ≡ xs
 add-outside p n [] h k = refl
 add-outside p n (x ∷ xs) h k =
-    ap (λ b. cond b (opening p.strong x) (cond (p.closer == n) (closing p.strong x) x) ∷ add_pair p (n + 1) xs) (outside-first p.opener n (length xs) h)
-    ∙ ap (λ b. cond b (closing p.strong x) x ∷ add_pair p (n + 1) xs) (outside-first p.closer n (length xs) k)
+    ap (λ b. cond b (opening p.style x) (cond (p.closer == n) (closing p.style x) x) ∷ add_pair p (n + 1) xs) (outside-first p.opener n (length xs) h)
+    ∙ ap (λ b. cond b (closing p.style x) x ∷ add_pair p (n + 1) xs) (outside-first p.closer n (length xs) k)
     ∙ ap (λ zs. x ∷ zs) (add-outside p (n + 1) xs (outside-others p.opener n (length xs) h) (outside-others p.closer n (length xs) k))
 
 pair-in-places : (p : Pair) (before behind rest : List Run) (o r : Run) → p.opener ≡ length before → p.closer ≡ length (before ++ o ∷ behind)
-    → add_pair p 0 (before ++ o ∷ (behind ++ r ∷ rest)) ≡ before ++ opening p.strong o ∷ (behind ++ closing p.strong r ∷ rest)
+    → add_pair p 0 (before ++ o ∷ (behind ++ r ∷ rest)) ≡ before ++ opening p.style o ∷ (behind ++ closing p.style r ∷ rest)
 pair-in-places p before behind rest o r opener closer =
     let long = length-append before (o ∷ behind) in
     let i = 0 + length before in
@@ -106,18 +106,18 @@ pair-in-places p before behind rest o r opener closer =
     let at_o : p.opener ≡ i = omega (arith, opener) in
     let at_r : p.closer ≡ j = omega (arith, closer, long) in
     let first : add_pair p 0 before ≡ before = add-outside p 0 before (inr (omega (arith, at_o))) (inr (omega (arith, at_r))) in
-    let opens : in_pair p i o ≡ opening p.strong o = ap (λ b. cond b (opening p.strong o) (cond (p.closer == i) (closing p.strong o) o)) (eq-eqb p.opener i at_o) in
+    let opens : in_pair p i o ≡ opening p.style o = ap (λ b. cond b (opening p.style o) (cond (p.closer == i) (closing p.style o) o)) (eq-eqb p.opener i at_o) in
     let between : add_pair p (i + 1) behind ≡ behind = add-outside p (i + 1) behind (inl (omega (arith, at_o))) (inr (omega (arith, at_r))) in
-    let closes : in_pair p j r ≡ closing p.strong r =
-    ap (λ b. cond b (opening p.strong r) (cond (p.closer == j) (closing p.strong r) r)) (ne_eqb p.opener j (λ e. omega (arith, at_o, e)))
-    ∙ ap (λ b. cond b (closing p.strong r) r) (eq-eqb p.closer j at_r) in
+    let closes : in_pair p j r ≡ closing p.style r =
+    ap (λ b. cond b (opening p.style r) (cond (p.closer == j) (closing p.style r) r)) (ne_eqb p.opener j (λ e. omega (arith, at_o, e)))
+    ∙ ap (λ b. cond b (closing p.style r) r) (eq-eqb p.closer j at_r) in
     let others : add_pair p (j + 1) rest ≡ rest = add-outside p (j + 1) rest (inl (omega (arith, at_o))) (inl (omega (arith, at_r))) in
     add-append p 0 before (o ∷ (behind ++ r ∷ rest))
     ∙ ap (λ xs. xs ++ (in_pair p i o ∷ add_pair p (i + 1) (behind ++ r ∷ rest))) first
     ∙ ap (λ x. before ++ x ∷ add_pair p (i + 1) (behind ++ r ∷ rest)) opens
-    ∙ ap (λ xs. before ++ opening p.strong o ∷ xs)
+    ∙ ap (λ xs. before ++ opening p.style o ∷ xs)
     (add-append p (i + 1) behind (r ∷ rest) ∙ ap (λ xs. xs ++ (in_pair p j r ∷ add_pair p (j + 1) rest)) between
-    ∙ ap (λ x. behind ++ x ∷ add_pair p (j + 1) rest) closes ∙ ap (λ xs. behind ++ closing p.strong r ∷ xs) others)
+    ∙ ap (λ x. behind ++ x ∷ add_pair p (j + 1) rest) closes ∙ ap (λ xs. behind ++ closing p.style r ∷ xs) others)
 
 -- ---- runs that were read in turn
 
@@ -136,7 +136,7 @@ all-put_back false base w ws = all-put_behind (w.opener ∷ w.behind) base ws
 abbrev bare : Run → Run
 bare r = record r { closed = []; opened = [] }
 
-bare-used : (s : Bool) (r d : Run) → bare r ≡ bare d → bare (record r { left = r.left - markers_of s }) ≡ bare (record d { left = d.left - markers_of s })
+bare-used : (s : Style) (r d : Run) → bare r ≡ bare d → bare (record r { left = r.left - markers_of s }) ≡ bare (record d { left = d.left - markers_of s })
 bare-used s r d e = ap (λ (x : Run). record x { left = x.left - markers_of s }) e
 
 -- each run that waits has its delimiter on the stack
@@ -200,13 +200,13 @@ looked r c e base behind (w ∷ ws) (d ∷ ds) h =
 abbrev pairs-with : ℕ → Delimiter → (stack found : List Delimiter) → List Delimiter × List Pair
 pairs-with n d stack [] = (on_stack d stack, [])
 pairs-with n d stack (o ∷ below) =
-    let s = is_strong o.run d.run in
+    let s = style_of o.run d.run in
     let more = close_pairs n (gave s d) (on_stack (gave s o) below) in
-    (more.0, record { opener = o.number; closer = d.number; strong = s } ∷ more.1)
+    (more.0, record { opener = o.number; closer = d.number; style = s } ∷ more.1)
 
 abbrev in-turn-with : ℕ → Run → SoFar → Option Found → SoFar
 in-turn-with n r z None = put r z
-in-turn-with n r z (Some f) = let s = is_strong f.last.opener r in close n (closing s r) (put_back (record f.last { opener = opening s f.last.opener }) z.base f.before)
+in-turn-with n r z (Some f) = let s = style_of f.last.opener r in close n (closing s r) (put_back (record f.last { opener = opening s f.last.opener }) z.base f.before)
 
 -- the runs of a text
 module _ (all : List Run) where
@@ -252,9 +252,9 @@ module _ (all : List Run) where
       → all_waiting f.before ++ f.last.opener ∷ f.last.behind ≡ all_waiting z.waiting ++ []
       → IsOut ps rest (in-turn-with n r z (Some f)) (pairs-with n d stack (o ∷ below))
   found-out n closes z r d stack ps rest h number e f o below on is =
-      let s = is_strong f.last.opener r in
-      let same : is_strong o.run d.run ≡ s = sym (ap (λ x. is_strong x r) on.1 ∙ ap (is_strong o.run) e) in
-      let p : Pair = record { opener = o.number; closer = d.number; strong = s } in
+      let s = style_of f.last.opener r in
+      let same : style_of o.run d.run ≡ s = sym (ap (λ x. style_of x r) on.1 ∙ ap (style_of o.run) e) in
+      let p : Pair = record { opener = o.number; closer = d.number; style = s } in
       let w : Waiting = record f.last { opener = opening s f.last.opener } in
       let z' = put_back w z.base f.before in
       let before = z.base ++ all_waiting f.before in
@@ -279,7 +279,7 @@ module _ (all : List Run) where
       subst
       (λ t.
       let some = close_pairs n (gave t d) (on_stack (gave t o) below) in
-      IsOut ps rest (in-turn-with n r z (Some f)) (some.0, record { opener = o.number; closer = d.number; strong = t } ∷ some.1))
+      IsOut ps rest (in-turn-with n r z (Some f)) (some.0, record { opener = o.number; closer = d.number; style = t } ∷ some.1))
       (sym same) out
 
   closes : (n : ℕ) → Closes n

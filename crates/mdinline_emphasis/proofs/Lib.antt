@@ -14,6 +14,8 @@ mod CodeTables
 mod Costs
 pub mod Ends
 mod InTurn
+-- pairs
+pub mod Markers
 -- edits
 pub mod PairsKeep
 mod Prelude

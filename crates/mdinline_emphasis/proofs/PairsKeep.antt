@@ -1,5 +1,6 @@
 -- Pairs keep the runs in their order, each with its index, its place, its marker, and its number of markers.
-use Rattle.mdinline_emphasis.proofs.Prelude.{◌≡◌, ℕ, zero, suc, ◌<◌, ◌≤◌, Bool, true, false, cond, List, [], ◌∷◌, ◌++◌, Option, Some, None, inl, inr, map, take, drop, length, refl, sym, ap, ◌∙◌, subst, arith, append_assoc, append-nil, ◌&&◌, nat_lt, nat_le, cases_Bool, length-map, map-append, drop-length, take-length, and-right, Run, may_pair, is_strong, markers_of, paired, Waiting, SoFar, Found, opening, closing, put_behind, put, put_back, last_fitting, close, in_turn_from, all_waiting, all_runs, none_read, Delimiters, as_run, Standing, standing, markers, and-left}
+use Rattle.mdinline_emphasis.proofs.Prelude.{◌≡◌, ℕ, zero, suc, ◌<◌, ◌≤◌, Bool, true, false, cond, List, [], ◌∷◌, ◌++◌, Option, Some, None, inl, inr, map, take, drop, length, refl, sym, ap, ◌∙◌, subst, arith, append_assoc, append-nil, ◌&&◌, nat_lt, nat_le, cases_Bool, length-map, map-append, drop-length, take-length, and-right, Run, may_pair, markers_of, paired, Waiting, SoFar, Found, opening, closing, put_behind, put, put_back, last_fitting, close, in_turn_from, all_waiting, all_runs, none_read, Delimiters, as_run, Standing, standing, markers, and-left, Style, style_of}
+use Rattle.mdinline_emphasis.proofs.Markers.{pair-has}
 use Rattle.mdinline_emphasis.proofs.InTurn.{all-put_behind, markers-more, paired-in-turn}
 
 abbrev all_standing : List Run → List Standing
@@ -10,13 +11,13 @@ standing-append xs ys = map-append standing xs ys
 
 -- ---- a pair takes markers that are there
 
-opened-standing : (s : Bool) (o : Run) → markers_of s ≤ o.left → standing (opening s o) ≡ standing o
-opened-standing s o h = ap (λ n. record { index = o.index; start = o.start; is_star = o.is_star; markers = n }) (let same : markers (opening s o) ≡ markers o = omega (arith, h) in same)
+opened-standing : (s : Style) (o : Run) → markers_of s ≤ o.left → standing (opening s o) ≡ standing o
+opened-standing s o h = ap (λ n. record { index = o.index; start = o.start; marker = o.marker; markers = n }) (let same : markers (opening s o) ≡ markers o = omega (arith, h) in same)
 
-closed-standing : (s : Bool) (r : Run) → markers_of s ≤ r.left → standing (closing s r) ≡ standing r
+closed-standing : (s : Style) (r : Run) → markers_of s ≤ r.left → standing (closing s r) ≡ standing r
 closed-standing s r h =
     let more = markers-more r.closed s in
-    ap (λ n. record { index = r.index; start = r.start; is_star = r.is_star; markers = n }) (let same : markers (closing s r) ≡ markers r = omega (arith, more, h) in same)
+    ap (λ n. record { index = r.index; start = r.start; marker = r.marker; markers = n }) (let same : markers (closing s r) ≡ markers r = omega (arith, more, h) in same)
 
 -- each run that waits has markers left
 abbrev pub HaveLeft : List Waiting → Type 0
@@ -29,19 +30,11 @@ some-left n h = grind (arith, h)
 two-left : (n : ℕ) → nat_le 2 n ≡ true → 2 ≤ n
 two-left n h = grind (arith, h)
 
-first-has : (o r : Run) → 0 < o.left → markers_of (is_strong o r) ≤ o.left
-first-has o r h =
-    elim (cases_Bool (is_strong o r)) [
-      | inl b ↦ subst (λ s. markers_of s ≤ o.left) (sym b) (two-left o.left (and-left (nat_le 2 o.left) (nat_le 2 r.left) b))
-      | inr b ↦ subst (λ s. markers_of s ≤ o.left) (sym b) h
-    ]
+first-has : (o r : Run) → 0 < o.left → markers_of (style_of o r) ≤ o.left
+first-has o r h = pair-has o r o.left h (λ b. two-left o.left (and-left (nat_le 2 o.left) (nat_le 2 r.left) b))
 
-second-has : (o r : Run) → 0 < r.left → markers_of (is_strong o r) ≤ r.left
-second-has o r h =
-    elim (cases_Bool (is_strong o r)) [
-      | inl b ↦ subst (λ s. markers_of s ≤ r.left) (sym b) (two-left r.left (and-right (nat_le 2 o.left) (nat_le 2 r.left) b))
-      | inr b ↦ subst (λ s. markers_of s ≤ r.left) (sym b) h
-    ]
+second-has : (o r : Run) → 0 < r.left → markers_of (style_of o r) ≤ r.left
+second-has o r h = pair-has o r r.left h (λ b. two-left r.left (and-right (nat_le 2 o.left) (nat_le 2 r.left) b))
 
 -- ---- runs come behind all others
 
@@ -113,12 +106,12 @@ close-by : (n : ℕ) (r : Run) (z : SoFar) (o : Option Found) → HaveLeft z.wai
     → Keeps z r (elim o [
       | None ↦ put r z
       | Some f ↦
-          let s = is_strong f.last.opener r in
+          let s = style_of f.last.opener r in
           close n (closing s r) (put_back (record f.last { opener = opening s f.last.opener }) z.base f.before)
     ])
 close-by n r z None h l more e = put-keeps r z h
 close-by n r z (Some f) h l more e =
-    let s = is_strong f.last.opener r in
+    let s = style_of f.last.opener r in
     let w = record f.last { opener = opening s f.last.opener } in
     let z' = put_back w z.base f.before in
     let before = z.base ++ all_waiting f.before in
@@ -141,7 +134,7 @@ close-keeps (suc n) r z h =
     let goes_on : SoFar = elim (last_fitting r [] z.waiting) [
       | None ↦ put r z
       | Some f ↦
-          let s = is_strong f.last.opener r in
+          let s = style_of f.last.opener r in
           close n (closing s r) (put_back (record f.last { opener = opening s f.last.opener }) z.base f.before)
     ] in
     elim (cases_Bool (r.closes && nat_lt 0 r.left)) [

@@ -18,7 +18,7 @@ pub use Rattle.markdown_base.specs.declared.event.Event.{Event}
 pub use Rattle.markdown_base.specs.declared.event.Kind.{Kind, Kind as EventKind}
 pub use Rattle.markdown_base.specs.declared.event.Kind.TheVariants.{Enter, Exit}
 pub use Rattle.markdown_base.specs.declared.event.Name.{Name}
-pub use Rattle.markdown_base.specs.declared.event.Name.TheVariants.{AttentionSequence, Data, Emphasis, EmphasisText, Strong, StrongText}
+pub use Rattle.markdown_base.specs.declared.event.Name.TheVariants.{AttentionSequence, Data}
 pub use Rattle.markdown_base.specs.declared.event.Point.{Point}
 pub use Rattle.markdown_base.specs.declared.util.char.Kind.TheVariants.{Other, Punctuation, Whitespace}
 pub use Rattle.markdown_edits.proofs.Balanced.{balanced_from_open, names-none, names_after_all-append, names_after_balanced, same_name-refl, same_name-true}
@@ -31,15 +31,19 @@ pub use Rattle.markdown_tokenizer.proofs.Readings.Plain.{no-links-append, no-lin
 pub use Rattle.markdown_tokenizer.specs.Plain.{HaveNoLinks}
 pub use Rattle.mdinline_emphasis.specs.Beside.{AreBeside, AreUnpaired, PairsBeside}
 pub use Rattle.mdinline_emphasis.specs.Classes.{AsciiHasItsClasses, BeginWith, CharsAreUtf8, EndWith, are_sorted, char_of, class_at_end, class_of, first_char, in_ranges, last_bytes, last_char, only, shown_char}
-pub use Rattle.mdinline_emphasis.specs.Costs.{above, ends_at, ends_of_pairs, looks, markers_left, to_pay, waiting_from}
-pub use Rattle.mdinline_emphasis.specs.Emphasis.{Delimiter, Pair, Run, all_in_pairs, close_pairs, closes_yet, closings, data_of, events_of_runs, gave, head_events, in_lists, in_pairs, is_strong, later, look_back, markers_of, markers_of_all, may_pair, on_stack, openings, opens_yet, paired, pairs_from, run_events, same, strengths, tail_events}
+pub use Rattle.mdinline_emphasis.specs.Costs.{above, emphasis_a_run, ends_at, ends_of_pairs, kinds_of_runs, looks, markers_left, pairs_a_run, to_pay, waiting_from}
+pub use Rattle.mdinline_emphasis.specs.Emphasis.{Delimiter, Pair, Run, all_in_pairs, close_pairs, closes_yet, closings, data_of, events_of_runs, gave, have_two, head_events, in_lists, in_pairs, inner_name, later, look_back, marker_byte, markers_of, markers_of_all, may_pair, on_stack, openings, opens_yet, outer_name, paired, pairs_from, run_events, same, style_of, styles, tail_events}
 pub use Rattle.mdinline_emphasis.specs.InTurn.{Found, SoFar, Waiting, all_runs, all_waiting, close, closing, in_turn_from, last_fitting, none_read, opening, paired_in_turn, put, put_back, put_behind}
 pub use Rattle.mdinline_emphasis.specs.LawStatements.{AreFresh, EndsTakeMarkers, LeavesBalanced, RunsAreFew}
 pub use Rattle.mdinline_emphasis.specs.Places.{AllHaveRoom, AreApart, ArePlacesInside, HasRoom, Standing, markers, standing}
 pub use Rattle.mdinline_emphasis.specs.RunEdits.{EditsMakeEmphasis, EmphasisCanBeMade, HasRunsAt, edits_of, in_place, index_of}
-pub use Rattle.mdinline_emphasis.specs.Runs.{depth_after, end_before, index_of_event, is_sequence, run_at, runs_from, runs_in, text_before, text_behind}
-pub use Rattle.mdinline_emphasis.specs.Searches.{AreBottoms, AreInOrder, IsNext, NoneFitsBefore, Stands, StandsAt, as_run, kind, last_of, left_of, may_pair_there, positions, run_there, third, with_pair, with_pair_of}
+pub use Rattle.mdinline_emphasis.specs.Runs.{depth_after, end_before, index_of_event, is_sequence, marker_from, run_at, runs_from, runs_in, text_before, text_behind}
+pub use Rattle.mdinline_emphasis.specs.Searches.{AreBottoms, AreInOrder, IsNext, NoneFitsBefore, Stands, StandsAt, as_run, kind, last_of, left_of, marker_number, may_pair_there, positions, run_there, third, with_pair, with_pair_of}
 pub use Rattle.mdinline_emphasis.specs.declared.pairs.Delimiters.{Delimiters}
 pub use Rattle.mdinline_emphasis.specs.declared.unicode.TheConstants.{PUNCTUATION, WHITE_SPACE}
 pub use Rattle.markdown_base.proofs.Facts.Bools.{and-left}
 pub use Rattle.markdown_base.proofs.Facts.Lists.{get-take}
+pub use Rattle.mdinline_emphasis.specs.declared.pairs.Marker.{Marker}
+pub use Rattle.mdinline_emphasis.specs.declared.pairs.Marker.TheVariants.{Asterisk, Underscore}
+pub use Rattle.mdinline_emphasis.specs.declared.pairs.Style.{Style}
+pub use Rattle.mdinline_emphasis.specs.declared.pairs.Style.TheVariants.{Emphasis as OfEmphasis, Strong as OfStrong}

@@ -1,5 +1,5 @@
 -- One edit for each run leaves emphasis.
-use Rattle.mdinline_emphasis.proofs.Prelude.{◌≡◌, ℕ, zero, suc, ◌+◌, ◌-◌, Bool, List, [], ◌∷◌, ◌++◌, Option, map, take, drop, length, refl, sym, ap, ◌∙◌, subst, arith, append_assoc, length-append, take-append_seam, drop-append-add, Event, Point, IsBalanced, AreDisjoint, spliced, relinked_by, edited-spliced, Run, closings, paired, tail_events, head_events, run_events, events_of_runs, openings, data_of, later, markers_of, markers_of_all, runs_in, end_before, text_before, text_behind, in_place, edits_of, index_of, HasRunsAt, EditsMakeEmphasis, EmphasisCanBeMade, HaveNoLinks, no-links-append, no-links-below, no-links-drop, no-links-take, unlinked-same}
+use Rattle.mdinline_emphasis.proofs.Prelude.{◌≡◌, ℕ, zero, suc, ◌+◌, ◌-◌, List, [], ◌∷◌, ◌++◌, Option, map, take, drop, length, refl, sym, ap, ◌∙◌, subst, arith, append_assoc, length-append, take-append_seam, drop-append-add, Event, Point, IsBalanced, AreDisjoint, spliced, relinked_by, edited-spliced, Run, closings, paired, tail_events, head_events, run_events, events_of_runs, openings, data_of, later, markers_of, markers_of_all, runs_in, end_before, text_before, text_behind, in_place, edits_of, index_of, HasRunsAt, EditsMakeEmphasis, EmphasisCanBeMade, HaveNoLinks, no-links-append, no-links-below, no-links-drop, no-links-take, unlinked-same, Style}
 use Rattle.mdinline_emphasis.proofs.RunTexts.{runs-and-texts}
 use Rattle.mdinline_emphasis.proofs.Balance.{leaves-balanced}
 use Rattle.mdinline_emphasis.proofs.PairsKeep.{pairs-keep-indices}
@@ -58,11 +58,11 @@ edits-make-emphasis texts rest rs events h none fresh balanced =
 
 -- ---- a list without links stays so
 
-no-links-closed : (p : Point) (ss : List Bool) → HaveNoLinks (closings p ss)
+no-links-closed : (p : Point) (ss : List Style) → HaveNoLinks (closings p ss)
 no-links-closed p [] = tt
 no-links-closed p (s ∷ ss) = (refl, (refl, (refl, (refl, no-links-closed (later (markers_of s) p) ss))))
 
-no-links-opened : (p : Point) (ss : List Bool) → HaveNoLinks (openings p ss)
+no-links-opened : (p : Point) (ss : List Style) → HaveNoLinks (openings p ss)
 no-links-opened p [] = tt
 no-links-opened p (s ∷ ss) = (refl, (refl, (refl, (refl, no-links-opened (later (markers_of s) p) ss))))
 

@@ -1,5 +1,5 @@
 -- What the code keeps by indices stands for the runs that wait and the runs behind them.
-use Rattle.mdinline_emphasis.proofs.Prelude.{◌≡◌, ℕ, zero, suc, ◌+◌, ◌<◌, ◌≤◌, get_or, Bool, true, false, cond, List, [], ◌∷◌, ◌++◌, Option, Some, None, take, length, set, refl, sym, ap, ◌∙◌, subst, arith, append_assoc, append-nil, length-append, inl, inr, slice_get, ◌⊎◌, ◌&&◌, nat_lt, set-append_seam, get_or-append_seam, take-append_seam, take-append-add, get_or_append_left, cases_lt, slice_get_within, slice_get-behind, same_Some, get_or_from_slice_get, Run, may_pair, is_strong, closes_yet, Waiting, SoFar, Found, opening, closing, put, put_behind, put_back, close, last_fitting, all_waiting, all_runs, last_of, may_pair_there, run_there, with_pair, with_pair_of, positions, AreInOrder, Stands, StandsAt}
+use Rattle.mdinline_emphasis.proofs.Prelude.{◌≡◌, ℕ, zero, suc, ◌+◌, ◌<◌, ◌≤◌, get_or, Bool, true, false, cond, List, [], ◌∷◌, ◌++◌, Option, Some, None, take, length, set, refl, sym, ap, ◌∙◌, subst, arith, append_assoc, append-nil, length-append, inl, inr, slice_get, ◌⊎◌, ◌&&◌, nat_lt, set-append_seam, get_or-append_seam, take-append_seam, take-append-add, get_or_append_left, cases_lt, slice_get_within, slice_get-behind, same_Some, get_or_from_slice_get, Run, may_pair, closes_yet, Waiting, SoFar, Found, opening, closing, put, put_behind, put_back, close, last_fitting, all_waiting, all_runs, last_of, may_pair_there, run_there, with_pair, with_pair_of, positions, AreInOrder, Stands, StandsAt, style_of}
 use Rattle.mdinline_emphasis.proofs.InTurn.{all-put_back, all-put_behind}
 
 -- the element after a list
@@ -59,11 +59,11 @@ positions-put_back false base w (v ∷ vs) p more is =
     sym (ap (λ n. take n (positions base (v ∷ vs) ++ p ∷ more)) (sym (length-positions base (v ∷ vs))) ∙ take-append_seam (positions base (v ∷ vs)) (p ∷ more))
 
 -- the two runs of a pair, in their places
-pair-in-place : (before behind rest : List Run) (o r : Run) → let rs = before ++ o ∷ (behind ++ r ∷ rest) in let s = is_strong o r in
+pair-in-place : (before behind rest : List Run) (o r : Run) → let rs = before ++ o ∷ (behind ++ r ∷ rest) in let s = style_of o r in
     with_pair rs (length before) (length (before ++ o ∷ behind)) ≡ before ++ opening s o ∷ (behind ++ closing s r ∷ rest)
 pair-in-place before behind rest o r =
     let rs = before ++ o ∷ (behind ++ r ∷ rest) in
-    let s = is_strong o r in
+    let s = style_of o r in
     let i = length before in
     let j = length (before ++ o ∷ behind) in
     let o' = opening s o in
@@ -88,7 +88,7 @@ module _ (rs : List Run) (openers : List ℕ) (closer : ℕ) (z : SoFar) (r : Ru
   abbrev pub Next : ℕ → Type 0
   Next at =
       (f : Found) × (last_fitting r [] z.waiting ≡ Some f) × (i : ℕ) × (slice_get openers at ≡ Some i) × (i < closer) × (slice_get rs i ≡ Some f.last.opener)
-      × (let s = is_strong f.last.opener r in
+      × (let s = style_of f.last.opener r in
       let w = record f.last { opener = opening s f.last.opener } in
       (slice_get (with_pair rs i closer) i ≡ Some w.opener)
       × StandsAt (with_pair rs i closer) (take (cond (nat_lt 0 w.opener.left) (at + 1) at) openers) closer (put_back w z.base f.before) (closing s r) rest)
@@ -98,7 +98,7 @@ module _ (rs : List Run) (openers : List ℕ) (closer : ℕ) (z : SoFar) (r : Ru
       let before = z.base ++ all_waiting f.before in
       let o = f.last.opener in
       let behind = f.last.behind in
-      let s = is_strong o r in
+      let s = style_of o r in
       let w = record f.last { opener = opening s o } in
       let i = length before in
       let b = nat_lt 0 w.opener.left in
@@ -211,7 +211,7 @@ openers-order rs openers closer z r rest h = subst AreInOrder (sym h.so_far.wait
 -- what a run makes of what it found
 abbrev closed-with : ℕ → Run → SoFar → Option Found → SoFar
 closed-with n r z None = put r z
-closed-with n r z (Some f) = let s = is_strong f.last.opener r in close n (closing s r) (put_back (record f.last { opener = opening s f.last.opener }) z.base f.before)
+closed-with n r z (Some f) = let s = style_of f.last.opener r in close n (closing s r) (put_back (record f.last { opener = opening s f.last.opener }) z.base f.before)
 
 close-by : (b : Bool) (x y : SoFar) → x ≡ y → cond b x y ≡ y
 close-by true x y e = e
@@ -226,7 +226,7 @@ close-unfound zero r z e = refl
 close-unfound (suc n) r z e = close-by (closes_yet r) (closed-with n r z (last_fitting r [] z.waiting)) (put r z) (ap (closed-with n r z) e)
 
 pub close-found : (n : ℕ) (r : Run) (z : SoFar) (f : Found) → closes_yet r ≡ true → last_fitting r [] z.waiting ≡ Some f
-    → let s = is_strong f.last.opener r in close (suc n) r z ≡ close n (closing s r) (put_back (record f.last { opener = opening s f.last.opener }) z.base f.before)
+    → let s = style_of f.last.opener r in close (suc n) r z ≡ close n (closing s r) (put_back (record f.last { opener = opening s f.last.opener }) z.base f.before)
 close-found n r z f able found =
     ap (λ b. cond b (closed-with n r z (last_fitting r [] z.waiting)) (put r z)) able ∙ ap (closed-with n r z) found
 

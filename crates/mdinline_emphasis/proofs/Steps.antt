@@ -1,5 +1,6 @@
 -- What the code reads is the run that is next.
-use Rattle.mdinline_emphasis.proofs.Prelude.{◌≡◌, ℕ, ◌<◌, ◌-◌, Bool, true, false, arith, List, Option, Some, map, length, get_or, sym, ap, ◌∙◌, subst, slice_get, option_map, nat_lt, ◌&&◌, nat_tests, length-map, slice_get-map, slice_get-get_or, Delimiters, Run, markers_of, SoFar, as_run, last_of, StandsAt, IsNext, same_Some}
+use Rattle.mdinline_emphasis.proofs.Prelude.{◌≡◌, ℕ, ◌<◌, ◌-◌, Bool, true, false, arith, List, Option, Some, map, length, get_or, sym, ap, ◌∙◌, subst, slice_get, option_map, nat_lt, ◌&&◌, nat_tests, length-map, slice_get-map, slice_get-get_or, Delimiters, Run, markers_of, SoFar, as_run, last_of, StandsAt, IsNext, same_Some, Style}
+use Rattle.mdinline_emphasis.proofs.Markers.{takes-some}
 use Rattle.mdinline_emphasis.proofs.Stands.{closer-run, closer-inside}
 
 pub next-inside : (ds : List Delimiters) (openers : List ℕ) (closer : ℕ) → IsNext (map as_run ds) openers closer → closer < length ds
@@ -20,9 +21,8 @@ search-is ds openers slice closer d found z r rest h at same is =
     sym (is ∙ ap (λ xs. last_of (map as_run ds) xs (as_run d) (length xs)) same ∙ ap (λ x. last_of (map as_run ds) openers x (length openers)) (ap as_run at ∙ run-at ds openers closer d z r rest h))
 
 -- fewer markers are left
-pub fewer : (s : Bool) (n : ℕ) → 0 < n → n - markers_of s < n
-fewer true n h = omega (arith, h)
-fewer false n h = omega (arith, h)
+pub fewer : (s : Style) (n : ℕ) → 0 < n → n - markers_of s < n
+fewer s n h = let some = takes-some s in omega (arith, h, some)
 
 -- a run that can close has markers left
 pub has-markers : (closes : Bool) (n : ℕ) → (closes && nat_lt 0 n) ≡ true → 0 < n

@@ -5,7 +5,7 @@ use Rattle.mdinline_emphasis.specs.Emphasis.{Run, same, paired}
 
 -- of two neighbours the first opens nothing, the second closes nothing, or they have one marker
 abbrev pub IsBeside : Run → Run → Type 0
-IsBeside a b = (a.opened ≡ []) ⊎ (b.closed ≡ []) ⊎ (same a.is_star b.is_star ≡ true)
+IsBeside a b = (a.opened ≡ []) ⊎ (b.closed ≡ []) ⊎ (same a.marker b.marker ≡ true)
 
 -- each run and the one behind it
 abbrev pub AreBeside : List Run → Type 0

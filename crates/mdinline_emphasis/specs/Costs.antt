@@ -1,6 +1,22 @@
 -- Costs of emphasis: looks at runs that wait, tries to make pairs, and ends of pairs that are put among events.
 use Rattle.std.specs.Prelude.{ℕ, ◌+◌, ◌-◌, ◌*◌, cond, nat_lt, List, [], ◌∷◌, Option, Some, None, length}
-use Rattle.mdinline_emphasis.specs.Emphasis.{Run}
+use Rattle.mdinline_emphasis.specs.Emphasis.{Run, all_markers}
+
+-- How many kinds of runs that close each marker has: one that can open too, or not, of each length modulo 3
+abbrev pub kinds_a_marker : ℕ
+kinds_a_marker = 2 * 3
+
+-- how many kinds there are
+abbrev pub kinds_of_runs : ℕ
+kinds_of_runs = kinds_a_marker * length all_markers
+
+-- What pairs may take for each run: as long as it waits one look for each kind, one as it stops waiting, and one try that finds nothing
+abbrev pub pairs_a_run : ℕ
+pairs_a_run = kinds_of_runs + 2
+
+-- what emphasis may take for each run: its pairs, and a look as it is written
+abbrev pub emphasis_a_run : ℕ
+emphasis_a_run = pairs_a_run + 1
 
 -- how many markers of some runs are in no pair
 abbrev pub markers_left : List Run → ℕ

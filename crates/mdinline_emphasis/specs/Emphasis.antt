@@ -4,7 +4,7 @@
 -- looks back in the delimiter stack for the first opener that matches. What is above that one leaves the stack. Opener and closer give one marker
 -- each, or two if both have two; an opener without markers leaves the stack. So it goes on until the run has no markers, or finds no opener.
 -- Then it comes onto the stack itself, if it can open. The procedure keeps runs on its stack that can only close; none of them is an opener.
-use Rattle.std.specs.Prelude.{ℕ, zero, suc, ◌+◌, ◌-◌, ◌==◌, ◌&&◌, ◌||◌, not, nat_le, nat_lt, Bool, true, false, cond, List, [], ◌∷◌, ◌++◌, map, reverse, None}
+use Rattle.std.specs.Prelude.{ℕ, zero, suc, ◌+◌, ◌-◌, ◌==◌, ◌&&◌, ◌||◌, not, nat_le, nat_lt, Bool, cond, List, [], ◌∷◌, ◌++◌, map, reverse, None}
 use Rattle.std.specs.List.{filter, flat_map}
 use Rattle.markdown_base.specs.declared.event.Event.{Event}
 use Rattle.markdown_base.specs.declared.event.Kind.{Kind}
@@ -12,42 +12,58 @@ use Rattle.markdown_base.specs.declared.event.Kind.TheVariants.{Enter, Exit}
 use Rattle.markdown_base.specs.declared.event.Name.{Name}
 use Rattle.markdown_base.specs.declared.event.Name.TheVariants.{Data, Emphasis, EmphasisSequence, EmphasisText, Strong, StrongSequence, StrongText}
 use Rattle.markdown_base.specs.declared.event.Point.{Point}
+use Rattle.mdinline_emphasis.specs.declared.pairs.Marker.{Marker}
+use Rattle.mdinline_emphasis.specs.declared.pairs.Marker.TheVariants.{Asterisk, Underscore}
+use Rattle.mdinline_emphasis.specs.declared.pairs.Style.{Style}
+use Rattle.mdinline_emphasis.specs.declared.pairs.Style.TheVariants.{Emphasis as OfEmphasis, Strong as OfStrong}
 
--- A delimiter run: the index of its enter, its place, its marker (`*` or `_`), its length modulo 3, and whether it can open and close
--- emphasis. It closes pairs, the inner ones first, and opens pairs, the outer ones first; a pair is strong, with two markers at each end,
--- or not. The other markers are left.
+-- all markers, and the byte of each
+abbrev pub all_markers : List Marker
+all_markers = Asterisk ∷ Underscore ∷ []
+
+abbrev pub marker_byte : Marker → ℕ
+marker_byte Asterisk = 42
+marker_byte Underscore = 95
+
+-- A delimiter run: the index of its enter, its place, its marker, its length modulo 3, and whether it can open and close
+-- emphasis. It closes pairs, the inner ones first, and opens pairs, the outer ones first. Each pair has a style: emphasis, with one marker at
+-- each end, or strong emphasis, with two. The other markers are left.
 pub record Run : Type 0 where
   pub index : ℕ
   pub start : Point
-  pub is_star : Bool
+  pub marker : Marker
   pub rest : ℕ
   pub opens : Bool
   pub closes : Bool
-  pub closed : List Bool
+  pub closed : List Style
   pub left : ℕ
-  pub opened : List Bool
+  pub opened : List Style
 
 -- The rule of three (rules 9 and 10 of 6.2): if one of two runs can both open and close, the sum of their lengths is no multiple of 3, unless
 -- both lengths are
 abbrev pub rule_of_three : (a b : ℕ) → Bool
 rule_of_three a b = not (((a == 1) && (b == 2)) || ((a == 2) && (b == 1)))
 
--- two markers are the same: both stars, or both underscores
-abbrev pub same : Bool → Bool → Bool
-same true b = b
-same false b = not b
+-- two markers are the same
+abbrev pub same : Marker → Marker → Bool
+same a b = marker_byte a == marker_byte b
 
 -- an opener matches a run that closes: it has the same marker, and the rule of three allows it
 abbrev pub may_pair : (opener closer : Run) → Bool
-may_pair o r = same o.is_star r.is_star && ((not (o.closes || r.opens)) || rule_of_three o.rest r.rest)
+may_pair o r = same o.marker r.marker && ((not (o.closes || r.opens)) || rule_of_three o.rest r.rest)
 
--- a pair is strong if both runs have two markers
-abbrev pub is_strong : (opener closer : Run) → Bool
-is_strong o r = nat_le 2 o.left && nat_le 2 r.left
+-- both runs have two markers
+abbrev pub have_two : (opener closer : Run) → Bool
+have_two o r = nat_le 2 o.left && nat_le 2 r.left
+
+-- the style of a pair: it is strong emphasis if both runs have two markers
+abbrev pub style_of : (opener closer : Run) → Style
+style_of o r = cond (have_two o r) OfStrong OfEmphasis
 
 -- how many markers a pair has at each end
-abbrev pub markers_of : Bool → ℕ
-markers_of s = cond s 2 1
+abbrev pub markers_of : Style → ℕ
+markers_of OfEmphasis = 1
+markers_of OfStrong = 2
 
 -- a run can open, or close, a pair more: it has markers left
 abbrev pub opens_yet : Run → Bool
@@ -56,11 +72,11 @@ opens_yet r = r.opens && nat_lt 0 r.left
 abbrev pub closes_yet : Run → Bool
 closes_yet r = r.closes && nat_lt 0 r.left
 
--- A pair: the numbers of the runs that open and close it, the first run of the text being 0, and whether it is strong
+-- A pair: the numbers of the runs that open and close it, the first run of the text being 0, and its style
 pub record Pair : Type 0 where
   pub opener : ℕ
   pub closer : ℕ
-  pub strong : Bool
+  pub style : Style
 
 -- A delimiter of the stack: the number of a run, and the run with the markers that it has left
 pub record Delimiter : Type 0 where
@@ -68,7 +84,7 @@ pub record Delimiter : Type 0 where
   pub run : Run
 
 -- a delimiter that gave the markers of a pair
-abbrev pub gave : Bool → Delimiter → Delimiter
+abbrev pub gave : Style → Delimiter → Delimiter
 gave s d = record d { run = record d.run { left = d.run.left - markers_of s } }
 
 -- a delimiter comes onto the stack, or stays there, if it can open a pair more
@@ -88,9 +104,9 @@ close_pairs (suc n) d stack =
     (elim (look_back d.run stack) [
       | [] ↦ (on_stack d stack, [])
       | o ∷ below ↦
-          let s = is_strong o.run d.run in
+          let s = style_of o.run d.run in
           let more = close_pairs n (gave s d) (on_stack (gave s o) below) in
-          (more.0, record { opener = o.number; closer = d.number; strong = s } ∷ more.1)
+          (more.0, record { opener = o.number; closer = d.number; style = s } ∷ more.1)
     ])
     (on_stack d stack, [])
 
@@ -104,16 +120,16 @@ abbrev pub pairs : List Run → List Pair
 pairs rs = pairs_from 0 [] rs
 
 -- how many markers some pairs have at one end
-abbrev pub markers_of_all : List Bool → ℕ
+abbrev pub markers_of_all : List Style → ℕ
 markers_of_all [] = 0
 markers_of_all (s ∷ ss) = markers_of s + markers_of_all ss
 
--- of the pairs that a test takes: whether each is strong
-abbrev pub strengths : (Pair → Bool) → List Pair → List Bool
-strengths takes ps = map (λ p. p.strong) (filter takes ps)
+-- the styles of the pairs that a test takes
+abbrev pub styles : (Pair → Bool) → List Pair → List Style
+styles takes ps = map (λ p. p.style) (filter takes ps)
 
 -- a run with pairs that it closes, and opens, the inner ones first
-abbrev pub in_lists : Run → (closed opened : List Bool) → Run
+abbrev pub in_lists : Run → (closed opened : List Style) → Run
 in_lists r closed opened = record r {
   closed = r.closed ++ closed;
   left = r.left - (markers_of_all closed + markers_of_all opened);
@@ -122,7 +138,7 @@ in_lists r closed opened = record r {
 
 -- the run with this number, with its pairs
 abbrev pub in_pairs : List Pair → ℕ → Run → Run
-in_pairs ps n r = in_lists r (strengths (λ p. p.closer == n) ps) (strengths (λ p. p.opener == n) ps)
+in_pairs ps n r = in_lists r (styles (λ p. p.closer == n) ps) (styles (λ p. p.opener == n) ps)
 
 abbrev pub all_in_pairs : List Pair → ℕ → List Run → List Run
 all_in_pairs ps n [] = []
@@ -139,20 +155,24 @@ later n p = record p { column = p.column + n; index = p.index + n }
 abbrev pub unlinked_event : Kind → Name → Point → Event
 unlinked_event kind name p = record { kind = kind; name = name; point = p; link = None }
 
-abbrev pub outer_name : Bool → Name
-outer_name s = cond s Strong Emphasis
+-- the names of a pair by its style: of the whole span, of the markers at an end, and of the text between them
+abbrev pub outer_name : Style → Name
+outer_name OfEmphasis = Emphasis
+outer_name OfStrong = Strong
 
-abbrev pub sequence_name : Bool → Name
-sequence_name s = cond s StrongSequence EmphasisSequence
+abbrev pub sequence_name : Style → Name
+sequence_name OfEmphasis = EmphasisSequence
+sequence_name OfStrong = StrongSequence
 
-abbrev pub inner_name : Bool → Name
-inner_name s = cond s StrongText EmphasisText
+abbrev pub inner_name : Style → Name
+inner_name OfEmphasis = EmphasisText
+inner_name OfStrong = StrongText
 
-abbrev pub closings : Point → List Bool → List Event
+abbrev pub closings : Point → List Style → List Event
 closings p [] = []
 closings p (s ∷ ss) = unlinked_event Exit (inner_name s) p ∷ unlinked_event Enter (sequence_name s) p ∷ unlinked_event Exit (sequence_name s) (later (markers_of s) p) ∷ unlinked_event Exit (outer_name s) (later (markers_of s) p) ∷ closings (later (markers_of s) p) ss
 
-abbrev pub openings : Point → List Bool → List Event
+abbrev pub openings : Point → List Style → List Event
 openings p [] = []
 openings p (s ∷ ss) = unlinked_event Enter (outer_name s) p ∷ unlinked_event Enter (sequence_name s) p ∷ unlinked_event Exit (sequence_name s) (later (markers_of s) p) ∷ unlinked_event Enter (inner_name s) (later (markers_of s) p) ∷ openings (later (markers_of s) p) ss
 

@@ -2,8 +2,9 @@
 --
 -- Some runs wait: they have markers left and may still open emphasis. A run closes what it can, each time with the last one that waits and
 -- fits; those behind that one wait no more. Then it waits itself, if it can open.
-use Rattle.std.specs.Prelude.{ℕ, zero, suc, ◌-◌, nat_lt, Bool, cond, List, [], ◌∷◌, ◌++◌, Option, Some, None}
-use Rattle.mdinline_emphasis.specs.Emphasis.{Run, may_pair, is_strong, markers_of, opens_yet, closes_yet}
+use Rattle.std.specs.Prelude.{ℕ, zero, suc, ◌-◌, nat_lt, cond, List, [], ◌∷◌, ◌++◌, Option, Some, None}
+use Rattle.mdinline_emphasis.specs.declared.pairs.Style.{Style}
+use Rattle.mdinline_emphasis.specs.Emphasis.{Run, may_pair, style_of, markers_of, opens_yet, closes_yet}
 
 -- A run that waits, and the runs behind it that do not, up to the next one that does
 pub record Waiting : Type 0 where
@@ -15,10 +16,10 @@ pub record SoFar : Type 0 where
   pub base : List Run
   pub waiting : List Waiting
 
-abbrev pub opening : Bool → Run → Run
+abbrev pub opening : Style → Run → Run
 opening s o = record o { left = o.left - markers_of s; opened = s ∷ o.opened }
 
-abbrev pub closing : Bool → Run → Run
+abbrev pub closing : Style → Run → Run
 closing s r = record r { left = r.left - markers_of s; closed = r.closed ++ s ∷ [] }
 
 -- runs that do not wait come behind all others
@@ -53,7 +54,7 @@ close (suc n) r z =
     (elim (last_fitting r [] z.waiting) [
       | None ↦ put r z
       | Some f ↦
-          let s = is_strong f.last.opener r in
+          let s = style_of f.last.opener r in
           close n (closing s r) (put_back (record f.last { opener = opening s f.last.opener }) z.base f.before)
     ])
     (put r z)

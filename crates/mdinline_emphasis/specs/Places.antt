@@ -1,7 +1,8 @@
 -- Places of runs: what a run closes, leaves and opens has room behind its place.
-use Rattle.std.specs.Prelude.{Bool, ℕ, ◌+◌, ◌-◌, ◌<◌, ◌≤◌, ◌^◌, List, [], ◌∷◌, length, All}
+use Rattle.std.specs.Prelude.{ℕ, ◌+◌, ◌-◌, ◌<◌, ◌≤◌, ◌^◌, List, [], ◌∷◌, length, All}
 use Rattle.markdown_base.specs.declared.event.Event.{Event}
 use Rattle.markdown_base.specs.declared.event.Point.{Point}
+use Rattle.mdinline_emphasis.specs.declared.pairs.Marker.{Marker}
 use Rattle.mdinline_emphasis.specs.Emphasis.{Run, markers_of_all}
 
 -- how many markers a run has, in pairs and left
@@ -16,11 +17,11 @@ HasRoom n p = (p.column + n < 2 ^ 64) × (p.index + n < 2 ^ 64)
 pub record Standing : Type 0 where
   pub index : ℕ
   pub start : Point
-  pub is_star : Bool
+  pub marker : Marker
   pub markers : ℕ
 
 abbrev pub standing : Run → Standing
-standing r = record { index = r.index; start = r.start; is_star = r.is_star; markers = markers r }
+standing r = record { index = r.index; start = r.start; marker = r.marker; markers = markers r }
 
 -- runs stand one behind another, from an index on, if their enters have these indices
 abbrev pub AreApart : ℕ → List ℕ → Type 0

@@ -9,7 +9,9 @@ use Rattle.markdown_base.specs.declared.util.char.Kind.{Kind}
 use Rattle.markdown_base.specs.declared.util.char.Kind.TheVariants.{Whitespace, Punctuation, Other}
 use Rattle.markdown_base.specs.Events.{is_enter, same_name}
 use Rattle.mdinline_emphasis.specs.Classes.{class_before, class_after}
-use Rattle.mdinline_emphasis.specs.Emphasis.{Run, emphasised}
+use Rattle.mdinline_emphasis.specs.declared.pairs.Marker.{Marker}
+use Rattle.mdinline_emphasis.specs.declared.pairs.Marker.TheVariants.{Asterisk, Underscore}
+use Rattle.mdinline_emphasis.specs.Emphasis.{Run, all_markers, emphasised, marker_byte}
 
 abbrev pub is_punctuation : Kind → Bool
 is_punctuation Punctuation = true
@@ -27,15 +29,20 @@ is_left_flanking before after = is_other after || is_punctuation after && not (i
 abbrev pub is_right_flanking : (before after : Kind) → Bool
 is_right_flanking before after = is_left_flanking after before
 
--- A run of stars can open emphasis (rule 1 of 6.2) and strong emphasis (rule 5) if it is left-flanking; a run of underscores (rules 2 and 6) if
--- it is left-flanking, and not right-flanking or behind punctuation
-abbrev pub can_open : (is_star : Bool) → (before after : Kind) → Bool
-can_open is_star before after = is_left_flanking before after && (is_star || (not (is_right_flanking before after) || is_punctuation before))
+-- a marker is an underscore
+abbrev pub is_underscore : Marker → Bool
+is_underscore Underscore = true
+is_underscore _ = false
 
--- A run of stars can close emphasis (rule 3 of 6.2) and strong emphasis (rule 7) if it is right-flanking; a run of underscores (rules 4 and 8) if
--- it is right-flanking, and not left-flanking or before punctuation
-abbrev pub can_close : (is_star : Bool) → (before after : Kind) → Bool
-can_close is_star before after = is_right_flanking before after && (is_star || (not (is_left_flanking before after) || is_punctuation after))
+-- A run of asterisks can open emphasis (rule 1 of 6.2) and strong emphasis (rule 5) if it is left-flanking; a run of underscores (rules 2 and
+-- 6) if it is left-flanking, and not right-flanking or behind punctuation
+abbrev pub can_open : (marker : Marker) → (before after : Kind) → Bool
+can_open marker before after = is_left_flanking before after && (not (is_underscore marker) || (not (is_right_flanking before after) || is_punctuation before))
+
+-- A run of asterisks can close emphasis (rule 3 of 6.2) and strong emphasis (rule 7) if it is right-flanking; a run of underscores (rules 4
+-- and 8) if it is right-flanking, and not left-flanking or before punctuation
+abbrev pub can_close : (marker : Marker) → (before after : Kind) → Bool
+can_close marker before after = is_right_flanking before after && (not (is_underscore marker) || (not (is_left_flanking before after) || is_punctuation after))
 
 -- The class of the character at an end of a run: that of the document there, if the text goes on there; else white space. The text goes on if the
 -- event beside the run stands at the same index
@@ -48,25 +55,34 @@ abbrev pub index_of_event : Option Event → Option ℕ
 index_of_event None = None
 index_of_event (Some e) = Some e.point.index
 
--- a byte is a star
-abbrev pub is_star_byte : Option ℕ → Bool
-is_star_byte None = false
-is_star_byte (Some byte) = byte == 42
+-- a byte is one of these markers
+abbrev pub is_marker_of : List Marker → ℕ → Bool
+is_marker_of [] byte = false
+is_marker_of (m ∷ ms) byte = (byte == marker_byte m) || is_marker_of ms byte
+
+-- it is a marker
+abbrev pub is_marker : ℕ → Bool
+is_marker byte = is_marker_of all_markers byte
+
+-- the marker that a byte is: `*`, or else `_`
+abbrev pub marker_from : Option ℕ → Marker
+marker_from None = Underscore
+marker_from (Some byte) = cond (byte == 42) Asterisk Underscore
 
 -- the run of an attention sequence: the index of its enter in the list, its enter and its exit, and where the events beside it stand
 abbrev pub run_at : List ℕ → ℕ → (e f : Event) → (before behind : Option ℕ) → Run
 run_at bytes index e f before behind =
     let before_it = class_beside before e.point.index (class_before bytes e.point.index) in
     let after_it = class_beside behind f.point.index (class_after bytes f.point.index) in
-    let is_star = is_star_byte (slice_get bytes e.point.index) in
+    let marker = marker_from (slice_get bytes e.point.index) in
     let length = f.point.index - e.point.index in
     record {
       index = index;
       start = e.point;
-      is_star = is_star;
+      marker = marker;
       rest = length % 3;
-      opens = can_open is_star before_it after_it;
-      closes = can_close is_star before_it after_it;
+      opens = can_open marker before_it after_it;
+      closes = can_close marker before_it after_it;
       closed = [];
       left = length;
       opened = [];

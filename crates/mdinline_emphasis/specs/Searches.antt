@@ -1,7 +1,10 @@
 -- Pairs, as the code makes them: the runs stay in their places, and those that wait are known by their indices.
-use Rattle.std.specs.Prelude.{◌≡◌, ◌+◌, ◌==◌, ◌≤◌, slice_index, ℕ, zero, suc, Bool, false, cond, List, [], ◌∷◌, ◌++◌, Option, Some, None, slice_get, slice_set, ◌<◌, length, reverse}
+use Rattle.std.specs.Prelude.{◌≡◌, ◌+◌, ◌*◌, ◌==◌, ◌≤◌, slice_index, ℕ, zero, suc, Bool, false, cond, List, [], ◌∷◌, ◌++◌, Option, Some, None, slice_get, slice_set, ◌<◌, length, reverse}
+use Rattle.mdinline_emphasis.specs.Costs.{kinds_a_marker}
 use Rattle.mdinline_emphasis.specs.declared.pairs.Delimiters.{Delimiters}
-use Rattle.mdinline_emphasis.specs.Emphasis.{Run, may_pair, is_strong}
+use Rattle.mdinline_emphasis.specs.Emphasis.{Run, may_pair, style_of}
+use Rattle.mdinline_emphasis.specs.declared.pairs.Marker.{Marker}
+use Rattle.mdinline_emphasis.specs.declared.pairs.Marker.TheVariants.{Asterisk, Underscore}
 use Rattle.mdinline_emphasis.specs.InTurn.{Waiting, SoFar, all_runs, all_waiting, opening, closing, put, close}
 
 -- the run that a value of the code stands for: it lists the pairs that it opens the other way round
@@ -9,7 +12,7 @@ abbrev pub as_run : Delimiters → Run
 as_run d = record {
   index = d.index;
   start = d.start;
-  is_star = d.is_star;
+  marker = d.marker;
   rest = d.rest;
   opens = d.opens;
   closes = d.closes;
@@ -32,12 +35,18 @@ abbrev pub last_of : List Run → List ℕ → Run → ℕ → Option ℕ
 last_of rs openers r zero = None
 last_of rs openers r (suc k) = cond (may_pair_there (run_there rs (slice_get openers k)) r) (Some k) (last_of rs openers r k)
 
--- The kind of a run that closes: which runs fit it depends on its kind alone
+-- a number for each marker, from 0 on
+abbrev pub marker_number : Marker → ℕ
+marker_number Underscore = 0
+marker_number Asterisk = 1
+
+-- what the rule of three asks of a length modulo 3
 abbrev pub third : ℕ → ℕ
 third b = cond (b == 1) 1 (cond (b == 2) 2 0)
 
+-- The kind of a run that closes: which runs fit it depends on its kind alone
 abbrev pub kind : Run → ℕ
-kind r = (cond r.is_star 6 0 + cond r.opens 3 0) + third r.rest
+kind r = (kinds_a_marker * marker_number r.marker + cond r.opens 3 0) + third r.rest
 
 -- of the runs that wait before a place, none fits
 abbrev pub NoneFitsBefore : ℕ → List Run → List ℕ → Run → Type 0
@@ -53,7 +62,7 @@ AreInOrder openers = (j k a b : ℕ) → j ≤ k → slice_get openers j ≡ Som
 
 -- the runs with one more pair, of the runs at two indices
 abbrev pub with_pair_of : List Run → (i j : ℕ) → Option Run → Option Run → List Run
-with_pair_of rs i j (Some o) (Some r) = let s = is_strong o r in slice_set (slice_set rs i (opening s o)) j (closing s r)
+with_pair_of rs i j (Some o) (Some r) = let s = style_of o r in slice_set (slice_set rs i (opening s o)) j (closing s r)
 with_pair_of rs i j _ _ = rs
 
 abbrev pub with_pair : List Run → (i j : ℕ) → List Run

@@ -2,14 +2,14 @@
 
 ghost use Rattle.std.specs.Prelude.{ℕ, ◌≡◌, ◌+◌, ◌*◌, ◌<◌, ◌≤◌, ◌^◌, ◌∷◌, [], ◌++◌, length, map, reverse, All, OnOk, IfOk};
 ghost use Rattle.markdown_base.specs.Events.{IsBalanced};
-ghost use Rattle.mdinline_emphasis.specs.Costs.{ends_at, ends_of_pairs, markers_left};
+ghost use Rattle.mdinline_emphasis.specs.Costs.{emphasis_a_run, ends_at, ends_of_pairs, markers_left};
 ghost use Rattle.mdinline_emphasis.specs.Emphasis.{paired, later, unlinked_event, outer_name, sequence_name, inner_name, markers_of, markers_of_all, closings, openings, data_of};
 ghost use Rattle.mdinline_emphasis.specs.Places.{HasRoom, markers, AreApart, AllHaveRoom, ArePlacesInside, standing};
 ghost use Rattle.mdinline_emphasis.specs.RunEdits.{in_place, edits_of, index_of};
 ghost use Rattle.mdinline_emphasis.specs.Runs.{runs_in};
 ghost use Rattle.mdinline_emphasis.specs.Searches.{as_run};
 
-use crate::pairs::{Delimiters, pair_counted};
+use crate::pairs::{Delimiters, Style, markers_of, pair_counted};
 use crate::runs::runs_of_counted;
 use markdown_base::event::{Event, Kind, Name, Point};
 use markdown_edits::edit_map::EditMap;
@@ -30,39 +30,33 @@ fn later(point: Point, by: usize) -> Point
     }
 }
 
-/// How many markers a pair has at each end.
-fn markers_of(strong: bool) -> usize
-    ensures { result ≡ markers_of strong }
-{
-    if strong { 2 } else { 1 }
-}
-
 /// The name of a pair's whole span.
-fn outer_name(strong: bool) -> Name
-    ensures { result ≡ outer_name strong }
+fn outer_name(style: Style) -> Name
+    ensures { result ≡ outer_name style }
 {
-    if strong { Name::Strong } else { Name::Emphasis }
+    match style {
+        Style::Emphasis => Name::Emphasis,
+        Style::Strong => Name::Strong,
+    }
 }
 
 /// The name of the markers at an end of a pair.
-fn sequence_name(strong: bool) -> Name
-    ensures { result ≡ sequence_name strong }
+fn sequence_name(style: Style) -> Name
+    ensures { result ≡ sequence_name style }
 {
-    if strong {
-        Name::StrongSequence
-    } else {
-        Name::EmphasisSequence
+    match style {
+        Style::Emphasis => Name::EmphasisSequence,
+        Style::Strong => Name::StrongSequence,
     }
 }
 
 /// The name of the text of a pair.
-fn inner_name(strong: bool) -> Name
-    ensures { result ≡ inner_name strong }
+fn inner_name(style: Style) -> Name
+    ensures { result ≡ inner_name style }
 {
-    if strong {
-        Name::StrongText
-    } else {
-        Name::EmphasisText
+    match style {
+        Style::Emphasis => Name::EmphasisText,
+        Style::Strong => Name::StrongText,
     }
 }
 
@@ -85,30 +79,30 @@ fn push_event(
 }
 
 /// Adds the events with which a pair ends. Returns the place behind its markers.
-fn push_closing(events: &mut Vec<Event>, point: Point, strong: bool) -> Result<Point, AllocError>
-    requires room { HasRoom (markers_of strong) point }
-    ensures events { OnOk result (events.new.items ≡ events.old.items ++ closings point (strong ∷ [])) }
-    ensures end { IfOk result (λ end. end ≡ later (markers_of strong) point) }
+fn push_closing(events: &mut Vec<Event>, point: Point, style: Style) -> Result<Point, AllocError>
+    requires room { HasRoom (markers_of style) point }
+    ensures events { OnOk result (events.new.items ≡ events.old.items ++ closings point (style ∷ [])) }
+    ensures end { IfOk result (λ end. end ≡ later (markers_of style) point) }
 {
-    let end = later(point, markers_of(strong));
-    push_event(events, Kind::Exit, inner_name(strong), point)?;
-    push_event(events, Kind::Enter, sequence_name(strong), point)?;
-    push_event(events, Kind::Exit, sequence_name(strong), end)?;
-    push_event(events, Kind::Exit, outer_name(strong), end)?;
+    let end = later(point, markers_of(style));
+    push_event(events, Kind::Exit, inner_name(style), point)?;
+    push_event(events, Kind::Enter, sequence_name(style), point)?;
+    push_event(events, Kind::Exit, sequence_name(style), end)?;
+    push_event(events, Kind::Exit, outer_name(style), end)?;
     Ok(end)
 }
 
 /// Adds the events with which a pair begins. Returns the place behind its markers.
-fn push_opening(events: &mut Vec<Event>, point: Point, strong: bool) -> Result<Point, AllocError>
-    requires room { HasRoom (markers_of strong) point }
-    ensures events { OnOk result (events.new.items ≡ events.old.items ++ openings point (strong ∷ [])) }
-    ensures end { IfOk result (λ end. end ≡ later (markers_of strong) point) }
+fn push_opening(events: &mut Vec<Event>, point: Point, style: Style) -> Result<Point, AllocError>
+    requires room { HasRoom (markers_of style) point }
+    ensures events { OnOk result (events.new.items ≡ events.old.items ++ openings point (style ∷ [])) }
+    ensures end { IfOk result (λ end. end ≡ later (markers_of style) point) }
 {
-    let end = later(point, markers_of(strong));
-    push_event(events, Kind::Enter, outer_name(strong), point)?;
-    push_event(events, Kind::Enter, sequence_name(strong), point)?;
-    push_event(events, Kind::Exit, sequence_name(strong), end)?;
-    push_event(events, Kind::Enter, inner_name(strong), end)?;
+    let end = later(point, markers_of(style));
+    push_event(events, Kind::Enter, outer_name(style), point)?;
+    push_event(events, Kind::Enter, sequence_name(style), point)?;
+    push_event(events, Kind::Exit, sequence_name(style), end)?;
+    push_event(events, Kind::Enter, inner_name(style), end)?;
     Ok(end)
 }
 
@@ -116,7 +110,7 @@ fn push_opening(events: &mut Vec<Event>, point: Point, strong: bool) -> Result<P
 fn push_closed<L: Ledger>(
     events: &mut Vec<Event>,
     start: Point,
-    closed: &[bool],
+    closed: &[Style],
     turns: &mut Turns<L>,
 ) -> Result<Point, AllocError>
     requires room { HasRoom (markers_of_all closed.now) start }
@@ -138,7 +132,7 @@ fn push_closed<L: Ledger>(
 fn push_opened<L: Ledger>(
     events: &mut Vec<Event>,
     start: Point,
-    opened: &[bool],
+    opened: &[Style],
     turns: &mut Turns<L>,
 ) -> Result<(), AllocError>
     requires room { HasRoom (markers_of_all (reverse opened.now)) start }
@@ -283,7 +277,7 @@ pub fn emphasize_counted<L: Ledger>(
     requires balanced { IsBalanced events.now }
     requires room { ArePlacesInside bytes.now events.now }
     ensures edits { OnOk result (edits.new ≡ edits_of (paired (runs_in bytes.now events.now))) }
-    ensures linear { turns.new ≤ turns.old + (15 * length (runs_in bytes.now events.now) + 3 * markers_left (runs_in bytes.now events.now)) + length events.now }
+    ensures linear { turns.new ≤ turns.old + (emphasis_a_run * length (runs_in bytes.now events.now) + 3 * markers_left (runs_in bytes.now events.now)) + length events.now }
 {
     let mut runs = runs_of_counted(alloc, bytes, events, turns)?;
     pair_counted(alloc, runs.as_mut_slice(), turns)?;

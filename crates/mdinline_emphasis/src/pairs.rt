@@ -1,16 +1,37 @@
 //! Pairs of delimiter runs, in linear time, and the events in place of a run.
 
 ghost use Rattle.std.specs.Prelude.{ℕ, slice_index, nat_lt, slice_get, Ok, true, false, cond, IfOk, ◌≡◌, ◌+◌, ◌-◌, ◌*◌, ◌<◌, ◌≤◌, ◌^◌, length, map, None, All, IfSome, OnOk, ◌++◌};
-ghost use Rattle.mdinline_emphasis.specs.Emphasis.{paired, rule_of_three, same, may_pair, is_strong, closes_yet, opens_yet};
+ghost use Rattle.mdinline_emphasis.specs.Emphasis.{all_markers, marker_byte, paired, rule_of_three, same, may_pair, have_two, style_of, markers_of, closes_yet, opens_yet};
 ghost use Rattle.mdinline_emphasis.specs.InTurn.{opening, closing};
-ghost use Rattle.mdinline_emphasis.specs.Searches.{as_run, last_of, with_pair, left_of, third, kind, AreBottoms, AreInOrder, NoneFitsBefore, IsNext, HasClosed, ClosesNothing, IsTaken};
-ghost use Rattle.mdinline_emphasis.specs.Costs.{markers_left, looks, to_pay};
+ghost use Rattle.mdinline_emphasis.specs.Searches.{as_run, last_of, with_pair, left_of, marker_number, third, kind, AreBottoms, AreInOrder, NoneFitsBefore, IsNext, HasClosed, ClosesNothing, IsTaken};
+ghost use Rattle.mdinline_emphasis.specs.Costs.{kinds_of_runs, pairs_a_run, markers_left, looks, to_pay};
 
 use markdown_base::event::Point;
 use mdconstructs_loop_counts::Turns;
 use std::alloc::{AllocError, Global};
 use std::marker::Brand;
 use std::sync::ledger::{Blank, Ledger};
+
+/// The byte of which a delimiter run is made.
+#[derive(Clone, Copy, PartialEq, Eq)]
+pub enum Marker {
+    /// `*`.
+    Asterisk,
+    /// `_`.
+    Underscore,
+}
+
+/// How many kinds of closers there are: of each marker, those that open too and those that do not, of each length modulo 3.
+const KINDS: usize = 12;
+
+/// What a pair makes of the text between its runs.
+#[derive(Clone, Copy, PartialEq, Eq)]
+pub enum Style {
+    /// Emphasis, with one marker at each end.
+    Emphasis,
+    /// Strong emphasis, with two.
+    Strong,
+}
 
 /// A delimiter run.
 #[derive(Drop)]
@@ -19,20 +40,20 @@ pub struct Delimiters {
     pub index: usize,
     /// Where it begins.
     pub start: Point,
-    /// `*`, not `_`.
-    pub is_star: bool,
+    /// Its marker.
+    pub marker: Marker,
     /// How many markers it has, modulo 3.
     pub rest: usize,
     /// It can open emphasis.
     pub opens: bool,
     /// It can close emphasis.
     pub closes: bool,
-    /// The pairs that it closes, the inner ones first: whether each is strong.
-    pub closed: Vec<bool>,
+    /// The pairs that it closes, the inner ones first, by their styles.
+    pub closed: Vec<Style>,
     /// How many markers are in no pair yet.
     pub left: usize,
-    /// The pairs that it opens, the inner ones first.
-    pub opened: Vec<bool>,
+    /// The pairs that it opens, the inner ones first, by their styles.
+    pub opened: Vec<Style>,
 }
 
 /// The rule of three, for two lengths modulo 3.
@@ -42,18 +63,28 @@ fn rule_of_three(a: usize, b: usize) -> bool
     !(a == 1 && b == 2 || a == 2 && b == 1)
 }
 
+/// The byte of a marker.
+fn marker_byte(marker: Marker) -> u8
+    ensures { result ≡ marker_byte marker }
+{
+    match marker {
+        Marker::Asterisk => b'*',
+        Marker::Underscore => b'_',
+    }
+}
+
 /// Whether two markers are the same.
-fn same(a: bool, b: bool) -> bool
+fn same(a: Marker, b: Marker) -> bool
     ensures { result ≡ same a b }
 {
-    if a { b } else { !b }
+    marker_byte(a) == marker_byte(b)
 }
 
 /// Whether an opener and a closer may be a pair: the same marker, and the rule of three.
 fn may_pair(opener: &Delimiters, closer: &Delimiters) -> bool
     ensures { result ≡ may_pair (as_run opener.now) (as_run closer.now) }
 {
-    same(opener.is_star, closer.is_star)
+    same(opener.marker, closer.marker)
         && (!(opener.closes || closer.opens) || rule_of_three(opener.rest, closer.rest))
 }
 
@@ -71,14 +102,24 @@ fn third(rest: usize) -> usize
     }
 }
 
+/// The number of a marker, from 0 on.
+fn marker_number(marker: Marker) -> usize
+    ensures number { result ≡ marker_number marker }
+    ensures below { result < length all_markers }
+{
+    match marker {
+        Marker::Underscore => 0,
+        Marker::Asterisk => 1,
+    }
+}
+
 /// The kind of a closer: which openers fit depends on it alone.
 fn kind_of(closer: &Delimiters) -> usize
     ensures kind { result ≡ kind (as_run closer.now) }
-    ensures below { result < 12 }
+    ensures below { result < kinds_of_runs }
 {
-    let marker = if closer.is_star { 6 } else { 0 };
     let opens = if closer.opens { 3 } else { 0 };
-    marker + opens + third(closer.rest)
+    6 * marker_number(closer.marker) + opens + third(closer.rest)
 }
 
 /// The last opener that fits. None that stands before the bottom does.
@@ -107,28 +148,49 @@ fn opener_for<L: Ledger>(
 }
 
 /// The run opens a pair.
-fn open(run: &mut Delimiters, strong: bool) -> Result<(), AllocError>
-    ensures { OnOk result (as_run run.new ≡ opening strong (as_run run.old)) }
+fn open(run: &mut Delimiters, style: Style) -> Result<(), AllocError>
+    ensures { OnOk result (as_run run.new ≡ opening style (as_run run.old)) }
 {
-    run.opened.push(strong)?;
-    run.left = run.left.saturating_sub(if strong { 2 } else { 1 });
+    run.opened.push(style)?;
+    run.left = run.left.saturating_sub(markers_of(style));
     Ok(())
 }
 
 /// The run closes a pair.
-fn close(run: &mut Delimiters, strong: bool) -> Result<(), AllocError>
-    ensures { OnOk result (as_run run.new ≡ closing strong (as_run run.old)) }
+fn close(run: &mut Delimiters, style: Style) -> Result<(), AllocError>
+    ensures { OnOk result (as_run run.new ≡ closing style (as_run run.old)) }
 {
-    run.closed.push(strong)?;
-    run.left = run.left.saturating_sub(if strong { 2 } else { 1 });
+    run.closed.push(style)?;
+    run.left = run.left.saturating_sub(markers_of(style));
     Ok(())
 }
 
-/// Whether a pair of two runs is strong.
-fn is_strong(opener: &Delimiters, closer: &Delimiters) -> bool
-    ensures { result ≡ is_strong (as_run opener.now) (as_run closer.now) }
+/// Whether two runs have two markers each.
+fn have_two(opener: &Delimiters, closer: &Delimiters) -> bool
+    ensures { result ≡ have_two (as_run opener.now) (as_run closer.now) }
 {
     opener.left >= 2 && closer.left >= 2
+}
+
+/// The style of a pair of two runs.
+fn style_of(opener: &Delimiters, closer: &Delimiters) -> Style
+    ensures { result ≡ style_of (as_run opener.now) (as_run closer.now) }
+{
+    if have_two(opener, closer) {
+        Style::Strong
+    } else {
+        Style::Emphasis
+    }
+}
+
+/// How many markers a pair has at each end.
+pub(crate) fn markers_of(style: Style) -> usize
+    ensures { result ≡ markers_of style }
+{
+    match style {
+        Style::Emphasis => 1,
+        Style::Strong => 2,
+    }
 }
 
 /// Makes a pair of two runs. Returns whether the opener has markers left.
@@ -138,9 +200,9 @@ fn join(runs: &mut [Delimiters], opener: usize, closer: usize) -> Result<bool, A
     ensures pair { OnOk result (map as_run runs.new ≡ with_pair (map as_run runs.old) opener closer) }
     ensures waits { IfOk result (λ waits. waits ≡ nat_lt 0 (left_of (slice_get (map as_run runs.new) opener))) }
 {
-    let strong = is_strong(&runs[opener], &runs[closer]);
-    open(&mut runs[opener], strong)?;
-    close(&mut runs[closer], strong)?;
+    let style = style_of(&runs[opener], &runs[closer]);
+    open(&mut runs[opener], style)?;
+    close(&mut runs[closer], style)?;
     Ok(runs[opener].left > 0)
 }
 
@@ -167,9 +229,9 @@ fn closes_more<L: Ledger>(
     turns: &mut Turns<L>,
 ) -> Result<bool, AllocError>
     requires next { IsNext (map as_run runs.old) openers.old.items closer }
-    requires kinds { length bottoms.old ≡ 12 }
+    requires kinds { length bottoms.old ≡ kinds_of_runs }
     requires bottoms { AreBottoms (map as_run runs.old) openers.old.items closer bottoms.old }
-    ensures kinds { length bottoms.new ≡ 12 }
+    ensures kinds { length bottoms.new ≡ kinds_of_runs }
     ensures bottoms { OnOk result (AreBottoms (map as_run runs.new) openers.new.items closer bottoms.new) }
     ensures pair { result ≡ Ok true → HasClosed (map as_run runs.old) openers.old.items closer (map as_run runs.new) openers.new.items }
     ensures same { result ≡ Ok false → (map as_run runs.new ≡ map as_run runs.old) × (openers.new.items ≡ openers.old.items) }
@@ -203,12 +265,12 @@ fn take_up<L: Ledger>(
     turns: &mut Turns<L>,
 ) -> Result<(), AllocError>
     requires next { IsNext (map as_run runs.old) openers.old.items closer }
-    requires kinds { length bottoms.old ≡ 12 }
+    requires kinds { length bottoms.old ≡ kinds_of_runs }
     requires bottoms { AreBottoms (map as_run runs.old) openers.old.items closer bottoms.old }
-    ensures kinds { length bottoms.new ≡ 12 }
+    ensures kinds { length bottoms.new ≡ kinds_of_runs }
     ensures bottoms { OnOk result (AreBottoms (map as_run runs.new) openers.new.items closer bottoms.new) }
     ensures taken { OnOk result (IsTaken (map as_run runs.old) openers.old.items closer (map as_run runs.new) openers.new.items) }
-    ensures paid { OnOk result (turns.new + to_pay (map as_run runs.new) openers.new.items bottoms.new ≤ turns.old + to_pay (map as_run runs.old) openers.old.items bottoms.old + 14) }
+    ensures paid { OnOk result (turns.new + to_pay (map as_run runs.new) openers.new.items bottoms.new ≤ turns.old + to_pay (map as_run runs.old) openers.old.items bottoms.old + pairs_a_run) }
     ensures turns { turns.new ≤ turns.old + to_pay (map as_run runs.old) openers.old.items bottoms.old + 1 }
 {
     'closing: while closes_more(runs, openers, bottoms, closer, turns)? {}
@@ -220,19 +282,19 @@ fn take_up<L: Ledger>(
 
 /// Makes the pairs of all delimiter runs of a text, in linear time.
 ///
-/// A turn is a look at a run that waits, or a try to make one more pair. There are at most 14 for each run, and two for each marker. If
-/// it runs out of memory, some pairs were made. Each run waits once and stops waiting once. A search that finds nothing looks at no run
-/// that an earlier one of its kind has seen in vain; there are 12 kinds.
+/// A turn is a look at a run that waits, or a try to make one more pair. There are at most `pairs_a_run` for each run, and two for each
+/// marker. If it runs out of memory, some pairs were made. Each run waits once and stops waiting once. A search that finds nothing looks
+/// at no run that an earlier one of its kind has seen in vain.
 pub fn pair_counted<L: Ledger>(
     alloc: Global,
     runs: &mut [Delimiters],
     turns: &mut Turns<L>,
 ) -> Result<(), AllocError>
     ensures pairs { OnOk result (map as_run runs.new ≡ paired (map as_run runs.old)) }
-    ensures linear { turns.new ≤ turns.old + 14 * length runs.old + 2 * markers_left (map as_run runs.old) }
+    ensures linear { turns.new ≤ turns.old + pairs_a_run * length runs.old + 2 * markers_left (map as_run runs.old) }
 {
     let mut openers = Vec::new(alloc);
-    let mut bottoms = [0usize; 12];
+    let mut bottoms = [0usize; KINDS];
     let mut closer = 0;
     while closer < runs.len() {
         take_up(runs, &mut openers, &mut bottoms, closer, turns)?;

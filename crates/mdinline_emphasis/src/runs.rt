@@ -1,11 +1,11 @@
 //! The delimiter runs of a text: its attention sequences, each with the characters beside it.
 
 ghost use Rattle.std.specs.Prelude.{◌≡◌, ◌+◌, ◌-◌, ◌<◌, ◌≤◌, ◌^◌, length, map, slice_get, IfOk};
-ghost use Rattle.mdinline_emphasis.specs.Runs.{is_punctuation, is_other, is_left_flanking, is_right_flanking, can_open, can_close, class_beside, is_star_byte, run_at, is_sequence, index_of_event, depth_after, runs_in};
+ghost use Rattle.mdinline_emphasis.specs.Runs.{is_punctuation, is_other, is_left_flanking, is_right_flanking, can_open, can_close, class_beside, marker_from, run_at, is_sequence, index_of_event, depth_after, runs_in};
 ghost use Rattle.mdinline_emphasis.specs.Searches.{as_run};
 
 use crate::classes::{class_after, class_before};
-use crate::pairs::Delimiters;
+use crate::pairs::{Delimiters, Marker};
 use markdown_base::event::{Event, Kind, Name};
 use markdown_base::util::char::Kind as Class;
 use mdconstructs_loop_counts::Turns;
@@ -42,19 +42,33 @@ fn is_right_flanking(before: &Class, after: &Class) -> bool
 }
 
 /// Whether a run can open emphasis.
-fn can_open(is_star: bool, before: &Class, after: &Class) -> bool
-    ensures { result ≡ can_open is_star before.now after.now }
+fn can_open(marker: Marker, before: &Class, after: &Class) -> bool
+    ensures { result ≡ can_open marker before.now after.now }
 {
     is_left_flanking(before, after)
-        && (is_star || !is_right_flanking(before, after) || is_punctuation(before))
+        && (marker != Marker::Underscore
+            || !is_right_flanking(before, after)
+            || is_punctuation(before))
 }
 
 /// Whether a run can close emphasis.
-fn can_close(is_star: bool, before: &Class, after: &Class) -> bool
-    ensures { result ≡ can_close is_star before.now after.now }
+fn can_close(marker: Marker, before: &Class, after: &Class) -> bool
+    ensures { result ≡ can_close marker before.now after.now }
 {
     is_right_flanking(before, after)
-        && (is_star || !is_left_flanking(before, after) || is_punctuation(after))
+        && (marker != Marker::Underscore
+            || !is_left_flanking(before, after)
+            || is_punctuation(after))
+}
+
+/// The marker at an index: an asterisk, or else an underscore.
+fn marker_at(bytes: &[u8], index: usize) -> Marker
+    ensures { result ≡ marker_from (slice_get bytes.now index) }
+{
+    match bytes.get(index) {
+        Some(b'*') => Marker::Asterisk,
+        _ => Marker::Underscore,
+    }
 }
 
 /// The class of the character at an end of a run: that of the document there, if the event beside the run stands at the same index.
@@ -114,15 +128,15 @@ fn run_at(
     let end = exit.point.index;
     let before_it = class_beside(before, start, class_before(bytes, start));
     let after_it = class_beside(behind, end, class_after(bytes, end));
-    let is_star = bytes.get(start) == Some(&b'*');
+    let marker = marker_at(bytes, start);
     let left = end.saturating_sub(start);
     Delimiters {
         index,
         start: enter.point,
-        is_star,
+        marker,
         rest: left % 3,
-        opens: can_open(is_star, &before_it, &after_it),
-        closes: can_close(is_star, &before_it, &after_it),
+        opens: can_open(marker, &before_it, &after_it),
+        closes: can_close(marker, &before_it, &after_it),
         closed: Vec::new(alloc),
         left,
         opened: Vec::new(alloc),

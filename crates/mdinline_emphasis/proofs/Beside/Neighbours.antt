@@ -2,7 +2,7 @@
 --
 -- A run pairs first with the last one that waits and fits. If runs are between the two, they never wait again, and the one directly before it
 -- has opened nothing; if none is, the two have one marker.
-use Rattle.mdinline_emphasis.proofs.Prelude.{◌≡◌, ℕ, zero, suc, Bool, true, false, cond, List, [], ◌∷◌, ◌++◌, Option, Some, None, inl, inr, refl, sym, ap, ◌∙◌, subst, append_assoc, append-nil, ◌⊎◌, ◌&&◌, nat_lt, Run, same, may_pair, is_strong, Waiting, SoFar, Found, opening, closing, put_behind, put, put_back, last_fitting, close, in_turn_from, all_waiting, all_runs, none_read, paired_in_turn, AreBeside, AreUnpaired, PairsBeside, and-left}
+use Rattle.mdinline_emphasis.proofs.Prelude.{◌≡◌, ℕ, zero, suc, Bool, true, false, cond, List, [], ◌∷◌, ◌++◌, Option, Some, None, inl, inr, refl, sym, ap, ◌∙◌, subst, append_assoc, append-nil, ◌⊎◌, ◌&&◌, nat_lt, Run, same, may_pair, Waiting, SoFar, Found, opening, closing, put_behind, put, put_back, last_fitting, close, in_turn_from, all_waiting, all_runs, none_read, paired_in_turn, AreBeside, AreUnpaired, PairsBeside, and-left, Style, style_of}
 use Rattle.mdinline_emphasis.proofs.InTurn.{paired-in-turn}
 use Rattle.mdinline_emphasis.proofs.PairsKeep.{HaveLeft, found-all, back, put-is}
 
@@ -23,7 +23,7 @@ besides-more (x ∷ y ∷ xs) r none h = (h.0, besides-more (y ∷ xs) r none h.
 -- of a run that waits and the run behind it, the second closes nothing, or they have one marker
 abbrev WaitsBeside : Run → List Run → Type 0
 WaitsBeside a [] = Unit {0}
-WaitsBeside a (b ∷ rs) = (b.closed ≡ []) ⊎ (same a.is_star b.is_star ≡ true)
+WaitsBeside a (b ∷ rs) = (b.closed ≡ []) ⊎ (same a.marker b.marker ≡ true)
 
 waits-beside : (a : Run) (rs : List Run) → WaitsBeside a rs → AreBeside rs → AreBeside (a ∷ rs)
 waits-beside a [] h k = tt
@@ -37,7 +37,7 @@ waits-join a (x ∷ xs) o more h = h
 -- The last run of a list opens nothing, or it has the marker of a run behind the list
 abbrev LastIsFree : List Run → Run → Type 0
 LastIsFree [] r = Unit {0}
-LastIsFree (a ∷ []) r = (a.opened ≡ []) ⊎ (same a.is_star r.is_star ≡ true)
+LastIsFree (a ∷ []) r = (a.opened ≡ []) ⊎ (same a.marker r.marker ≡ true)
 LastIsFree (a ∷ b ∷ rs) r = LastIsFree (b ∷ rs) r
 
 -- of a list, its last run counts alone
@@ -52,14 +52,14 @@ free-again (x ∷ []) a ys r h = h
 free-again (x ∷ y ∷ xs) a ys r h = free-again (y ∷ xs) a ys r h
 
 -- so the run behind a list may close a pair
-closes-behind : (xs : List Run) (s : Bool) (r : Run) → AreBeside (xs ++ r ∷ []) → LastIsFree xs r → AreBeside (xs ++ closing s r ∷ [])
+closes-behind : (xs : List Run) (s : Style) (r : Run) → AreBeside (xs ++ r ∷ []) → LastIsFree xs r → AreBeside (xs ++ closing s r ∷ [])
 closes-behind [] s r h free = tt
 closes-behind (a ∷ []) s r h (inl none) = (inl none, tt)
 closes-behind (a ∷ []) s r h (inr one) = (inr (inr one), tt)
 closes-behind (a ∷ b ∷ xs) s r h free = (h.0, closes-behind (b ∷ xs) s r h.1 free)
 
 -- a last run may open a pair
-opens-behind : (xs : List Run) (s : Bool) (o : Run) → AreBeside (xs ++ o ∷ []) → AreBeside (xs ++ opening s o ∷ [])
+opens-behind : (xs : List Run) (s : Style) (o : Run) → AreBeside (xs ++ o ∷ []) → AreBeside (xs ++ opening s o ∷ [])
 opens-behind [] s o h = tt
 opens-behind (a ∷ []) s o h = (h.0, tt)
 opens-behind (a ∷ b ∷ xs) s o h = (h.0, opens-behind (b ∷ xs) s o h.1)
@@ -108,7 +108,7 @@ found-case false P w ws more f h later e = later e
 
 -- the last run that fits has the marker of the one that closes, and neighbours stay beside one another
 abbrev Fits : Run → List Run → List Run → Found → Type 0
-Fits r base tail f = (same f.last.opener.is_star r.is_star ≡ true) × Good base (f.last ∷ f.before) tail
+Fits r base tail f = (same f.last.opener.marker r.marker ≡ true) × Good base (f.last ∷ f.before) tail
 
 found-fits : (r : Run) (base behind : List Run) (ws : List Waiting) (f : Found) (tail : List Run) → Good base ws (behind ++ tail) → last_fitting r behind ws ≡ Some f → Fits r base tail f
 found-fits r base behind [] f tail h e = absurd (cc)
@@ -116,10 +116,10 @@ found-fits r base behind (w ∷ ws) f tail h e =
     let there : Waiting = record w { behind = w.behind ++ behind } in
     let good = between base behind w ws tail h in
     found-case (may_pair w.opener r) (Fits r base tail) there ws (last_fitting r (w.opener ∷ (w.behind ++ behind)) ws) f
-    (λ b. (and-left (same w.opener.is_star r.is_star) _ b, good))
+    (λ b. (and-left (same w.opener.marker r.marker) _ b, good))
     (found-fits r base (w.opener ∷ (w.behind ++ behind)) ws f tail (drop base there ws tail good)) e
 
-opens-good : (s : Bool) (o : Run) (base : List Run) (ws : List Waiting) → Good base ws (o ∷ []) → Good base ws (opening s o ∷ [])
+opens-good : (s : Style) (o : Run) (base : List Run) (ws : List Waiting) → Good base ws (o ∷ []) → Good base ws (opening s o ∷ [])
 opens-good s o base [] h = opens-behind base s o h
 opens-good s o base (w ∷ ws) h = (first w.behind h.0, opens-behind w.behind s o h.1, h.2)
   where
@@ -128,7 +128,7 @@ opens-good s o base (w ∷ ws) h = (first w.behind h.0, opens-behind w.behind s 
     first (x ∷ xs) k = k
 
 -- it opens a pair, and the one that closes it is behind all others
-pair-good : (s : Bool) (r : Run) (base : List Run) (w : Waiting) (ws : List Waiting) → same w.opener.is_star r.is_star ≡ true → LastIsFree (w.opener ∷ w.behind) r → Good base (w ∷ ws) (r ∷ [])
+pair-good : (s : Style) (r : Run) (base : List Run) (w : Waiting) (ws : List Waiting) → same w.opener.marker r.marker ≡ true → LastIsFree (w.opener ∷ w.behind) r → Good base (w ∷ ws) (r ∷ [])
     → Good base (record w { opener = opening s w.opener } ∷ ws) (closing s r ∷ [])
 pair-good s r base w ws one free h = (behind-good w.behind free h.0, closes w.behind free h.1, opens-good s w.opener base ws h.2)
   where
@@ -140,7 +140,7 @@ pair-good s r base w ws one free h = (behind-good w.behind free h.0, closes w.be
     closes [] free h = tt
     closes (x ∷ xs) free h = closes-behind (x ∷ xs) s r h free
 
-pair-free : (s : Bool) (r : Run) (o : Run) (xs : List Run) → same o.is_star r.is_star ≡ true → LastIsFree (o ∷ xs) r → LastIsFree (opening s o ∷ xs) (closing s r)
+pair-free : (s : Style) (r : Run) (o : Run) (xs : List Run) → same o.marker r.marker ≡ true → LastIsFree (o ∷ xs) r → LastIsFree (opening s o ∷ xs) (closing s r)
 pair-free s r o [] one h = inr one
 pair-free s r o (x ∷ xs) one h = free-closing (x ∷ xs) h
   where
@@ -176,12 +176,12 @@ close-by : (n : ℕ) (r : Run) (z : SoFar) (o : Option Found) → r.opened ≡ [
     → IsRead (elim o [
       | None ↦ put r z
       | Some f ↦
-          let s = is_strong f.last.opener r in
+          let s = style_of f.last.opener r in
           close n (closing s r) (put_back (record f.last { opener = opening s f.last.opener }) z.base f.before)
     ])
 close-by n r z None none h more e = put-read r z none h
 close-by n r z (Some f) none h more e =
-    let s = is_strong f.last.opener r in
+    let s = style_of f.last.opener r in
     let w : Waiting = record f.last { opener = opening s f.last.opener } in
     let before = z.base ++ all_waiting f.before in
     let found = found-all r [] z.waiting f h.left e in
@@ -206,7 +206,7 @@ close-read (suc n) r z none h =
     cond-read (r.closes && nat_lt 0 r.left) (elim (last_fitting r [] z.waiting) [
       | None ↦ put r z
       | Some f ↦
-          let s = is_strong f.last.opener r in
+          let s = style_of f.last.opener r in
           close n (closing s r) (put_back (record f.last { opener = opening s f.last.opener }) z.base f.before)
     ]) (put r z) (close-by n r z (last_fitting r [] z.waiting) none h (close-read n) refl) (put-read r z none h)
 

@@ -1,4 +1,4 @@
-use Rattle.mdinline_emphasis.proofs.Prelude.{◌≡◌, ℕ, ◌+◌, ◌-◌, ◌*◌, ◌<◌, ◌≤◌, set, List, Some, true, cond, map, take, length, get_or, sym, ap, ◌∙◌, subst, arith, slice_get, slice_index, nat_lt, slice_get_within, get_or_from_slice_get, Run, is_strong, closes_yet, SoFar, opening, closing, put_back, as_run, left_of, with_pair, kind, AreBottoms, AreInOrder, NoneFitsBefore, StandsAt, length-take-le, markers_left, looks, above, waiting_from}
+use Rattle.mdinline_emphasis.proofs.Prelude.{◌≡◌, ℕ, ◌+◌, ◌-◌, ◌*◌, ◌<◌, ◌≤◌, set, List, Some, true, cond, map, take, length, get_or, sym, ap, ◌∙◌, subst, arith, slice_get, slice_index, nat_lt, slice_get_within, get_or_from_slice_get, Run, closes_yet, SoFar, opening, closing, put_back, as_run, left_of, with_pair, kind, AreBottoms, AreInOrder, NoneFitsBefore, StandsAt, length-take-le, markers_left, looks, above, waiting_from, style_of}
 use Rattle.mdinline_emphasis.proofs.Costs.{pair-takes, above-set, above-fewer}
 use Rattle.mdinline_emphasis.proofs.Stands.{closer-run, openers-below, openers-order, some-next, none-next, close-unable, close-unfound, close-found}
 use Rattle.mdinline_emphasis.proofs.Bottoms.{bottoms-after-pair, bottoms-after-search}
@@ -57,7 +57,7 @@ returns-clause-pair g c same z r rest h =
     let f = next.0 in
     let able : closes_yet r ≡ true = sym (ap closes_yet (run-at c.args.runs.now c.args.openers.now.items c.args.closer c.index-runs-closer.result z r rest h)) ∙ sym c.closes_yet.ensures ∙ c.if-not-closes_yet.false in
     let i-is : c.index-opener.result.now ≡ next.2 = c.index-opener.ensures ∙ get_or_from_slice_get c.args.openers.now.items c.in-Some.at next.2 c.index-opener.result.now next.3 in
-    let s = is_strong f.last.opener r in
+    let s = style_of f.last.opener r in
     let w = record f.last { opener = opening s f.last.opener } in
     let stands = next.6.1 in
     let runs = c.in_ok-waits.ensures.pair ∙ ap (λ i. with_pair (map as_run c.args.runs.now) i c.args.closer) i-is in

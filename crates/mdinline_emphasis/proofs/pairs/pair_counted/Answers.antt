@@ -1,4 +1,4 @@
-use Rattle.mdinline_emphasis.proofs.Prelude.{◌≡◌, ℕ, zero, suc, ◌+◌, ◌*◌, ◌≤◌, replicate, ◌<◌, List, [], ◌∷◌, ◌++◌, map, length, refl, sym, ap, ◌∙◌, subst, arith, append-nil, length-append, slice_index, length-map, Run, SoFar, all_runs, in_turn_from, none_read, close, as_run, Stands, markers_left, to_pay}
+use Rattle.mdinline_emphasis.proofs.Prelude.{◌≡◌, ℕ, zero, suc, ◌+◌, ◌*◌, ◌≤◌, replicate, ◌<◌, List, [], ◌∷◌, ◌++◌, map, length, refl, sym, ap, ◌∙◌, subst, arith, append-nil, length-append, slice_index, length-map, Run, SoFar, all_runs, in_turn_from, none_read, close, as_run, Stands, above, kinds_of_runs, markers_left, pairs_a_run, to_pay}
 use Rattle.mdinline_emphasis.proofs.Bottoms.{bottoms-at-first, bottoms-later}
 use Rattle.mdinline_emphasis.proofs.InTurn.{paired-in-turn}
 use Rattle.mdinline_emphasis.proofs.pairs.pair_counted.Goals as goal
@@ -10,24 +10,26 @@ first rs openers closer z [] h is lt = absurd (let long = ap length (h.runs ∙ 
 first rs openers closer z (r ∷ rest) h is lt = (r, rest, refl)
 
 -- a list of zeros
-are-zeros : (xs : List ℕ) (n : ℕ) → xs ≡ replicate n 0 → (k : ℕ) → slice_index xs k ≡ 0
-are-zeros xs n e k = ap (λ ys. slice_index ys k) e ∙ zeros n k
-  where
-    zeros : (m i : ℕ) → slice_index (replicate m 0) i ≡ 0
-    zeros zero i = refl
-    zeros (suc m) zero = refl
-    zeros (suc m) (suc i) = zeros m i
+zeros-there : (m i : ℕ) → slice_index (replicate m 0) i ≡ 0
+zeros-there zero i = refl
+zeros-there (suc m) zero = refl
+zeros-there (suc m) (suc i) = zeros-there m i
+
+-- of none that wait, none is above a place
+none-above : (m : ℕ) → above [] (replicate m 0) ≡ 0
+none-above zero = refl
+none-above (suc m) = let more = none-above m in omega (arith, more)
 
 pub loop-closer-init : goal.loop-closer-init
 loop-closer-init g c =
-    let none : List ℕ = 0 ∷ 0 ∷ 0 ∷ 0 ∷ 0 ∷ 0 ∷ 0 ∷ 0 ∷ 0 ∷ 0 ∷ 0 ∷ 0 ∷ [] in (
+    let none : List ℕ = replicate kinds_of_runs 0 in (
       refl,
-      bottoms-at-first (map as_run c.args.runs.now) c.new-openers.result.items none (are-zeros none 12 refl),
+      bottoms-at-first (map as_run c.args.runs.now) c.new-openers.result.items none (zeros-there kinds_of_runs),
       (none_read, map as_run c.args.runs.now, record { runs = refl; waiting = c.new-openers.ensures.items }, refl, refl),
       (
           let rs = map as_run c.args.runs.now in
-          let start : c.args.turns.now + to_pay rs [] none ≤ c.args.turns.now + 2 * markers_left rs + 14 * 0 = omega arith in
-          subst (λ xs. c.args.turns.now + to_pay rs xs none ≤ c.args.turns.now + 2 * markers_left rs + 14 * 0) (sym c.new-openers.ensures.items) start
+          let start : c.args.turns.now + to_pay rs [] none ≤ c.args.turns.now + 2 * markers_left rs + pairs_a_run * 0 = (let nothing = none-above kinds_of_runs in omega (arith, nothing)) in
+          subst (λ xs. c.args.turns.now + to_pay rs xs none ≤ c.args.turns.now + 2 * markers_left rs + pairs_a_run * 0) (sym c.new-openers.ensures.items) start
           ),
       omega arith,
     )

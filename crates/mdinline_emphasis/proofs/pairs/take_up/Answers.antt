@@ -1,4 +1,4 @@
-use Rattle.mdinline_emphasis.proofs.Prelude.{◌≡◌, ℕ, suc, ◌+◌, ◌-◌, ◌*◌, ◌≤◌, cond, length, length-append, [], ◌∷◌, true, false, List, Ok, map, sym, ap, ◌∙◌, subst, arith, Run, opens_yet, SoFar, close, put, AreBottoms, as_run, Stands, StandsAt, markers_left, above, to_pay}
+use Rattle.mdinline_emphasis.proofs.Prelude.{◌≡◌, ℕ, suc, ◌+◌, ◌-◌, ◌*◌, ◌≤◌, cond, length, length-append, [], ◌∷◌, true, false, List, Ok, map, sym, ap, ◌∙◌, subst, arith, Run, opens_yet, SoFar, close, put, AreBottoms, as_run, Stands, StandsAt, kinds_of_runs, markers_left, pairs_a_run, above, to_pay}
 use Rattle.mdinline_emphasis.proofs.Costs.{above-more}
 use Rattle.mdinline_emphasis.proofs.Stands.{stands-waiting, stands-behind}
 use Rattle.mdinline_emphasis.proofs.Bottoms.{bottoms-after-push}
@@ -68,8 +68,8 @@ returns-in_ok-push-clause-paid g c =
     let long : length c.push.new.self.items ≡ length ops + 1 = ap length c.in_ok-push.ensures.items ∙ length-append ops (c.args.closer ∷ []) in
     let same = ap (λ xs. above xs bs) c.in_ok-push.ensures.items in
     let more = above-more ops c.args.closer bs in
-    let kinds : length bs ≡ 12 = c.closes_more.ensures.kinds in
+    let kinds : length bs ≡ kinds_of_runs = c.closes_more.ensures.kinds in
     let before : was ≤ c.args.turns.now + to_pay (map as_run c.args.runs.now) c.args.openers.now.items c.args.bottoms.now = c.closing.invariant.3 in
-    let all : t + ((length c.push.new.self.items + above c.push.new.self.items bs) + 2 * markers_left rs) ≤ c.args.turns.now + to_pay (map as_run c.args.runs.now) c.args.openers.now.items c.args.bottoms.now + 14 =
+    let all : t + ((length c.push.new.self.items + above c.push.new.self.items bs) + 2 * markers_left rs) ≤ c.args.turns.now + to_pay (map as_run c.args.runs.now) c.args.openers.now.items c.args.bottoms.now + pairs_a_run =
     omega (arith, paid, long, same, more, kinds, before) in
     all
