@@ -13,6 +13,7 @@ use Rattle.markdown_edits.proofs.Balanced.{balanced_from_open, names_after_balan
 use Rattle.markdown_edits.specs.OpenNames.{names_after_all}
 use Rattle.mdinline_emphasis.proofs.PairsKeep.{pairs-keep}
 use Rattle.mdinline_emphasis.proofs.RunTexts.{sequence-is}
+use Rattle.mdinline_emphasis.specs.declared.pairs.Style.{Style}
 use Rattle.mdinline_emphasis.specs.Emphasis.{Run, closings, data_of, later, markers_of_all, openings, paired}
 use Rattle.mdinline_emphasis.specs.Places.{Standing, markers, standing}
 use Rattle.mdinline_emphasis.specs.RunEdits.{in_place}
@@ -28,7 +29,7 @@ use Rattle.mdinline_links.specs.Linked.{Part, run, events, is_run, outermost_spa
 
 -- ---- what comes in the place of a run is something
 
-some-in-place : (p q r : Point) (closed : List Bool) (n : ℕ) (opened : List Bool) → 0 < markers_of_all closed + (n + markers_of_all opened) → 0 < length (closings p closed ++ (data_of q n ++ openings r opened))
+some-in-place : (p q r : Point) (closed : List Style) (n : ℕ) (opened : List Style) → 0 < markers_of_all closed + (n + markers_of_all opened) → 0 < length (closings p closed ++ (data_of q n ++ openings r opened))
 some-in-place p q r (s ∷ ss) n opened h = omega arith
 some-in-place p q r [] (suc n) opened h = omega arith
 some-in-place p q r [] zero (s ∷ ss) h = omega arith
@@ -119,7 +120,7 @@ module _ (bytes : List ℕ) (T : List Event → Type 0) (Q : Type 0) (A B : Q �
             let these = subst (λ (w : List Event × List Event). AllByRecursion T (w.0 ∷ spans_in b w.1)) pair known in
             let cut = kept.apart p q span es first (balanced_from_open es closes.1) h in
             let more = aligned b es (j + 2) (Some g.point.index) cut.0 q (omega (arith, few)) closes.1 these.1 cut.2 in
-            let run_is : IsRunOf bytes r e g = record { is = is; fresh = (refl, refl); start = refl; many = refl; star = refl } in
+            let run_is : IsRunOf bytes r e g = record { is = is; fresh = (refl, refl); start = refl; many = refl; marker = refl } in
             let got = kept.run_of p cut.0 r e g run_is these.0 cut.1 in
             subst (λ qs. Behind b (p, j) (span_at 0 (e ∷ g ∷ es)) (part_of (span_at 0 (e ∷ g ∷ es)).0 qs) q) (sym runs)
             (subst (λ (w : List Event × List Event). Behind b (p, j) w (part_of w.0 (r ∷ rs)) q) (sym pair)

@@ -8,7 +8,7 @@ use Rattle.std.specs.Result.{OnOk}
 use Rattle.markdown_base.specs.declared.event.Event.{Event}
 use Rattle.mdinline_emphasis.proofs.Ends.{ends-append, ends-take-markers, runs-are-few, runs-no-ends}
 use Rattle.mdinline_emphasis.specs.Runs.{runs_in}
-use Rattle.mdinline_emphasis.specs.Costs.{ends_of_pairs, markers_left}
+use Rattle.mdinline_emphasis.specs.Costs.{emphasis_a_run, ends_of_pairs, markers_left, pairs_a_run}
 use Rattle.mdinline_emphasis.specs.declared.pairs.Delimiters.{Delimiters}
 use Rattle.mdinline_emphasis.specs.Emphasis.{Run, paired}
 use Rattle.mdinline_emphasis.specs.Searches.{as_run}
@@ -90,7 +90,7 @@ pairs-paid rs = let take = ends-take-markers rs in omega (arith, take)
 
 -- the runs behind a bracket are paid
 pub made-paid : (old new : Pieces) (b : Bracket) (start end tail : ℕ) → IsMade old new b start end tail → (t0 t1 t2 : ℕ)
-    → t1 ≤ t0 + (14 * length (drop b.runs old.runs.items) + 2 * markers_left (map as_run (drop b.runs old.runs.items)))
+    → t1 ≤ t0 + (pairs_a_run * length (drop b.runs old.runs.items) + 2 * markers_left (map as_run (drop b.runs old.runs.items)))
     → t2 + length new.runs.items ≡ t1 + length old.runs.items
     → t2 + to_pay new [] ≤ t0 + to_pay old [] + (1 + (tail - end))
 made-paid old new b start end tail made t0 t1 t2 linear placed =
@@ -138,8 +138,8 @@ with-left old new left t0 t1 k h = omega (arith, h)
 
 -- a slice from an index on
 pub slice-pay : (xs ys : List Delimiters) (n t0 t1 : ℕ) → ys ≡ xs → n ≤ length xs
-    → t1 ≤ t0 + 14 * length (take (length ys - n) (drop n ys)) + 2 * markers_left (map as_run (take (length ys - n) (drop n ys)))
-    → t1 ≤ t0 + (14 * length (drop n xs) + 2 * markers_left (map as_run (drop n xs)))
+    → t1 ≤ t0 + pairs_a_run * length (take (length ys - n) (drop n ys)) + 2 * markers_left (map as_run (take (length ys - n) (drop n ys)))
+    → t1 ≤ t0 + (pairs_a_run * length (drop n xs) + 2 * markers_left (map as_run (drop n xs)))
 slice-pay xs ys n t0 t1 was inside h =
     let left = length-drop n ys in
     let mid : take (length ys - n) (drop n ys) ≡ drop n xs = take_all (length ys - n) (drop n ys) (omega (arith, left)) ∙ ap (drop n) was in
@@ -149,14 +149,14 @@ slice-pay xs ys n t0 t1 was inside h =
 
 -- all that was left is paid in the end
 pub all-paid : (all : Pieces) (left new : List Delimiters) (r t0 t1 t2 t3 n : ℕ) → t1 + to_pay all left ≤ t0 + r + 2 * n
-    → t2 ≤ t1 + (14 * length (drop 0 all.runs.items) + 2 * markers_left (map as_run (drop 0 all.runs.items))) → length new ≡ length all.runs.items
+    → t2 ≤ t1 + (pairs_a_run * length (drop 0 all.runs.items) + 2 * markers_left (map as_run (drop 0 all.runs.items))) → length new ≡ length all.runs.items
     → map as_run (drop 0 new) ≡ paired (drop 0 (map as_run all.runs.items)) → t3 + length (take 0 new) ≡ t2 + length new
     → t3 + to_write (placed_at all.pieces.items (drop 0 all.owners.items) (drop 0 new)) ≤ t0 + r + 2 * n
 all-paid all left new r t0 t1 t2 t3 n h linear same pairs placed =
     let rs = map as_run all.runs.items in
     let long = length-map all.runs.items as_run in
     let none : length (take 0 new) ≡ 0 = refl in
-    let linear' : t2 ≤ t1 + (14 * length all.runs.items + 2 * markers_left rs) = linear in
+    let linear' : t2 ≤ t1 + (pairs_a_run * length all.runs.items + 2 * markers_left rs) = linear in
     let ends : ends_of_pairs (map as_run (drop 0 new)) ≡ ends_of_pairs (paired rs) = ap ends_of_pairs pairs in
     let few = pairs-paid rs in
     let written = write-placed all.pieces.items (drop 0 all.owners.items) (drop 0 new) in
@@ -180,7 +180,7 @@ first-paid bytes es all left runs t0 t1 rs ps is turned looked =
     omega (arith, a, b, c, looked)
 
 -- runs of a text are in no pair yet
-pub runs-pay : (bytes : List ℕ) (es : List Event) → pay (runs_in bytes es) ≡ 15 * length (runs_in bytes es) + 3 * markers_left (runs_in bytes es)
+pub runs-pay : (bytes : List ℕ) (es : List Event) → pay (runs_in bytes es) ≡ emphasis_a_run * length (runs_in bytes es) + 3 * markers_left (runs_in bytes es)
 runs-pay bytes es = let none = runs-no-ends bytes es in omega (arith, none)
 
 pub links-cost-little : LinksCostLittle

@@ -5,6 +5,7 @@ use Rattle.markdown_base.specs.declared.event.Kind.TheVariants.{Enter, Exit}
 use Rattle.markdown_base.specs.declared.event.Name.{Name}
 use Rattle.markdown_base.specs.declared.event.Name.TheVariants.{AttentionSequence, Data, Emphasis, EmphasisSequence, EmphasisText, Image, Label, LabelEnd, LabelImage, LabelImageMarker, LabelLink, LabelMarker, LabelText, Link, Resource}
 use Rattle.markdown_base.specs.declared.event.Point.{Point}
+use Rattle.mdinline_emphasis.specs.declared.pairs.Marker.TheVariants.{Asterisk}
 use Rattle.mdinline_emphasis.specs.Emphasis.{Run, unlinked_event}
 use Rattle.mdinline_links.specs.Linked.{emphasised_parts, linked_parts, with_links}
 
@@ -48,9 +49,9 @@ waits = refl
 fails : with_links (91 ∷ 97 ∷ 93 ∷ []) (bracket 0 ++ (leaf Data 1 2 ++ leaf LabelMarker 2 3)) ≡ leaf Data 0 1 ++ (leaf Data 1 2 ++ leaf Data 2 3)
 fails = refl
 
--- a run of one star, and the events of a text with these runs
+-- a run of one asterisk, and the events of a text with these runs
 abbrev star : (index place : ℕ) → (opens closes : Bool) → Run
-star index place opens closes = record { index = index; start = at place; is_star = true; rest = 1; opens = opens; closes = closes; closed = []; left = 1; opened = [] }
+star index place opens closes = record { index = index; start = at place; marker = Asterisk; rest = 1; opens = opens; closes = closes; closed = []; left = 1; opened = [] }
 
 abbrev with_links_of : List Run → List Event → List Event
 with_links_of rs es = emphasised_parts (linked_parts rs es)

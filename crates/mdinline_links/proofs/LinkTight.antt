@@ -12,6 +12,8 @@ use Rattle.markdown_base.specs.declared.event.Point.{Point}
 use Rattle.markdown_base.specs.Events.{IsBalanced, is_void, same_name}
 use Rattle.markdown_edits.proofs.Balanced.{names_after_balanced, same_name-true}
 use Rattle.markdown_edits.specs.OpenNames.{names_after, names_after_all}
+use Rattle.mdinline_emphasis.proofs.Markers.{inner-holds, outer-holds}
+use Rattle.mdinline_emphasis.specs.declared.pairs.Style.{Style}
 use Rattle.mdinline_emphasis.specs.Emphasis.{Run, closings, data_of, events_of_runs, inner_name, later, markers_of, markers_of_all, openings, outer_name, paired, run_events, sequence_name, unlinked_event}
 use Rattle.mdinline_emphasis.specs.RunEdits.{in_place}
 use Rattle.mdinline_links.proofs.Kept.{links-keep}
@@ -22,14 +24,6 @@ use Rattle.mdinline_links.specs.Linked.{as_data, last_place, span_at, spanning, 
 use Rattle.mdinline_links.specs.Places.{Anywhere}
 
 -- ---- what comes in place of a run
-pub outer-holds : (s : Bool) → is_void (outer_name s) ≡ false
-outer-holds true = refl
-outer-holds false = refl
-
-pub inner-holds : (s : Bool) → is_void (inner_name s) ≡ false
-inner-holds true = refl
-inner-holds false = refl
-
 tight-enter : (n : Name) (p : Point) (es : List Event) → is_void n ≡ false → AreTight es → AreTight (unlinked_event Enter n p ∷ es)
 tight-enter n p es other h = ((λ enters void. let no : false ≡ true = sym other ∙ void in absurd (cc)), h)
 
@@ -39,7 +33,7 @@ tight-exit n p es h = ((λ enters void. absurd (cc)), h)
 tight-pair : (n : Name) (p q : Point) (es : List Event) → AreTight es → AreTight (unlinked_event Enter n p ∷ unlinked_event Exit n q ∷ es)
 tight-pair n p q es h = ((λ enters void. (refl, refl)), tight-exit n q es h)
 
-tight-closings : (p : Point) (ss : List Bool) (es : List Event) → AreTight es → AreTight (closings p ss ++ es)
+tight-closings : (p : Point) (ss : List Style) (es : List Event) → AreTight es → AreTight (closings p ss ++ es)
 tight-closings p [] es h = h
 tight-closings p (s ∷ ss) es h =
     let q = later (markers_of s) p in
@@ -47,7 +41,7 @@ tight-closings p (s ∷ ss) es h =
     let behind = unlinked_event Exit (outer_name s) q ∷ more in
     tight-exit (inner_name s) p (unlinked_event Enter (sequence_name s) p ∷ unlinked_event Exit (sequence_name s) q ∷ behind) (tight-pair (sequence_name s) p q behind (tight-exit (outer_name s) q more (tight-closings q ss es h)))
 
-tight-openings : (p : Point) (ss : List Bool) (es : List Event) → AreTight es → AreTight (openings p ss ++ es)
+tight-openings : (p : Point) (ss : List Style) (es : List Event) → AreTight es → AreTight (openings p ss ++ es)
 tight-openings p [] es h = h
 tight-openings p (s ∷ ss) es h =
     let q = later (markers_of s) p in

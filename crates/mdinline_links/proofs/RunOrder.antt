@@ -8,6 +8,7 @@ use Rattle.markdown_base.specs.declared.event.Event.{Event}
 use Rattle.markdown_base.specs.declared.event.Point.{Point}
 use Rattle.markdown_base.specs.Places.{stands_before}
 use Rattle.markdown_base.proofs.Common.{every-append}
+use Rattle.mdinline_emphasis.specs.declared.pairs.Style.{Style}
 use Rattle.mdinline_emphasis.specs.Emphasis.{Run, closings, data_of, later, markers_of, markers_of_all, openings}
 use Rattle.mdinline_emphasis.specs.Places.{markers}
 use Rattle.mdinline_emphasis.specs.RunEdits.{in_place}
@@ -51,7 +52,7 @@ module _ (At : Point → Type 0) where
   ordered-none p = record { order = upto-later 0 p; places = tt }
 
   -- ---- what comes in place of a run
-  ordered-closings : (p : Point) (ss : List Bool) → AreSteps At p (markers_of_all ss) → Ordered p (closings p ss) (later (markers_of_all ss) p)
+  ordered-closings : (p : Point) (ss : List Style) → AreSteps At p (markers_of_all ss) → Ordered p (closings p ss) (later (markers_of_all ss) p)
   ordered-closings p [] h = ordered-none p
   ordered-closings p (s ∷ ss) h =
       let m = markers_of s in
@@ -62,7 +63,7 @@ module _ (At : Point → Type 0) where
       let end = subst (Ordered q (closings q ss)) (later-later (markers_of_all ss) m p) more in
       record { order = (stands-self p, (stands-self p, (upto-later m p, (stands-self q, end.order)))); places = (here, (here, (there, (there, end.places)))) }
 
-  ordered-openings : (p : Point) (ss : List Bool) → AreSteps At p (markers_of_all ss) → Ordered p (openings p ss) (later (markers_of_all ss) p)
+  ordered-openings : (p : Point) (ss : List Style) → AreSteps At p (markers_of_all ss) → Ordered p (openings p ss) (later (markers_of_all ss) p)
   ordered-openings p [] h = ordered-none p
   ordered-openings p (s ∷ ss) h =
       let m = markers_of s in

@@ -7,7 +7,7 @@ use Rattle.markdown_base.specs.declared.event.Name.TheVariants.{LabelMarker, Lab
 use Rattle.markdown_base.specs.Events.{IsBalanced}
 use Rattle.mdinline_emphasis.specs.Emphasis.{Run, paired}
 use Rattle.mdinline_emphasis.specs.RunEdits.{in_place}
-use Rattle.mdinline_emphasis.specs.Runs.{is_sequence, is_star_byte}
+use Rattle.mdinline_emphasis.specs.Runs.{is_sequence, marker_from}
 use Rattle.mdinline_links.specs.Kept.{IsFresh, is_made_of}
 use Rattle.mdinline_links.specs.Linked.{Part, run, events, around, as_data, is_bracket, is_named, last_place, runs_of_parts, spanning}
 
@@ -17,7 +17,7 @@ pub record IsRunOf (bytes : List ℕ) (r : Run) (e f : Event) : Type 0 where
   pub fresh : IsFresh r
   pub start : r.start ≡ e.point
   pub many : r.left ≡ f.point.index - e.point.index
-  pub star : r.is_star ≡ is_star_byte (slice_get bytes e.point.index)
+  pub marker : r.marker ≡ marker_from (slice_get bytes e.point.index)
 
 -- a span that data may take the place of: a bracket, or a `]` that makes nothing
 abbrev pub is_marked : List Event → Bool

@@ -1,7 +1,7 @@
 -- Inner: costs of links: what the runs that are in no pair yet may cost, and the pieces that are to be written. No public contract cites
 -- this file.
 use Rattle.std.specs.Prelude.{ℕ, suc, ◌+◌, ◌*◌, List, [], ◌∷◌, length, map}
-use Rattle.mdinline_emphasis.specs.Costs.{ends_at, ends_of_pairs, markers_left}
+use Rattle.mdinline_emphasis.specs.Costs.{emphasis_a_run, ends_at, ends_of_pairs, markers_left}
 use Rattle.mdinline_emphasis.specs.declared.pairs.Delimiters.{Delimiters}
 use Rattle.mdinline_emphasis.specs.Emphasis.{Run}
 use Rattle.mdinline_emphasis.specs.Searches.{as_run}
@@ -22,7 +22,7 @@ to_write (p ∷ ps) = suc (ends_in p.fate + to_write ps)
 
 -- what it may cost to pair some runs, to put each into its piece, and to write the ends of their pairs
 abbrev pub pay : List Run → ℕ
-pay rs = (15 * length rs + 3 * markers_left rs) + ends_of_pairs rs
+pay rs = (emphasis_a_run * length rs + 3 * markers_left rs) + ends_of_pairs rs
 
 -- what there is so far may cost yet: its runs, those that are left, and its pieces
 abbrev pub to_pay : Pieces → List Delimiters → ℕ

@@ -1,5 +1,5 @@
 -- What is promised of links and images.
-use Rattle.std.specs.Prelude.{◌≡◌, ◌+◌, ◌*◌, ◌≤◌, ℕ, false, List, length}
+use Rattle.std.specs.Prelude.{◌≡◌, ◌+◌, ◌*◌, ◌/◌, ◌≤◌, ℕ, false, List, length}
 use Rattle.std.specs.List.{AllByRecursion}
 use Rattle.markdown_base.specs.declared.event.Event.{Event}
 use Rattle.markdown_base.specs.declared.event.Name.TheVariants.{LabelEnd, LabelMarker}
@@ -7,7 +7,7 @@ use Rattle.markdown_base.proofs.Orders.{AreTight, InOrder}
 use Rattle.markdown_base.specs.declared.event.Point.{Point}
 use Rattle.markdown_base.specs.Events.{IsBalanced}
 use Rattle.markdown_tokenizer.specs.Plain.{HaveNoLinks}
-use Rattle.mdinline_emphasis.specs.Costs.{markers_left}
+use Rattle.mdinline_emphasis.specs.Costs.{emphasis_a_run, markers_left}
 use Rattle.mdinline_emphasis.specs.Places.{ArePlacesInside}
 use Rattle.mdinline_emphasis.specs.Runs.{runs_in, with_emphasis}
 use Rattle.mdinline_links.specs.Linked.{is_bracket, is_named, outermost_spans, with_links}
@@ -37,7 +37,11 @@ LinksKeepOrder = (bytes : List ℕ) (es : List Event) (p q : Point) → IsBalanc
 abbrev pub LinksKeepPlaces : Type 0
 LinksKeepPlaces = (bytes : List ℕ) (es : List Event) → ArePlacesInside bytes es → ArePlacesInside bytes (with_links bytes es)
 
+-- What they may take for each event: five looks, and half of what emphasis takes for a run, which has two events
+abbrev pub links_an_event : ℕ
+links_an_event = 5 + (emphasis_a_run + 1) / 2
+
 -- What links, images and emphasis may cost is linear in the events of a text, which stand in order inside the document, and its bytes
 abbrev pub LinksCostLittle : Type 0
 LinksCostLittle = (bytes : List ℕ) (es : List Event) (p q : Point) → ArePlacesInside bytes es → InOrder p es q
-    → (15 * length (runs_in bytes es) + 3 * markers_left (runs_in bytes es)) + 5 * length es ≤ 13 * length es + 3 * length bytes
+    → (emphasis_a_run * length (runs_in bytes es) + 3 * markers_left (runs_in bytes es)) + 5 * length es ≤ links_an_event * length es + 3 * length bytes

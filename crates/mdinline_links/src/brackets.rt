@@ -6,7 +6,7 @@
 
 ghost use Rattle.std.specs.Prelude.{◌≡◌, ◌+◌, ◌-◌, ◌*◌, ◌<◌, ◌≤◌, ◌++◌, ◌∷◌, [], cond, nat_lt, drop, length, map, reverse, take, IfOk, OnOk};
 ghost use Rattle.std.specs.List.{AllByRecursion};
-ghost use Rattle.mdinline_emphasis.specs.Costs.{markers_left};
+ghost use Rattle.mdinline_emphasis.specs.Costs.{markers_left, pairs_a_run};
 ghost use Rattle.mdinline_emphasis.specs.Emphasis.{paired};
 ghost use Rattle.mdinline_emphasis.specs.Places.{ArePlacesInside};
 ghost use Rattle.mdinline_emphasis.specs.Runs.{runs_in};
@@ -66,7 +66,7 @@ fn pair_behind<L: Ledger>(
     turns: &mut Turns<L>,
 ) -> Result<(), AllocError>
     ensures pairs { OnOk result (map as_run runs.new.items ≡ take from (map as_run runs.old.items) ++ paired (drop from (map as_run runs.old.items))) }
-    ensures linear { turns.new ≤ turns.old + (14 * length (drop from runs.old.items) + 2 * markers_left (map as_run (drop from runs.old.items))) }
+    ensures linear { turns.new ≤ turns.old + (pairs_a_run * length (drop from runs.old.items) + 2 * markers_left (map as_run (drop from runs.old.items))) }
 {
     if runs.len() <= from {
         return Ok(());

@@ -34,7 +34,7 @@ pub fn links_keep_places()
     ensures { LinksKeepPlaces }
 {}
 
-/// What `put_links_counted` may take at most is no more than 13 turns for each event and 3 for each byte, if the events stand in order
+/// What `put_links_counted` may take at most is no more than `links_an_event` turns for each event and 3 for each byte, if the events stand in order
 /// inside the document.
 pub fn links_cost_little()
     ensures { LinksCostLittle }

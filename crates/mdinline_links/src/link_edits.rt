@@ -3,7 +3,7 @@
 ghost use Rattle.std.specs.Prelude.{◌≡◌, ◌+◌, ◌*◌, ◌<◌, ◌≤◌, [], length, OnOk};
 ghost use Rattle.std.specs.List.{position_or_len};
 ghost use Rattle.markdown_base.specs.Events.{IsBalanced};
-ghost use Rattle.mdinline_emphasis.specs.Costs.{markers_left};
+ghost use Rattle.mdinline_emphasis.specs.Costs.{emphasis_a_run, markers_left};
 ghost use Rattle.mdinline_emphasis.specs.Places.{ArePlacesInside};
 ghost use Rattle.mdinline_emphasis.specs.Runs.{runs_in};
 ghost use Rattle.mdinline_links.specs.LinkEdits.{has_brackets, is_mark, is_of_bracket, link_edits};
@@ -83,7 +83,7 @@ pub fn put_links_counted<L: Ledger>(
     requires balanced { IsBalanced events.now }
     requires room { ArePlacesInside bytes.now events.now }
     ensures edits { OnOk result (edits.new ≡ link_edits bytes.now events.now) }
-    ensures linear { OnOk result (turns.new ≤ turns.old + (15 * length (runs_in bytes.now events.now) + 3 * markers_left (runs_in bytes.now events.now)) + 5 * length events.now) }
+    ensures linear { OnOk result (turns.new ≤ turns.old + (emphasis_a_run * length (runs_in bytes.now events.now) + 3 * markers_left (runs_in bytes.now events.now)) + 5 * length events.now) }
 {
     let first = first_mark(events, turns);
     if first >= events.len() {
