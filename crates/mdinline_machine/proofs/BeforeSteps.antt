@@ -47,7 +47,7 @@ module _ {M : Type 0} (t : TokenizerValue M Unit Unit) (b : ℕ) (at : (sight_of
   pub at-mark : text_byte b ≡ punctuation → begins_run on b ≡ false → step_in text_byte inline_before t ≡ step_by bracket_rows t
   at-mark class none =
       ap (λ o. step_by (inline_before_rows before (class_of text_byte o)) t) at ∙ ap (λ w. step_by (inline_before_rows before (Some w)) t) class
-      ∙ picks run_begins (row [] (Retry AttentionStart)) bracket_rows false (ap (λ o. on.attention && passes is_delimiter o) at ∙ none)
+      ∙ picks run_begins (row [] (Retry AttentionStart)) bracket_rows false (ap (passes (begins_run on)) at ∙ none)
 
   pub no-run-no-bracket : text_byte b ≡ punctuation → begins_run on b ≡ false → is_of_bracket b ≡ false → step_in text_byte inline_before t ≡ step_by (row [] (Retry TextBeforeData)) t
   no-run-no-bracket class none bracket = at-mark class none ∙ brackets-none bracket
@@ -69,7 +69,7 @@ module _ {M : Type 0} (t : TokenizerValue M Unit Unit) (b : ℕ) (at : (sight_of
   mark-none : begins_run on b ≡ false → is_of_bracket b ≡ false → mark_begins t.given (sight_of t) t.configuration ≡ false
   mark-none run none =
       let (link, image, ends) = begins-none on b none in
-      ap (λ o. (on.attention && passes is_delimiter o) || passes (begins_bracket on) o) at ∙ (λ i. run i || (link i || (image i || ends i)))
+      ap (λ o. passes (begins_run on) o || passes (begins_bracket on) o) at ∙ (λ i. run i || (link i || (image i || ends i)))
 
   -- data goes on at a byte at which nothing begins
   pub data-other : is_line_feed b ≡ false → is_white b ≡ false → begins_run on b ≡ false → is_of_bracket b ≡ false → some_first marked_grammars b ≡ false → step_in text_byte inline_data t ≡ step_by (row (consume ∷ []) (Next DataInside)) t

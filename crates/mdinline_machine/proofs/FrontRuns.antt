@@ -3,6 +3,7 @@ use Rattle.mdinline_machine.proofs.Prelude.{◌≡◌, ℕ, ◌+◌, ◌≤◌, 
 use Rattle.mdinline_machine.proofs.DataBytes.{data_joined, joined_part}
 use Rattle.mdinline_machine.proofs.BracketBytes.{begins-no-bracket, tick-no-bracket}
 use Rattle.mdinline_machine.proofs.PartReads.{is_own, unbracketed}
+use Rattle.mdinline_machine.proofs.RunBytes.{no-run}
 use Rattle.mdinline_machine.proofs.WhiteBytes.{white-none}
 
 -- there is none at another byte
@@ -25,7 +26,7 @@ own-no-tick on b own =
       | true ↦ λ is.
           let e : b ≡ 96 = grind (arith, nat_tests) in
           let line : is_line_feed b ≡ false = ap is_line_feed e in
-          let run : begins_run on b ≡ false = ap (begins_run on) e ∙ and-false on.attention in
+          let run : begins_run on b ≡ false = ap (begins_run on) e ∙ no-run on 96 refl in
           let bracket = begins-no-bracket on b (tick-no-bracket b is) in
           let white : is_white b ≡ false = ap is_white e in
           absurd (let no : false ≡ true = sym (λ i. line i || ((run i || bracket i) || white i)) ∙ own in cc)

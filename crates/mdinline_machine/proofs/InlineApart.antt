@@ -1,6 +1,7 @@
 -- The constructs of inline text by their bytes; and the classes at which the machine goes on with data.
 use Rattle.std.proofs.lemmas.Bool.{or_parts}
 use Rattle.mdinline_machine.proofs.Prelude.{◌≡◌, ℕ, ◌&&◌, ◌||◌, List, ◌∷◌, Bool, true, false, cond, sym, ap, ◌∙◌, arith, and-false, or-false, nat_tests, Constructs, is_white, autolinks-apart, code-spans-apart, AreApart, begins-classed, escapes-apart, line-classed, is_line_feed, some_begins, some_first, item_length, is_line_feed_class, punctuation, text_byte, emails-apart, html-marks-apart, html-tags-apart, break-escapes-apart, references-apart, begins_run, ends_data, marked_grammars, behind_autolinks, behind_emails, behind_escapes, behind_marks, inline_constructs, is_delimiter, Found, first_there, none-there, ◌<◌, data_length, data_run, delimiter_run, inline_item_at, line_break, run_length, run_or_part, positive, prefix_len, there-holds, trailing-break-some, white-space-some, white_grammars, Memory, begins_bracket, bracket_or_part}
+use Rattle.mdinline_machine.proofs.RunBytes.{no-run}
 use Rattle.mdinline_machine.proofs.BracketBytes.{begins-no-bracket, some-bracket, white-no-bracket}
 
 pub behind-escapes-apart : AreApart text_byte item_length behind_escapes
@@ -23,9 +24,9 @@ pub white-plain : (on : Constructs) (b : ℕ) → is_white b ≡ true → ends_d
 white-plain on b h =
     let line : is_line_feed b ≡ false = grind (arith, nat_tests) in
     let marked : some_first marked_grammars b ≡ false = grind (arith, nat_tests) in
-    let delimiter : is_delimiter b ≡ false = grind (arith, nat_tests) in
+    let run = no-run on b (grind (arith, nat_tests)) in
     let bracket = begins-no-bracket on b (white-no-bracket b h) in
-    (λ i. line i || (marked i || ((on.attention && delimiter i) || bracket i))) ∙ ap (λ t. t || false) (and-false on.attention)
+    (λ i. line i || (marked i || (run i || bracket i)))
 
 -- no construct with a mark begins with white space
 pub white-unmarked : (on : Constructs) (b : ℕ) (bs : List ℕ) (other : Found) → is_white b ≡ true → first_there marked_grammars on (b ∷ bs) other ≡ other

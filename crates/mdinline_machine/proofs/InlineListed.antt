@@ -2,6 +2,7 @@
 -- endings, runs and white space are read.
 use Rattle.std.proofs.lemmas.Bool.{or_parts}
 use Rattle.mdinline_machine.proofs.Prelude.{◌≡◌, ℕ, ◌+◌, ◌≤◌, ◌&&◌, ◌||◌, List, [], ◌∷◌, ◌++◌, Bool, true, false, refl, sym, ap, ◌∙◌, subst, arith, drop, length, take, flat_map, prefix_len, length-drop, and-false, eqb-true, nat_tests, Constructs, Event, Name, SpaceOrTab, Next, Retry, TextBefore, TextBeforeData, TextBeforeHardBreakEscape, TextBeforeHtml, TextBeforeEmail, TextBeforeTag, Seat, Byte, Nothing, Configuration, Local, sight, Sight, Given, Text, class_of, is_white, counts, row_step, autolinks, is_line_feed, remembered_code_spans, Construct, Found, between_texts, first_there, grammars_of, some_first, tried_at, escapes, item_length, bytes_of, leaf, TextByte, backslash, less, text_byte, item_events, AreApart, none-there, AddsFrom, AreTried, IsKept, IsListed, IsTried, Knowledge, Reads, ReadsFrom, items-read, listed, cut_remembering, spent, EndsWith, Plays, between_items, emails, html_marks, html_tags, break_escapes, references, begins_run, read_events, behind_autolinks, behind_emails, behind_escapes, behind_marks, inline_before_rows, inline_constructs, is_delimiter, marked_grammars, Memory, after_item, nothing_read}
+use Rattle.mdinline_machine.proofs.RunBytes.{no-run}
 use Rattle.mdinline_constructs.specs.WhiteSpace.{white_space}
 use Rattle.mdinline_machine.proofs.BracketBytes.{begins-no-bracket, marked-no-bracket}
 use Rattle.mdinline_machine.proofs.InlineApart.{behind-autolinks-apart, behind-emails-apart, behind-escapes-apart, behind-marks-apart, begins_mark, inline-apart}
@@ -62,7 +63,7 @@ module _ (defined : List ℕ → Bool) (g : Given) (text : Text) (known : Knowle
   own-alone : (b : ℕ) → is_own on b ≡ true → some_first marked_grammars b ≡ false
   own-alone b h = elim (some_first marked_grammars b) as (λ t. some_first marked_grammars b ≡ t → t ≡ false) [
     | true ↦ λ e.
-        let run : begins_run on b ≡ false = ap (λ t. on.attention && t) (no-delimiter b e) ∙ and-false on.attention in
+        let run : begins_run on b ≡ false = no-run on b (no-delimiter b e) in
         let bracket = begins-no-bracket on b (marked-no-bracket b e) in
         let line : is_line_feed b ≡ false = grind (arith, nat_tests) in
         let white : is_white b ≡ false = grind (arith, nat_tests) in

@@ -49,6 +49,7 @@ pub mod Resolved
 -- data
 mod Room
 -- runs
+pub mod RunBytes
 mod RunReads
 -- registered
 pub mod Starts

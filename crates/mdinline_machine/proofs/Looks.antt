@@ -1,6 +1,6 @@
 -- The machine of inline text refuses no document, by the test of its rows; and it looks no further than the byte that waits: its tests take of the
 -- document the options, and bytes before that byte.
-use Rattle.mdinline_machine.proofs.Prelude.{ℕ, zero, suc, take, sym, ◌∙◌, Bool, ◌≡◌, ◌&&◌, ◌||◌, reverse, begins_bracket, begins_end, begins_image, begins_link, List, [], ◌∷◌, ◌++◌, Option, Some, None, refl, ap, AllByRecursion, ParseOptions, LooksNoFurther, IsAnsweredAlike, tests, tests_of, refusing, RulesRefuseNothing, steps-alike, table-steps, refuse-nothing, autolinks, passes, escapes, TextByte, line_feed, backtick, less, greater, backslash, colon, letter, digit, mark, ampersand, white, punctuation, blank, other, every-append, TextBeforeHardBreakEscape, every-back, every-front, StateRows, states_of, html-on-alike, html-tags-alike, emails, html_marks, html_tags, domain-ends-alike, hyphen-alike, label-alike, label-ends-alike, name-alike, name-ends-alike, break_escapes_are_on, space_waits, trailing_breaks_are_on, at_number_sign, at_semicolon, at_x, value_goes_on, value_is_whole, goes-on-alike, number-sign-alike, on-alike, semicolon-alike, whole-alike, x-alike, remembered_code_spans, inlines_rules, behind_escapes, inline_constructs, inline_start, inlines, own_states, is_delimiter, run_begins, run_goes_on, run_states, string_states}
+use Rattle.mdinline_machine.proofs.Prelude.{ℕ, zero, suc, take, sym, ◌∙◌, Bool, ◌≡◌, ◌&&◌, ◌||◌, reverse, begins_bracket, begins_run, begins_end, begins_image, begins_link, List, [], ◌∷◌, ◌++◌, Option, Some, None, refl, ap, AllByRecursion, ParseOptions, LooksNoFurther, IsAnsweredAlike, tests, tests_of, refusing, RulesRefuseNothing, steps-alike, table-steps, refuse-nothing, autolinks, passes, escapes, TextByte, line_feed, backtick, less, greater, backslash, colon, letter, digit, mark, ampersand, white, punctuation, blank, other, every-append, TextBeforeHardBreakEscape, every-back, every-front, StateRows, states_of, html-on-alike, html-tags-alike, emails, html_marks, html_tags, domain-ends-alike, hyphen-alike, label-alike, label-ends-alike, name-alike, name-ends-alike, break_escapes_are_on, space_waits, trailing_breaks_are_on, at_number_sign, at_semicolon, at_x, value_goes_on, value_is_whole, goes-on-alike, number-sign-alike, on-alike, semicolon-alike, whole-alike, x-alike, remembered_code_spans, inlines_rules, behind_escapes, inline_constructs, inline_start, inlines, own_states, is_delimiter, run_begins, run_goes_on, run_states, string_states}
 use Rattle.markdown_tokenizer.specs.Alike.{AreAlikeUpTo, bytes_up_to}
 use Rattle.markdown_tokenizer.specs.Sight.{Sight}
 use Rattle.markdown_tokenizer.specs.Text.{Given}
@@ -18,7 +18,7 @@ pub inlines-refuse-nothing : (defined : List ℕ → Bool) → RulesRefuseNothin
 inlines-refuse-nothing defined = refuse-nothing (inlines_rules defined) (λ g s k name. table-steps (inlines defined) (none-refuses defined) g s k name) (λ g s k r m e. absurd (cc))
 
 begins : IsAnsweredAlike {R = Unit {0}} {D = Unit {0}} run_begins
-begins g h s k alike = ap (λ (o : ParseOptions). o.constructs.attention && passes is_delimiter s.current) alike.options
+begins g h s k alike = ap (λ (o : ParseOptions). passes (begins_run o.constructs) s.current) alike.options
 
 goes-on : IsAnsweredAlike {R = Unit {0}} {D = Unit {0}} run_goes_on
 goes-on g h s k alike = refl
@@ -37,7 +37,7 @@ ends-awaited : IsAnsweredAlike {R = Unit {0}} {D = Unit {0}} end_is_awaited
 ends-awaited g h s k alike = ap (λ (o : ParseOptions). passes (begins_end o.constructs) s.current && one_waits (reverse (kept_starts k))) alike.options
 
 marks : IsAnsweredAlike {R = Unit {0}} {D = Unit {0}} mark_begins
-marks g h s k alike = ap (λ (o : ParseOptions). (o.constructs.attention && passes is_delimiter s.current) || passes (begins_bracket o.constructs) s.current) alike.options
+marks g h s k alike = ap (λ (o : ParseOptions). passes (begins_run o.constructs) s.current || passes (begins_bracket o.constructs) s.current) alike.options
 
 break-escapes : IsAnsweredAlike {R = Unit {0}} {D = Unit {0}} break_escapes_are_on
 break-escapes g h s k alike = ap (λ (o : ParseOptions). o.constructs.hard_break_escape) alike.options

@@ -6,6 +6,7 @@ use Rattle.markdown_base.specs.declared.state.TheConstants.Name.{AutolinkUrlInsi
 use Rattle.markdown_tokenizer.proofs.ByteSets.{pass_all, passed}
 use Rattle.markdown_tokenizer.specs.Over.{ReadsOver, step_over}
 use Rattle.mdinline_machine.proofs.Prelude.{◌≡◌, ◌⊎◌, inl, inr, ℕ, ◌&&◌, ◌||◌, List, [], ◌∷◌, Bool, true, false, cond, Option, Some, refl, ap, ◌∙◌, subst, sym, and-false, passes, exit, Retry, TextBefore, Data, Name, Next, DataInside, DataStart, Given, Configuration, Sight, sight, Step, consume, row, picked, StateRows, is_white, is_line_feed, some_begins, some_first, raw_text_data, TextByte, is_line_feed_class, text_byte, line_feed, backtick, less, backslash, ampersand, white, punctuation, line-classed, white-classed, is_white_class, begins_run, ends_data, marked_grammars, inline_constructs, inline_data, inline_data_rows, is_delimiter, inlines_rules, inlines, is_string_special}
+use Rattle.mdinline_machine.proofs.RunBytes.{no-run}
 use Rattle.mdconstructs_tables.proofs.Tables.Over.{picked-read-over}
 use Rattle.mdconstructs_tables.specs.Over.{PicksOver}
 use Rattle.mdconstructs_tables.specs.Rows.{Row, Rows, named, when, write}
@@ -69,7 +70,7 @@ data-picks byte is before g s k current =
     let (line, marks) = or_parts (is_line_feed byte) (some_first marked_grammars byte || (is_delimiter byte || is_of_bracket byte)) others in
     let (marked, mark_bytes) = or_parts (some_first marked_grammars byte) (is_delimiter byte || is_of_bracket byte) marks in
     let (delimiter, of_bracket) = or_parts (is_delimiter byte) (is_of_bracket byte) mark_bytes in
-    let run : begins_run on byte ≡ false = ap (λ t. on.attention && t) delimiter ∙ and-false on.attention in
+    let run : begins_run on byte ≡ false = no-run on byte delimiter in
     let bracket = begins-no-bracket on byte of_bracket in
     let none : begins_mark on byte ≡ false = λ i. run i || bracket i in
     let ends : ends_data on byte ≡ false = λ i. line i || (marked i || none i) in
@@ -77,7 +78,7 @@ data-picks byte is before g s k current =
     let going : Row Unit Unit = record { acts = consume ∷ []; answer = Next DataInside } in
     elim (data-goes-on (text_byte byte) (marked-classed on byte none ∙ ends) (white-classed byte ∙ white_byte)) [
       | inl class ↦
-          ap (λ w. picked (inline_data_rows before (Some w)) g s k) class ∙ ap (λ (o : Option ℕ). cond ((on.attention && passes is_delimiter o) || passes (begins_bracket on) o) ending going) current ∙ ap (λ t. cond t ending going) none
+          ap (λ w. picked (inline_data_rows before (Some w)) g s k) class ∙ ap (λ (o : Option ℕ). cond (passes (begins_run on) o || passes (begins_bracket on) o) ending going) current ∙ ap (λ t. cond t ending going) none
       | inr rows ↦ ap (λ r. picked r g s k) (rows before)
     ]
 

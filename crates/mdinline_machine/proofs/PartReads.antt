@@ -1,6 +1,7 @@
 -- What is there of inline text where no construct with a mark is, data, a run, a line ending or white space, is read in so many calls; data with the white
 -- space behind it with which its line ends.
 use Rattle.mdinline_machine.proofs.Prelude.{◌≡◌, ℕ, ◌+◌, ◌*◌, ◌≤◌, ◌&&◌, ◌||◌, List, ◌∷◌, Bool, true, false, cond, refl, sym, ap, ◌∙◌, subst, arith, drop, prefix_len, and-false, eqb-true, nat_tests, Constructs, Event, Name, Retry, TextBefore, TextBeforeData, Seat, Byte, Local, Given, Text, is_white, is_line_feed, Found, between_texts, item_length, bytes_of, AddsItemIn, adds-more, Plays, between_items, begins_run, delimiter_run, is_white_left, line_break, run_length, is_delimiter}
+use Rattle.mdinline_machine.proofs.RunBytes.{no-run}
 use Rattle.mdinline_machine.proofs.DataBytes.{data_joined, joined_part}
 use Rattle.mdinline_machine.proofs.DataReads.{reads-data-run-in, reads-white-data-in}
 use Rattle.mdinline_machine.proofs.InlineApart.{begins_mark}
@@ -25,11 +26,11 @@ part_calls n = 2 * n + 4
 
 -- a line ending begins no run
 line-is-none : (on : Constructs) (b : ℕ) → is_line_feed b ≡ true → begins_run on b ≡ false
-line-is-none on b h = ap (λ t. on.attention && t) (let e : is_delimiter b ≡ false = grind (arith, nat_tests) in e) ∙ and-false on.attention
+line-is-none on b h = no-run on b (grind (arith, nat_tests))
 
 -- white space is no line ending, and begins none
 white-is-none : (on : Constructs) (b : ℕ) → is_white b ≡ true → begins_run on b ≡ false
-white-is-none on b h = ap (λ t. on.attention && t) (let e : is_delimiter b ≡ false = grind (arith, nat_tests) in e) ∙ and-false on.attention
+white-is-none on b h = no-run on b (grind (arith, nat_tests))
 
 run-is-plain : (on : Constructs) (b : ℕ) → begins_run on b ≡ true → is_white b ≡ false
 run-is-plain on b h = elim (is_white b) as (λ t. is_white b ≡ t → t ≡ false) [

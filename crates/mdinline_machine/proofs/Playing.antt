@@ -2,6 +2,7 @@
 use Rattle.std.proofs.lemmas.Bool.{or_parts}
 use Rattle.markdown_base.proofs.Common.{and-right}
 use Rattle.mdinline_machine.proofs.Prelude.{List, ◌≡◌, ◌⊎◌, inl, inr, ℕ, zero, suc, ◌==◌, ◌&&◌, ◌||◌, [], ◌∷◌, Bool, true, false, cond, Option, Some, None, refl, sym, ap, ◌∙◌, arith, nat_tests, Constructs, Data, LineEnding, Next, Retry, AttentionStart, DataInside, TextBefore, TextBeforeData, TextLineStart, with_local, Configuration, sight, Given, Text, Rows, class_of, consume, enter, exit, row, is_white, counts, row_step, is_line_feed, passes, between_texts, some_begins, tried_at, TextByte, is_line_feed_class, line_feed, punctuation, text_byte, white, PlaysCodeSpans, remembering, line-classed, BeginsData, HasRow, HasRows, Plays, tested, PlaysEmails, MarkPlace, at_cdata, at_comment, at_declaration, at_inside, at_open, mark_name, PlaysMarks, mark_rows, Place, PlaysTags, rows_of, state_of, PlaysBreakEscapes, PlaysReferences, between-remembered, code_memory, opening-remembered, white-classed, is_white_class, begins_run, ends_data, inline_before_rows, inline_constructs, inline_data_rows, is_delimiter, run_begins, and-false, eqb-true, reverse, Attempt, choose, when, begins_bracket, begins_end, begins_image, begins_link, is_of_bracket}
+use Rattle.mdinline_machine.proofs.RunBytes.{no-run, run-delimits}
 use Rattle.markdown_base.specs.declared.state.TheConstants.Name.{LabelEndNok, LabelEndOk, LabelEndStart, LabelStartImageStart, LabelStartLinkStart}
 use Rattle.mdinline_full_references.proofs.FullReferences.Steps.{PlaysReferences as PlaysFullReferences}
 use Rattle.mdinline_link_tails.proofs.Resources.Steps.{PlaysResources}
@@ -77,11 +78,11 @@ module _ (on : Constructs) (b : ℕ) where
   end-no-image is = ap (begins_image on) (eqb-true b 93 (and-right on.label_end (b == 93) is)) ∙ and-false on.label_start_image
 
   pub no-run-there : is_of_bracket b ≡ true → begins_run on b ≡ false
-  no-run-there is = ap (λ t. on.attention && t) (let e : is_delimiter b ≡ false = grind (arith, nat_tests) in e) ∙ and-false on.attention
+  no-run-there is = no-run on b (grind (arith, nat_tests))
 
   mark-class : begins_mark on b ≡ true → text_byte b ≡ punctuation
   mark-class is = elim (begins_run on b) as (λ t. begins_run on b ≡ t → (t || begins_bracket on b) ≡ true → text_byte b ≡ punctuation) [
-    | true ↦ λ e i. delimiter-class b (and-right on.attention (is_delimiter b) e)
+    | true ↦ λ e i. delimiter-class b (run-delimits on b e)
     | false ↦ λ e i. bracket-class b (bracket-so i)
   ] refl is
 
@@ -95,10 +96,10 @@ module _ (defined : List ℕ → Bool) (g : Given) (text : Text) where
 
   -- whether a run begins is said by the byte that waits
   pub begins-here : (k : Configuration Unit Unit) (b : ℕ) (t : Bool) → (sight g text k).current ≡ Some b → begins_run on b ≡ t → run_begins g (sight g text k) (with_local k (counts k.local)) ≡ t
-  begins-here k b t at is = ap (λ o. on.attention && passes is_delimiter o) at ∙ is
+  begins-here k b t at is = ap (passes (begins_run on)) at ∙ is
 
   pub marks-here : (k : Configuration Unit Unit) (b : ℕ) (t : Bool) → (sight g text k).current ≡ Some b → begins_mark on b ≡ t → mark_begins g (sight g text k) (with_local k (counts k.local)) ≡ t
-  marks-here k b t at is = ap (λ o. (on.attention && passes is_delimiter o) || passes (begins_bracket on) o) at ∙ is
+  marks-here k b t at is = ap (λ o. passes (begins_run on) o || passes (begins_bracket on) o) at ∙ is
 
   -- so are brackets and ends
   pub link-is : (k : Configuration Unit Unit) (b : ℕ) (t : Bool) → (sight g text k).current ≡ Some b → begins_link on b ≡ t → link_begins g (sight g text k) (with_local k (counts k.local)) ≡ t
@@ -135,7 +136,7 @@ module _ (defined : List ℕ → Bool) (g : Given) (text : Text) where
       ∙ tested g text run_begins (row [] (Retry AttentionStart)) bracket_rows k t (begins-here k b t at is)
 
   pub runs-begin : (k : Configuration Unit Unit) (b : ℕ) → (sight g text k).current ≡ Some b → begins_run on b ≡ true → HasRow g text (counted_step defined g) k TextBefore (row [] (Retry AttentionStart))
-  runs-begin k b at is = at-punctuation k b true at (delimiter-class b (and-right on.attention (is_delimiter b) is)) is
+  runs-begin k b at is = at-punctuation k b true at (delimiter-class b (run-delimits on b is)) is
 
   -- the rows of ends
   abbrev tried_end : Rows Unit Unit

@@ -100,13 +100,13 @@ pub use Rattle.mdinline_constructs.specs.RememberedCode.{remembered_between, rem
 pub use Rattle.mdinline_constructs.specs.WhiteSpace.{ends_line_at, is_white_left, white_space, white_space_at}
 pub use Rattle.mdinline_link_tails.specs.Resource.{resource, resource_grammar}
 pub use Rattle.mdinline_machine.specs.Brackets.{Bracket, Memory, after_item, before_link, begins_bracket, begins_end, begins_image, begins_link, bracket_at, end_at, end_of_last, image_bracket, is_close_bracket, is_exclamation, is_image_bracket, is_of_bracket, is_open_bracket, label_end, link_bracket, lone_end, nothing_read, waiting_behind}
-pub use Rattle.mdinline_machine.specs.InlineEvents.{begins_run, bracket_or_part, data_length, data_run, delimiter_run, ends_data, ends_data_at, inline_events, inline_grammars, inline_item_at, inline_items, line_break, marked_grammars, read_events, run_length, run_or_part, up_to, white_grammars}
+pub use Rattle.mdinline_machine.specs.InlineEvents.{bracket_or_part, data_length, data_run, delimiter_run, ends_data, ends_data_at, inline_events, inline_grammars, inline_item_at, inline_items, line_break, marked_grammars, read_events, run_length, run_or_part, up_to, white_grammars}
 pub use Rattle.mdinline_machine.specs.InlineRules.{EndsLinked, inlines_rules, linking_edits, no_labels}
 pub use Rattle.mdinline_machine.specs.InlineTable.{at_data_break, before_email, before_hard_break_escape, before_html, before_tag, begins_inline, behind_autolinks, behind_emails, behind_escapes, behind_marks, break_or_white, data_goes_on, data_over, data_space, data_space_rows, data_spaces, data_spaces_rows, data_white, data_white_rows, follows_inline, inline_before, inline_before_rows, inline_constructs, inline_data, inline_data_rows, inline_start, inline_starts, inlines, line_start, line_start_rows, line_white, line_white_rows, own_states, space_waits, step_by, text_space, text_space_rows, text_spaces, text_spaces_rows, text_white, text_white_rows, white_is_data, white_over, white_states}
 pub use Rattle.mdinline_machine.specs.LawStatements.{MakesLinks, ReadsChainsAsInlineText, ReadsChainsAsStrings, ReadsInlineText, ReadsStrings, RunsWithin, StaysReadyAfterInlineText, StaysReadyAfterStrings}
 pub use Rattle.mdinline_machine.specs.Laws.Inlines.{inlines-lawful}
 pub use Rattle.mdinline_machine.specs.Laws.Registered.{before-resolver, goes-on}
-pub use Rattle.mdinline_machine.specs.RunRows.{attention_inside, attention_inside_rows, attention_start, is_byte, is_delimiter, run_begins, run_goes_on, run_states}
+pub use Rattle.mdinline_machine.specs.RunRows.{attention_inside, attention_inside_rows, attention_start, begins_run, is_byte, is_delimiter, run_begins, run_goes_on, run_states}
 pub use Rattle.mdinline_machine.specs.StringEvents.{is_string_special, string_data, string_events, string_grammars, string_item_at, string_part}
 pub use Rattle.mdinline_machine.specs.StringTable.{between_strings, registers, string_before, string_before_data, string_before_rows, string_constructs, string_data_rows, string_start, string_states}
 pub use Rattle.mdinline_machine.specs.declared.names.TheConstants.{DataSpace, DataSpaces, DataWhite, TextBeforeEmail, TextBeforeTag, TextLineStart, TextLineWhite, TextSpace, TextSpaces, TextWhite}

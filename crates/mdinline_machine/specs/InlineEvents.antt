@@ -24,7 +24,7 @@ use Rattle.mdinline_constructs.specs.HtmlMarked.{html_mark_grammar}
 use Rattle.mdinline_constructs.specs.HtmlTag.{html_tag_grammar}
 use Rattle.mdinline_constructs.specs.WhiteSpace.{is_white_left, white_space, white_space_grammar}
 use Rattle.mdinline_machine.specs.Brackets.{Memory, after_item, begins_bracket, bracket_at, nothing_read}
-use Rattle.mdinline_machine.specs.RunRows.{is_delimiter}
+use Rattle.mdinline_machine.specs.RunRows.{begins_run}
 
 -- The constructs of inline text that begin with a mark: code spans, autolinks, email autolinks, raw HTML between marks, tags, backslash
 -- escapes, hard breaks by a backslash, and character references
@@ -62,13 +62,9 @@ up_to ends [] = 0
 up_to ends (b ∷ bs) = cond (ends (b ∷ bs)) 0 (1 + up_to ends bs)
 
 module _ (on : Constructs) where
-  -- a byte begins a delimiter run: it is `*` or `_`, and attention is on
-  abbrev pub begins_run : ℕ → Bool
-  begins_run byte = on.attention && is_delimiter byte
-
   -- data ends at a byte that a line ending, a construct with a mark, a run, a bracket or an end may begin with
   abbrev pub ends_data : ℕ → Bool
-  ends_data byte = is_line_feed byte || (some_first marked_grammars byte || (begins_run byte || begins_bracket on byte))
+  ends_data byte = is_line_feed byte || (some_first marked_grammars byte || (begins_run on byte || begins_bracket on byte))
 
   -- it ends at white space too if nothing else is left of the line
   abbrev pub ends_data_at : List ℕ → Bool
@@ -81,7 +77,7 @@ module _ (on : Constructs) where
   -- what is there where neither a construct nor a bracket is: a run, a line ending with the white space behind it, or data
   abbrev pub run_or_part : List ℕ → Found
   run_or_part text =
-      cond (has_byte_at text 0 begins_run) (delimiter_run (run_length text))
+      cond (has_byte_at text 0 (begins_run on)) (delimiter_run (run_length text))
       (cond (has_byte_at text 0 is_line_feed) (line_break (prefix_len is_white (drop 1 text)))
       (data_run (data_length text)))
 

@@ -1,6 +1,7 @@
 -- Delimiter runs (CommonMark, "Emphasis and strong emphasis"): the part of a table that reads them. A run is one or more bytes `*`, or one or
 -- more bytes `_`.
-use Rattle.std.specs.Prelude.{ℕ, ◌==◌, ◌&&◌, Bool, true, false, List, [], ◌∷◌, Option, Some, None, codes}
+use Rattle.std.specs.Prelude.{ℕ, ◌==◌, ◌&&◌, Bool, true, false, List, [], ◌∷◌, Option, Some, None}
+use Rattle.markdown_base.specs.declared.configuration.Constructs.{Constructs}
 use Rattle.markdown_base.specs.declared.event.Name.TheVariants.{AttentionSequence}
 use Rattle.markdown_base.specs.declared.state.State.TheVariants.{Next, Retry}
 use Rattle.markdown_base.specs.declared.state.TheConstants.Name.{AttentionStart, AttentionInside, TextBefore}
@@ -9,13 +10,18 @@ use Rattle.markdown_tokenizer.specs.Configuration.{Configuration}
 use Rattle.markdown_tokenizer.specs.Sight.{Sight}
 use Rattle.mdconstructs_tables.specs.Rows.{enter, exit, consume, Rows, row, when, at_bytes, StateRows, state}
 use Rattle.mdconstructs_tables.specs.Numbers.{Price, by_left}
-use Rattle.mdinline_text_machine.specs.Bytes.{is_one_of, passes}
+use Rattle.mdinline_emphasis.specs.Runs.{is_marker}
+use Rattle.mdinline_text_machine.specs.Bytes.{passes}
 use Rattle.mdinline_text_machine.specs.TextBytes.{TextByte, punctuation}
 use Rattle.mdinline_text_machine.specs.TextCosts.{text_cost}
 
--- `*` or `_`
+-- a marker: `*` or `_`
 abbrev pub is_delimiter : ℕ → Bool
-is_delimiter byte = is_one_of (codes "*_") byte
+is_delimiter byte = is_marker byte
+
+-- a byte begins a run: it is a marker, and attention is on
+abbrev pub begins_run : Constructs → ℕ → Bool
+begins_run on byte = on.attention && is_delimiter byte
 
 -- the class of both
 abbrev pub is_punctuation_class : TextByte → Bool
@@ -27,9 +33,9 @@ abbrev pub is_byte : ℕ → Option ℕ → Bool
 is_byte byte waits = passes (λ b. b == byte) waits
 
 module _ {R D : Type 0} where
-  -- a run begins: the options have attention on, and `*` or `_` waits
+  -- a run begins
   abbrev pub run_begins : Given → Sight → Configuration R D → Bool
-  run_begins g s k = g.options.constructs.attention && passes is_delimiter s.current
+  run_begins g s k = passes (begins_run g.options.constructs) s.current
 
   -- it goes on while the byte before it waits once more
   abbrev pub run_goes_on : Given → Sight → Configuration R D → Bool

@@ -3,7 +3,8 @@ use Rattle.markdown_base.specs.declared.state.State.TheVariants.{Next}
 use Rattle.markdown_base.specs.declared.state.TheConstants.Name.{DataInside}
 use Rattle.markdown_tokenizer.specs.Sight.{sight_of}
 use Rattle.mdconstructs_tables.specs.RowInvariant.{DoesAll}
-use Rattle.mdinline_machine.proofs.Prelude.{◌≡◌, ◌&&◌, false, Some, sym, ap, ◌∙◌, subst, arith, rules, nat_tests, and-false, begins_run, is_delimiter, is_line_feed, is_of_bracket, is_white, marked_grammars, some_first}
+use Rattle.mdinline_machine.proofs.Prelude.{◌≡◌, false, Some, sym, ◌∙◌, subst, arith, rules, nat_tests, begins_run, is_delimiter, is_line_feed, is_of_bracket, is_white, marked_grammars, some_first}
+use Rattle.mdinline_machine.proofs.RunBytes.{no-run}
 use Rattle.mdinline_machine.proofs.BeforeSteps.{data-other}
 use Rattle.mdinline_machine.proofs.inlines.inline_data.Goals as goal
 
@@ -15,7 +16,7 @@ returns-in-Some c =
     let line : is_line_feed b ≡ false = first_of (grind (arith, nat_tests), grind (arith, nat_tests, c.in-Some.field-0-test), search rules) in
     let white : is_white b ≡ false = first_of (grind (arith, nat_tests), grind (arith, nat_tests, c.in-Some.field-0-test), search rules) in
     let delimiter : is_delimiter b ≡ false = first_of (grind (arith, nat_tests), grind (arith, nat_tests, c.in-Some.field-0-test), search rules) in
-    let run : begins_run t.given.options.constructs b ≡ false = ap (λ x. t.given.options.constructs.attention && x) delimiter ∙ and-false t.given.options.constructs.attention in
+    let run : begins_run t.given.options.constructs b ≡ false = no-run t.given.options.constructs b delimiter in
     let bracket : is_of_bracket b ≡ false = first_of (grind (arith, nat_tests), grind (arith, nat_tests, c.in-Some.field-0-test), search rules) in
     let marked : some_first marked_grammars b ≡ false = first_of (grind (arith, nat_tests), grind (arith, nat_tests, c.in-Some.field-0-test), search rules) in
     subst (λ s. DoesAll s t c.consume-in-Some.new.self (Next DataInside)) (sym (data-other t b at line white run bracket marked)) (search rules)
