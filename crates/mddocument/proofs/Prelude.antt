@@ -75,12 +75,15 @@ pub use Rattle.markdown_tokenizer.specs.Text.{CanFollow, FitsAfter, Given, IsDoc
 pub use Rattle.markdown_tokenizer.specs.declared.subtokenize.Subresult.{Subresult}
 pub use Rattle.markdown_tokenizer.specs.declared.tokenizer.fault.Fault.{Fault}
 pub use Rattle.markdown_tokenizer.specs.declared.tokenizer.fault.Fault.TheVariants.{Failed, Memory, Message as OfMessage}
+pub use Rattle.mdinline_emphasis.proofs.Markers.{takes-some}
 pub use Rattle.mdinline_emphasis.proofs.PairsKeep.{pairs-keep}
 pub use Rattle.mdinline_emphasis.specs.Beside.{AreBeside, IsBeside}
 pub use Rattle.mdinline_emphasis.specs.Emphasis.{Run, closings, data_of, inner_name, later, markers_of, markers_of_all, openings, outer_name, paired, same, sequence_name, tail_events, unlinked_event}
 pub use Rattle.mdinline_emphasis.specs.Places.{Standing, markers, standing}
 pub use Rattle.mdinline_emphasis.specs.RunEdits.{in_place}
-pub use Rattle.mdinline_emphasis.specs.Runs.{is_sequence, is_star_byte}
+pub use Rattle.mdinline_emphasis.specs.Runs.{is_sequence, marker_from}
+pub use Rattle.mdinline_emphasis.specs.declared.pairs.Marker.{Marker}
+pub use Rattle.mdinline_emphasis.specs.declared.pairs.Style.{Style}
 pub use Rattle.mddocument.specs.ByteRanges.{AreRanges, FollowFrom, IsRangeFrom, is_in, seats_in, text_events_in}
 pub use Rattle.mddocument.specs.Documents.{AreEventsOf, AreFlowEvents, AreFlowInlines, ChainsAreReadable, IsReadable, document, options_with, virtual_bytes}
 pub use Rattle.mddocument.specs.FlowTextLaws.{InlinesAccount, InlinesAreFormed, InlinesAreRead}
@@ -139,9 +142,9 @@ pub use Rattle.mdinline_machine.proofs.Looks.{inlines-refuse-nothing}
 pub use Rattle.mdinline_machine.proofs.StringChains.{reads-strings-of}
 pub use Rattle.mdinline_constructs.proofs.StringItems.{string-built}
 pub use Rattle.mdinline_machine.proofs.StringRuns.{string-alone}
-pub use Rattle.mdinline_machine.specs.InlineEvents.{begins_run, data_length, data_run, delimiter_run, ends_data, ends_data_at, inline_events, inline_grammars, inline_item_at, inline_items, line_break, read_events, run_length, run_or_part, up_to}
+pub use Rattle.mdinline_machine.specs.InlineEvents.{data_length, data_run, delimiter_run, ends_data, ends_data_at, inline_events, inline_grammars, inline_item_at, inline_items, line_break, read_events, run_length, run_or_part, up_to}
 pub use Rattle.mdinline_machine.specs.InlineRules.{inlines_rules}
-pub use Rattle.mdinline_machine.specs.RunRows.{is_delimiter}
+pub use Rattle.mdinline_machine.specs.RunRows.{begins_run, is_delimiter}
 pub use Rattle.mdinline_machine.specs.StringEvents.{string_events, string_seat_events}
 pub use Rattle.mdconstructs_machines.proofs.BlockReads.Accounts.{lines-are-all, paragraphs-account}
 pub use Rattle.mdconstructs_machines.proofs.Innermost.{enter-more, exit-more, span-more}

@@ -33,7 +33,8 @@ use Rattle.mdinline_constructs.specs.HtmlTag.{tag_length}
 use Rattle.mdinline_constructs.specs.HtmlText.{has_blank_line, html, html_of}
 use Rattle.mdinline_constructs.specs.WhiteSpace.{white_space}
 use Rattle.mdinline_machine.specs.Brackets.{Bracket, Memory, after_item, before_link, begins_end, begins_link, bytes_before, end_at, image_bracket, is_image_bracket, is_open_bracket, label_end, link_bracket, lone_end, nothing_read, spanned_bytes, tail_of, waiting_behind}
-use Rattle.mdinline_machine.specs.InlineEvents.{begins_run, bracket_or_part, data_length, data_run, delimiter_run, inline_grammars, inline_item_at, line_break, run_length, run_or_part}
+use Rattle.mdinline_machine.specs.InlineEvents.{bracket_or_part, data_length, data_run, delimiter_run, inline_grammars, inline_item_at, line_break, run_length, run_or_part}
+use Rattle.mdinline_machine.specs.RunRows.{begins_run}
 use Rattle.mdinline_labels.specs.Labels.{hides, is_label}
 use Rattle.mdinline_labels.specs.Tails.{bare_behind, begins_with, is_plain, label_size, marked_size}
 use Rattle.mdconstructs_tables.specs.Breaks.{is_white}

@@ -4,19 +4,15 @@ use Rattle.std.specs.List.{AllByRecursion}
 use Rattle.markdown_base.proofs.Common.{every-append}
 use Rattle.markdown_base.specs.declared.event.Event.{Event}
 use Rattle.markdown_base.specs.declared.event.Name.{Name}
-use Rattle.markdown_base.specs.declared.event.Name.TheVariants.{Data, Emphasis, EmphasisSequence, EmphasisText, Strong, StrongSequence, StrongText}
+use Rattle.markdown_base.specs.declared.event.Name.TheVariants.{Data}
 use Rattle.markdown_base.specs.declared.event.Point.{Point}
-use Rattle.mdinline_emphasis.specs.Emphasis.{Pair, Run, all_in_pairs, closings, data_of, emphasised, events_of_runs, later, markers_of, markers_of_all, openings, paired, pairs}
+use Rattle.mdinline_emphasis.specs.declared.pairs.Style.{Style}
+use Rattle.mdinline_emphasis.specs.Emphasis.{Pair, Run, all_in_pairs, closings, data_of, emphasised, events_of_runs, inner_name, later, markers_of, markers_of_all, openings, outer_name, paired, pairs, sequence_name}
 use Rattle.mdinline_links.specs.Linked.{as_data, spanning}
 
--- the names of emphasis, and of what it is made of
-pub record AreOfEmphasis (Of : Name → Type 0) : Type 0 where
-  pub emphasis : Of Emphasis
-  pub emphasis_sequence : Of EmphasisSequence
-  pub emphasis_text : Of EmphasisText
-  pub strong : Of Strong
-  pub strong_sequence : Of StrongSequence
-  pub strong_text : Of StrongText
+-- the names of each style: of its span, of its markers, and of its text
+abbrev pub AreOfEmphasis : (Name → Type 0) → Type 0
+AreOfEmphasis Of = (s : Style) → Of (outer_name s) × Of (sequence_name s) × Of (inner_name s)
 
 -- what holds of each event with such a name, as data has; and, where there are runs, emphasis
 module _ (P : Event → Type 0) (Of : Name → Type 0) (holds : (e : Event) → Of e.name → P e) (data_is : Of Data) (On : Type 0) (emphasis_is : On → AreOfEmphasis Of) where
@@ -39,15 +35,17 @@ module _ (P : Event → Type 0) (Of : Name → Type 0) (holds : (e : Event) → 
   abbrev AreOn : List Run → Type 0
   AreOn rs = AllByRecursion (λ (r : Run). On) rs
 
-  pub closings-are : (p : Point) (ss : List Bool) → AreOfEmphasis Of → Are (closings p ss)
+  pub closings-are : (p : Point) (ss : List Style) → AreOfEmphasis Of → Are (closings p ss)
   closings-are p [] m = tt
-  closings-are p (true ∷ ss) m = (holds _ m.strong_text, (holds _ m.strong_sequence, (holds _ m.strong_sequence, (holds _ m.strong, closings-are (later (markers_of true) p) ss m))))
-  closings-are p (false ∷ ss) m = (holds _ m.emphasis_text, (holds _ m.emphasis_sequence, (holds _ m.emphasis_sequence, (holds _ m.emphasis, closings-are (later (markers_of false) p) ss m))))
+  closings-are p (s ∷ ss) m =
+      let (outer, sequence, inner) = m s in
+      (holds _ inner, (holds _ sequence, (holds _ sequence, (holds _ outer, closings-are (later (markers_of s) p) ss m))))
 
-  pub openings-are : (p : Point) (ss : List Bool) → AreOfEmphasis Of → Are (openings p ss)
+  pub openings-are : (p : Point) (ss : List Style) → AreOfEmphasis Of → Are (openings p ss)
   openings-are p [] m = tt
-  openings-are p (true ∷ ss) m = (holds _ m.strong, (holds _ m.strong_sequence, (holds _ m.strong_sequence, (holds _ m.strong_text, openings-are (later (markers_of true) p) ss m))))
-  openings-are p (false ∷ ss) m = (holds _ m.emphasis, (holds _ m.emphasis_sequence, (holds _ m.emphasis_sequence, (holds _ m.emphasis_text, openings-are (later (markers_of false) p) ss m))))
+  openings-are p (s ∷ ss) m =
+      let (outer, sequence, inner) = m s in
+      (holds _ outer, (holds _ sequence, (holds _ sequence, (holds _ inner, openings-are (later (markers_of s) p) ss m))))
 
   runs-are : (texts : ℕ → List Event) → ((k : ℕ) → Are (texts k)) → (rs : List Run) → AreOn rs → Are (events_of_runs texts rs)
   runs-are texts t [] h = tt

@@ -34,7 +34,8 @@ use Rattle.mdinline_constructs.specs.WhiteSpace.{white_space, white_space_at}
 use Rattle.mdinline_link_tails.specs.Resource.{behind_destination, destination_events, destination_string, gap_events, in_marks, in_resource, line_part, resource, string_events, title_events, unmarked}
 use Rattle.mdinline_full_references.specs.FullReference.{full_reference, label_length, label_text}
 use Rattle.mdinline_machine.specs.Brackets.{Bracket, Memory, after_item, are_brackets, before_link, bytes_before, has_bracket, spanned_bytes, begins_end, begins_link, bracket_at, collapsed_reference, end_at, end_of_last, image_bracket, is_image_bracket, is_wanted_at, label_end, link_bracket, lone_end, no_tail, nothing_read, own_is_defined, own_tail, tail_of, waiting_behind}
-use Rattle.mdinline_machine.specs.InlineEvents.{begins_run, bracket_or_part, data_length, data_run, delimiter_run, inline_grammars, inline_item_at, inline_items, line_break, run_length, run_or_part}
+use Rattle.mdinline_machine.specs.InlineEvents.{bracket_or_part, data_length, data_run, delimiter_run, inline_grammars, inline_item_at, inline_items, line_break, run_length, run_or_part}
+use Rattle.mdinline_machine.specs.RunRows.{begins_run}
 use Rattle.mdinline_link_strings.specs.StringItems.{is_string_special, string_data, string_grammars, string_item_at, string_items, string_part, string_seat_events}
 use Rattle.mddocument_laws.specs.Names.{has_labels}
 use Rattle.mddocument_laws.proofs.Named.{and as named-and, leafed, spanned}

@@ -9,6 +9,7 @@ use Rattle.markdown_base.specs.declared.event.Name.TheVariants.{CharacterReferen
 use Rattle.markdown_base.specs.Events.{same_name}
 use Rattle.markdown_edits.proofs.Balanced.{same_name-true}
 use Rattle.markdown_tokenizer.proofs.Positions.Order.{every-back, every-front}
+use Rattle.mdinline_emphasis.specs.declared.pairs.Style.TheVariants.{Emphasis as OfEmphasis, Strong as OfStrong}
 use Rattle.mdinline_emphasis.specs.Emphasis.{Run}
 use Rattle.mdinline_emphasis.specs.Runs.{runs_in}
 use Rattle.mdinline_links.proofs.Kept.{links-keep}
@@ -23,7 +24,8 @@ abbrev pub IsOther : Name → Type 0
 IsOther n = same_name n CharacterReference ≡ false
 
 pub other-of-emphasis : AreOfEmphasis IsOther
-other-of-emphasis = record { emphasis = refl; emphasis_sequence = refl; emphasis_text = refl; strong = refl; strong_sequence = refl; strong_text = refl }
+other-of-emphasis OfEmphasis = (refl, refl, refl)
+other-of-emphasis OfStrong = (refl, refl, refl)
 
 -- no name that links and images are made of is that of a reference
 pub other-made : (n : Name) → is_made_of n ≡ true → IsOther n

@@ -11,6 +11,7 @@ use Rattle.markdown_base.specs.declared.event.Name.TheVariants.{AttentionSequenc
 use Rattle.markdown_base.specs.declared.event.Point.{Point}
 use Rattle.markdown_base.specs.Events.{is_enter, same_name}
 use Rattle.markdown_edits.proofs.Balanced.{same_name-true}
+use Rattle.mdinline_emphasis.specs.declared.pairs.Style.TheVariants.{Emphasis as OfEmphasis, Strong as OfStrong}
 use Rattle.mdinline_emphasis.specs.Emphasis.{Run}
 use Rattle.mdinline_emphasis.specs.Runs.{depth_after, index_of_event, is_sequence, run_at, runs_from, runs_in}
 use Rattle.mdinline_links.specs.Linked.{Part, SoFar, Waiting, added, all_parts, around, as_data, emphasised_parts, ended, events, failed, is_bracket, is_named, is_run, is_tail, label_text, last_place, linked_from, made, opened, outermost_spans, part_of, run, runs_of_parts, spanning, spans_in, taken, text_before, text_behind, with_links}
@@ -93,7 +94,8 @@ module _ (on : Constructs) where
   IsNamed e = May e.name
 
   of-emphasis : on.attention ≡ true → AreOfEmphasis May
-  of-emphasis h = record { emphasis = h; emphasis_sequence = h; emphasis_text = h; strong = h; strong_sequence = h; strong_text = h }
+  of-emphasis h OfEmphasis = (h, h, h)
+  of-emphasis h OfStrong = (h, h, h)
 
   -- ---- parts
   abbrev IsPart : Part → Type 0

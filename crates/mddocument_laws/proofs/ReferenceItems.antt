@@ -23,7 +23,8 @@ use Rattle.mdinline_text_machine.specs.TextEvents.{item_events}
 use Rattle.mdinline_constructs.specs.Reference.{Kind, body_at, decimal, hexadecimal, is_number_sign, is_value_byte, is_x, mark_events, marks, named, number_at, reference, reference_at, value_at}
 use Rattle.mdinline_constructs.specs.WhiteSpace.{white_space, white_space_at}
 use Rattle.mdinline_machine.specs.Brackets.{Bracket, Memory, after_item, begins_end, begins_link, bracket_at, end_at, end_of_last, image_bracket, is_image_bracket, link_bracket, nothing_read}
-use Rattle.mdinline_machine.specs.InlineEvents.{begins_run, data_length, data_run, delimiter_run, inline_item_at, inline_items, line_break, run_length, run_or_part}
+use Rattle.mdinline_machine.specs.InlineEvents.{data_length, data_run, delimiter_run, inline_item_at, inline_items, line_break, run_length, run_or_part}
+use Rattle.mdinline_machine.specs.RunRows.{begins_run}
 use Rattle.mdinline_constructs.specs.StringItems.{string_data, string_item_at, string_part, string_seat_events}
 use Rattle.mddocument_laws.specs.Ranks.{enters}
 use Rattle.mddocument_laws.specs.ReferencePlaces.{StandsAtReference}

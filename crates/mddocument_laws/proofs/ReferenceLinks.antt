@@ -6,6 +6,7 @@ use Rattle.markdown_base.specs.declared.event.Event.{Event}
 use Rattle.markdown_base.specs.declared.event.Kind.TheVariants.{Exit}
 use Rattle.markdown_base.specs.declared.event.Name.{Name}
 use Rattle.markdown_base.specs.declared.event.Point.{Point}
+use Rattle.mdinline_emphasis.specs.declared.pairs.Style.{Style}
 use Rattle.mdinline_emphasis.specs.Emphasis.{Run, closings, data_of, events_of_runs, later, markers_of_all, openings, paired, unlinked_event}
 use Rattle.mdinline_emphasis.specs.Runs.{runs_in}
 use Rattle.mdinline_links.proofs.Kept.{links-keep}
@@ -16,10 +17,10 @@ use Rattle.mddocument_laws.proofs.LinkEvents.{AnyRun, IsOther as IsOtherName, an
 use Rattle.mddocument_laws.proofs.ReferenceSpans.{AreWhole, IsOther, others-whole, outside, spans-whole, whole-both}
 
 -- what makes emphasis is no reference
-closings-other : (p : Point) (ss : List Bool) → AllByRecursion IsOther (closings p ss)
+closings-other : (p : Point) (ss : List Style) → AllByRecursion IsOther (closings p ss)
 closings-other p ss = closings-are IsOther IsOtherName (λ e o. o) refl (Unit {0}) (λ t. other-of-emphasis) p ss other-of-emphasis
 
-rest-other : (p : Point) (left : ℕ) (ss : List Bool) → AllByRecursion IsOther (data_of p left ++ openings (later left p) ss)
+rest-other : (p : Point) (left : ℕ) (ss : List Style) → AllByRecursion IsOther (data_of p left ++ openings (later left p) ss)
 rest-other p left ss =
     every-append IsOther (data_of p left) (openings (later left p) ss) (data-are IsOther IsOtherName (λ e o. o) refl (Unit {0}) (λ t. other-of-emphasis) p left)
     (openings-are IsOther IsOtherName (λ e o. o) refl (Unit {0}) (λ t. other-of-emphasis) (later left p) ss other-of-emphasis)

@@ -6,21 +6,27 @@ use Rattle.markdown_base.specs.declared.event.Name.TheVariants.{Emphasis, Strong
 use Rattle.markdown_base.specs.declared.event.Point.{Point}
 use Rattle.markdown_base.specs.Events.{is_enter, same_name}
 use Rattle.markdown_base.specs.Virtual.{point}
-use Rattle.mdinline_emphasis.specs.Emphasis.{Pair, Run, later, markers_of, markers_of_all, pairs, strengths}
+use Rattle.mdinline_emphasis.specs.declared.pairs.Style.{Style}
+use Rattle.mdinline_emphasis.specs.declared.pairs.Style.TheVariants.{Emphasis as OfEmphasis, Strong as OfStrong}
+use Rattle.mdinline_emphasis.specs.Emphasis.{Pair, Run, later, markers_of, markers_of_all, pairs, styles}
 
--- A span of emphasis: where its opening sequence begins, where its closing sequence ends, and whether it is strong
+-- A span of emphasis: where its opening sequence begins, where its closing sequence ends, and its style
 pub record EmphasisSpan : Type 0 where
   pub start : Point
   pub end : Point
-  pub strong : Bool
+  pub style : Style
 
 abbrev pub is_emphasis : Name → Bool
 is_emphasis name = same_name name Emphasis || same_name name Strong
 
+-- its style, by its name
+abbrev pub style_named : Name → Style
+style_named name = cond (same_name name Strong) OfStrong OfEmphasis
+
 -- the span that an exit ends: the last one that is open
 abbrev pub ended_span : List Point → Event → List EmphasisSpan
 ended_span [] e = []
-ended_span (start ∷ starts) e = record { start = start; end = e.point; strong = same_name e.name Strong } ∷ []
+ended_span (start ∷ starts) e = record { start = start; end = e.point; style = style_named e.name } ∷ []
 
 -- the spans of emphasis that end among events, if open ones begin at these places, the last one first
 abbrev pub spans_behind : (starts : List Point) → List Event → List EmphasisSpan
@@ -36,7 +42,7 @@ emphasis_spans events = spans_behind [] events
 
 -- how many markers the pairs take, of some, that a test takes
 abbrev pub markers_given : (Pair → Bool) → List Pair → ℕ
-markers_given takes ps = markers_of_all (strengths takes ps)
+markers_given takes ps = markers_of_all (styles takes ps)
 
 -- a place in the run of a number, so many bytes behind its beginning
 abbrev pub place_in_run : List Run → ℕ → (Run → ℕ) → Point
@@ -45,9 +51,9 @@ place_in_run rs n bytes = unwrap_or (option_map (λ (r : Run). later (bytes r) r
 -- The span of a pair, by the pairs that were made before it: an opener gives its markers from its end on, and a closer from its beginning on
 abbrev pub span_of_pair : List Run → (before : List Pair) → Pair → EmphasisSpan
 span_of_pair rs before p = record {
-  start = place_in_run rs p.opener (λ r. r.left - (markers_given (λ q. q.opener == p.opener) before + markers_of p.strong));
-  end = place_in_run rs p.closer (λ r. markers_given (λ q. q.closer == p.closer) before + markers_of p.strong);
-  strong = p.strong;
+  start = place_in_run rs p.opener (λ r. r.left - (markers_given (λ q. q.opener == p.opener) before + markers_of p.style));
+  end = place_in_run rs p.closer (λ r. markers_given (λ q. q.closer == p.closer) before + markers_of p.style);
+  style = p.style;
 }
 
 abbrev pub spans_of_pairs : List Run → (before : List Pair) → List Pair → List EmphasisSpan

@@ -33,7 +33,8 @@ use Rattle.mdinline_constructs.specs.WhiteSpace.{white_space, white_space_at}
 use Rattle.mdinline_link_tails.specs.Resource.{behind_destination, destination_events, destination_string, gap_events, in_marks, in_resource, line_part, resource, resource_grammar, string_events, title_events, unmarked}
 use Rattle.mdinline_full_references.specs.FullReference.{full_reference, full_reference_grammar, label_length, label_text}
 use Rattle.mdinline_machine.specs.Brackets.{collapsed_reference, image_bracket, label_end, link_bracket, lone_end, no_tail}
-use Rattle.mdinline_machine.specs.InlineEvents.{begins_run, data_length, data_run, delimiter_run, inline_grammars, line_break, run_length, run_or_part}
+use Rattle.mdinline_machine.specs.InlineEvents.{data_length, data_run, delimiter_run, inline_grammars, line_break, run_length, run_or_part}
+use Rattle.mdinline_machine.specs.RunRows.{begins_run}
 use Rattle.mdinline_constructs.specs.StringItems.{is_string_special, string_data, string_grammars, string_item_at, string_part, string_seat_events}
 use Rattle.mddocument_parts.proofs.MovedPlaces.{Moves, Moving, Part, alone, around, back, both, cuts, front, nothing, same-bytes, same-length}
 use Rattle.mdinline_text_machine.proofs.Constructs.Apart.{EachThere, OfOption, there-holds, when-there}

@@ -11,8 +11,9 @@ use Rattle.markdown_base.specs.declared.event.Point.{Point}
 use Rattle.markdown_base.specs.declared.util.char.Kind.{Kind}
 use Rattle.markdown_base.specs.declared.util.char.Kind.TheVariants.{Whitespace}
 use Rattle.mdinline_emphasis.specs.Classes.{class_after, class_before}
-use Rattle.mdinline_emphasis.specs.Emphasis.{Delimiter, Pair, Run, all_in_pairs, close_pairs, closes_yet, closings, data_of, emphasised, events_of_runs, gave, head_events, in_pairs, inner_name, is_strong, later, look_back, markers_of, markers_of_all, may_pair, on_stack, openings, opens_yet, outer_name, paired, pairs, pairs_from, run_events, sequence_name, tail_events, unlinked_event}
-use Rattle.mdinline_emphasis.specs.Runs.{can_close, can_open, class_beside, depth_after, index_of_event, is_sequence, is_star_byte, run_at, runs_from, runs_in}
+use Rattle.mdinline_emphasis.specs.declared.pairs.Style.{Style}
+use Rattle.mdinline_emphasis.specs.Emphasis.{Delimiter, Pair, Run, all_in_pairs, close_pairs, closes_yet, closings, data_of, emphasised, events_of_runs, gave, head_events, in_pairs, inner_name, later, look_back, markers_of, markers_of_all, may_pair, on_stack, openings, opens_yet, outer_name, paired, pairs, pairs_from, run_events, sequence_name, style_of, tail_events, unlinked_event}
+use Rattle.mdinline_emphasis.specs.Runs.{can_close, can_open, class_beside, depth_after, index_of_event, is_sequence, marker_from, run_at, runs_from, runs_in}
 use Rattle.mddocument_parts.proofs.MovedPlaces.{AreKnown, Moving, moved_event, moved_events}
 
 -- what two tests are of numbers that both are so much greater
@@ -53,14 +54,14 @@ module _ (m : Moving) where
       let byte = m.byte e.point h in
       let size = length-moved e.point f.point in
       (λ d.
-      let star = is_star_byte (byte d) in
+      let marker = marker_from (byte d) in
       let r : Run = record {
         index = i;
         start = m.places.to e.point;
-        is_star = star;
+        marker = marker;
         rest = size d % 3;
-        opens = can_open star (left d) (right d);
-        closes = can_close star (left d) (right d);
+        opens = can_open marker (left d) (right d);
+        closes = can_close marker (left d) (right d);
         closed = [];
         left = size d;
         opened = [];
@@ -108,12 +109,12 @@ module _ (m : Moving) where
   abbrev moved_closed : Closed → Closed
   moved_closed c = (moved_stack c.0, c.1)
 
-  abbrev with_pair : Delimiter → Delimiter → Bool → Closed → Closed
-  with_pair o d s more = (more.0, record { opener = o.number; closer = d.number; strong = s } ∷ more.1)
+  abbrev with_pair : Delimiter → Delimiter → Style → Closed → Closed
+  with_pair o d s more = (more.0, record { opener = o.number; closer = d.number; style = s } ∷ more.1)
 
   abbrev closing : ℕ → Delimiter → List Delimiter → List Delimiter → Closed
   closing n d ds [] = (on_stack d ds, [])
-  closing n d ds (o ∷ below) = let s = is_strong o.run d.run in with_pair o d s (close_pairs n (gave s d) (on_stack (gave s o) below))
+  closing n d ds (o ∷ below) = let s = style_of o.run d.run in with_pair o d s (close_pairs n (gave s d) (on_stack (gave s o) below))
 
   closing-is : (n : ℕ) (d : Delimiter) (ds : List Delimiter) → close_pairs (suc n) d ds ≡ cond (closes_yet d.run) (closing n d ds (look_back d.run ds)) (on_stack d ds, [])
   closing-is n d ds = by (look_back d.run ds)
@@ -123,9 +124,9 @@ module _ (m : Moving) where
           (elim found [
             | [] ↦ (on_stack d ds, [])
             | o ∷ below ↦
-                let s = is_strong o.run d.run in
+                let s = style_of o.run d.run in
                 let more = close_pairs n (gave s d) (on_stack (gave s o) below) in
-                (more.0, record { opener = o.number; closer = d.number; strong = s } ∷ more.1)
+                (more.0, record { opener = o.number; closer = d.number; style = s } ∷ more.1)
           ])
           (on_stack d ds, [])
           ≡ cond (closes_yet d.run) (closing n d ds found) (on_stack d ds, [])
@@ -135,15 +136,15 @@ module _ (m : Moving) where
   close-moved : (n : ℕ) (d : Delimiter) (ds : List Delimiter) → close_pairs n (moved_delimiter d) (moved_stack ds) ≡ moved_closed (close_pairs n d ds)
   close-moved zero d ds = ap (λ s. (s, [])) (stack-moved d ds)
   close-moved (suc n) d ds =
-      closing-is n (moved_delimiter d) (moved_stack ds) ∙ by (λ o below. close-moved n (gave (is_strong o.run d.run) d) (on_stack (gave (is_strong o.run d.run) o) below)) (closes_yet d.run) ∙ sym (ap moved_closed (closing-is n d ds))
+      closing-is n (moved_delimiter d) (moved_stack ds) ∙ by (λ o below. close-moved n (gave (style_of o.run d.run) d) (on_stack (gave (style_of o.run d.run) o) below)) (closes_yet d.run) ∙ sym (ap moved_closed (closing-is n d ds))
     where
-      at : ((o : Delimiter) (below : List Delimiter) → close_pairs n (moved_delimiter (gave (is_strong o.run d.run) d)) (moved_stack (on_stack (gave (is_strong o.run d.run) o) below)) ≡ moved_closed (close_pairs n (gave (is_strong o.run d.run) d) (on_stack (gave (is_strong o.run d.run) o) below))) → (found : List Delimiter) → closing n (moved_delimiter d) (moved_stack ds) (moved_stack found) ≡ moved_closed (closing n d ds found)
+      at : ((o : Delimiter) (below : List Delimiter) → close_pairs n (moved_delimiter (gave (style_of o.run d.run) d)) (moved_stack (on_stack (gave (style_of o.run d.run) o) below)) ≡ moved_closed (close_pairs n (gave (style_of o.run d.run) d) (on_stack (gave (style_of o.run d.run) o) below))) → (found : List Delimiter) → closing n (moved_delimiter d) (moved_stack ds) (moved_stack found) ≡ moved_closed (closing n d ds found)
       at before [] = ap (λ s. (s, [])) (stack-moved d ds)
       at before (o ∷ below) =
-          let s = is_strong o.run d.run in
+          let s = style_of o.run d.run in
           ap (λ ds. with_pair o d s (close_pairs n (moved_delimiter (gave s d)) ds)) (stack-moved (gave s o) below) ∙ ap (with_pair o d s) (before o below)
 
-      by : ((o : Delimiter) (below : List Delimiter) → close_pairs n (moved_delimiter (gave (is_strong o.run d.run) d)) (moved_stack (on_stack (gave (is_strong o.run d.run) o) below)) ≡ moved_closed (close_pairs n (gave (is_strong o.run d.run) d) (on_stack (gave (is_strong o.run d.run) o) below))) → (c : Bool) → cond c (closing n (moved_delimiter d) (moved_stack ds) (look_back (moved_run d.run) (moved_stack ds))) (on_stack (moved_delimiter d) (moved_stack ds), []) ≡ moved_closed (cond c (closing n d ds (look_back d.run ds)) (on_stack d ds, []))
+      by : ((o : Delimiter) (below : List Delimiter) → close_pairs n (moved_delimiter (gave (style_of o.run d.run) d)) (moved_stack (on_stack (gave (style_of o.run d.run) o) below)) ≡ moved_closed (close_pairs n (gave (style_of o.run d.run) d) (on_stack (gave (style_of o.run d.run) o) below))) → (c : Bool) → cond c (closing n (moved_delimiter d) (moved_stack ds) (look_back (moved_run d.run) (moved_stack ds))) (on_stack (moved_delimiter d) (moved_stack ds), []) ≡ moved_closed (cond c (closing n d ds (look_back d.run ds)) (on_stack d ds, []))
       by before true = ap (closing n (moved_delimiter d) (moved_stack ds)) (look-moved d.run ds) ∙ at before (look_back d.run ds)
       by before false = ap (λ s. (s, [])) (stack-moved d ds)
 
@@ -168,7 +169,7 @@ module _ (m : Moving) where
   pub join : (x y x2 y2 : List Event) → x2 ≡ moved_events m x → y2 ≡ moved_events m y → x2 ++ y2 ≡ moved_events m (x ++ y)
   join x y x2 y2 e f = (λ i. e i ++ f i) ∙ sym (map-append (moved_event m) x y)
 
-  closings-moved : (p : Point) (ss : List Bool) → closings (m.places.to p) ss ≡ moved_events m (closings p ss)
+  closings-moved : (p : Point) (ss : List Style) → closings (m.places.to p) ss ≡ moved_events m (closings p ss)
   closings-moved p [] = refl
   closings-moved p (s ∷ ss) =
       let q = later (markers_of s) p in
@@ -180,7 +181,7 @@ module _ (m : Moving) where
       ap (λ q. unlinked_event Exit (inner_name s) (m.places.to p) ∷ unlinked_event Enter (sequence_name s) (m.places.to p) ∷ unlinked_event Exit (sequence_name s) q ∷ unlinked_event Exit (outer_name s) q ∷ closings q ss) (sym (m.further (markers_of s) p))
       ∙ (λ i. inner i ∷ enter i ∷ exit i ∷ outer i ∷ more i)
 
-  openings-moved : (p : Point) (ss : List Bool) → openings (m.places.to p) ss ≡ moved_events m (openings p ss)
+  openings-moved : (p : Point) (ss : List Style) → openings (m.places.to p) ss ≡ moved_events m (openings p ss)
   openings-moved p [] = refl
   openings-moved p (s ∷ ss) =
       let q = later (markers_of s) p in

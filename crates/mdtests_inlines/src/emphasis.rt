@@ -2,42 +2,60 @@
 
 use crate::shown::assert_shown;
 use markdown::event::{Event, Kind, Name};
-use mdinline_emphasis::pairs::{Delimiters, pair_all};
+use mdinline_emphasis::pairs::{Delimiters, Marker, Style, pair_all};
 use mdinline_emphasis::runs::runs_of;
 use mdtests_base::shown::at;
 use std::alloc::{AllocError, Global};
 
-/// A run: whether it is of stars, its length, and whether it can open and whether it can close.
-type Run = (bool, usize, bool, bool);
+/// A run: its marker, its length, and whether it can open and whether it can close.
+type Run = (Marker, usize, bool, bool);
 
 /// Runs, and their pairs: of each run the pairs that it closes (`e` or `s`), how many markers are left, and the pairs that it opens, the outer
 /// ones first.
 const ROWS: &[(&[Run], &str)] = &[
-    (&[(true, 1, true, false), (true, 1, false, true)], "0e e0 "),
-    (&[(true, 2, true, false), (true, 2, false, true)], "0s s0 "),
     (
         &[
-            (true, 3, true, false),
-            (true, 2, false, true),
-            (true, 1, false, true),
+            (Marker::Asterisk, 1, true, false),
+            (Marker::Asterisk, 1, false, true),
+        ],
+        "0e e0 ",
+    ),
+    (
+        &[
+            (Marker::Asterisk, 2, true, false),
+            (Marker::Asterisk, 2, false, true),
+        ],
+        "0s s0 ",
+    ),
+    (
+        &[
+            (Marker::Asterisk, 3, true, false),
+            (Marker::Asterisk, 2, false, true),
+            (Marker::Asterisk, 1, false, true),
         ],
         "0es s0 e0 ",
     ),
     (
         &[
-            (true, 1, true, false),
-            (true, 2, true, true),
-            (true, 1, false, true),
+            (Marker::Asterisk, 1, true, false),
+            (Marker::Asterisk, 2, true, true),
+            (Marker::Asterisk, 1, false, true),
         ],
         "0e 2 e0 ",
     ),
-    (&[(true, 1, true, false), (false, 1, false, true)], "1 1 "),
     (
         &[
-            (true, 1, true, false),
-            (false, 1, true, false),
-            (true, 1, false, true),
-            (false, 1, false, true),
+            (Marker::Asterisk, 1, true, false),
+            (Marker::Underscore, 1, false, true),
+        ],
+        "1 1 ",
+    ),
+    (
+        &[
+            (Marker::Asterisk, 1, true, false),
+            (Marker::Underscore, 1, true, false),
+            (Marker::Asterisk, 1, false, true),
+            (Marker::Underscore, 1, false, true),
         ],
         "0e 1 e0 1 ",
     ),
@@ -50,7 +68,7 @@ fn runs_of_row(alloc: Global, row: &[Run]) -> Result<Vec<Delimiters>, AllocError
         runs.push(Delimiters {
             index,
             start: at(1, 1, 0, 0),
-            is_star: run.0,
+            marker: run.0,
             rest: run.1 % 3,
             opens: run.2,
             closes: run.3,
@@ -63,15 +81,18 @@ fn runs_of_row(alloc: Global, row: &[Run]) -> Result<Vec<Delimiters>, AllocError
 }
 
 /// Appends pairs, each as a letter.
-fn push_pairs(text: &mut String, pairs: &[bool], last_first: bool) -> Result<(), AllocError> {
+fn push_pairs(text: &mut String, pairs: &[Style], last_first: bool) -> Result<(), AllocError> {
     for index in 0..pairs.len() {
         let at = if last_first {
             pairs.len().saturating_sub(index).saturating_sub(1)
         } else {
             index
         };
-        let strong = pairs.get(at) == Some(&true);
-        text.push(if strong { 's' } else { 'e' })?;
+        let letter = match pairs.get(at) {
+            Some(Style::Strong) => 's',
+            _ => 'e',
+        };
+        text.push(letter)?;
     }
     Ok(())
 }

@@ -1,13 +1,9 @@
 -- Virtual bytes that follow one another byte by byte; and what comes in place of a run of these accounts for them, in one line.
-use Rattle.mddocument.proofs.Prelude.{◌≡◌, ℕ, zero, suc, ◌+◌, ◌<◌, Bool, true, false, inl, inr, ◌⊎◌, List, [], ◌∷◌, ◌++◌, append_assoc, length, take, drop, refl, sym, ap, ◌∙◌, subst, arith, take-append-drop, Event, Enter, Exit, Data, Point, shown, Seat, end_after, Run, closings, data_of, inner_name, later, markers_of, markers_of_all, openings, outer_name, sequence_name, unlinked_event, markers, in_place, OneLine}
+use Rattle.mddocument.proofs.Prelude.{◌≡◌, ℕ, zero, suc, ◌+◌, ◌<◌, Bool, true, false, inl, inr, ◌⊎◌, List, [], ◌∷◌, ◌++◌, append_assoc, length, take, drop, refl, sym, ap, ◌∙◌, subst, arith, take-append-drop, Event, Enter, Exit, Data, Point, shown, Seat, end_after, Run, closings, data_of, inner_name, later, markers_of, markers_of_all, openings, outer_name, sequence_name, unlinked_event, markers, in_place, OneLine, Style, takes-some}
 use Rattle.mddocument.proofs.Emphasis.Pairs.{Opens}
 use Rattle.markdown_base.specs.declared.event.Name.{Name}
 use Rattle.mddocument.proofs.Innermost.Lined.{LinedFor, lined-enter, lined-exit, lined-span, one-drop, one-take}
 use Rattle.mdinline_links.proofs.RunOrder.{later-later, later-none}
-
-some-markers : (s : Bool) → 0 < markers_of s
-some-markers true = omega arith
-some-markers false = omega arith
 
 module _ (bytes : List ℕ) where
   -- virtual bytes from a place on, each one byte behind the one before it
@@ -56,14 +52,14 @@ module _ (bytes : List ℕ) where
   one-more name p n (s ∷ ss) rest es some one h lined =
       lined-span bytes (unlinked_event Enter name p) (unlinked_event Exit name (later n p)) es s ss rest one refl refl (sym h.1.0) (ap (λ m. later m p) (sym h.0) ∙ sym (follow-end p s ss h.1)) lined
 
-  pub closings-more : (p : Point) (ss : List Bool) (l rest : List Seat) (es : List Event) → OneLine l → Follow (markers_of_all ss) p l → LinedFor es bytes rest → LinedFor (closings p ss ++ es) bytes (l ++ rest)
+  pub closings-more : (p : Point) (ss : List Style) (l rest : List Seat) (es : List Event) → OneLine l → Follow (markers_of_all ss) p l → LinedFor es bytes rest → LinedFor (closings p ss ++ es) bytes (l ++ rest)
   closings-more p [] l rest es one h lined = none-more l rest es h.0 lined
   closings-more p (s ∷ ss) l rest es one h lined =
       let m = markers_of s in
       let q = later m p in
       let more = closings-more q ss (drop m l) rest es (one-drop m l one) (follow-back m (markers_of_all ss) p l h) lined in
       let outer = lined-exit bytes (unlinked_event Exit (outer_name s) q) (closings q ss ++ es) (drop m l ++ rest) refl more in
-      let spanned = one-more (sequence_name s) p m (take m l) (drop m l ++ rest) (unlinked_event Exit (outer_name s) q ∷ (closings q ss ++ es)) (some-markers s) (one-take m l one) (follow-front m (markers_of_all ss) p l h) outer in
+      let spanned = one-more (sequence_name s) p m (take m l) (drop m l ++ rest) (unlinked_event Exit (outer_name s) q ∷ (closings q ss ++ es)) (takes-some s) (one-take m l one) (follow-front m (markers_of_all ss) p l h) outer in
       joined m l rest (closings p (s ∷ ss) ++ es)
       (lined-exit bytes (unlinked_event Exit (inner_name s) p) (unlinked_event Enter (sequence_name s) p ∷ unlinked_event Exit (sequence_name s) q ∷ unlinked_event Exit (outer_name s) q ∷ (closings q ss ++ es)) (take m l ++ (drop m l ++ rest)) refl spanned)
 
@@ -72,11 +68,11 @@ module _ (bytes : List ℕ) where
   enter-before n p [] rest opens h = record { account = record { stretches = h.account.stretches; are_all = h.account.are_all; are_innermost = h.account.are_innermost }; lines = h.lines }
   enter-before n p (e ∷ es) rest opens h = lined-enter bytes (unlinked_event Enter n p) e es rest refl opens h
 
-  openings-open : (p : Point) (ss : List Bool) (es : List Event) → Opens es → Opens (openings p ss ++ es)
+  openings-open : (p : Point) (ss : List Style) (es : List Event) → Opens es → Opens (openings p ss ++ es)
   openings-open p [] es h = h
   openings-open p (s ∷ ss) es h = refl
 
-  openings-more : (p : Point) (ss : List Bool) (l rest : List Seat) (es : List Event) → OneLine l → Follow (markers_of_all ss) p l → Opens es → LinedFor es bytes rest → LinedFor (openings p ss ++ es) bytes (l ++ rest)
+  openings-more : (p : Point) (ss : List Style) (l rest : List Seat) (es : List Event) → OneLine l → Follow (markers_of_all ss) p l → Opens es → LinedFor es bytes rest → LinedFor (openings p ss ++ es) bytes (l ++ rest)
   openings-more p [] l rest es one h opens lined = none-more l rest es h.0 lined
   openings-more p (s ∷ ss) l rest es one h opens lined =
       let m = markers_of s in
@@ -84,7 +80,7 @@ module _ (bytes : List ℕ) where
       let behind = openings q ss ++ es in
       let more = openings-more q ss (drop m l) rest es (one-drop m l one) (follow-back m (markers_of_all ss) p l h) opens lined in
       let inner = enter-before (inner_name s) q behind (drop m l ++ rest) (openings-open q ss es opens) more in
-      let spanned = one-more (sequence_name s) p m (take m l) (drop m l ++ rest) (unlinked_event Enter (inner_name s) q ∷ behind) (some-markers s) (one-take m l one) (follow-front m (markers_of_all ss) p l h) inner in
+      let spanned = one-more (sequence_name s) p m (take m l) (drop m l ++ rest) (unlinked_event Enter (inner_name s) q ∷ behind) (takes-some s) (one-take m l one) (follow-front m (markers_of_all ss) p l h) inner in
       joined m l rest (openings p (s ∷ ss) ++ es)
       (lined-enter bytes (unlinked_event Enter (outer_name s) p) (unlinked_event Enter (sequence_name s) p) (unlinked_event Exit (sequence_name s) q ∷ unlinked_event Enter (inner_name s) q ∷ behind) (take m l ++ (drop m l ++ rest)) refl refl spanned)
 
@@ -93,9 +89,9 @@ module _ (bytes : List ℕ) where
   data-more p (suc n) l rest es one h lined = one-more Data p (suc n) l rest es (omega arith) one h lined
 
   -- what a run opens, before events that begin with an enter, or where it opens nothing
-  opened-more : (p : Point) (ss : List Bool) (l rest : List Seat) (es : List Event) → OneLine l → Follow (markers_of_all ss) p l → (ss ≡ []) ⊎ Opens es → LinedFor es bytes rest → LinedFor (openings p ss ++ es) bytes (l ++ rest)
+  opened-more : (p : Point) (ss : List Style) (l rest : List Seat) (es : List Event) → OneLine l → Follow (markers_of_all ss) p l → (ss ≡ []) ⊎ Opens es → LinedFor es bytes rest → LinedFor (openings p ss ++ es) bytes (l ++ rest)
   opened-more p ss l rest es one h (inl none) lined =
-      subst (λ (k : List Bool). LinedFor (openings p k ++ es) bytes (l ++ rest)) (sym none) (none-more l rest es (h.0 ∙ ap markers_of_all none) lined)
+      subst (λ (k : List Style). LinedFor (openings p k ++ es) bytes (l ++ rest)) (sym none) (none-more l rest es (h.0 ∙ ap markers_of_all none) lined)
   opened-more p ss l rest es one h (inr opens) lined = openings-more p ss l rest es one h opens lined
 
   -- ---- what comes in place of a run accounts for its virtual bytes
@@ -118,13 +114,13 @@ module _ (bytes : List ℕ) where
       subst (λ k. LinedFor k bytes (l ++ rest)) same first
 
 -- and it begins with an enter, if the run closes nothing
-tail-opens : (p : Point) (n : ℕ) (ss : List Bool) (es : List Event) → 0 < n + markers_of_all ss → Opens ((data_of p n ++ openings (later n p) ss) ++ es)
+tail-opens : (p : Point) (n : ℕ) (ss : List Style) (es : List Event) → 0 < n + markers_of_all ss → Opens ((data_of p n ++ openings (later n p) ss) ++ es)
 tail-opens p zero [] es some = absurd (omega (arith, some))
 tail-opens p zero (s ∷ ss) es some = refl
 tail-opens p (suc n) ss es some = refl
 
 pub place-opens : (r : Run) (es : List Event) → r.closed ≡ [] → 0 < markers r → Opens (in_place r ++ es)
 place-opens r es none some =
-    let many : 0 < 0 + (r.left + markers_of_all r.opened) = subst (λ (k : List Bool). 0 < markers_of_all k + (r.left + markers_of_all r.opened)) none some in
-    subst (λ (k : List Bool). Opens ((closings r.start k ++ (data_of (later (markers_of_all k) r.start) r.left ++ openings (later r.left (later (markers_of_all k) r.start)) r.opened)) ++ es)) (sym none)
+    let many : 0 < 0 + (r.left + markers_of_all r.opened) = subst (λ (k : List Style). 0 < markers_of_all k + (r.left + markers_of_all r.opened)) none some in
+    subst (λ (k : List Style). Opens ((closings r.start k ++ (data_of (later (markers_of_all k) r.start) r.left ++ openings (later r.left (later (markers_of_all k) r.start)) r.opened)) ++ es)) (sym none)
     (tail-opens (later 0 r.start) r.left r.opened es (omega (arith, many)))

@@ -1,6 +1,7 @@
 -- The runs of inline text are as long as can be.
 use Rattle.markdown_base.proofs.Facts.Numbers.{unlike}
 use Rattle.mddocument.proofs.Prelude.{◌≡◌, ℕ, Bool, suc, ◌+◌, ◌≤◌, true, false, cond, inl, List, [], ◌∷◌, Some, take, drop, length, refl, subst, arith, length-drop, AllByRecursion, flat_map, prefix_len, and-left, and-right, Constructs, Data, SpaceOrTab, Seat, is_white, there-holds, has_byte_at, is_line_feed, Atom, Found, IsCut, ItemCut, item_length, bytes_of, item_events, white-run-cut, white_space, some-item, begins_run, data_length, data_run, delimiter_run, inline_grammars, inline_item_at, inline_items, line_break, run_length, run_or_part, is_delimiter}
+use Rattle.mdinline_machine.proofs.RunBytes.{run-delimits}
 use Rattle.markdown_base.specs.declared.event.Name.TheVariants.{LabelImage, LabelImageMarker, LabelMarker}
 use Rattle.mdinline_machine.proofs.BracketBytes.{bracket-holds}
 use Rattle.mdinline_machine.specs.Brackets.{Bracket, Memory, after_item, begins_image, image_bracket, is_exclamation, is_image_bracket, is_open_bracket, label_end, link_bracket, lone_end, nothing_read, tail_of}
@@ -19,7 +20,7 @@ module _ (bytes : List ℕ) (on : Constructs) where
       let line = line_break (prefix_len is_white (bytes_of ss)) in
       let datum = data_run (data_length on (bytes_of l)) in
       elim (begins_run on s.byte) as (λ x. (begins_run on s.byte) ≡ x → ItemRuns bytes l (cond x (delimiter_run (run_length (bytes_of l))) (cond (is_line_feed s.byte) line datum))) [
-        | true ↦ λ is. run-item bytes s ss (and-right on.attention (is_delimiter s.byte) is)
+        | true ↦ λ is. run-item bytes s ss (run-delimits on s.byte is)
         | false ↦ λ is. elim (is_line_feed s.byte) as (λ x. is_line_feed s.byte ≡ x → ItemRuns bytes l (cond x line datum)) [
           | true ↦ λ feed. free-item bytes l line (line-break-cut bytes on s ss) (free-line-break 4 bytes (prefix_len is_white (bytes_of ss)))
           | false ↦ λ other. free-item bytes l datum (data-run-cut bytes on s ss other) (λ seats. free-leaf 4 bytes Data seats refl)

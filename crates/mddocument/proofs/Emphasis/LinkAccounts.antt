@@ -1,5 +1,5 @@
 -- Links, images and emphasis account for the virtual bytes that brackets, runs and the texts between them do, line by line.
-use Rattle.mddocument.proofs.Prelude.{◌≡◌, ℕ, ◌+◌, ◌<◌, Bool, true, false, cond, inl, inr, ◌⊎◌, List, [], ◌∷◌, ◌++◌, append_assoc, length, map, refl, sym, ap, ◌∙◌, subst, arith, append-nil, flat_map-append, every-back, every-front, slice_get, AllByRecursion, Event, Enter, Exit, Data, AttentionSequence, Point, IsBalanced, is_enter, same_name, shown, Seat, end_after, end-after-append, AreBeside, IsBeside, Run, markers_of_all, paired, same, unlinked_event, Standing, markers, standing, is_star_byte, Atom, InOneLine, OneLine, NoEnding, atom_seats, seats_of, is_delimiter, pairs-keep}
+use Rattle.mddocument.proofs.Prelude.{◌≡◌, ℕ, ◌+◌, ◌<◌, Bool, true, false, cond, inl, inr, ◌⊎◌, List, [], ◌∷◌, ◌++◌, append_assoc, length, map, refl, sym, ap, ◌∙◌, subst, arith, append-nil, flat_map-append, every-back, every-front, slice_get, AllByRecursion, Event, Enter, Exit, Data, AttentionSequence, Point, IsBalanced, is_enter, same_name, shown, Seat, end_after, end-after-append, AreBeside, IsBeside, Run, markers_of_all, paired, same, unlinked_event, Standing, markers, standing, marker_from, Marker, Atom, InOneLine, OneLine, NoEnding, atom_seats, seats_of, is_delimiter, pairs-keep}
 use Rattle.markdown_base.specs.declared.event.Name.{Name}
 use Rattle.markdown_base.specs.declared.event.Name.TheVariants.{LabelImageMarker, LabelText}
 use Rattle.markdown_base.proofs.Facts.Lists.{some-front}
@@ -59,20 +59,20 @@ HoldsMarkers [] = Unit {0}
 HoldsMarkers (e ∷ es) = is_marked (e ∷ es) ≡ true → HoldsOne e es ⊎ HoldsTwo e es
 
 module _ (bytes : List ℕ) where
-  -- a virtual byte is a star of the document
-  abbrev pub star_at : Seat → Bool
-  star_at s = is_star_byte (slice_get bytes (shown bytes s.point).index)
+  -- the marker that a virtual byte is in the document
+  abbrev pub marker_at : Seat → Marker
+  marker_at s = marker_from (slice_get bytes (shown bytes s.point).index)
 
   -- virtual bytes begin with a marker, and they do not go on with this one
-  abbrev pub BeginsWith : Bool → List Seat → Type 0
-  BeginsWith star [] = ⊥
-  BeginsWith star (s ∷ ss) = (is_delimiter s.byte ≡ true) × (star ≡ star_at s)
+  abbrev pub BeginsWith : Marker → List Seat → Type 0
+  BeginsWith marker [] = ⊥
+  BeginsWith marker (s ∷ ss) = (is_delimiter s.byte ≡ true) × (marker ≡ marker_at s)
 
-  abbrev pub StopsAt : Bool → List Seat → Type 0
-  StopsAt star [] = Unit {0}
-  StopsAt star (s ∷ ss) = is_delimiter s.byte ≡ true → same star (star_at s) ≡ false
+  abbrev pub StopsAt : Marker → List Seat → Type 0
+  StopsAt marker [] = Unit {0}
+  StopsAt marker (s ∷ ss) = is_delimiter s.byte ≡ true → same marker (marker_at s) ≡ false
 
-  other-marker : (a b : Bool) (l : List Seat) → StopsAt a l → BeginsWith b l → same a b ≡ false
+  other-marker : (a b : Marker) (l : List Seat) → StopsAt a l → BeginsWith b l → same a b ≡ false
   other-marker a b [] h k = absurd k
   other-marker a b (s ∷ ss) h k = ap (same a) k.1 ∙ h k.0
 
@@ -81,7 +81,7 @@ module _ (bytes : List ℕ) where
   -- an atom that is a run goes byte by byte, and is as long as can be; the first marker of an image is in the line of what is behind it
   abbrev pub IsGood : Atom → List Seat → Type 0
   IsGood a rest =
-      (is_run a ≡ true → FollowFrom bytes (shown bytes a.first.point) (atom_seats a) × (is_delimiter a.first.byte ≡ true) × StopsAt (star_at a.first) rest)
+      (is_run a ≡ true → FollowFrom bytes (shown bytes a.first.point) (atom_seats a) × (is_delimiter a.first.byte ≡ true) × StopsAt (marker_at a.first) rest)
       × (same_name a.name LabelImageMarker ≡ true → NoEnding (atom_seats a))
 
   abbrev pub AreGood : List Atom → List Seat → Type 0
@@ -126,8 +126,8 @@ module _ (bytes : List ℕ) where
     pub are : p ≡ seats ++ q
     pub line : OneLine seats
     pub follow : Follow bytes r.left r.start seats
-    pub begins : BeginsWith r.is_star p
-    pub stops : StopsAt r.is_star q
+    pub begins : BeginsWith r.marker p
+    pub stops : StopsAt r.marker q
 
   over-both : (p m q : List Seat) (xs ys : List Event) → IsBalanced xs → Over p xs m → Over m ys q → Over p (xs ++ ys) q
   over-both p m q xs ys b h k = record {
@@ -162,15 +162,15 @@ module _ (bytes : List ℕ) where
       let start : e.point.index ≡ o.index = ap (λ (x : Point). x.index) from in
       let end : f.point.index ≡ o.index + length l = ap (λ (x : Point). x.index) (to ∙ follow-end bytes o a.first a.others known.0) in
       let many : length l ≡ r.left = omega (arith, start, end, run_is.many) in
-      let star : r.is_star ≡ star_at a.first = run_is.star ∙ ap (λ (x : Point). is_star_byte (slice_get bytes x.index)) from in
+      let marker : r.marker ≡ marker_at a.first = run_is.marker ∙ ap (λ (x : Point). marker_from (slice_get bytes x.index)) from in
       let all : p ≡ l ++ q = are ∙ ap (λ k. k ++ q) (append-nil l) in (
         record {
           seats = l;
           are = all;
           line = lines.0;
           follow = (many, subst (λ x. FollowFrom bytes x l) (sym (run_is.start ∙ from)) known.0);
-          begins = subst (BeginsWith r.is_star) (sym all) (known.1, star);
-          stops = subst (λ t. StopsAt t q) (sym star) known.2;
+          begins = subst (BeginsWith r.marker) (sym all) (known.1, marker);
+          stops = subst (λ t. StopsAt t q) (sym marker) known.2;
         },
         omega (arith, many),
       )
@@ -263,8 +263,8 @@ module _ (bytes : List ℕ) where
       by (inr (inl none)) = inr (opens none)
       by (inr (inr alike)) =
           let second : standing s' ≡ standing r' = cc in
-          let no = other-marker r.is_star r'.is_star m h.stops k.1.0.begins in
-          let yes : same r.is_star r'.is_star ≡ true = (λ i. same (ap (λ (x : Standing). x.is_star) (sym first) i) (ap (λ (x : Standing). x.is_star) (sym second) i)) ∙ alike in
+          let no = other-marker r.marker r'.marker m h.stops k.1.0.begins in
+          let yes : same r.marker r'.marker ≡ true = (λ i. same (ap (λ (x : Standing). x.marker) (sym first) i) (ap (λ (x : Standing). x.marker) (sym second) i)) ∙ alike in
           let never : true ≡ false = sym yes ∙ no in
           absurd (cc)
 

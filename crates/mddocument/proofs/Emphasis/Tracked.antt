@@ -1,34 +1,33 @@
-use Rattle.mddocument.proofs.Prelude.{◌≡◌, ℕ, ◌==◌, Bool, true, false, List, [], ◌∷◌, ◌++◌, append_assoc, refl, sym, ap, ◌∙◌, subst, ◌||◌, slice_get, AllByRecursion, eqb-true, Point, shown, Seat, end_after, every-back, every-front, later, same, is_star_byte, Atom, atom_seats, seats_of, is_delimiter, Track, track-place, append-nil, AcrossGap, Course, course-on, line-track}
-use Rattle.std.proofs.Math.Bool.{or-false}
+use Rattle.mddocument.proofs.Prelude.{◌≡◌, ℕ, true, false, Some, inl, inr, List, [], ◌∷◌, ◌++◌, append_assoc, refl, sym, ap, ◌∙◌, subst, slice_get, AllByRecursion, Point, shown, Seat, end_after, every-back, every-front, later, same, marker_from, Atom, atom_seats, seats_of, is_delimiter, Track, track-place, append-nil, AcrossGap, Course, course-on, line-track}
+use Rattle.std.proofs.lemmas.Bool.{cases_Bool}
+use Rattle.mdinline_emphasis.proofs.Markers.{byte-from, same-is}
+use Rattle.mdinline_emphasis.specs.Emphasis.{marker_byte}
 -- Delimiter runs among atoms, by their virtual bytes: in a text they go byte by byte, and two that adjoin have different markers.
 use Rattle.mddocument.proofs.Emphasis.Follow.{FollowFrom}
 use Rattle.mddocument.proofs.Emphasis.RunAtoms.{AreDelimiters, AreWholeRuns, Stops}
-use Rattle.mddocument.proofs.Emphasis.LinkAccounts.{AreGood, StopsAt, star_at}
+use Rattle.mddocument.proofs.Emphasis.LinkAccounts.{AreGood, StopsAt, marker_at}
 use Rattle.mddocument.proofs.FlowTexts.InlineSteps.{Steps, delimiters-whole}
 
 -- two delimiters that are not equal are different markers
-markers-differ : (x y : ℕ) → is_delimiter x ≡ true → is_delimiter y ≡ true → (x ≡ y → ⊥) → same (x == 42) (y == 42) ≡ false
-markers-differ x y h k differ = by (x == 42) (y == 42) refl refl
-  where
-    by : (a b : Bool) → (x == 42) ≡ a → (y == 42) ≡ b → same a b ≡ false
-    by true true e f = absurd (differ (eqb-true x 42 e ∙ sym (eqb-true y 42 f)))
-    by true false e f = refl
-    by false true e f = refl
-    by false false e f =
-        let one : (x == 95) ≡ true = sym (or-false (x == 95)) ∙ sym (ap (λ (a : Bool). a || ((x == 95) || false)) e) ∙ h in
-        let other : (y == 95) ≡ true = sym (or-false (y == 95)) ∙ sym (ap (λ (a : Bool). a || ((y == 95) || false)) f) ∙ k in
-        absurd (differ (eqb-true x 95 one ∙ sym (eqb-true y 95 other)))
+markers-differ : (x y : ℕ) → is_delimiter x ≡ true → is_delimiter y ≡ true → (x ≡ y → ⊥) → same (marker_from (Some x)) (marker_from (Some y)) ≡ false
+markers-differ x y h k differ =
+    let a = marker_from (Some x) in
+    let b = marker_from (Some y) in
+    elim (cases_Bool (same a b)) [
+      | inl one ↦ absurd (differ (sym (byte-from x h) ∙ ap marker_byte (same-is a b one) ∙ byte-from y k))
+      | inr other ↦ other
+    ]
 
 module _ (bytes : List ℕ) where
-  star-is : (s : Seat) → Steps bytes s → is_delimiter s.byte ≡ true → star_at bytes s ≡ (s.byte == 42)
-  star-is s steps is = let step = steps is in ap (λ (q : Point). is_star_byte (slice_get bytes q.index)) step.1 ∙ ap is_star_byte step.2
+  marker-is : (s : Seat) → Steps bytes s → is_delimiter s.byte ≡ true → marker_at bytes s ≡ marker_from (Some s.byte)
+  marker-is s steps is = let step = steps is in ap (λ (q : Point). marker_from (slice_get bytes q.index)) step.1 ∙ ap marker_from step.2
 
   -- where a run stops, its marker does
-  marker-stops : (s : Seat) (l : List Seat) → Steps bytes s → AllByRecursion (Steps bytes) l → is_delimiter s.byte ≡ true → Stops s.byte l → StopsAt bytes (star_at bytes s) l
+  marker-stops : (s : Seat) (l : List Seat) → Steps bytes s → AllByRecursion (Steps bytes) l → is_delimiter s.byte ≡ true → Stops s.byte l → StopsAt bytes (marker_at bytes s) l
   marker-stops s [] step steps here stops = tt
   marker-stops s (r ∷ rs) step steps here stops = λ there.
-      let one = star-is s step here in
-      let other = star-is r steps.0 there in
+      let one = marker-is s step here in
+      let other = marker-is r steps.0 there in
       (λ i. same (one i) (other i)) ∙ markers-differ s.byte r.byte here there stops
 
   module _ (t : ℕ) where
@@ -56,7 +55,7 @@ module _ (bytes : List ℕ) where
                 let there = line-track t bytes p a.first a.others (more ++ rest) (delimiters-whole l are) here in (
                   follow-track o l [] (subst (Track t bytes o) (sym (append-nil l)) there) front are,
                   are.0,
-                  subst (StopsAt bytes (star_at bytes a.first)) (sym (append-nil more)) (marker-stops a.first more front.0 back are.0 stops),
+                  subst (StopsAt bytes (marker_at bytes a.first)) (sym (append-nil more)) (marker-stops a.first more front.0 back are.0 stops),
                 )),
             whole.1,
           ),

@@ -1,11 +1,12 @@
 -- Examples of spans of emphasis in documents, among their events and by the pairs of their texts, computed from the definitions.
-use Rattle.std.proofs.Common.{◌≡◌, ◌+◌, ℕ, List, [], ◌∷◌, ◌++◌, false, refl}
+use Rattle.std.proofs.Common.{◌≡◌, ◌+◌, ℕ, List, [], ◌∷◌, ◌++◌, refl}
 use lib.Utf8.{encode}
 use Rattle.std.specs.List.{flat_map}
 use Rattle.std.specs.Prelude.{codes}
 use Rattle.std.specs.Str.{chars, is_utf8}
 use Rattle.markdown_base.specs.Presets.{default_constructs, default_parse_options}
 use Rattle.markdown_tokenizer.specs.Text.{Given}
+use Rattle.mdinline_emphasis.specs.declared.pairs.Style.TheVariants.{Emphasis as OfEmphasis}
 use Rattle.mdinline_emphasis.specs.Unicode.{punctuation, white_space}
 use Rattle.mdblock_definitions.specs.Blocks.{document_blocks}
 use Rattle.mdinline_machine.specs.InlineEvents.{read_events}
@@ -25,14 +26,14 @@ abbrev of_pairs : Given → List EmphasisSpan
 of_pairs g = flat_map (λ c. spans_of_text g.bytes (read_events (is_defined_in g) g (chain_text g (document_blocks g) c))) (text_starts g)
 
 abbrev over : (start end : ℕ) → EmphasisSpan
-over start end = record { start = record { line = 1; column = start + 1; index = start; vs = 0 }; end = record { line = 1; column = end + 1; index = end; vs = 0 }; strong = false }
+over start end = record { start = record { line = 1; column = start + 1; index = start; vs = 0 }; end = record { line = 1; column = end + 1; index = end; vs = 0 }; style = OfEmphasis }
 
 -- over two lines of a block quote, whose prefixes lie between
 abbrev quote : Given
 quote = document (codes "> *a" ++ 10 ∷ codes "> b*")
 
 abbrev over-quote : EmphasisSpan
-over-quote = record { start = record { line = 1; column = 3; index = 2; vs = 0 }; end = record { line = 2; column = 5; index = 9; vs = 0 }; strong = false }
+over-quote = record { start = record { line = 1; column = 3; index = 2; vs = 0 }; end = record { line = 2; column = 5; index = 9; vs = 0 }; style = OfEmphasis }
 
 quote-events : of_events quote ≡ over-quote ∷ []
 unfolding is_utf8 chars encode white_space punctuation

@@ -1,13 +1,14 @@
 -- Pairs of delimiter runs: which runs open and close them, in which order, and how many markers they take.
 use Rattle.std.proofs.Common.{◌≡◌, ℕ, zero, suc, ◌+◌, ◌-◌, ◌<◌, ◌≤◌, ◌==◌, Bool, true, false, cond, List, [], ◌∷◌, ◌++◌, inl, inr, refl, sym, ap, subst, arith}
-use Rattle.std.proofs.lemmas.Bool.{cases_Bool, cond_both, and_parts, leb-true}
+use Rattle.std.proofs.lemmas.Bool.{cond_both, and_parts, leb-true}
 use Rattle.std.proofs.lemmas.Bool.Decides.{nat_tests}
 use Rattle.std.specs.List.{AllByRecursion, filter}
 use Rattle.std.specs.Prelude.{nat_le, nat_lt, map}
 use Rattle.markdown_base.proofs.Common.{every-append}
 use Rattle.markdown_tokenizer.proofs.Positions.Order.{every-back}
+use Rattle.mdinline_emphasis.proofs.Markers.{pair-has}
 use Rattle.mdinline_emphasis.proofs.PairsKeep.{some-left}
-use Rattle.mdinline_emphasis.specs.Emphasis.{Delimiter, Pair, Run, close_pairs, closes_yet, gave, is_strong, look_back, markers_of, markers_of_all, may_pair, on_stack, opens_yet, pairs_from}
+use Rattle.mdinline_emphasis.specs.Emphasis.{Delimiter, Pair, Run, close_pairs, closes_yet, gave, look_back, markers_of, markers_of_all, may_pair, on_stack, opens_yet, pairs_from, style_of}
 use Rattle.mddocument_laws.specs.EmphasisSpans.{markers_given}
 
 -- ---- one run closes pairs: a principle of induction
@@ -25,20 +26,20 @@ look-behind r (d ∷ stack) =
     ]
 
 abbrev pair_with : Delimiter → Delimiter → Pair
-pair_with o d = record { opener = o.number; closer = d.number; strong = is_strong o.run d.run }
+pair_with o d = record { opener = o.number; closer = d.number; style = style_of o.run d.run }
 
 module _ (P : Delimiter → List Delimiter → Closed → Type 0)
     (done : (d : Delimiter) (stack : List Delimiter) → P d stack (on_stack d stack, []))
     (more : (d o : Delimiter) (front below : List Delimiter) (rest : Closed) → 0 < d.run.left
-    → P (gave (is_strong o.run d.run) d) (on_stack (gave (is_strong o.run d.run) o) below) rest
+    → P (gave (style_of o.run d.run) d) (on_stack (gave (style_of o.run d.run) o) below) rest
     → P d (front ++ o ∷ below) (rest.0, pair_with o d ∷ rest.1)) where
   abbrev found : ℕ → Delimiter → List Delimiter → List Delimiter → Closed
   found n d stack l = elim l [
     | [] ↦ (on_stack d stack, [])
     | o ∷ below ↦
-        let s = is_strong o.run d.run in
+        let s = style_of o.run d.run in
         let rest = close_pairs n (gave s d) (on_stack (gave s o) below) in
-        (rest.0, record { opener = o.number; closer = d.number; strong = s } ∷ rest.1)
+        (rest.0, record { opener = o.number; closer = d.number; style = s } ∷ rest.1)
   ]
 
   pub by-pairs : (n : ℕ) (d : Delimiter) (stack : List Delimiter) → P d stack (close_pairs n d stack)
@@ -51,7 +52,7 @@ module _ (P : Delimiter → List Delimiter → Closed → Type 0)
       by : ((e : Delimiter) (xs : List Delimiter) → P e xs (close_pairs n e xs)) → (l : List Delimiter) → 0 < d.run.left → (front : List Delimiter) → stack ≡ front ++ l → P d stack (found n d stack l)
       by go [] some front e = done d stack
       by go (o ∷ below) some front e =
-          let s = is_strong o.run d.run in
+          let s = style_of o.run d.run in
           let rest = close_pairs n (gave s d) (on_stack (gave s o) below) in
           subst (λ l. P d l (rest.0, pair_with o d ∷ rest.1)) (sym e) (more d o front below rest some (go (gave s d) (on_stack (gave s o) below)))
 
@@ -76,7 +77,7 @@ closes-at k d stack = by-pairs
     (λ d stack h. (tt, every-on (λ e. e.number < d.number + 1) d stack (omega arith) (below-more d.number stack h)))
     (λ d o front below rest some ih h.
     let behind = every-back (λ (e : Delimiter). e.number < d.number) front (o ∷ below) h in
-    let s = is_strong o.run d.run in
+    let s = style_of o.run d.run in
     let next = ih (every-on (λ e. e.number < d.number) (gave s o) below behind.0 behind.1) in
     (((behind.0, refl), next.0), next.1))
     k d stack
@@ -148,7 +149,7 @@ nests n k d stack = by-pairs
       nested = λ rest h k. k;
     })
     (λ d o front below rest some ih less under falling.
-    let s = is_strong o.run d.run in
+    let s = style_of o.run d.run in
     let behind = every-back (λ (e : Delimiter). e.number < d.number) front (o ∷ below) under in
     let falls = falling-behind front (o ∷ below) falling in
     let next = ih less (every-on (λ e. e.number < d.number) (gave s o) below behind.0 behind.1) (falling-on (gave s o) below falls.0 falls.1) in
@@ -191,7 +192,7 @@ falling-still k d stack = by-pairs
     (λ d stack r. AreBelow d.number stack → AreFalling stack → AreFalling r.0)
     (λ d stack below falling. falling-on d stack (below-upto d.number stack below) falling)
     (λ d o front below rest some ih under falling.
-    let s = is_strong o.run d.run in
+    let s = style_of o.run d.run in
     let behind = every-back (λ (e : Delimiter). e.number < d.number) front (o ∷ below) under in
     let falls = falling-behind front (o ∷ below) falling in
     ih (every-on (λ e. e.number < d.number) (gave s o) below behind.0 behind.1) (falling-on (gave s o) below falls.0 falls.1))
@@ -205,12 +206,12 @@ left_of k (d ∷ stack) = cond (d.number == k) d.run.left 0 + left_of k stack
 abbrev pub HaveMarkers : List Delimiter → Type 0
 HaveMarkers stack = AllByRecursion (λ (d : Delimiter). 0 < d.run.left) stack
 
-pub given-more : (takes : Pair → Bool) (p : Pair) (ps : List Pair) → markers_given takes (p ∷ ps) ≡ cond (takes p) (markers_of p.strong) 0 + markers_given takes ps
-given-more takes p ps = elim (takes p) as (λ b. markers_of_all (map (λ (q : Pair). q.strong) (cond b (p ∷ filter takes ps) (filter takes ps))) ≡ cond b (markers_of p.strong) 0 + markers_given takes ps) [ true ↦ refl | false ↦ omega arith ]
+pub given-more : (takes : Pair → Bool) (p : Pair) (ps : List Pair) → markers_given takes (p ∷ ps) ≡ cond (takes p) (markers_of p.style) 0 + markers_given takes ps
+given-more takes p ps = elim (takes p) as (λ b. markers_of_all (map (λ (q : Pair). q.style) (cond b (p ∷ filter takes ps) (filter takes ps))) ≡ cond b (markers_of p.style) 0 + markers_given takes ps) [ true ↦ refl | false ↦ omega arith ]
 
 -- the markers of all
 abbrev pub markers_in : List Pair → ℕ
-markers_in ps = markers_of_all (map (λ (p : Pair). p.strong) ps)
+markers_in ps = markers_of_all (map (λ (p : Pair). p.style) ps)
 
 left-behind : (k : ℕ) (xs ys : List Delimiter) → left_of k ys ≤ left_of k (xs ++ ys)
 left-behind k [] ys = omega arith
@@ -221,13 +222,6 @@ left-on k d stack = cond_both (opens_yet d.run) (d ∷ stack) stack (λ l. left_
 
 markers-on : (d : Delimiter) (stack : List Delimiter) → HaveMarkers stack → HaveMarkers (on_stack d stack)
 markers-on d stack h = cond_both (opens_yet d.run) (d ∷ stack) stack HaveMarkers (λ e. (some-left d.run.left (and_parts d.run.opens (nat_lt 0 d.run.left) e).1, h)) (λ e. h)
-
--- a pair takes markers that its runs have
-strong-has : (o r : Run) (n : ℕ) → 0 < n → (nat_le 2 o.left ≡ true → nat_le 2 r.left ≡ true → 2 ≤ n) → markers_of (is_strong o r) ≤ n
-strong-has o r n some two = elim (cases_Bool (is_strong o r)) [
-  | inl b ↦ (let both = and_parts (nat_le 2 o.left) (nat_le 2 r.left) b in subst (λ s. markers_of s ≤ n) (sym b) (two both.0 both.1))
-  | inr b ↦ subst (λ s. markers_of s ≤ n) (sym b) some
-]
 
 record Takes (d : Delimiter) (stack : List Delimiter) (r : Closed) : Type 0 where
   pub within : markers_in r.1 ≤ d.run.left
@@ -247,10 +241,10 @@ takes k d stack = by-pairs
       given = λ k. (let on = left-on k d stack in elim (d.number == k) as (λ b. left_of k (on_stack d stack) ≤ cond b d.run.left 0 + left_of k stack → 0 + left_of k (on_stack d stack) ≤ left_of k stack + cond b (d.run.left - 0) 0) [ true ↦ (λ on. omega (arith, on)) | false ↦ (λ on. omega (arith, on)) ] on);
     })
     (λ d o front below rest some ih h.
-    let s = is_strong o.run d.run in
+    let s = style_of o.run d.run in
     let behind = every-back (λ (e : Delimiter). 0 < e.run.left) front (o ∷ below) h in
-    let first = strong-has o.run d.run o.run.left behind.0 (λ a b. leb-true 2 o.run.left a) in
-    let second = strong-has o.run d.run d.run.left some (λ a b. leb-true 2 d.run.left b) in
+    let first = pair-has o.run d.run o.run.left behind.0 (λ both. leb-true 2 o.run.left (and_parts (nat_le 2 o.run.left) (nat_le 2 d.run.left) both).0) in
+    let second = pair-has o.run d.run d.run.left some (λ both. leb-true 2 d.run.left (and_parts (nat_le 2 o.run.left) (nat_le 2 d.run.left) both).1) in
     let next = ih (markers-on (gave s o) below behind.1) in
     let within = next.within in
     record {

@@ -8,7 +8,8 @@ use Rattle.std.specs.Prelude.{nat_lt, slice_get}
 use Rattle.markdown_base.proofs.Common.{every-append, every-map}
 use Rattle.markdown_base.specs.declared.event.Event.{Event}
 use Rattle.markdown_base.specs.declared.event.Point.{Point}
-use Rattle.mdinline_emphasis.specs.Emphasis.{Delimiter, Pair, Run, all_in_pairs, close_pairs, in_lists, in_pairs, markers_of_all, paired, pairs, pairs_from, strengths}
+use Rattle.mdinline_emphasis.specs.declared.pairs.Style.{Style}
+use Rattle.mdinline_emphasis.specs.Emphasis.{Delimiter, Pair, Run, all_in_pairs, close_pairs, in_lists, in_pairs, markers_of_all, paired, pairs, pairs_from, styles}
 use Rattle.mdinline_emphasis.specs.RunEdits.{in_place}
 use Rattle.mdinline_links.proofs.WithRuns.{emphasised-runs}
 use Rattle.mdinline_links.specs.Between.{with_runs}
@@ -17,7 +18,7 @@ use Rattle.mdinline_links.specs.Laid.{AreAscending}
 use Rattle.mdinline_links.specs.Linked.{Part, run, events, emphasised_parts, runs_of_parts}
 use Rattle.mddocument_laws.specs.EmphasisSpans.{EmphasisSpan, emphasis_spans, markers_given, spans_behind, spans_of_pairs, spans_of_runs}
 use Rattle.mddocument_laws.proofs.Emphasis.PairOrder.{AreBelow, AreFalling, CloseAt, HaveMarkers, all-within, are-nested, closes-at, closes-from, delimiter, falling-still, markers-still}
-use Rattle.mddocument_laws.proofs.Emphasis.RunSpans.{IsClosed, nested-starts, places_upto, run-place, spans-append, starts-append, starts-none, starts-opened, starts_of, strengths-all, strengths-append, strengths-none, with_pairs}
+use Rattle.mddocument_laws.proofs.Emphasis.RunSpans.{IsClosed, nested-starts, places_upto, run-place, spans-append, starts-append, starts-none, starts-opened, starts_of, styles-all, styles-append, styles-none, with_pairs}
 
 -- events of emphasis end each span that they begin, and their spans are these, in some order
 pub record HaveSpans (es : List Event) (spans : List EmphasisSpan) : Type 0 where
@@ -98,33 +99,33 @@ module _ (all : List Run) where
         (every-map (λ (p : Pair). (p.opener < n) × (p.closer < n)) (λ (p : Pair). opens_it p ≡ false) (λ (p : Pair) k. let a = k.0 in grind (arith, nat_tests, a)) done h.past)
         (every-map (λ (p : Pair). (p.opener < n) × (p.closer ≡ n)) (λ (p : Pair). opens_it p ≡ false) (λ (p : Pair) k. let a = k.0 in grind (arith, nat_tests, a)) closed.1 at-once.0)
 
-    pub closed-is : strengths closes_it (pairs all) ≡ map (λ (p : Pair). p.strong) closed.1
+    pub closed-is : styles closes_it (pairs all) ≡ map (λ (p : Pair). p.style) closed.1
     closed-is =
         let these = every-map (λ (p : Pair). (p.opener < n) × (p.closer ≡ n)) (λ (p : Pair). closes_it p ≡ true) (λ (p : Pair) k. let b = k.1 in grind (arith, nat_tests, b)) closed.1 at-once.0 in
         let others = every-map (λ (p : Pair). n + 1 ≤ p.closer) (λ (p : Pair). closes_it p ≡ false) (λ (p : Pair) b. grind (arith, nat_tests, b)) later_pairs (closes-from (n + 1) closed.0 rs at-once.1) in
-        ap (strengths closes_it) h.whole ∙ strengths-append closes_it done (closed.1 ++ later_pairs)
-        ∙ ap (λ l. l ++ strengths closes_it (closed.1 ++ later_pairs)) (strengths-none closes_it done none-closed)
-        ∙ strengths-append closes_it closed.1 later_pairs
-        ∙ ap (λ l. l ++ strengths closes_it later_pairs) (strengths-all closes_it closed.1 these)
-        ∙ ap (λ l. map (λ (p : Pair). p.strong) closed.1 ++ l) (strengths-none closes_it later_pairs others)
-        ∙ append-nil (map (λ (p : Pair). p.strong) closed.1)
+        ap (styles closes_it) h.whole ∙ styles-append closes_it done (closed.1 ++ later_pairs)
+        ∙ ap (λ l. l ++ styles closes_it (closed.1 ++ later_pairs)) (styles-none closes_it done none-closed)
+        ∙ styles-append closes_it closed.1 later_pairs
+        ∙ ap (λ l. l ++ styles closes_it later_pairs) (styles-all closes_it closed.1 these)
+        ∙ ap (λ l. map (λ (p : Pair). p.style) closed.1 ++ l) (styles-none closes_it later_pairs others)
+        ∙ append-nil (map (λ (p : Pair). p.style) closed.1)
 
-    abbrev opened : List Bool
-    opened = strengths opens_it later_pairs
+    abbrev opened : List Style
+    opened = styles opens_it later_pairs
 
-    pub opened-is : strengths opens_it (pairs all) ≡ opened
+    pub opened-is : styles opens_it (pairs all) ≡ opened
     opened-is =
-        ap (strengths opens_it) (h.whole ∙ sym (append_assoc done closed.1 later_pairs)) ∙ strengths-append opens_it (done ++ closed.1) later_pairs
-        ∙ ap (λ l. l ++ opened) (strengths-none opens_it (done ++ closed.1) none-opened)
+        ap (styles opens_it) (h.whole ∙ sym (append_assoc done closed.1 later_pairs)) ∙ styles-append opens_it (done ++ closed.1) later_pairs
+        ∙ ap (λ l. l ++ opened) (styles-none opens_it (done ++ closed.1) none-opened)
 
     abbrev placed : Run
-    placed = with_pairs all n r run-at (map (λ (p : Pair). p.strong) closed.1) opened
+    placed = with_pairs all n r run-at (map (λ (p : Pair). p.style) closed.1) opened
 
     placed-is : IsFresh r → in_pairs (pairs all) n r ≡ placed
     placed-is fresh =
-        let cs = map (λ (p : Pair). p.strong) closed.1 in
+        let cs = map (λ (p : Pair). p.style) closed.1 in
         let left = r.left - (markers_of_all cs + markers_of_all opened) in
-        ap (λ x. in_lists r x (strengths opens_it (pairs all))) closed-is ∙ ap (in_lists r cs) opened-is
+        ap (λ x. in_lists r x (styles opens_it (pairs all))) closed-is ∙ ap (in_lists r cs) opened-is
         ∙ ap (λ x. record r { closed = x ++ cs; left = left; opened = reverse opened ++ r.opened }) fresh.0
         ∙ ap (λ x. record r { closed = cs; left = left; opened = reverse opened ++ x }) fresh.1
         ∙ ap (λ x. record r { closed = cs; left = left; opened = x }) (append-nil (reverse opened))
@@ -139,8 +140,8 @@ module _ (all : List Run) where
     place-walks fresh more rest =
         let after = done ++ closed.1 in
         let open_later = starts_of all lower after later_pairs in
-        let none : markers_given closes_it done ≡ 0 = ap markers_of_all (strengths-none closes_it done none-closed) in
-        let nothing : markers_given opens_it after ≡ 0 = ap markers_of_all (strengths-none opens_it after none-opened) in
+        let none : markers_given closes_it done ≡ 0 = ap markers_of_all (styles-none closes_it done none-closed) in
+        let nothing : markers_given opens_it after ≡ 0 = ap markers_of_all (styles-none opens_it after none-opened) in
         let same : r.left ≡ r.left - 0 = omega arith in
         ap (λ s. spans_behind (starts_of all lower done (closed.1 ++ later_pairs) ++ more) (in_place s ++ rest)) (placed-is fresh)
         ∙ ap (λ l. spans_behind (l ++ more) (in_place placed ++ rest)) (starts-append all lower done closed.1 later_pairs)

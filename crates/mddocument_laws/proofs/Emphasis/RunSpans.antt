@@ -12,7 +12,9 @@ use Rattle.markdown_base.specs.declared.event.Event.{Event}
 use Rattle.markdown_base.specs.declared.event.Point.{Point}
 use Rattle.markdown_base.specs.Events.{is_enter}
 use Rattle.markdown_base.specs.Virtual.{point}
-use Rattle.mdinline_emphasis.specs.Emphasis.{Pair, Run, closings, data_of, later, markers_of, markers_of_all, openings, strengths}
+use Rattle.mdinline_emphasis.specs.declared.pairs.Style.{Style}
+use Rattle.mdinline_emphasis.specs.declared.pairs.Style.TheVariants.{Emphasis as OfEmphasis, Strong as OfStrong}
+use Rattle.mdinline_emphasis.specs.Emphasis.{Pair, Run, closings, data_of, later, markers_of, markers_of_all, openings, styles}
 use Rattle.mdinline_emphasis.specs.RunEdits.{in_place}
 use Rattle.mdinline_links.proofs.RunOrder.{later-later, later-none}
 use Rattle.mddocument_laws.specs.EmphasisSpans.{emphasis_spans, ended_span, is_emphasis, markers_given, place_in_run, span_of_pair, spans_behind, spans_of_pairs}
@@ -51,33 +53,33 @@ pub plain-closed : (es : List Event) → AllByRecursion IsPlain es → IsClosed 
 plain-closed es h starts rest = plain-skips es h starts rest ∙ ap (λ l. l ++ spans_behind starts rest) (sym (plain-none es h))
 
 -- ---- what a run closes and opens
-pub strengths-append : (takes : Pair → Bool) (ps qs : List Pair) → strengths takes (ps ++ qs) ≡ strengths takes ps ++ strengths takes qs
-strengths-append takes ps qs = ap (map (λ (p : Pair). p.strong)) (filter-append takes ps qs) ∙ map-append (λ (p : Pair). p.strong) (filter takes ps) (filter takes qs)
+pub styles-append : (takes : Pair → Bool) (ps qs : List Pair) → styles takes (ps ++ qs) ≡ styles takes ps ++ styles takes qs
+styles-append takes ps qs = ap (map (λ (p : Pair). p.style)) (filter-append takes ps qs) ∙ map-append (λ (p : Pair). p.style) (filter takes ps) (filter takes qs)
 
-pub strengths-none : (takes : Pair → Bool) (ps : List Pair) → AllByRecursion (λ (p : Pair). takes p ≡ false) ps → strengths takes ps ≡ []
-strengths-none takes [] h = refl
-strengths-none takes (p ∷ ps) h = ap (λ b. map (λ (q : Pair). q.strong) (cond b (p ∷ filter takes ps) (filter takes ps))) h.0 ∙ strengths-none takes ps h.1
+pub styles-none : (takes : Pair → Bool) (ps : List Pair) → AllByRecursion (λ (p : Pair). takes p ≡ false) ps → styles takes ps ≡ []
+styles-none takes [] h = refl
+styles-none takes (p ∷ ps) h = ap (λ b. map (λ (q : Pair). q.style) (cond b (p ∷ filter takes ps) (filter takes ps))) h.0 ∙ styles-none takes ps h.1
 
-pub strengths-all : (takes : Pair → Bool) (ps : List Pair) → AllByRecursion (λ (p : Pair). takes p ≡ true) ps → strengths takes ps ≡ map (λ (p : Pair). p.strong) ps
-strengths-all takes [] h = refl
-strengths-all takes (p ∷ ps) h = ap (λ b. map (λ (q : Pair). q.strong) (cond b (p ∷ filter takes ps) (filter takes ps))) h.0 ∙ ap (λ l. p.strong ∷ l) (strengths-all takes ps h.1)
+pub styles-all : (takes : Pair → Bool) (ps : List Pair) → AllByRecursion (λ (p : Pair). takes p ≡ true) ps → styles takes ps ≡ map (λ (p : Pair). p.style) ps
+styles-all takes [] h = refl
+styles-all takes (p ∷ ps) h = ap (λ b. map (λ (q : Pair). q.style) (cond b (p ∷ filter takes ps) (filter takes ps))) h.0 ∙ ap (λ l. p.style ∷ l) (styles-all takes ps h.1)
 
-closing-step : (s : Bool) (q x : Point) (starts : List Point) (ss : List Bool) (rest : List Event)
-    → spans_behind (x ∷ starts) (closings q (s ∷ ss) ++ rest) ≡ record { start = x; end = later (markers_of s) q; strong = s } ∷ spans_behind starts (closings (later (markers_of s) q) ss ++ rest)
-closing-step true q x starts ss rest = refl
-closing-step false q x starts ss rest = refl
+closing-step : (s : Style) (q x : Point) (starts : List Point) (ss : List Style) (rest : List Event)
+    → spans_behind (x ∷ starts) (closings q (s ∷ ss) ++ rest) ≡ record { start = x; end = later (markers_of s) q; style = s } ∷ spans_behind starts (closings (later (markers_of s) q) ss ++ rest)
+closing-step OfStrong q x starts ss rest = refl
+closing-step OfEmphasis q x starts ss rest = refl
 
-opening-step : (s : Bool) (q : Point) (starts : List Point) (ss : List Bool) (rest : List Event)
+opening-step : (s : Style) (q : Point) (starts : List Point) (ss : List Style) (rest : List Event)
     → spans_behind starts (openings q (s ∷ ss) ++ rest) ≡ spans_behind (q ∷ starts) (openings (later (markers_of s) q) ss ++ rest)
-opening-step true q starts ss rest = refl
-opening-step false q starts ss rest = refl
+opening-step OfStrong q starts ss rest = refl
+opening-step OfEmphasis q starts ss rest = refl
 
 -- where the pairs begin that a run opens from a place on
-abbrev places_on : Point → List Bool → List Point
+abbrev places_on : Point → List Style → List Point
 places_on q [] = []
 places_on q (s ∷ ss) = q ∷ places_on (later (markers_of s) q) ss
 
-openings-open : (starts : List Point) (q : Point) (ss : List Bool) (rest : List Event) → spans_behind starts (openings q ss ++ rest) ≡ spans_behind (reverse (places_on q ss) ++ starts) rest
+openings-open : (starts : List Point) (q : Point) (ss : List Style) (rest : List Event) → spans_behind starts (openings q ss ++ rest) ≡ spans_behind (reverse (places_on q ss) ++ starts) rest
 openings-open starts q [] rest = refl
 openings-open starts q (s ∷ ss) rest =
     let more = places_on (later (markers_of s) q) ss in
@@ -89,20 +91,20 @@ data-skips starts q zero rest = refl
 data-skips starts q (suc n) rest = refl
 
 -- the same, the inner ones first, up to so many bytes behind a place
-abbrev pub places_upto : Point → ℕ → List Bool → List Point
+abbrev pub places_upto : Point → ℕ → List Style → List Point
 places_upto q n [] = []
 places_upto q n (s ∷ ss) = later (n - markers_of s) q ∷ places_upto q (n - markers_of s) ss
 
-places-last : (q : Point) (ss : List Bool) (s : Bool) → places_on q (ss ++ s ∷ []) ≡ places_on q ss ++ later (markers_of_all ss) q ∷ []
+places-last : (q : Point) (ss : List Style) (s : Style) → places_on q (ss ++ s ∷ []) ≡ places_on q ss ++ later (markers_of_all ss) q ∷ []
 places-last q [] s = ap (λ p. p ∷ []) (sym (later-none q))
 places-last q (t ∷ ss) s =
     ap (λ l. q ∷ l) (places-last (later (markers_of t) q) ss s ∙ ap (λ p. places_on (later (markers_of t) q) ss ++ p ∷ []) (later-later (markers_of_all ss) (markers_of t) q))
 
-markers-sum : (ss : List Bool) → markers_of_all ss ≡ sum_by markers_of ss
+markers-sum : (ss : List Style) → markers_of_all ss ≡ sum_by markers_of ss
 markers-sum [] = refl
 markers-sum (s ∷ ss) = ap (λ n. markers_of s + n) (markers-sum ss) ∙ sym (sum_by-cons markers_of s ss)
 
-outer-first : (q : Point) (n : ℕ) (ss : List Bool) → reverse (places_on (later n q) (reverse ss)) ≡ places_upto q (n + markers_of_all ss) ss
+outer-first : (q : Point) (n : ℕ) (ss : List Style) → reverse (places_on (later n q) (reverse ss)) ≡ places_upto q (n + markers_of_all ss) ss
 outer-first q n [] = refl
 outer-first q n (s ∷ ss) =
     let at = later n q in
@@ -165,27 +167,27 @@ module _ (all : List Run) where
     place-is : (f : Run → ℕ) → place_in_run all n f ≡ later (f r) r.start
     place-is f = ap (λ o. unwrap_or (option_map (λ (s : Run). later (f s) s.start) o) (point 1 1 0 0)) at
 
-    end-is : (before : List Pair) (p : Pair) → p.closer ≡ n → (span_of_pair all before p).end ≡ later (markers_given (λ q. q.closer == n) before + markers_of p.strong) r.start
-    end-is before p e = ap (λ k. place_in_run all k (λ s. markers_given (λ q. q.closer == k) before + markers_of p.strong)) e ∙ place-is (λ s. markers_given (λ q. q.closer == n) before + markers_of p.strong)
+    end-is : (before : List Pair) (p : Pair) → p.closer ≡ n → (span_of_pair all before p).end ≡ later (markers_given (λ q. q.closer == n) before + markers_of p.style) r.start
+    end-is before p e = ap (λ k. place_in_run all k (λ s. markers_given (λ q. q.closer == k) before + markers_of p.style)) e ∙ place-is (λ s. markers_given (λ q. q.closer == n) before + markers_of p.style)
 
-    start-is : (before : List Pair) (p : Pair) → p.opener ≡ n → (span_of_pair all before p).start ≡ later (r.left - (markers_given (λ q. q.opener == n) before + markers_of p.strong)) r.start
+    start-is : (before : List Pair) (p : Pair) → p.opener ≡ n → (span_of_pair all before p).start ≡ later (r.left - (markers_given (λ q. q.opener == n) before + markers_of p.style)) r.start
     start-is before p e =
-        ap (λ k. place_in_run all k (λ s. s.left - (markers_given (λ q. q.opener == k) before + markers_of p.strong))) e ∙ place-is (λ s. s.left - (markers_given (λ q. q.opener == n) before + markers_of p.strong))
+        ap (λ k. place_in_run all k (λ s. s.left - (markers_given (λ q. q.opener == k) before + markers_of p.style))) e ∙ place-is (λ s. s.left - (markers_given (λ q. q.opener == n) before + markers_of p.style))
 
-    given-one : (takes : Pair → Bool) (before : List Pair) (p : Pair) (b : Bool) → takes p ≡ b → markers_given takes (before ++ p ∷ []) ≡ markers_given takes before + cond b (markers_of p.strong) 0
+    given-one : (takes : Pair → Bool) (before : List Pair) (p : Pair) (b : Bool) → takes p ≡ b → markers_given takes (before ++ p ∷ []) ≡ markers_given takes before + cond b (markers_of p.style) 0
     given-one takes before p b e =
         let both = given-append takes before (p ∷ []) in
         let one = given-more takes p [] in
-        let is = ap (λ c. cond {A = ℕ} c (markers_of p.strong) 0) e in
+        let is = ap (λ c. cond {A = ℕ} c (markers_of p.style) 0) e in
         omega (arith, both, one, is)
 
     closings-close : (ps before : List Pair) (c : ℕ) → CloseAt n ps → markers_given (λ q. q.closer == n) before ≡ c → (more : List Point) (rest : List Event)
-        → spans_behind (starts_of (λ p. nat_lt p.opener n) before ps ++ more) (closings (later c r.start) (map (λ (p : Pair). p.strong) ps) ++ rest) ≡ spans_of_pairs all before ps ++ spans_behind more rest
+        → spans_behind (starts_of (λ p. nat_lt p.opener n) before ps ++ more) (closings (later c r.start) (map (λ (p : Pair). p.style) ps) ++ rest) ≡ spans_of_pairs all before ps ++ spans_behind more rest
     closings-close [] before c h given more rest = refl
     closings-close (p ∷ ps) before c h given more rest =
         let x = (span_of_pair all before p).start in
-        let s = p.strong in
-        let ss = map (λ (q : Pair). q.strong) ps in
+        let s = p.style in
+        let ss = map (λ (q : Pair). q.style) ps in
         let next = before ++ p ∷ [] in
         let lower : nat_lt p.opener n ≡ true = (let less = h.0.0 in grind (arith, nat_tests, less)) in
         let this : (p.closer == n) ≡ true = (let same = h.0.1 in grind (arith, nat_tests, same)) in
@@ -194,20 +196,20 @@ module _ (all : List Run) where
         let given_next : markers_given (λ q. q.closer == n) next ≡ c + markers_of s = given-one (λ q. q.closer == n) before p true this ∙ ap (λ k. k + markers_of s) given in
         ap (λ b. spans_behind ((cond b (x ∷ []) [] ++ starts_of (λ q. nat_lt q.opener n) next ps) ++ more) (closings (later c r.start) (s ∷ ss) ++ rest)) lower
         ∙ closing-step s (later c r.start) x (starts_of (λ q. nat_lt q.opener n) next ps ++ more) ss rest
-        ∙ ap (λ q. record { start = x; end = q; strong = s } ∷ spans_behind (starts_of (λ q. nat_lt q.opener n) next ps ++ more) (closings q ss ++ rest)) place
-        ∙ ap (λ l. record { start = x; end = later (c + markers_of s) r.start; strong = s } ∷ l) (closings-close ps next (c + markers_of s) h.1 given_next more rest)
-        ∙ ap (λ q. record { start = x; end = q; strong = s } ∷ (spans_of_pairs all next ps ++ spans_behind more rest)) end
+        ∙ ap (λ q. record { start = x; end = q; style = s } ∷ spans_behind (starts_of (λ q. nat_lt q.opener n) next ps ++ more) (closings q ss ++ rest)) place
+        ∙ ap (λ l. record { start = x; end = later (c + markers_of s) r.start; style = s } ∷ l) (closings-close ps next (c + markers_of s) h.1 given_next more rest)
+        ∙ ap (λ q. record { start = x; end = q; style = s } ∷ (spans_of_pairs all next ps ++ spans_behind more rest)) end
 
     pub starts-opened : (ps before : List Pair) (t : ℕ) → markers_given (λ q. q.opener == n) before ≡ t
-        → starts_of (λ p. p.opener == n) before ps ≡ places_upto r.start (r.left - t) (strengths (λ p. p.opener == n) ps)
+        → starts_of (λ p. p.opener == n) before ps ≡ places_upto r.start (r.left - t) (styles (λ p. p.opener == n) ps)
     starts-opened [] before t given = refl
     starts-opened (p ∷ ps) before t given =
         let x = (span_of_pair all before p).start in
-        let s = p.strong in
+        let s = p.style in
         let takes = λ (q : Pair). q.opener == n in
         let next = before ++ p ∷ [] in
         let two = λ (b : Bool). cond b (x ∷ []) [] ++ starts_of takes next ps in
-        let strong = λ (b : Bool). map (λ (q : Pair). q.strong) (cond b (p ∷ filter takes ps) (filter takes ps)) in
+        let strong = λ (b : Bool). map (λ (q : Pair). q.style) (cond b (p ∷ filter takes ps) (filter takes ps)) in
         elim (cases_Bool (p.opener == n)) [
           | inl this ↦
               let same : p.opener ≡ n = grind (arith, nat_tests, this) in
@@ -215,7 +217,7 @@ module _ (all : List Run) where
               let less : r.left - (t + markers_of s) ≡ r.left - t - markers_of s = omega arith in
               ap two this ∙ ap (λ y. y ∷ starts_of takes next ps) (start-is before p same ∙ ap (λ k. later (r.left - (k + markers_of s)) r.start) given)
               ∙ ap (λ l. later (r.left - (t + markers_of s)) r.start ∷ l) (starts-opened ps next (t + markers_of s) given_next)
-              ∙ ap (λ k. later k r.start ∷ places_upto r.start k (strengths takes ps)) less
+              ∙ ap (λ k. later k r.start ∷ places_upto r.start k (styles takes ps)) less
               ∙ ap (λ b. places_upto r.start (r.left - t) (strong b)) (sym this)
           | inr other ↦
               let given_next : markers_given takes next ≡ t = (let one = given-one takes before p false other in omega (arith, one, given)) in
@@ -223,15 +225,15 @@ module _ (all : List Run) where
         ]
 
     -- a run in no pair yet, with its pairs
-    abbrev pub with_pairs : (closed opened : List Bool) → Run
+    abbrev pub with_pairs : (closed opened : List Style) → Run
     with_pairs closed opened = record r { closed = closed; left = r.left - (markers_of_all closed + markers_of_all opened); opened = reverse opened }
 
-    pub run-place : (before ps : List Pair) (opened : List Bool) → CloseAt n ps → markers_given (λ q. q.closer == n) before ≡ 0
-        → let closed = map (λ (p : Pair). p.strong) ps in
+    pub run-place : (before ps : List Pair) (opened : List Style) → CloseAt n ps → markers_given (λ q. q.closer == n) before ≡ 0
+        → let closed = map (λ (p : Pair). p.style) ps in
         markers_of_all closed + markers_of_all opened ≤ r.left → (more : List Point) (rest : List Event)
         → spans_behind (starts_of (λ p. nat_lt p.opener n) before ps ++ more) (in_place (with_pairs closed opened) ++ rest) ≡ spans_of_pairs all before ps ++ spans_behind (places_upto r.start r.left opened ++ more) rest
     run-place before ps opened h given enough more rest =
-        let closed = map (λ (p : Pair). p.strong) ps in
+        let closed = map (λ (p : Pair). p.style) ps in
         let mc = markers_of_all closed in
         let left = r.left - (mc + markers_of_all opened) in
         let p = later mc r.start in
