@@ -4,11 +4,11 @@ use Rattle.std.proofs.lemmas.Bool.{and_parts, ltb-true, not-true, or_parts}
 use Rattle.std.specs.Prelude.{◌==◌, nat_le, nat_lt}
 use Rattle.markdown_base.specs.declared.state.TheConstants.Name.{AutolinkUrlInside, HtmlTextTagOpenAttributeValueQuoted, HtmlTextTagOpenAttributeValueQuotedAfter, RawTextData}
 use Rattle.markdown_tokenizer.proofs.ByteSets.{pass_all, passed}
-use Rattle.markdown_tokenizer.specs.Over.{ReadsOver, step_over}
-use Rattle.mdinline_machine.proofs.Prelude.{◌≡◌, ◌⊎◌, inl, inr, ℕ, ◌&&◌, ◌||◌, List, [], ◌∷◌, Bool, true, false, cond, Option, Some, refl, ap, ◌∙◌, subst, sym, and-false, passes, exit, Retry, TextBefore, Data, Name, Next, DataInside, DataStart, Given, Configuration, Sight, sight, Step, consume, row, picked, StateRows, is_white, is_line_feed, some_begins, some_first, raw_text_data, TextByte, is_line_feed_class, text_byte, line_feed, backtick, less, backslash, ampersand, white, punctuation, line-classed, white-classed, is_white_class, begins_run, ends_data, marked_grammars, inline_constructs, inline_data, inline_data_rows, is_delimiter, inlines_rules, inlines, is_string_special}
+use Rattle.markdown_tokenizer.specs.Over.{GoesBack, NotesByte, ReadsOver, step_noted, step_over}
+use Rattle.mdinline_machine.proofs.Prelude.{◌≡◌, ◌⊎◌, inl, inr, ℕ, ◌&&◌, ◌||◌, List, [], ◌∷◌, Bool, true, false, cond, Option, Some, refl, ap, ◌∙◌, subst, sym, and-false, passes, exit, Retry, TextBefore, Data, Name, Next, DataInside, DataStart, Given, Configuration, Sight, sight, Step, consume, row, picked, StateRows, is_white, is_line_feed, some_begins, some_first, raw_text_data, TextByte, is_line_feed_class, text_byte, line_feed, backtick, less, backslash, ampersand, white, punctuation, line-classed, white-classed, is_white_class, begins_run, ends_data, marked_grammars, inline_constructs, inline_data, inline_data_rows, is_delimiter, inlines_rules, inlines, is_string_special, is_space, note, Constructs, data_space, data_space_rows, DataSpace, DataWhite, eqb-true}
 use Rattle.mdinline_machine.proofs.RunBytes.{no-run}
-use Rattle.mdconstructs_tables.proofs.Tables.Over.{picked-read-over}
-use Rattle.mdconstructs_tables.specs.Over.{PicksOver}
+use Rattle.mdconstructs_tables.proofs.Tables.Over.{picked-pairs-over, picked-read-over}
+use Rattle.mdconstructs_tables.specs.Over.{PicksNoted, PicksOver}
 use Rattle.mdconstructs_tables.specs.Rows.{Row, Rows, named, when, write}
 use Rattle.mdinline_text_machine.proofs.Autolinks.Readings.{link-class}
 use Rattle.mdinline_text_machine.specs.Autolink.{is_allowed}
@@ -63,9 +63,14 @@ data-goes-on white h i = absurd (cc)
 data-goes-on punctuation h i = inl refl
 data-goes-on _ h i = inr (λ before. refl)
 
-data-picks : (byte : ℕ) → is_in_data byte ≡ true → PicksOver inline_data DataInside text_byte byte
-data-picks byte is before g s k current =
-    let on = g.options.constructs in
+-- what no byte of data is
+record IsNoMark (on : Constructs) (byte : ℕ) : Type 0 where
+  pub white : is_white byte ≡ false
+  pub mark : begins_mark on byte ≡ false
+  pub ends : ends_data on byte ≡ false
+
+no-mark : (on : Constructs) (byte : ℕ) → is_in_data byte ≡ true → IsNoMark on byte
+no-mark on byte is =
     let (white_byte, others) = or_parts (is_white byte) (is_line_feed byte || (some_first marked_grammars byte || (is_delimiter byte || is_of_bracket byte))) (not-true _ is) in
     let (line, marks) = or_parts (is_line_feed byte) (some_first marked_grammars byte || (is_delimiter byte || is_of_bracket byte)) others in
     let (marked, mark_bytes) = or_parts (some_first marked_grammars byte) (is_delimiter byte || is_of_bracket byte) marks in
@@ -73,17 +78,66 @@ data-picks byte is before g s k current =
     let run : begins_run on byte ≡ false = no-run on byte delimiter in
     let bracket = begins-no-bracket on byte of_bracket in
     let none : begins_mark on byte ≡ false = λ i. run i || bracket i in
-    let ends : ends_data on byte ≡ false = λ i. line i || (marked i || none i) in
+    record { white = white_byte; mark = none; ends = λ i. line i || (marked i || none i) }
+
+data-picks : (byte : ℕ) → is_in_data byte ≡ true → PicksOver inline_data DataInside text_byte byte
+data-picks byte is before g s k current =
+    let on = g.options.constructs in
+    let none = no-mark on byte is in
     let ending : Row Unit Unit = record { acts = exit Data ∷ []; answer = Retry TextBefore } in
     let going : Row Unit Unit = record { acts = consume ∷ []; answer = Next DataInside } in
-    elim (data-goes-on (text_byte byte) (marked-classed on byte none ∙ ends) (white-classed byte ∙ white_byte)) [
+    elim (data-goes-on (text_byte byte) (marked-classed on byte none.mark ∙ none.ends) (white-classed byte ∙ none.white)) [
       | inl class ↦
-          ap (λ w. picked (inline_data_rows before (Some w)) g s k) class ∙ ap (λ (o : Option ℕ). cond (passes (begins_run on) o || passes (begins_bracket on) o) ending going) current ∙ ap (λ t. cond t ending going) none
+          ap (λ w. picked (inline_data_rows before (Some w)) g s k) class ∙ ap (λ (o : Option ℕ). cond (passes (begins_run on) o || passes (begins_bracket on) o) ending going) current ∙ ap (λ t. cond t ending going) none.mark
       | inr rows ↦ ap (λ r. picked r g s k) (rows before)
     ]
 
 pub data-over : (byte : ℕ) → is_in_data byte ≡ true → (name : Name) → name.number ≡ DataInside.number → IsOver name byte
 data-over byte is = reads-over inline_data DataInside byte (λ defined. refl) (data-picks byte is)
+
+-- ---- a space in data, and data behind it
+-- at a space its place is noted
+space-notes : (byte : ℕ) → is_space byte ≡ true → PicksNoted inline_data DataSpace text_byte byte
+space-notes byte is before g s k current =
+    let here : byte ≡ 32 = eqb-true byte 32 is in
+    let one : Row Unit Unit = record { acts = note ∷ consume ∷ []; answer = Next DataSpace } in
+    let other : Row Unit Unit = record { acts = note ∷ consume ∷ []; answer = Next DataWhite } in
+    ap (λ b. picked (inline_data_rows before (Some (text_byte b))) g s k) here
+    ∙ ap (λ (o : Option ℕ). cond (passes is_space o) one other) current ∙ ap (λ t. cond t one other) is
+
+-- behind it data goes on at the same classes
+space-goes-on : (w : TextByte) → (is_line_feed_class w || some_begins inline_constructs w) ≡ false → is_white_class w ≡ false
+    → (w ≡ punctuation) ⊎ ((before : Option TextByte) → data_space_rows before (Some w) ≡ row (consume ∷ []) (Next DataInside))
+space-goes-on line_feed h i = absurd (cc)
+space-goes-on backtick h i = absurd (cc)
+space-goes-on less h i = absurd (cc)
+space-goes-on backslash h i = absurd (cc)
+space-goes-on ampersand h i = absurd (cc)
+space-goes-on white h i = absurd (cc)
+space-goes-on punctuation h i = inl refl
+space-goes-on _ h i = inr (λ before. refl)
+
+space-picks : (byte : ℕ) → is_in_data byte ≡ true → PicksOver data_space DataInside text_byte byte
+space-picks byte is before g s k current =
+    let on = g.options.constructs in
+    let none = no-mark on byte is in
+    let staying : Row Unit Unit = record { acts = []; answer = Retry DataInside } in
+    let going : Row Unit Unit = record { acts = consume ∷ []; answer = Next DataInside } in
+    elim (space-goes-on (text_byte byte) (marked-classed on byte none.mark ∙ none.ends) (white-classed byte ∙ none.white)) [
+      | inl class ↦
+          ap (λ w. picked (data_space_rows before (Some w)) g s k) class ∙ ap (λ (o : Option ℕ). cond (passes (begins_run on) o || passes (begins_bracket on) o) staying going) current ∙ ap (λ t. cond t staying going) none.mark
+      | inr rows ↦ ap (λ r. picked r g s k) (rows before)
+    ]
+
+pub space-over : (byte next : ℕ) → is_space byte ≡ true → is_in_data next ≡ true → (name : Name) → name.number ≡ DataInside.number → (defined : List ℕ → Bool) (g : Given)
+    → (other : Name) × NotesByte g (inlines_rules defined g) name other byte × GoesBack g (inlines_rules defined g) other name next
+space-over byte next space is name same defined g =
+    let pairs = picked-pairs-over (inlines defined) inline_data data_space DataInside DataSpace byte next (λ local. refl) refl refl (space-notes byte space) (space-picks next is) g in
+    subst (λ n. (other : Name) × NotesByte g (inlines_rules defined g) (record { number = n }) other byte × GoesBack g (inlines_rules defined g) other (record { number = n }) next) (sym same) (
+      DataSpace,
+      λ text k choices n ready holds at current. subst (λ m. (inlines_rules defined g).step (sight g text k) k m ≡ step_noted (sight g text k) k DataSpace) (sym at) ((pairs (sight g text k) k).0 current),
+      λ text k choices n ready holds at current. subst (λ m. (inlines_rules defined g).step (sight g text k) k m ≡ step_over k DataInside) (sym at) ((pairs (sight g text k) k).1 current),
+    )
 
 -- ---- data of strings
 

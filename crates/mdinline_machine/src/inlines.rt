@@ -16,7 +16,7 @@ ghost use Rattle.mdinline_machine.specs.InlineTable.{inline_start, line_start, l
 ghost use Rattle.mdinline_machine.specs.StringTable.{string_start};
 
 use crate::attention::{attention_inside, attention_start, run_begins};
-use crate::over::{in_code, in_data, in_marks, in_quotes, in_string, in_uri};
+use crate::over::{in_code, in_data, in_marks, in_quotes, in_string, in_uri, spaces};
 use crate::strings::{string_before, string_before_data, string_data};
 use crate::{brackets, names};
 use markdown_tokenizer::event::{self, Event};
@@ -100,6 +100,15 @@ impl Machine for Inlines {
             Name::AutolinkUrlInside => Some(in_uri()),
             construct_names::HtmlTextMarkInside => Some(in_marks()),
             Name::HtmlTextTagOpenAttributeValueQuoted => Some(in_quotes()),
+            _ => None,
+        }
+    }
+
+    /// Data notes a space and reads over it, if it goes on behind it.
+    #[inline(always)]
+    fn notes_over(&self, name: Name) -> Option<(&'static ByteSet, &'static ByteSet)> {
+        match name {
+            Name::DataInside => Some((spaces(), in_data())),
             _ => None,
         }
     }

@@ -2,6 +2,7 @@
 
 ghost use Rattle.mdinline_machine.specs.Over.{AllPass, is_in_code, is_in_data, is_in_marks, is_in_quotes, is_in_string};
 ghost use Rattle.mdinline_text_machine.specs.Autolink.{is_allowed};
+ghost use Rattle.mdinline_text_machine.specs.Bytes.{is_space};
 
 use markdown_tokenizer::state::ByteSet;
 
@@ -177,4 +178,36 @@ pub(crate) fn in_uri() -> &'static ByteSet
     ensures { AllPass is_allowed result.now }
 {
     &IN_URI
+}
+
+/// A space.
+static SPACES: ByteSet = [
+    false, false, false, false, false, false, false, false, false, false, false, false, false,
+    false, false, false, false, false, false, false, false, false, false, false, false, false,
+    false, false, false, false, false, false, true, false, false, false, false, false, false,
+    false, false, false, false, false, false, false, false, false, false, false, false, false,
+    false, false, false, false, false, false, false, false, false, false, false, false, false,
+    false, false, false, false, false, false, false, false, false, false, false, false, false,
+    false, false, false, false, false, false, false, false, false, false, false, false, false,
+    false, false, false, false, false, false, false, false, false, false, false, false, false,
+    false, false, false, false, false, false, false, false, false, false, false, false, false,
+    false, false, false, false, false, false, false, false, false, false, false, false, false,
+    false, false, false, false, false, false, false, false, false, false, false, false, false,
+    false, false, false, false, false, false, false, false, false, false, false, false, false,
+    false, false, false, false, false, false, false, false, false, false, false, false, false,
+    false, false, false, false, false, false, false, false, false, false, false, false, false,
+    false, false, false, false, false, false, false, false, false, false, false, false, false,
+    false, false, false, false, false, false, false, false, false, false, false, false, false,
+    false, false, false, false, false, false, false, false, false, false, false, false, false,
+    false, false, false, false, false, false, false, false, false, false, false, false, false,
+    false, false, false, false, false, false, false, false, false, false, false, false, false,
+    false, false, false, false, false, false, false, false, false,
+];
+
+/// A space. Data notes it, and goes on.
+#[inline(always)]
+pub(crate) fn spaces() -> &'static ByteSet
+    ensures { AllPass is_space result.now }
+{
+    &SPACES
 }
