@@ -46,6 +46,7 @@ pub use Rattle.mdinline_labels.proofs.Steps
 pub use Rattle.mdinline_emphasis.proofs.Balance
 pub use Rattle.mdinline_emphasis.proofs.Beside
 pub use Rattle.mdinline_emphasis.proofs.Ends
+pub use Rattle.mdinline_emphasis.proofs.Markers as RunMarkers
 pub use Rattle.mdinline_emphasis.proofs.PairsKeep
 pub use Rattle.mdinline_emphasis.proofs.RunEdits
 pub use Rattle.mdinline_emphasis.proofs.RunPlaces
@@ -97,6 +98,7 @@ pub use Rattle.mdinline_machine.proofs.InlineReads
 pub use Rattle.mdinline_machine.proofs.InlinesCounted
 pub use Rattle.mdinline_machine.proofs.Looks as InlineLooks
 pub use Rattle.mdinline_machine.proofs.Resolved
+pub use Rattle.mdinline_machine.proofs.RunBytes
 pub use Rattle.mdinline_machine.proofs.Starts
 pub use Rattle.mdinline_machine.proofs.StringCalls
 pub use Rattle.mdinline_machine.proofs.StringChains
