@@ -1,9 +1,10 @@
 //! Bytes that states of leaf blocks read over: at them a call only consumes the byte, and the engine need not make it. Each is above CR.
 
 ghost use Rattle.std.specs.Bool.{OnTrue};
-ghost use Rattle.std.specs.Prelude.{[], ◌∷◌, ◌<◌, All};
+ghost use Rattle.std.specs.Prelude.{◌≡◌, [], ◌∷◌, ◌<◌, All};
 ghost use Rattle.mdblock_leaf_rows.specs.FlowBytes.{is_line_feed, is_blank, is_tick, is_less, is_dash, is_question, is_greater, is_closing};
 ghost use Rattle.mdblock_leaf_rows.specs.Over.{PassNone};
+ghost use Rattle.mdblock_leaf_machine.specs.ReadOver.{set_without};
 
 use markdown_tokenizer::state::ByteSet;
 
@@ -31,7 +32,8 @@ static IN_LINE: ByteSet = [
 /// The bytes of a line. A state that reads them stays in them.
 #[inline(always)]
 pub(crate) fn in_line() -> &'static ByteSet
-    ensures { PassNone (is_line_feed ∷ []) result.now }
+    ensures passed { PassNone (is_line_feed ∷ []) result.now }
+    ensures exact { result.now ≡ set_without (is_line_feed ∷ []) }
 {
     &IN_LINE
 }
@@ -60,7 +62,8 @@ static IN_WORD: ByteSet = [
 /// The bytes of a word: no white space. A state that reads them stays in them.
 #[inline(always)]
 pub(crate) fn in_word() -> &'static ByteSet
-    ensures { PassNone (is_line_feed ∷ is_blank ∷ []) result.now }
+    ensures passed { PassNone (is_line_feed ∷ is_blank ∷ []) result.now }
+    ensures exact { result.now ≡ set_without (is_line_feed ∷ is_blank ∷ []) }
 {
     &IN_WORD
 }
@@ -89,7 +92,8 @@ static IN_INFO: ByteSet = [
 /// The bytes of an info string in which no grave accent may be. A state that reads them stays in them.
 #[inline(always)]
 pub(crate) fn in_info() -> &'static ByteSet
-    ensures { PassNone (is_line_feed ∷ is_tick ∷ []) result.now }
+    ensures passed { PassNone (is_line_feed ∷ is_tick ∷ []) result.now }
+    ensures exact { result.now ≡ set_without (is_line_feed ∷ is_tick ∷ []) }
 {
     &IN_INFO
 }
@@ -118,7 +122,8 @@ static IN_HTML: ByteSet = [
 /// The bytes of a line of HTML that do not begin its end, of whichever kind it is. A state that reads them stays in them.
 #[inline(always)]
 pub(crate) fn in_html() -> &'static ByteSet
-    ensures { PassNone (is_line_feed ∷ is_less ∷ is_dash ∷ is_question ∷ is_greater ∷ is_closing ∷ []) result.now }
+    ensures passed { PassNone (is_line_feed ∷ is_less ∷ is_dash ∷ is_question ∷ is_greater ∷ is_closing ∷ []) result.now }
+    ensures exact { result.now ≡ set_without (is_line_feed ∷ is_less ∷ is_dash ∷ is_question ∷ is_greater ∷ is_closing ∷ []) }
 {
     &IN_HTML
 }

@@ -146,6 +146,7 @@ pub use Rattle.mdblock_leaf_rows.specs.QuietLooks
 pub use Rattle.mdblock_leaf_rows.specs.Renamings
 pub use Rattle.mdblock_leaf_rows.specs.Steps as FlowSteps
 pub use Rattle.mdblock_leaf_rows.specs.ThematicBreak
+pub use Rattle.mdblock_leaf_machine.specs.ReadOver
 pub use Rattle.mdblock_leaf_blocks.specs.BlockLines
 pub use Rattle.mdblock_leaf_blocks.specs.BlocksFormed
 pub use Rattle.mdblock_leaf_blocks.specs.BlocksRead

@@ -4,5 +4,8 @@ use Rattle.mdblock_leaf_rows.specs.FlowBytes.{is_line_feed, is_blank}
 use Rattle.mdblock_leaf_machine.proofs.ByteSets.{pass-none}
 use Rattle.mdblock_leaf_machine.proofs.over.in_word.Goals as goal
 
-pub returns : goal.returns
-returns c = pass-none (is_line_feed ∷ is_blank ∷ []) IN_WORD refl
+pub returns-clause-passed : goal.returns-clause-passed
+returns-clause-passed c = pass-none (is_line_feed ∷ is_blank ∷ []) IN_WORD refl
+
+pub returns-clause-exact : goal.returns-clause-exact
+returns-clause-exact c = refl

@@ -1,0 +1,2 @@
+-- bytes that are read over
+pub mod ReadOver
