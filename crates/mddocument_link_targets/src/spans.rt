@@ -8,7 +8,7 @@ use mdconstructs_loop_counts::Turns;
 use std::sync::ledger::Ledger;
 
 /// Whether an event enters a span of a name.
-pub(crate) fn enters(event: &Event, name: Name) -> bool
+pub fn enters(event: &Event, name: Name) -> bool
     ensures { result ≡ enters name event.now }
 {
     event.kind == Kind::Enter && event.name == name

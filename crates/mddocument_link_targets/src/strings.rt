@@ -22,7 +22,7 @@ pub enum Reading {
 }
 
 /// The bytes from an index up to another, as far as there are any.
-fn slice(bytes: &[u8], from: usize, to: usize) -> &[u8]
+pub fn slice(bytes: &[u8], from: usize, to: usize) -> &[u8]
     ensures { result.now ≡ slice_range bytes.now from to }
 {
     let end = to.min(bytes.len());
@@ -136,8 +136,8 @@ fn push_given(
     }
 }
 
-/// Adds what the span that an event enters gives, if it is an innermost one, by the events behind its enter.
-fn push_given_at(
+/// Adds what the span that an event enters gives, if it is an innermost one, by the events behind its enter. Fails only if it runs out of memory.
+pub fn push_given_at(
     text: &mut Vec<u8>,
     bytes: &[u8],
     reading: Reading,

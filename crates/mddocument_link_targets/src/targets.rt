@@ -6,6 +6,7 @@ ghost use Rattle.markdown_base.specs.Events.{is_enter};
 ghost use Rattle.markdown_base.specs.declared.event.Name.TheVariants as name;
 ghost use Rattle.mddocument_link_targets.specs.Costs.{size_of};
 ghost use Rattle.mddocument_link_targets.specs.Spans.{enters, first_in, inside_at};
+ghost use Rattle.mddocument_link_targets.specs.Strings.{decoded};
 ghost use Rattle.mddocument_link_targets.specs.Targets.{decoded_at, defined_label, enters_link, label_of, parts_in, parts_of, string_in, target_behind, target_in, target_of, written};
 
 use crate::spans::{enters, first_in, inside, split};
@@ -194,6 +195,29 @@ fn target_in<L: Ledger>(
 {
     let (own, tail) = split(link.get(1..).unwrap_or(&[]), turns);
     target_behind(alloc, bytes, own, tail, turns)
+}
+
+/// What a link or an image leads to, by the events in it, counted from nothing.
+fn target_inside_uncounted<L: Ledger>(
+    alloc: Global,
+    bytes: &[u8],
+    link: &[Event],
+    blank: Blank,
+) -> Result<Target, AllocError>
+    requires name { blank.name ≡ L.name }
+    requires parts { blank.parts ≡ L.parts }
+    requires some { 0 < blank.parts }
+    ensures { IfOk result (λ target. target ≡ target_in bytes.now link.now) }
+{
+    let mut turns = Turns::<L>::new(blank);
+    target_in(alloc, bytes, link, &mut turns)
+}
+
+/// What a link or an image leads to, by the events in it. Fails only if it runs out of memory. It looks at each of them seven times at most.
+pub fn target_inside(alloc: Global, bytes: &[u8], link: &[Event]) -> Result<Target, AllocError>
+    ensures { IfOk result (λ target. target ≡ target_in bytes.now link.now) }
+{
+    target_inside_uncounted::<Brand>(alloc, bytes, link, Blank::new(1))
 }
 
 /// The events in the link or image that is entered at an index, if one is.
@@ -397,6 +421,29 @@ pub fn decoded(
     ensures { IfOk result (λ text. text ≡ decoded_at bytes.now events.now at) }
 {
     decoded_uncounted::<Brand>(alloc, bytes, events, at, Blank::new(1))
+}
+
+/// The decoded text of a string, by the events in it, counted from nothing.
+fn decoded_inside_uncounted<L: Ledger>(
+    alloc: Global,
+    bytes: &[u8],
+    string: &[Event],
+    blank: Blank,
+) -> Result<Vec<u8>, AllocError>
+    requires name { blank.name ≡ L.name }
+    requires parts { blank.parts ≡ L.parts }
+    requires some { 0 < blank.parts }
+    ensures { IfOk result (λ text. text.items ≡ decoded bytes.now string.now) }
+{
+    let mut turns = Turns::<L>::new(blank);
+    text_of(alloc, bytes, Reading::Decoded, string, &mut turns)
+}
+
+/// The decoded text of a string, by the events in it. Fails only if it runs out of memory. It looks at each of them once.
+pub fn decoded_inside(alloc: Global, bytes: &[u8], string: &[Event]) -> Result<Vec<u8>, AllocError>
+    ensures { IfOk result (λ text. text.items ≡ decoded bytes.now string.now) }
+{
+    decoded_inside_uncounted::<Brand>(alloc, bytes, string, Blank::new(1))
 }
 
 /// The label of a definition, normalised, by the events in it.
