@@ -107,6 +107,7 @@ pub use Rattle.mdinline_link_strings.specs.Laid
 pub use Rattle.mdinline_link_strings.specs.Laws as StringLaws
 pub use Rattle.mdinline_link_strings.specs.Reached
 pub use Rattle.mdinline_link_strings.specs.Strings
+pub use Rattle.mdinline_machine.specs.Beginnings
 pub use Rattle.mdinline_machine.specs.BracketRows
 pub use Rattle.mdinline_machine.specs.Brackets
 pub use Rattle.mdinline_machine.specs.InlineChains

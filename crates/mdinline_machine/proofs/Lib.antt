@@ -32,6 +32,8 @@ mod LabelBytes
 mod LabelReads
 -- data
 mod LineReads
+-- bytes that begin something
+mod ListedBytes
 -- laws
 pub mod Looks
 -- bytes

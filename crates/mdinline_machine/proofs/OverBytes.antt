@@ -1,11 +1,11 @@
 -- Data of inline text, of strings and of code spans reads over the bytes that cannot end it, and so do URIs, raw HTML between marks, and values in quotes.
 use Rattle.std.proofs.Common.{◌<◌, get_or}
 use Rattle.std.proofs.lemmas.Bool.{and_parts, ltb-true, not-true, or_parts}
-use Rattle.std.specs.Prelude.{◌==◌, nat_le, nat_lt}
+use Rattle.std.specs.List.{range_with_len}
+use Rattle.std.specs.Prelude.{◌==◌, ◌+◌, zero, suc, map, nat_le, nat_lt}
 use Rattle.markdown_base.specs.declared.state.TheConstants.Name.{AutolinkUrlInside, HtmlTextTagOpenAttributeValueQuoted, HtmlTextTagOpenAttributeValueQuotedAfter, RawTextData}
-use Rattle.markdown_tokenizer.proofs.ByteSets.{pass_all, passed}
 use Rattle.markdown_tokenizer.specs.Over.{GoesBack, NotesByte, ReadsOver, step_noted, step_over}
-use Rattle.mdinline_machine.proofs.Prelude.{◌≡◌, ◌⊎◌, inl, inr, ℕ, ◌&&◌, ◌||◌, List, [], ◌∷◌, Bool, true, false, cond, Option, Some, refl, ap, ◌∙◌, subst, sym, and-false, passes, exit, Retry, TextBefore, Data, Name, Next, DataInside, DataStart, Given, Configuration, Sight, sight, Step, consume, row, picked, StateRows, is_white, is_line_feed, some_begins, some_first, raw_text_data, TextByte, is_line_feed_class, text_byte, line_feed, backtick, less, backslash, ampersand, white, punctuation, line-classed, white-classed, is_white_class, begins_run, ends_data, marked_grammars, inline_constructs, inline_data, inline_data_rows, is_delimiter, inlines_rules, inlines, is_string_special, is_space, note, Constructs, data_space, data_space_rows, DataSpace, DataWhite, eqb-true}
+use Rattle.mdinline_machine.proofs.Prelude.{◌≡◌, ◌⊎◌, inl, inr, ℕ, ◌&&◌, ◌||◌, List, [], ◌∷◌, Bool, true, false, cond, Option, Some, refl, ap, ◌∙◌, subst, sym, arith, and-false, passes, exit, Retry, TextBefore, Data, Name, Next, DataInside, DataStart, Given, Configuration, Sight, sight, Step, consume, row, picked, StateRows, is_white, is_line_feed, some_begins, some_first, raw_text_data, TextByte, is_line_feed_class, text_byte, line_feed, backtick, less, backslash, ampersand, white, punctuation, line-classed, white-classed, is_white_class, begins_run, ends_data, marked_grammars, inline_constructs, inline_data, inline_data_rows, is_delimiter, inlines_rules, inlines, is_string_special, is_space, note, Constructs, data_space, data_space_rows, DataSpace, DataWhite, eqb-true}
 use Rattle.mdinline_machine.proofs.RunBytes.{no-run}
 use Rattle.mdconstructs_tables.proofs.Tables.Over.{picked-pairs-over, picked-read-over}
 use Rattle.mdconstructs_tables.specs.Over.{PicksNoted, PicksOver}
@@ -27,14 +27,28 @@ use Rattle.mdinline_text_machine.specs.TextSizes.{size_b_grows}
 use Rattle.mdinline_machine.proofs.BracketBytes.{begins-no-bracket}
 use Rattle.mdinline_machine.proofs.InlineApart.{begins_mark, marked-classed}
 use Rattle.mdinline_machine.proofs.StringReads.{string-special-classed, string_data_row}
+use Rattle.mdinline_machine.proofs.ListedBytes.{first-parts}
+use Rattle.mdinline_machine.specs.Beginnings.{beginnings, is_first}
 use Rattle.mdinline_machine.specs.Brackets.{begins_bracket, is_of_bracket}
-use Rattle.mdinline_machine.specs.Over.{AllPass, is_in_code, is_in_data, is_in_marks, is_in_quotes, is_in_string}
+use Rattle.mdinline_machine.specs.Over.{is_in_code, is_in_data, is_in_marks, is_in_quotes, is_in_string, set_of}
 use Rattle.mdinline_machine.specs.StringTable.{string_data}
 
--- each byte of a set is above CR and passes a test, if that is tried on each
-pub all-pass : (test : ℕ → Bool) (set : List Bool) → pass_all (λ byte. nat_lt 13 byte && test byte) set ≡ true → AllPass test set
-all-pass test set all byte e =
-    let both = and_parts (nat_lt 13 byte) (test byte) (passed (λ n. nat_lt 13 n && test n) set all byte e) in
+-- a number that a test puts among those from n on passes it
+among-passes : (test : ℕ → Bool) (n count k : ℕ) → get_or (map test (range_with_len n count)) k false ≡ true → test (n + k) ≡ true
+among-passes test n zero k e = absurd cc
+among-passes test n (suc count) zero e =
+    let is : n + 0 ≡ n = omega arith in
+    rw is e
+among-passes test n (suc count) (suc k) e =
+    let is : n + suc k ≡ (n + 1) + k = omega arith in
+    rw is (among-passes test (n + 1) count k e)
+
+-- each byte of a set is above CR and passes its test
+pub set-passes : {set : List Bool} (test : ℕ → Bool) → set ≡ set_of test → (byte : ℕ) → get_or set byte false ≡ true → (13 < byte) × (test byte ≡ true)
+set-passes test is byte e =
+    let among = ap (λ (s : List Bool). get_or s byte false) (sym is) ∙ e in
+    let at : 0 + byte ≡ byte = omega arith in
+    let both = and_parts (nat_lt 13 byte) (test byte) (subst (λ (n : ℕ). (nat_lt 13 n && test n) ≡ true) at (among-passes (λ n. nat_lt 13 n && test n) 0 256 byte among)) in
     (ltb-true 13 byte both.0, both.1)
 
 -- the state of a name reads over a byte
@@ -71,9 +85,9 @@ record IsNoMark (on : Constructs) (byte : ℕ) : Type 0 where
 
 no-mark : (on : Constructs) (byte : ℕ) → is_in_data byte ≡ true → IsNoMark on byte
 no-mark on byte is =
-    let (white_byte, others) = or_parts (is_white byte) (is_line_feed byte || (some_first marked_grammars byte || (is_delimiter byte || is_of_bracket byte))) (not-true _ is) in
-    let (line, marks) = or_parts (is_line_feed byte) (some_first marked_grammars byte || (is_delimiter byte || is_of_bracket byte)) others in
-    let (marked, mark_bytes) = or_parts (some_first marked_grammars byte) (is_delimiter byte || is_of_bracket byte) marks in
+    let (white_byte, others) = or_parts (is_white byte) (is_line_feed byte || is_first beginnings byte) (not-true _ is) in
+    let (line, none_begins) = or_parts (is_line_feed byte) (is_first beginnings byte) others in
+    let (marked, mark_bytes) = or_parts (some_first marked_grammars byte) (is_delimiter byte || is_of_bracket byte) (sym (first-parts byte) ∙ none_begins) in
     let (delimiter, of_bracket) = or_parts (is_delimiter byte) (is_of_bracket byte) mark_bytes in
     let run : begins_run on byte ≡ false = no-run on byte delimiter in
     let bracket = begins-no-bracket on byte of_bracket in

@@ -1,5 +1,6 @@
 -- What is promised of inline text.
-use Rattle.std.specs.Prelude.{◌≡◌, ℕ, ◌-◌, ◌^◌, ◌<◌, ◌≤◌, Bool, List, Option, Some, false, length, true}
+use Rattle.std.specs.Prelude.{◌≡◌, ℕ, ◌-◌, ◌^◌, ◌<◌, ◌≤◌, ◌==◌, ◌||◌, Bool, List, Option, Some, false, length, map, true}
+use Rattle.markdown_base.specs.declared.configuration.Constructs.{Constructs}
 use Rattle.markdown_base.specs.declared.event.Content.{Content}
 use Rattle.markdown_base.specs.declared.event.Content.TheVariants.{String, Text as TextContent}
 use Rattle.markdown_base.specs.declared.event.Event.{Event}
@@ -11,10 +12,17 @@ use Rattle.markdown_tokenizer.specs.declared.subtokenize.Subresult.{Subresult}
 use Rattle.markdown_tokenizer.specs.Engine.{IsRun, whole_text}
 use Rattle.markdown_tokenizer.specs.Text.{Given, IsDocument}
 use Rattle.mdinline_links.specs.Linked.{with_links}
+use Rattle.mdinline_text_machine.specs.Bytes.{is_line_feed}
 use Rattle.mdinline_text_machine.specs.ChainTexts.{AreReadBy, StaysReadyBy}
+use Rattle.mdinline_text_machine.specs.Construct.{Found, Grammar, some_begins}
+use Rattle.mdinline_text_machine.specs.TextBytes.{text_byte}
+use Rattle.mdinline_machine.specs.Beginnings.{Beginning, beginnings, bracket_beginnings, is_first, is_first_on, marked_beginnings, punctuation_beginnings, run_beginnings}
+use Rattle.mdinline_machine.specs.Brackets.{begins_bracket, is_of_bracket}
 pub use Rattle.mdinline_machine.specs.InlineChains.{with_inlines, with_strings}
-use Rattle.mdinline_machine.specs.InlineEvents.{inline_events, read_events}
+use Rattle.mdinline_machine.specs.InlineEvents.{ends_data, inline_events, marked_grammars, read_events}
 use Rattle.mdinline_machine.specs.InlineRules.{inlines_rules}
+use Rattle.mdinline_machine.specs.InlineTable.{inline_constructs}
+use Rattle.mdinline_machine.specs.RunRows.{begins_run, is_delimiter}
 use Rattle.mdinline_machine.specs.StringEvents.{string_events}
 
 -- these are the events of a run of the machine, from the start of texts, which resolves
@@ -60,3 +68,31 @@ StaysReadyAfterStrings = (defined : List ℕ → Bool) (g : Given) (events new :
 abbrev pub RunsWithin : Name → (calls : ℕ → ℕ) → Type 0
 RunsWithin start calls = (defined : List ℕ → Bool) (g : Given) (resolving : Bool) (events : List Event) (sub : Subresult) → IsDocument g → (run : IsRun g (inlines_rules defined) resolving start events sub)
     → let most = calls (length (whole_text g).seats) in most < 2 ^ 64 - 1 → run.result.calls ≤ most
+
+-- ---- one list says which bytes begin what
+
+-- each byte of the list has its class
+abbrev pub HaveTheirClasses : Type 0
+HaveTheirClasses = map (λ (b : Beginning). text_byte b.byte) beginnings ≡ map (λ (b : Beginning). b.class) beginnings
+
+-- the constructs with a mark are those of the list, in its order: each begins with its byte alone, and has its option
+abbrev pub ConstructsAreListed : Type 0
+ConstructsAreListed =
+    (map (λ (c : Grammar Found). c.first) marked_grammars ≡ map (λ (b : Beginning) (byte : ℕ). byte == b.byte) marked_beginnings)
+    × (map (λ (c : Grammar Found). c.on) marked_grammars ≡ map (λ (b : Beginning). b.on) marked_beginnings)
+
+-- the machine tries constructs at their bytes, and at no others
+abbrev pub AreTriedAtListed : Type 0
+AreTriedAtListed = (byte : ℕ) → some_begins inline_constructs (text_byte byte) ≡ is_first marked_beginnings byte
+
+-- delimiter runs begin with those bytes of the list whose option is on, and with no others
+abbrev pub RunsAreListed : Type 0
+RunsAreListed = (on : Constructs) (byte : ℕ) → (is_delimiter byte ≡ is_first run_beginnings byte) × (begins_run on byte ≡ is_first_on run_beginnings on byte)
+
+-- so do brackets and ends
+abbrev pub BracketsAreListed : Type 0
+BracketsAreListed = (on : Constructs) (byte : ℕ) → (is_of_bracket byte ≡ is_first bracket_beginnings byte) × (begins_bracket on byte ≡ is_first_on bracket_beginnings on byte)
+
+-- data ends at a byte that is a line ending, or that a mark of the list begins with, or something else of it that is on
+abbrev pub DataEndsAtListed : Type 0
+DataEndsAtListed = (on : Constructs) (byte : ℕ) → ends_data on byte ≡ (is_line_feed byte || (is_first marked_beginnings byte || is_first_on punctuation_beginnings on byte))

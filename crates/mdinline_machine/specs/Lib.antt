@@ -1,3 +1,5 @@
+-- bytes
+pub mod Beginnings
 -- brackets
 pub mod BracketRows
 pub mod Brackets
@@ -12,7 +14,7 @@ pub mod LawStatements
 pub mod Laws
 -- registered: machines with one resolver that adds edits, which the first call registers
 pub mod Registered
--- bytes
+-- bytes that are read over
 pub mod Over
 -- runs
 pub mod RunRows

@@ -1,18 +1,16 @@
 -- Bytes that states of inline text read over, whatever the options are.
-use Rattle.std.specs.Prelude.{◌≡◌, ◌<◌, ℕ, ◌||◌, not, Bool, true, false, List, get_or}
+use Rattle.std.specs.List.{range_with_len}
+use Rattle.std.specs.Prelude.{ℕ, ◌&&◌, ◌||◌, not, nat_lt, Bool, List, map}
 use Rattle.mdconstructs_tables.specs.Breaks.{is_white}
 use Rattle.mdinline_text_machine.specs.Bytes.{is_backtick, is_greater_than, is_line_feed}
-use Rattle.mdinline_text_machine.specs.Construct.{some_first}
 use Rattle.mdinline_constructs.specs.HtmlMarkedRows.{is_mark_byte}
 use Rattle.mdinline_constructs.specs.HtmlTagRows.{is_quote}
-use Rattle.mdinline_machine.specs.Brackets.{is_of_bracket}
-use Rattle.mdinline_machine.specs.InlineEvents.{marked_grammars}
-use Rattle.mdinline_machine.specs.RunRows.{is_delimiter}
+use Rattle.mdinline_machine.specs.Beginnings.{beginnings, is_first}
 use Rattle.mdinline_machine.specs.StringEvents.{is_string_special}
 
--- data goes on at the byte: it is no white space, and no line ending, no construct, no delimiter run, no bracket and no end may begin with it
+-- data goes on at the byte: it is no white space and no line ending, and nothing begins with it
 abbrev pub is_in_data : ℕ → Bool
-is_in_data byte = not (is_white byte || (is_line_feed byte || (some_first marked_grammars byte || (is_delimiter byte || is_of_bracket byte))))
+is_in_data byte = not (is_white byte || (is_line_feed byte || is_first beginnings byte))
 
 -- data of a string does
 abbrev pub is_in_string : ℕ → Bool
@@ -30,6 +28,6 @@ is_in_marks byte = not (is_line_feed byte || (is_greater_than byte || is_mark_by
 abbrev pub is_in_quotes : ℕ → Bool
 is_in_quotes byte = not (is_line_feed byte || is_quote byte)
 
--- the bytes of a set are above CR, and pass a test
-abbrev pub AllPass : (ℕ → Bool) → List Bool → Type 0
-AllPass test set = (byte : ℕ) → get_or set byte false ≡ true → (13 < byte) × (test byte ≡ true)
+-- The set of the bytes above CR that pass a test: for each byte, whether it is in it
+abbrev pub set_of : (ℕ → Bool) → List Bool
+set_of test = map (λ byte. nat_lt 13 byte && test byte) (range_with_len 0 256)

@@ -1,6 +1,7 @@
 //! Bytes that states of inline text read over: at them a call only consumes the byte, and the engine need not make it. Each is above CR.
 
-ghost use Rattle.mdinline_machine.specs.Over.{AllPass, is_in_code, is_in_data, is_in_marks, is_in_quotes, is_in_string};
+ghost use Rattle.std.specs.Prelude.{◌≡◌};
+ghost use Rattle.mdinline_machine.specs.Over.{is_in_code, is_in_data, is_in_marks, is_in_quotes, is_in_string, set_of};
 ghost use Rattle.mdinline_text_machine.specs.Autolink.{is_allowed};
 ghost use Rattle.mdinline_text_machine.specs.Bytes.{is_space};
 
@@ -30,7 +31,7 @@ static IN_DATA: ByteSet = [
 /// The bytes with which data of inline text goes on, whatever the options are. A state that reads them stays in data.
 #[inline(always)]
 pub(crate) fn in_data() -> &'static ByteSet
-    ensures { AllPass is_in_data result.now }
+    ensures { result.now ≡ set_of is_in_data }
 {
     &IN_DATA
 }
@@ -59,7 +60,7 @@ static IN_STRING: ByteSet = [
 /// The bytes with which data of a string goes on, whatever the options are. A state that reads them stays in data.
 #[inline(always)]
 pub(crate) fn in_string() -> &'static ByteSet
-    ensures { AllPass is_in_string result.now }
+    ensures { result.now ≡ set_of is_in_string }
 {
     &IN_STRING
 }
@@ -88,7 +89,7 @@ static IN_CODE: ByteSet = [
 /// The bytes with which data of a code span goes on. A state that reads them stays in data.
 #[inline(always)]
 pub(crate) fn in_code() -> &'static ByteSet
-    ensures { AllPass is_in_code result.now }
+    ensures { result.now ≡ set_of is_in_code }
 {
     &IN_CODE
 }
@@ -117,7 +118,7 @@ static IN_MARKS: ByteSet = [
 /// The bytes of raw HTML between marks that are in no closing mark. A state with none of a closing mark before it stays there.
 #[inline(always)]
 pub(crate) fn in_marks() -> &'static ByteSet
-    ensures { AllPass is_in_marks result.now }
+    ensures { result.now ≡ set_of is_in_marks }
 {
     &IN_MARKS
 }
@@ -146,7 +147,7 @@ static IN_QUOTES: ByteSet = [
 /// The bytes of a value in quotes that end no such value. A state that reads them stays in the value.
 #[inline(always)]
 pub(crate) fn in_quotes() -> &'static ByteSet
-    ensures { AllPass is_in_quotes result.now }
+    ensures { result.now ≡ set_of is_in_quotes }
 {
     &IN_QUOTES
 }
@@ -175,7 +176,7 @@ static IN_URI: ByteSet = [
 /// The bytes of an absolute URI behind its scheme and colon. A state that reads them stays in the URI.
 #[inline(always)]
 pub(crate) fn in_uri() -> &'static ByteSet
-    ensures { AllPass is_allowed result.now }
+    ensures { result.now ≡ set_of is_allowed }
 {
     &IN_URI
 }
@@ -207,7 +208,7 @@ static SPACES: ByteSet = [
 /// A space. Data notes it, and goes on.
 #[inline(always)]
 pub(crate) fn spaces() -> &'static ByteSet
-    ensures { AllPass is_space result.now }
+    ensures { result.now ≡ set_of is_space }
 {
     &SPACES
 }

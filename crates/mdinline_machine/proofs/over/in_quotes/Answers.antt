@@ -1,8 +1,5 @@
 use Rattle.std.proofs.Common.{refl}
-use Rattle.mdinline_machine.specs.declared.over.TheConstants.{IN_QUOTES}
-use Rattle.mdinline_machine.specs.Over.{is_in_quotes}
-use Rattle.mdinline_machine.proofs.OverBytes.{all-pass}
 use Rattle.mdinline_machine.proofs.over.in_quotes.Goals as goal
 
 pub returns : goal.returns
-returns c = all-pass is_in_quotes IN_QUOTES refl
+returns c = refl
