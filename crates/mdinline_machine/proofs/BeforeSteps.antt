@@ -2,7 +2,7 @@
 use Rattle.std.proofs.lemmas.Bool.{or_parts}
 use Rattle.markdown_tokenizer.specs.Sight.{sight_of}
 use Rattle.mdconstructs_tables.specs.RowInvariant.{step_in}
-use Rattle.mdinline_machine.proofs.Prelude.{begins-classed, data_goes_on, item_length, TokenizerValue, step_by, ◌≡◌, inl, inr, ℕ, ◌&&◌, ◌||◌, List, [], ◌∷◌, Bool, true, false, cond, Option, Some, refl, sym, ap, ◌∙◌, Constructs, Data, Next, Retry, AttentionStart, DataInside, TextBefore, TextBeforeData, Configuration, Sight, Given, Rows, class_of, consume, exit, row, when, picked, step_of, is_white, is_line_feed, passes, reverse, Construct, Found, between_texts, some_begins, some_first, tried_at, TextByte, is_line_feed_class, punctuation, text_byte, line-classed, white-classed, is_white_class, marked_grammars, inline_before, inline_before_rows, inline_constructs, inline_data, inline_data_rows, begins_run, is_delimiter, run_begins, Attempt, choose, begins_bracket, begins_end, begins_image, begins_link, is_of_bracket}
+use Rattle.mdinline_machine.proofs.Prelude.{begins-classed, data_goes_on, item_length, TokenizerValue, step_by, ◌≡◌, inl, inr, ℕ, ◌&&◌, ◌||◌, List, [], ◌∷◌, Bool, true, false, cond, Option, Some, refl, sym, ap, ◌∙◌, Constructs, Data, Next, Retry, AttentionStart, DataInside, TextBefore, TextBeforeData, Configuration, Sight, Given, Rows, class_of, consume, exit, row, when, picked, step_of, is_white, is_line_feed, passes, reverse, Construct, Found, between_texts, some_begins, some_first, tried_at, TextByte, is_line_feed_class, punctuation, text_byte, line-classed, white-classed, is_white_class, marked_grammars, inline_before, inline_before_rows, inline_constructs, inline_data, inline_data_rows, begins_run, run_begins, Attempt, choose, begins_bracket, begins_end, begins_image, begins_link, is_of_bracket}
 use Rattle.markdown_base.specs.declared.state.TheConstants.Name.{LabelEndNok, LabelEndOk, LabelEndStart, LabelStartImageStart, LabelStartLinkStart}
 use Rattle.mdinline_machine.specs.declared.names.TheConstants.{LabelEndNotResource}
 use Rattle.mdinline_machine.proofs.BracketBytes.{begins-none}

@@ -1,5 +1,5 @@
 -- The backtick string that a text begins with: an item of inline text has it whole, and may be looked at as often as it has bytes.
-use Rattle.mdinline_machine.proofs.Prelude.{◌≡◌, ℕ, ◌+◌, ◌≤◌, ◌||◌, List, ◌∷◌, true, false, cond, sym, ap, ◌∙◌, arith, and-false, nat_tests, Constructs, is_white, backticks, is_backtick, is_line_feed, item_length, first_plain, begins_run, delimiter_run, line_break, run_length, prefix_len, refl}
+use Rattle.mdinline_machine.proofs.Prelude.{◌≡◌, ℕ, ◌+◌, ◌≤◌, ◌||◌, List, ◌∷◌, true, false, cond, sym, ap, ◌∙◌, arith, nat_tests, Constructs, is_white, backticks, is_backtick, is_line_feed, item_length, first_plain, begins_run, delimiter_run, line_break, run_length, prefix_len, refl}
 use Rattle.mdinline_machine.proofs.DataBytes.{data_joined, joined_part}
 use Rattle.mdinline_machine.proofs.BracketBytes.{begins-no-bracket, tick-no-bracket}
 use Rattle.mdinline_machine.proofs.PartReads.{is_own, unbracketed}

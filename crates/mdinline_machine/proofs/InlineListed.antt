@@ -1,7 +1,7 @@
 -- The machine of inline text is the list of its constructs with a mark, whatever is known while it reads: of that it needs how each construct, data, line
 -- endings, runs and white space are read.
 use Rattle.std.proofs.lemmas.Bool.{or_parts}
-use Rattle.mdinline_machine.proofs.Prelude.{◌≡◌, ℕ, ◌+◌, ◌≤◌, ◌&&◌, ◌||◌, List, [], ◌∷◌, ◌++◌, Bool, true, false, refl, sym, ap, ◌∙◌, subst, arith, drop, length, take, flat_map, prefix_len, length-drop, and-false, eqb-true, nat_tests, Constructs, Event, Name, SpaceOrTab, Next, Retry, TextBefore, TextBeforeData, TextBeforeHardBreakEscape, TextBeforeHtml, TextBeforeEmail, TextBeforeTag, Seat, Byte, Nothing, Configuration, Local, sight, Sight, Given, Text, class_of, is_white, counts, row_step, autolinks, is_line_feed, remembered_code_spans, Construct, Found, between_texts, first_there, grammars_of, some_first, tried_at, escapes, item_length, bytes_of, leaf, TextByte, backslash, less, text_byte, item_events, AreApart, none-there, AddsFrom, AreTried, IsKept, IsListed, IsTried, Knowledge, Reads, ReadsFrom, items-read, listed, cut_remembering, spent, EndsWith, Plays, between_items, emails, html_marks, html_tags, break_escapes, references, begins_run, read_events, behind_autolinks, behind_emails, behind_escapes, behind_marks, inline_before_rows, inline_constructs, is_delimiter, marked_grammars, Memory, after_item, nothing_read}
+use Rattle.mdinline_machine.proofs.Prelude.{◌≡◌, ℕ, ◌+◌, ◌≤◌, ◌&&◌, ◌||◌, List, [], ◌∷◌, ◌++◌, Bool, true, false, refl, sym, ap, ◌∙◌, subst, arith, drop, length, take, flat_map, prefix_len, length-drop, eqb-true, nat_tests, Constructs, Event, Name, SpaceOrTab, Next, Retry, TextBefore, TextBeforeData, TextBeforeHardBreakEscape, TextBeforeHtml, TextBeforeEmail, TextBeforeTag, Seat, Byte, Nothing, Configuration, Local, sight, Sight, Given, Text, class_of, is_white, counts, row_step, autolinks, is_line_feed, remembered_code_spans, Construct, Found, between_texts, first_there, grammars_of, some_first, tried_at, escapes, item_length, bytes_of, leaf, TextByte, backslash, less, text_byte, item_events, AreApart, none-there, AddsFrom, AreTried, IsKept, IsListed, IsTried, Knowledge, Reads, ReadsFrom, items-read, listed, cut_remembering, spent, EndsWith, Plays, between_items, emails, html_marks, html_tags, break_escapes, references, begins_run, read_events, behind_autolinks, behind_emails, behind_escapes, behind_marks, inline_before_rows, inline_constructs, is_delimiter, marked_grammars, Memory, after_item, nothing_read}
 use Rattle.mdinline_machine.proofs.RunBytes.{no-run}
 use Rattle.mdinline_constructs.specs.WhiteSpace.{white_space}
 use Rattle.mdinline_machine.proofs.BracketBytes.{begins-no-bracket, marked-no-bracket}

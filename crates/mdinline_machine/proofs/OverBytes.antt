@@ -5,7 +5,7 @@ use Rattle.std.specs.List.{range_with_len}
 use Rattle.std.specs.Prelude.{◌==◌, ◌+◌, zero, suc, map, nat_le, nat_lt}
 use Rattle.markdown_base.specs.declared.state.TheConstants.Name.{AutolinkUrlInside, HtmlTextTagOpenAttributeValueQuoted, HtmlTextTagOpenAttributeValueQuotedAfter, RawTextData}
 use Rattle.markdown_tokenizer.specs.Over.{GoesBack, NotesByte, ReadsOver, step_noted, step_over}
-use Rattle.mdinline_machine.proofs.Prelude.{◌≡◌, ◌⊎◌, inl, inr, ℕ, ◌&&◌, ◌||◌, List, [], ◌∷◌, Bool, true, false, cond, Option, Some, refl, ap, ◌∙◌, subst, sym, arith, and-false, passes, exit, Retry, TextBefore, Data, Name, Next, DataInside, DataStart, Given, Configuration, Sight, sight, Step, consume, row, picked, StateRows, is_white, is_line_feed, some_begins, some_first, raw_text_data, TextByte, is_line_feed_class, text_byte, line_feed, backtick, less, backslash, ampersand, white, punctuation, line-classed, white-classed, is_white_class, begins_run, ends_data, marked_grammars, inline_constructs, inline_data, inline_data_rows, is_delimiter, inlines_rules, inlines, is_string_special, is_space, note, Constructs, data_space, data_space_rows, DataSpace, DataWhite, eqb-true}
+use Rattle.mdinline_machine.proofs.Prelude.{◌≡◌, ◌⊎◌, inl, inr, ℕ, ◌&&◌, ◌||◌, List, [], ◌∷◌, Bool, true, false, cond, Option, Some, refl, ap, ◌∙◌, subst, sym, arith, passes, exit, Retry, TextBefore, Data, Name, Next, DataInside, DataStart, Given, Configuration, Sight, sight, Step, consume, row, picked, StateRows, is_white, is_line_feed, some_begins, some_first, raw_text_data, TextByte, is_line_feed_class, text_byte, line_feed, backtick, less, backslash, ampersand, white, punctuation, line-classed, white-classed, is_white_class, begins_run, ends_data, marked_grammars, inline_constructs, inline_data, inline_data_rows, is_delimiter, inlines_rules, inlines, is_string_special, is_space, note, Constructs, data_space, data_space_rows, DataSpace, DataWhite, eqb-true}
 use Rattle.mdinline_machine.proofs.RunBytes.{no-run}
 use Rattle.mdconstructs_tables.proofs.Tables.Over.{picked-pairs-over, picked-read-over}
 use Rattle.mdconstructs_tables.specs.Over.{PicksNoted, PicksOver}

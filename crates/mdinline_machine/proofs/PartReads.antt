@@ -1,6 +1,6 @@
 -- What is there of inline text where no construct with a mark is, data, a run, a line ending or white space, is read in so many calls; data with the white
 -- space behind it with which its line ends.
-use Rattle.mdinline_machine.proofs.Prelude.{◌≡◌, ℕ, ◌+◌, ◌*◌, ◌≤◌, ◌&&◌, ◌||◌, List, ◌∷◌, Bool, true, false, cond, refl, sym, ap, ◌∙◌, subst, arith, drop, prefix_len, and-false, eqb-true, nat_tests, Constructs, Event, Name, Retry, TextBefore, TextBeforeData, Seat, Byte, Local, Given, Text, is_white, is_line_feed, Found, between_texts, item_length, bytes_of, AddsItemIn, adds-more, Plays, between_items, begins_run, delimiter_run, is_white_left, line_break, run_length, is_delimiter}
+use Rattle.mdinline_machine.proofs.Prelude.{◌≡◌, ℕ, ◌+◌, ◌*◌, ◌≤◌, ◌&&◌, ◌||◌, List, ◌∷◌, Bool, true, false, cond, refl, sym, ◌∙◌, subst, arith, drop, prefix_len, eqb-true, nat_tests, Constructs, Event, Name, Retry, TextBefore, TextBeforeData, Seat, Byte, Local, Given, Text, is_white, is_line_feed, Found, between_texts, item_length, bytes_of, AddsItemIn, adds-more, Plays, between_items, begins_run, delimiter_run, is_white_left, line_break, run_length}
 use Rattle.mdinline_machine.proofs.RunBytes.{no-run}
 use Rattle.mdinline_machine.proofs.DataBytes.{data_joined, joined_part}
 use Rattle.mdinline_machine.proofs.DataReads.{reads-data-run-in, reads-white-data-in}

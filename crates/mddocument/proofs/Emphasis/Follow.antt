@@ -1,5 +1,5 @@
 -- Virtual bytes that follow one another byte by byte; and what comes in place of a run of these accounts for them, in one line.
-use Rattle.mddocument.proofs.Prelude.{◌≡◌, ℕ, zero, suc, ◌+◌, ◌<◌, Bool, true, false, inl, inr, ◌⊎◌, List, [], ◌∷◌, ◌++◌, append_assoc, length, take, drop, refl, sym, ap, ◌∙◌, subst, arith, take-append-drop, Event, Enter, Exit, Data, Point, shown, Seat, end_after, Run, closings, data_of, inner_name, later, markers_of, markers_of_all, openings, outer_name, sequence_name, unlinked_event, markers, in_place, OneLine, Style, takes-some}
+use Rattle.mddocument.proofs.Prelude.{◌≡◌, ℕ, zero, suc, ◌+◌, ◌<◌, inl, inr, ◌⊎◌, List, [], ◌∷◌, ◌++◌, append_assoc, length, take, drop, refl, sym, ap, ◌∙◌, subst, arith, take-append-drop, Event, Enter, Exit, Data, Point, shown, Seat, end_after, Run, closings, data_of, inner_name, later, markers_of, markers_of_all, openings, outer_name, sequence_name, unlinked_event, markers, in_place, OneLine, Style, takes-some}
 use Rattle.mddocument.proofs.Emphasis.Pairs.{Opens}
 use Rattle.markdown_base.specs.declared.event.Name.{Name}
 use Rattle.mddocument.proofs.Innermost.Lined.{LinedFor, lined-enter, lined-exit, lined-span, one-drop, one-take}

@@ -1,6 +1,6 @@
 -- The runs of inline text are as long as can be.
 use Rattle.markdown_base.proofs.Facts.Numbers.{unlike}
-use Rattle.mddocument.proofs.Prelude.{◌≡◌, ℕ, Bool, suc, ◌+◌, ◌≤◌, true, false, cond, inl, List, [], ◌∷◌, Some, take, drop, length, refl, subst, arith, length-drop, AllByRecursion, flat_map, prefix_len, and-left, and-right, Constructs, Data, SpaceOrTab, Seat, is_white, there-holds, has_byte_at, is_line_feed, Atom, Found, IsCut, ItemCut, item_length, bytes_of, item_events, white-run-cut, white_space, some-item, begins_run, data_length, data_run, delimiter_run, inline_grammars, inline_item_at, inline_items, line_break, run_length, run_or_part, is_delimiter}
+use Rattle.mddocument.proofs.Prelude.{◌≡◌, ℕ, Bool, suc, ◌+◌, ◌≤◌, true, false, cond, inl, List, [], ◌∷◌, Some, take, drop, length, refl, subst, arith, length-drop, AllByRecursion, flat_map, prefix_len, and-left, and-right, Constructs, Data, SpaceOrTab, Seat, is_white, there-holds, has_byte_at, is_line_feed, Atom, Found, IsCut, ItemCut, item_length, bytes_of, item_events, white-run-cut, white_space, some-item, begins_run, data_length, data_run, delimiter_run, inline_grammars, inline_item_at, inline_items, line_break, run_length, run_or_part}
 use Rattle.mdinline_machine.proofs.RunBytes.{run-delimits}
 use Rattle.markdown_base.specs.declared.event.Name.TheVariants.{LabelImage, LabelImageMarker, LabelMarker}
 use Rattle.mdinline_machine.proofs.BracketBytes.{bracket-holds}

@@ -1,5 +1,5 @@
 -- Links, images and emphasis account for the virtual bytes that brackets, runs and the texts between them do, line by line.
-use Rattle.mddocument.proofs.Prelude.{◌≡◌, ℕ, ◌+◌, ◌<◌, Bool, true, false, cond, inl, inr, ◌⊎◌, List, [], ◌∷◌, ◌++◌, append_assoc, length, map, refl, sym, ap, ◌∙◌, subst, arith, append-nil, flat_map-append, every-back, every-front, slice_get, AllByRecursion, Event, Enter, Exit, Data, AttentionSequence, Point, IsBalanced, is_enter, same_name, shown, Seat, end_after, end-after-append, AreBeside, IsBeside, Run, markers_of_all, paired, same, unlinked_event, Standing, markers, standing, marker_from, Marker, Atom, InOneLine, OneLine, NoEnding, atom_seats, seats_of, is_delimiter, pairs-keep}
+use Rattle.mddocument.proofs.Prelude.{◌≡◌, ℕ, ◌+◌, ◌<◌, true, false, cond, inl, inr, ◌⊎◌, List, [], ◌∷◌, ◌++◌, append_assoc, length, map, refl, sym, ap, ◌∙◌, subst, arith, append-nil, flat_map-append, every-back, every-front, slice_get, AllByRecursion, Event, Enter, Exit, Data, AttentionSequence, Point, IsBalanced, is_enter, same_name, shown, Seat, end_after, end-after-append, AreBeside, IsBeside, Run, markers_of_all, paired, same, unlinked_event, Standing, markers, standing, marker_from, Marker, Atom, InOneLine, OneLine, NoEnding, atom_seats, seats_of, is_delimiter, pairs-keep}
 use Rattle.markdown_base.specs.declared.event.Name.{Name}
 use Rattle.markdown_base.specs.declared.event.Name.TheVariants.{LabelImageMarker, LabelText}
 use Rattle.markdown_base.proofs.Facts.Lists.{some-front}

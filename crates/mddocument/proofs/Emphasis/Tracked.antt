@@ -1,4 +1,4 @@
-use Rattle.mddocument.proofs.Prelude.{◌≡◌, ℕ, true, false, Some, inl, inr, List, [], ◌∷◌, ◌++◌, append_assoc, refl, sym, ap, ◌∙◌, subst, slice_get, AllByRecursion, Point, shown, Seat, end_after, every-back, every-front, later, same, marker_from, Atom, atom_seats, seats_of, is_delimiter, Track, track-place, append-nil, AcrossGap, Course, course-on, line-track}
+use Rattle.mddocument.proofs.Prelude.{◌≡◌, ℕ, true, false, Some, inl, inr, List, [], ◌∷◌, ◌++◌, append_assoc, sym, ap, ◌∙◌, subst, slice_get, AllByRecursion, Point, shown, Seat, end_after, every-back, every-front, later, same, marker_from, Atom, atom_seats, seats_of, is_delimiter, Track, track-place, append-nil, AcrossGap, Course, course-on, line-track}
 use Rattle.std.proofs.lemmas.Bool.{cases_Bool}
 use Rattle.mdinline_emphasis.proofs.Markers.{byte-from, same-is}
 use Rattle.mdinline_emphasis.specs.Emphasis.{marker_byte}
