@@ -1,2 +1,2 @@
--- bytes that are read over
+-- bytes
 pub mod ReadOver

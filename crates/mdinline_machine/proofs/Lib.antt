@@ -32,7 +32,7 @@ mod LabelBytes
 mod LabelReads
 -- data
 mod LineReads
--- bytes that begin something
+-- bytes
 mod ListedBytes
 -- laws
 pub mod Looks

@@ -14,7 +14,7 @@ pub mod LawStatements
 pub mod Laws
 -- registered: machines with one resolver that adds edits, which the first call registers
 pub mod Registered
--- bytes that are read over
+-- bytes
 pub mod Over
 -- runs
 pub mod RunRows
