@@ -277,7 +277,8 @@ class Since:
         crate = edit.row.crate
         if self.around & {crate, *table.below(crate)}:
             return True
-        proofs = [f"crates/{crate}/proofs/{it.module.replace('.', '/')}/" for it in edit.found]
+        modules = ["" if it.module in ("lib", "main") else it.module.replace(".", "/") + "/" for it in edit.found]
+        proofs = [f"crates/{crate}/proofs/{it}" for it in modules]
         names = {it.name for it in edit.found}
         own = {f"crates/{crate}/{file}" for file, _, _ in edit.made} if edit.texts else set()
         return bool(own & self.files) or any(file.startswith(tuple(proofs)) and names & set(re.split(r"[/+]", file)) for file in self.files)
