@@ -8,9 +8,11 @@ Works on a copy of the repository, from which it takes the other tests, and runs
 tests. Prints a row for each edit, and goes on: the test rejects it ("refused"), or passes over it ("PASSED"), or it can't be applied or
 compiled ("BAD EDIT"). Writes the commit of the crates into LIST for those that are rejected. The status is 1 if one is not.
 usage: wrong-bodies/by_tests.py [--old] [--keep] [--show] [WORD..], for the edits whose line in LIST has one of the words; --old is for
-those that have no commit, or since whose commit a source changed; with --keep LIST stays as it is; --show only prints them.
+those that have no commit, or since whose commit a source changed, by more than names of crates (changes.py); with --keep LIST stays as
+it is; --show only prints them.
 """
 
+import functools
 import os
 import re
 import shutil
@@ -21,6 +23,7 @@ import time
 
 sys.dont_write_bytecode = True
 import table  # noqa: E402
+from changes import Changes  # noqa: E402
 
 TEST = re.compile(r"^( *)(?:///[^\n]*\n *)*#\[test\]\n *fn (\w+)\(.*?^\1\}\n", re.M | re.S)
 MEMORY = "memory_is_no_fault_of_the_reader"
@@ -128,13 +131,18 @@ def tried(group):
     return came
 
 
+@functools.cache
+def changes(commit):
+    """Returns what changed since a commit."""
+    return Changes(commit)
+
+
 def is_old(row):
     """Returns whether LIST has no commit for a row, or a source changed since: of the test's crate, of the edit's, or below them."""
     commit = table.tried_at(row)
-    own = (row.crate, tests_of(row)[0])
-    parts = [f"crates/{crate}/src/*" for it in own for crate in (it, *table.below(it))]
-    words = ["git", "-C", table.TOP, "diff", "--quiet", commit or "", "--", *parts, "crates.txt"]
-    return not commit or bool(subprocess.run(words, capture_output=True).returncode)
+    own = {crate for it in (row.crate, tests_of(row)[0]) for crate in (it, *table.below(it))}
+    parts = tuple(f"crates/{crate}/src/" for crate in own)
+    return not commit or bool(changes(commit).crates & own) or any(file.startswith(parts) for file in changes(commit).texts)
 
 
 def main(words):

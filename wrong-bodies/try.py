@@ -12,7 +12,8 @@ usage: wrong-bodies/try.sh [--gate] [--promises] [--since COMMIT | --old] [--log
   --show          only prints which edits would be tried
 
 A change reaches an edit if it is in the file or the proof of the function that the edit turns, in `specs`, or in what stands around the
-bodies of functions in `src`: of the crate, or of a crate below it. Bodies of other functions do not count, nor do comments.
+bodies of functions in `src`: of the crate, or of a crate below it. Bodies of other functions do not count, nor do comments, nor do
+names that crates got since (changes.py).
 
 It works on a copy of the repository. Edits that turn different functions are tried together, in one check of these functions: a
 function's goals see only what others ensure, so each wrong body has to fail by itself. A function counts as rejected if one of its own
@@ -30,6 +31,7 @@ import time
 
 sys.dont_write_bytecode = True
 import table  # noqa: E402
+from changes import Changes  # noqa: E402
 
 NAMES = re.compile(r"has no field|is not in scope|has no `|was not admitted|was rejected, w|were rejected, w|is no name|is not checked")
 PARTS = ("src", "specs", "proofs")
@@ -238,35 +240,14 @@ def plain(text):
     return [line for line in text.split("\n") if not re.match(r"\s*(//|--|$)", line)]
 
 
-def texts_at(commit, files):
-    """Returns the texts of these files at a commit, by file; of one that was not there it is empty."""
-    asked = "".join(f"{commit}:{file}\n" for file in files).encode()
-    said = subprocess.run(["git", "-C", table.TOP, "cat-file", "--batch"], input=asked, capture_output=True).stdout
-    texts, at = {}, 0
-    for file in files:
-        head, at = said[at : said.index(b"\n", at)], said.index(b"\n", at) + 1
-        size = 0 if head.endswith(b" missing") else int(head.split()[-1]) + 1
-        texts[file], at = said[at : at + size - (size > 0)].decode(), at + size
-    return texts
-
-
 class Since:
     """What changed in the crates since a commit."""
 
     def __init__(self, commit):
-        git = lambda *words: subprocess.run(["git", "-C", table.TOP, *words], capture_output=True, text=True)
-        found = git("diff", "--name-only", "--no-renames", commit, "--", "crates", "crates.txt")
-        if found.returncode:
-            sys.exit(f"no commit {commit} here: {found.stderr.strip()}")
-        new = git("ls-files", "-o", "--exclude-standard", "--", "crates").stdout.split()
-        self.files, self.around = set(), set()
-        olds = texts_at(commit, sorted({*found.stdout.split(), *new}))
-        for file, old in olds.items():
-            if file == "crates.txt":
-                old = table.crates(old)
-                self.around |= {crate for crate, uses in table.crates().items() if old.get(crate) != uses}
-            elif m := re.match(r"crates/(\w+)/((src|specs|proofs)/.*\.(?:rt|antt))$", file):
-                now = open(f"{table.TOP}/{file}", encoding="utf-8").read() if os.path.exists(f"{table.TOP}/{file}") else ""
+        changes = Changes(commit)
+        self.files, self.around = set(), set(changes.crates)
+        for file, (old, now) in changes.texts.items():
+            if m := re.match(r"crates/(\w+)/((src|specs|proofs)/.*\.(?:rt|antt))$", file):
                 if plain(old) != plain(now):
                     self.files.add(file)
                 if m[3] != "proofs" and bare(old, m[2]) != bare(now, m[2]):
