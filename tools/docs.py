@@ -10,7 +10,7 @@ usage: tools/docs.py [--write] [--hand-in]
 A fence names its file behind the language, and the items that it shows: ```rust crates/C/src/f.rt item item. `*` is the whole
 file. With no item each stretch between blank lines is text of the file. A block of code that names no file fails. Shown with items
 are the `use` lines that they need, with the names that they use, but if `-` stands before the items. tools/definitions.py,
-tools/prose.py, tools/cases.py, tools/contracts.py, tools/map.py and tools/reading.py are called, too.
+tools/prose.py, tools/cases.py, tools/contracts.py, tools/imports.py, tools/map.py and tools/reading.py are called, too.
 """
 
 import os
@@ -24,6 +24,7 @@ sys.dont_write_bytecode = True
 import cases  # noqa: E402
 import contracts  # noqa: E402
 import definitions  # noqa: E402
+import imports  # noqa: E402
 import map as room_map  # noqa: E402
 import prose  # noqa: E402
 import reading  # noqa: E402
@@ -242,7 +243,7 @@ def main():
     if is_written:
         definitions.write()
         contracts.write()
-    failed.extend(definitions.disagreements() + prose.disagreements() + cases.disagreements() + contracts.disagreements() + reading.disagreements() + table.disagreements())
+    failed.extend(definitions.disagreements() + prose.disagreements() + cases.disagreements() + contracts.disagreements() + imports.disagreements() + reading.disagreements() + table.disagreements())
     print("\n".join(failed), end="\n" if failed else "")
     sys.exit(1 if failed else 0)
 
