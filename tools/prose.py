@@ -1,7 +1,7 @@
 #!/usr/bin/env python3
 """Holds the length of README.md and docs/: words in all (but for what a tool makes and no one reads from end to end: the list of
 docs/DEFINITIONS.md and docs/CONTRACTS.txt), sentences over 30 words, lines and cells of the README, and that each bold
-sentence of the README has a name of the code beside it.
+sentence under "What is proved", there and in docs/READING.md, has a name of the code beside it.
 
 usage: tools/prose.py [--words]     prints what fails, and ends with 1 if something does; --words prints the words of each page
 """
@@ -70,15 +70,20 @@ def of_readme():
         for cell in line.strip("|").split("|") if line.startswith("|") else []:
             if len(cell.strip()) > MOST_IN_CELL:
                 yield f"README.md: a cell of {len(cell.strip())} characters: {cell.strip()[:50]} .."
-    proved = re.search(r"^## What is proved$(.*?)^## ", text, flags=re.S | re.M)
-    for item in re.findall(r"^- \*\*.*$", proved[1] if proved else "", flags=re.M):
-        if not re.search(r"`\w+`", item):
-            yield f"README.md: no clause beside it: {item[:50]} .."
+
+
+def claims():
+    """Yields the bold sentences of README.md and docs/READING.md under "What is proved" that have no name of the code beside them."""
+    for page in ("README.md", "docs/READING.md"):
+        proved = re.search(r"^## What is proved$(.*?)^## ", read(page), flags=re.S | re.M)
+        for item in re.findall(r"^- \*\*.*$", proved[1] if proved else "", flags=re.M):
+            if not re.search(r"`\w+`", item):
+                yield f"{page}: no clause beside it: {item[:50]} .."
 
 
 def disagreements():
     """Returns what fails."""
-    failed = list(of_readme())
+    failed = [*of_readme(), *claims()]
     if sum(words().values()) > MOST_WORDS:
         failed.append(f"README.md and docs: {sum(words().values())} words, and at most {MOST_WORDS} are allowed")
     for page in pages():

@@ -4,7 +4,7 @@ A definition stands on those that it names, and on what these stand on; files wi
 imported by one that is.
 
 usage: tools/reading.py [NAME [MODULE]]    `document_events` of `mddocument.specs.DocumentEvents`, if no name is given
-       tools/reading.py --check            prints where README's list differs from these files, and ends with 1 if it does
+       tools/reading.py --check            prints where the list of docs/READING.md differs from these files, and ends with 1 if it does
 """
 
 import os
@@ -166,9 +166,9 @@ def stands_on(name, module):
 
 
 def listed():
-    """Returns the files that README lists under "To believe it, read" behind the name `document_events`: `CRATE`: `File`, `File`."""
-    with open(f"{TOP}/README.md", encoding="utf-8") as it:
-        part = it.read().split("## To believe it, read")[1].split("\n## ")[0]
+    """Returns the files that docs/READING.md lists under "To read" behind the name `document_events`: `CRATE`: `File`, `File`."""
+    with open(f"{TOP}/docs/READING.md", encoding="utf-8") as it:
+        part = it.read().split("## To read\n")[1].split("\n## ")[0]
     crate, files = "", []
     for word in re.findall(r"`([^`]+)`", part.split("`document_events`", 1)[1]):
         word = word.replace("..", "mdconstructs", 1) if word.startswith("..") else word
@@ -180,10 +180,10 @@ def listed():
 
 
 def disagreements():
-    """Returns what README's list has too much or too little."""
+    """Returns what the list of docs/READING.md has too much or too little."""
     needed, said = {it for it, _, _ in stands_on(*WHOLE)}, listed()
-    return [f"README.md: `document_events` stands on {it} too" for it in sorted(needed - set(said))] + [
-        f"README.md: `document_events` does not stand on {it}" for it in said if it not in needed
+    return [f"docs/READING.md: `document_events` stands on {it} too" for it in sorted(needed - set(said))] + [
+        f"docs/READING.md: `document_events` does not stand on {it}" for it in said if it not in needed
     ]
 
 
