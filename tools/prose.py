@@ -1,7 +1,7 @@
 #!/usr/bin/env python3
 """Holds the length of README.md and docs/: words in all (but for what a tool makes and no one reads from end to end: the list of
-docs/DEFINITIONS.md and docs/CONTRACTS.txt), sentences over 30 words, lines and cells of the README, and that each bold
-sentence under "What is proved", there and in docs/READING.md, has a name of the code beside it.
+docs/DEFINITIONS.md and docs/CONTRACTS.txt), sentences over 30 words, lines and cells of the README, and that each item
+of the README's "What is proved", and of the theorems by subject in docs/THEOREMS.md, has a name of the code beside it.
 
 usage: tools/prose.py [--words]     prints what fails, and ends with 1 if something does; --words prints the words of each page
 """
@@ -73,11 +73,12 @@ def of_readme():
 
 
 def claims():
-    """Yields the bold sentences of README.md and docs/READING.md under "What is proved" that have no name of the code beside them."""
-    for page in ("README.md", "docs/READING.md"):
-        proved = re.search(r"^## What is proved$(.*?)^## ", read(page), flags=re.S | re.M)
-        for item in re.findall(r"^- \*\*.*$", proved[1] if proved else "", flags=re.M):
-            if not re.search(r"`\w+`", item):
+    """Yields the items of the README under "What is proved", and of docs/THEOREMS.md by subject, that have no name of the code beside them."""
+    for page, title in (("README.md", "What is proved"), ("docs/THEOREMS.md", "Thirty, by subject")):
+        part = re.search(rf"^## {title}$(.*?)^## ", read(page), flags=re.S | re.M)
+        items = re.findall(r"^- .*$", part[1] if part else "", flags=re.M)
+        for item in items or [f"no section {title}"]:
+            if not re.search(r"`[\w:]+`", item):
                 yield f"{page}: no clause beside it: {item[:50]} .."
 
 
