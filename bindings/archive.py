@@ -91,6 +91,10 @@ def main(folder, *words):
 
 
 if __name__ == "__main__":
+    if sys.argv[1:] == ["--help"]:
+        print(__doc__.strip())
+        sys.exit()
     if len(sys.argv) < 3 or sys.argv[2].startswith("-"):
-        sys.exit(__doc__.strip())
+        print(__doc__.strip(), file=sys.stderr)
+        sys.exit(2)
     sys.exit(main(*sys.argv[1:]))

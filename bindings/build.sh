@@ -5,6 +5,10 @@
 # x86_64-unknown-linux-gnu and aarch64-unknown-linux-gnu.
 # Behind the gate it takes minutes, as it proves limecove alone (archive.py). Without it rt proves all crates, in an hour or more.
 set -eu
+if [ "${1-}" = --help ]; then
+    sed -n '2,/^[^#]/s/^# //p' "$0"
+    exit 0
+fi
 for tool in rt python3; do
     if ! command -v "$tool" >/dev/null; then
         echo "bindings: $tool is missing" >&2

@@ -3,11 +3,12 @@
 Then compares the fields of what crosses the border, in order and with their widths, and the numbers, as crates/limecove/src, limecove.h
 and rust/limecove-sys declare them.
 
-usage: names.py [--check [CRATE]]
+usage: names.py [--check] [CRATE]    says what differs, and ends with 1 if something does; CRATE is read in place of crates/limecove
+       names.py --write              writes both files
 
 The numbers are read from the definitions that the contracts of crates/limecove cite: specs/Names.antt, specs/Choices.antt and
-specs/Records.antt. The comments are those of the Rattle sources. With --check nothing is written, and the status is 1 if a file would
-change. The status is also 1 if two declarations differ: each difference is a line. CRATE is read in place of crates/limecove.
+specs/Records.antt. The comments are those of the Rattle sources. The status is 1 if a file would change, or two declarations differ: each
+difference is a line.
 """
 
 import re
@@ -16,7 +17,16 @@ from pathlib import Path
 
 HERE = Path(__file__).resolve().parent
 CRATES = HERE.parent / "crates"
-LIMECOVE = Path(sys.argv[2]) if len(sys.argv) > 2 else CRATES / "limecove"
+sys.path.insert(0, str(HERE.parent / "tools"))
+sys.dont_write_bytecode = True
+import usage  # noqa: E402
+
+parser = usage.Words(__doc__)
+parser.add_argument("--check", action="store_true")
+parser.add_argument("--write", action="store_true")
+parser.add_argument("crate", nargs="?", type=Path, default=CRATES / "limecove")
+WORDS = parser.parse_args()
+LIMECOVE = WORDS.crate
 HEADER, FOREIGN = HERE / "limecove.h", HERE / "rust/limecove-sys/src/lib.rs"
 SAFE = HERE / "rust/limecove/src"
 BEGIN, END = "/* written by names.py: begin */", "/* written by names.py: end */"
@@ -250,16 +260,15 @@ def main():
     names, machines = proved_names(), proved_machines()
     files = {HEADER: header(HEADER.read_text(), names, machines), SAFE / "names.rs": rust(names, machines)}
     stale = [path for path, text in files.items() if not path.exists() or path.read_text() != text]
-    is_check = "--check" in sys.argv[1:]
     for path in stale:
-        if is_check:
-            print(f"{path}: not what names.py writes", file=sys.stderr)
-        else:
+        if WORDS.write:
             path.write_text(files[path])
+        else:
+            print(f"{path}: not what names.py writes", file=sys.stderr)
     found = differences()
     for line in found:
         print(line, file=sys.stderr)
-    return 1 if found or stale and is_check else 0
+    return 1 if found or stale and not WORDS.write else 0
 
 
 sys.exit(main())

@@ -3,6 +3,10 @@
 # the argument says. It needs cc, bindings/out/liblimecove.a (bindings/build.sh) and crates/mdevents/out/mdevents (`rt run` there).
 # usage: bindings/random.sh [COUNT [SEED]]   (the seed is 1 if none is given)
 set -eu
+if [ "${1-}" = --help ]; then
+    sed -n '2,/^[^#]/s/^# //p' "$0"
+    exit 0
+fi
 here=$(cd "$(dirname "$0")" && pwd)
 work=$(mktemp -d)
 trap 'rm -rf "$work"' EXIT

@@ -5,6 +5,10 @@
 # usage: bindings/random_edits.sh [COUNT [EDITS [SEED [FILE..]]]]   (10,000 random documents, 20 edits of each and of each file, the seed 1, and
 # all Markdown files of the repository, if they are not given)
 set -eu
+if [ "${1-}" = --help ]; then
+    sed -n '2,/^[^#]/s/^# //p' "$0"
+    exit 0
+fi
 here=$(cd "$(dirname "$0")" && pwd)
 work=$(mktemp -d)
 trap 'rm -rf "$work"' EXIT

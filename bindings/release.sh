@@ -7,11 +7,15 @@
 # usage: bindings/release.sh FOLDER [-WORD..]   (FOLDER must not be there yet; the words are passed to bindings/build.sh)
 # TARGETS names the targets; if it is not set, they are all that rt can build.
 set -eu
+if [ "${1-}" = --help ]; then
+    sed -n '2,/^[^#]/s/^# //p' "$0"
+    exit 0
+fi
 here=$(cd "$(dirname "$0")" && pwd)
 targets=${TARGETS:-x86_64-unknown-linux-gnu aarch64-unknown-linux-gnu}
 if [ $# = 0 ] || [ -e "$1" ]; then
     echo "usage: bindings/release.sh FOLDER [-WORD..]   (FOLDER must not be there yet)" >&2
-    exit 1
+    exit 2
 fi
 folder=$1
 shift

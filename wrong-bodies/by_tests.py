@@ -7,9 +7,11 @@ program mdcases shows it, as it then does not write its stdout.
 Works on a copy of the repository, from which it takes the other tests, and runs "rt try --test", once for edits that have different
 tests. Prints a row for each edit, and goes on: the test rejects it ("refused"), or passes over it ("PASSED"), or it can't be applied or
 compiled ("BAD EDIT"). Writes the commit of the crates into LIST for those that are rejected. The status is 1 if one is not.
-usage: wrong-bodies/by_tests.py [--old] [--keep] [--show] [WORD..], for the edits whose line in LIST has one of the words; --old is for
-those that have no commit, or since whose commit a source changed, by more than names of crates (changes.py); with --keep LIST stays as
-it is; --show only prints them.
+
+usage: wrong-bodies/by_tests.py [--old] [--keep] [--show] [WORD..]
+
+Only edits whose line in LIST has one of the words are tried; with --old only those that have no commit, or since whose commit a source
+changed, by more than names of crates (changes.py). With --keep LIST stays as it is, and --show only prints them.
 """
 
 import functools
@@ -24,6 +26,7 @@ import time
 sys.dont_write_bytecode = True
 import table  # noqa: E402
 from changes import Changes  # noqa: E402
+import usage  # noqa: E402
 
 TEST = re.compile(r"^( *)(?:///[^\n]*\n *)*#\[test\]\n *fn (\w+)\(.*?^\1\}\n", re.M | re.S)
 MEMORY = "memory_is_no_fault_of_the_reader"
@@ -145,14 +148,18 @@ def is_old(row):
     return not commit or bool(changes(commit).crates & own) or any(file.startswith(parts) for file in changes(commit).texts)
 
 
-def main(words):
-    options = {word for word in words if word.startswith("--")}
-    words = [word for word in words if not word.startswith("--")]
+def main():
+    parser = usage.Words(__doc__)
+    for word in ("--old", "--keep", "--show"):
+        parser.add_argument(word, action="store_true")
+    parser.add_argument("words", nargs="*")
+    given = parser.parse_intermixed_args()
+    words = given.words
     at, is_clean = table.state()
     rows = [row for row in table.read()[1] if row.who not in ("gate", "prover", "?")]
     rows = [row for row in rows if not words or any(word in " ".join(row) for word in words)]
-    rows = [row for row in rows if "--old" not in options or is_old(row)]
-    if "--show" in options:
+    rows = [row for row in rows if not given.old or is_old(row)]
+    if given.show:
         print("\n".join(map(table.edit_of, rows)))
         return 0
     bad = 0
@@ -164,11 +171,11 @@ def main(words):
             bad += result != "refused"
         print(f"# {len(group)} edits together, {time.time() - begun:.0f} seconds", flush=True)
         done = [row for row in came if came[row][0] == "refused"]
-        if is_clean and "--keep" not in options:
+        if is_clean and not given.keep:
             table.record(done, at)
     print(f"# {len(rows) - bad} of {len(rows)} refused")
     return 1 if bad else 0
 
 
 if __name__ == "__main__":
-    sys.exit(main(sys.argv[1:]))
+    sys.exit(main())

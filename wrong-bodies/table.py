@@ -1,10 +1,10 @@
 #!/usr/bin/env python3
 """Reads, checks and updates LIST, the table of all wrong bodies. Its head says what the columns are.
 
-usage: wrong-bodies/table.py             updates LIST: a line for each new edit, none for one that is gone. Who tries a new edit of
+usage: wrong-bodies/table.py [--check]   prints what does not agree, and ends with 1 if something does not. tools/docs.py does so too
+       wrong-bodies/table.py --write     updates LIST: a line for each new edit, none for one that is gone. Who tries a new edit of
                                          by-tests, and the promise that a new edit of the gate breaks, are written by hand, in
                                          place of the question mark; so is the promise of an edit that try.sh tries
-       wrong-bodies/table.py --check     prints what does not agree, and ends with 1 if something does not. tools/docs.py does so too
        wrong-bodies/table.py --promises  prints the promises, each with the edits that break it and who tries them
 """
 
@@ -19,6 +19,10 @@ import sys
 
 HERE = os.path.dirname(os.path.realpath(__file__))
 TOP = os.path.dirname(HERE)
+sys.path.insert(0, f"{TOP}/tools")
+sys.dont_write_bytecode = True
+import usage  # noqa: E402
+
 LIST = f"{HERE}/LIST"
 COLUMNS = ("CRATE", "FUNCTION", "WHAT IS WRONG", "TRIED BY", "COMMIT", "PROMISE")
 HEAD = re.compile(r"( *)(pub )?(?:pub\([^)]*\) )?(?:const |unsafe |extern \"C\" )*fn (\w+)")
@@ -285,14 +289,18 @@ def state():
 
 
 if __name__ == "__main__":
-    if sys.argv[1:] == ["--check"]:
-        found = disagreements()
-        print("\n".join(found), end="\n" if found else "")
-        sys.exit(1 if found else 0)
-    if sys.argv[1:] == ["--promises"]:
+    parser = usage.Words(__doc__)
+    only = parser.add_mutually_exclusive_group()
+    for word in ("--check", "--write", "--promises"):
+        only.add_argument(word, action="store_true")
+    given = parser.parse_args()
+    if given.promises:
         for promise, rows in promises().items():
             print(f"{promise}: {', '.join(f'{row.crate} {row.function}-{row.what} ({row.who})' for row in rows)}")
-    elif sys.argv[1:]:
-        sys.exit(__doc__)
-    else:
+        sys.exit()
+    if given.write:
         update()
+        sys.exit()
+    found = disagreements()
+    print("\n".join(found), end="\n" if found else "")
+    sys.exit(1 if found else 0)

@@ -32,6 +32,7 @@ import time
 sys.dont_write_bytecode = True
 import table  # noqa: E402
 from changes import Changes  # noqa: E402
+import usage  # noqa: E402
 
 NAMES = re.compile(r"has no field|is not in scope|has no `|was not admitted|was rejected, w|were rejected, w|is no name|is not checked")
 PARTS = ("src", "specs", "proofs")
@@ -276,22 +277,29 @@ def is_old(edits):
             yield it
 
 
-def main(words):
-    given = {word for word in words if word in ("--gate", "--promises", "--old", "--keep", "--show")}
-    commit = words.pop(words.index("--since") + 1) if "--since" in words else None
-    log = open(words.pop(words.index("--log") + 1), encoding="utf-8").read().split("\n") if "--log" in words else []
-    words = [word for word in words if not word.startswith("--")]
+def main():
+    parser = usage.Words(__doc__)
+    for word in ("--gate", "--promises", "--old", "--keep", "--show"):
+        parser.add_argument(word, action="store_true")
+    parser.add_argument("--since", metavar="COMMIT")
+    parser.add_argument("--log", metavar="FILE")
+    parser.add_argument("words", nargs="*")
+    given = parser.parse_intermixed_args()
+    words, log = given.words, []
+    if given.log:
+        with open(given.log, encoding="utf-8") as it:
+            log = it.read().split("\n")
     head, rows = table.read()
     wanted, parts = [it for it in words if it in table.crates()], [it for it in words if it not in table.crates()]
-    edits = [Edit(row) for row in rows if row.who == "prover" or row.who == "gate" and "--gate" in given]
-    edits = [it for it in edits if it.row.promise != "-" or "--promises" not in given]
+    edits = [Edit(row) for row in rows if row.who == "prover" or row.who == "gate" and given.gate]
+    edits = [it for it in edits if it.row.promise != "-" or not given.promises]
     edits = [it for it in edits if (not wanted or it.row.crate in wanted) and (not parts or any(part in it.path for part in parts))]
-    if commit:
-        since = Since(commit)
+    if given.since:
+        since = Since(given.since)
         edits = [it for it in edits if since.reaches(it) or not table.tried_at(it.row)]
-    if "--old" in given:
+    if given.old:
         edits = list(is_old(edits))
-    if "--show" in given:
+    if given.show:
         print("\n".join(it.path for it in edits))
         return 0
     at, is_clean = table.state()
@@ -306,7 +314,7 @@ def main(words):
             if not own:
                 continue
             try_crate(room, crate, own, log)
-            if is_clean and "--keep" not in given:
+            if is_clean and not given.keep:
                 table.record([it.row for it in own if it.result == "refused"], at)
     bad = [it for it in edits if it.result != "refused"]
     print(f"# {len(edits) - len(bad)} of {len(edits)} refused, {time.time() - begun:.0f} seconds; not so:")
@@ -316,6 +324,4 @@ def main(words):
 
 
 if __name__ == "__main__":
-    if "--help" in sys.argv:
-        sys.exit(__doc__)
-    sys.exit(main(sys.argv[1:]))
+    sys.exit(main())
