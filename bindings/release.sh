@@ -1,6 +1,6 @@
 #!/bin/sh
 # Makes a folder that builds, and passes its tests, where there is no rt. For each target it has a folder with the library as .a and .so,
-# the header and limecove.pc; and for all the crates limecove-sys and limecove, the tests in C, html.py, and a test.sh. Libraries that are
+# the header and limecove.pc; and for all the crates limecove-sys, limecove and limecove-lsp, the tests in C, html.py, and a test.sh. Libraries that are
 # not in bindings/out, or older than a source, bindings/build.sh first makes and proves, with rt. Beside that it needs a C compiler: cc,
 # and for the .so of another target than this machine's the one that Debian names after it, as aarch64-linux-gnu-gcc. Without that one
 # the release has no such .so.
@@ -51,7 +51,7 @@ cp -r "$here/c" "$out/c"
 # the programs include the header of the release by its name
 sed -i 's|"../limecove.h"|<limecove.h>|' "$out"/c/*.c "$out"/c/cases.h
 cp "$here/tests_of_c.sh" "$out/c"
-for crate in limecove-sys limecove; do
+for crate in limecove-sys limecove limecove-lsp; do
     mkdir "$out/rust/$crate"
     (cd "$here/rust/$crate" && cp -r Cargo.toml README.md LICENSE src tests "$out/rust/$crate")
 done
@@ -100,6 +100,7 @@ Each target has a folder: ${names#, }.
   there. \`limecove.h\` says what each function does. To install, copy \`include\` and \`lib\` of T to \`/usr/local\`.
 - Rust: \`limecove = { path = ".../rust/limecove" }\` in \`Cargo.toml\`. It finds the target's \`lib\` by itself. It needs Rust 1.63.
 - Examples: \`c/outline.c\`, and in \`rust/limecove/examples\` linters, a highlighter, a list of links and a writer of HTML.
+- An editor: \`rust/limecove-lsp\` is a language server.
 - \`./html.py SPEC\` runs CommonMark's examples, which are not here, through that writer: 650 of the 652 of 0.30 are right.
 - \`./test.sh\` compares \`SHA256SUMS\`, and builds and runs the tests: it needs cc, and for the crates cargo. It takes a minute or two, and no
   network. \`TARGET=aarch64-unknown-linux-gnu ./test.sh\` tests another target than the machine's, by qemu.

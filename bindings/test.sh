@@ -66,6 +66,12 @@ test "$(ulimit -v 500000 && "$work/target/release/examples/read" text --deep "$w
 say "the crates in Rust, and 10,000 random documents for each machine against the program"
 cd "$here/rust"
 MDEVENTS=$here/../crates/mdevents/out/mdevents cargo test --offline --quiet --workspace -- --include-ignored
+if command -v nvim >/dev/null; then
+    say "the language server, with neovim"
+    "$here/rust/limecove-lsp/tests/neovim.sh" 20 1
+else
+    say "the language server is not tried with neovim, as there is no nvim"
+fi
 say "what a user of the crates does without the library: documentation and checks"
 mkdir "$work/none"
 LIMECOVE_LIB=$work/none cargo doc --offline --quiet --no-deps --target-dir "$work/doc"
