@@ -1,5 +1,5 @@
 #!/usr/bin/env python3
-"""Checks README.md and docs/ against the files that they name, the wrong bodies against their table, and crates.txt against what each
+"""Checks README.md, CHANGELOG.md and docs/ against the files that they name, the wrong bodies against their table, and crates.txt against what each
 crate names. Prints what fails, and ends with 1 if something does.
 
 usage: tools/docs.py [--write] [--hand-in]
@@ -34,7 +34,7 @@ import usage  # noqa: E402
 FILES = subprocess.run(["git", "-c", "safe.directory=*", "-C", TOP, "ls-files", "-co", "--exclude-standard"], capture_output=True, text=True).stdout.split("\n")
 FILES = [f for f in FILES if f and os.path.exists(f"{TOP}/{f}")] or sys.exit(f"git lists no files of {TOP}")
 PATHS = set(FILES) | {f[:i] for f in FILES for i in range(len(f)) if f[i] == "/"}
-PAGES = ["README.md"] + [f for f in FILES if f.startswith("docs/") and f.endswith(".md")]
+PAGES = ["README.md", "CHANGELOG.md"] + [f for f in FILES if f.startswith("docs/") and f.endswith(".md")]
 MAP = "docs/maintaining/MAP.md"
 # Words in backticks that are of Rust, of the system or of the prover
 FOREIGN = set("unsafe debug_assert unwrap respects_eq allocate cap ptr grep steal Lts rattle-kit-13f _rows NAME_in".split())

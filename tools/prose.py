@@ -1,5 +1,5 @@
 #!/usr/bin/env python3
-"""Holds the length of README.md and docs/: words in all (but for what a tool makes and no one reads from end to end: the list of
+"""Holds the length of README.md, CHANGELOG.md and docs/: words in all (but for what a tool makes and no one reads from end to end: the list of
 docs/DEFINITIONS.md and docs/CONTRACTS.txt), sentences over 30 words, lines and cells of the README, and that each item
 of the README's "What is proved", and of the theorems by subject in docs/THEOREMS.md, has a name of the code beside it.
 
@@ -29,8 +29,8 @@ def read(page):
 
 
 def pages():
-    """Returns the pages, the README first."""
-    return ["README.md"] + sorted(os.path.relpath(p, TOP) for p in glob.glob(f"{TOP}/docs/**/*.md", recursive=True))
+    """Returns the pages, those at the top first."""
+    return ["README.md", "CHANGELOG.md"] + sorted(os.path.relpath(p, TOP) for p in glob.glob(f"{TOP}/docs/**/*.md", recursive=True))
 
 
 def stretches(text):
