@@ -1,16 +1,17 @@
 -- What is written of addresses.
-use Rattle.std.proofs.Common.{◌≡◌, ℕ, ◌+◌, List, [], ◌∷◌, ◌++◌, map, ap, sym, refl, ◌∙◌, arith, Option, None, Some}
+use Rattle.std.proofs.Common.{◌≡◌, ℕ, ◌+◌, List, [], ◌∷◌, ◌++◌, map, ap, sym, refl, ◌∙◌, arith, Option, None, Some, ⊎_elim}
 use Rattle.std.specs.Char.{is_ascii_alphanumeric, is_ascii_lowercase, to_ascii_lowercase}
 use Rattle.std.specs.List.{flat_map, list_all, list_any}
 use Rattle.std.specs.Prelude.{zero, suc, ◌==◌, ◌||◌, ◌&&◌, not, nat_lt, Bool, true, false, bytes_eq, cond, codes, option_map, slice_index_or, ◌/◌, ◌%◌, is_some, length}
 use Rattle.std.proofs.lemmas.List.Folds.{list_all-append}
 use Rattle.std.specs.Int.{is_in_range}
+use Rattle.std.proofs.lemmas.Bool.{and_from, and_parts, false≢true, not-true, or_cases, or_parts, or_right}
 use Rattle.std.proofs.lemmas.Grind.{flat_map-append}
 use Rattle.std.proofs.lemmas.Bool.Decides.{Decides-eqb}
 use Rattle.std.proofs.lemmas.Slice.Eq.{bytes_eq-Decides}
 use Rattle.mdhtml_markup.specs.Addresses.{address, address_byte, hex_digit, quoted_byte, written_byte}
 use Rattle.mdhtml_markup.specs.SafeHtml.{is_address_byte, is_allowed, is_known, is_mark, is_plain, is_safe_address, is_text, is_text_byte, scheme_of, schemes, undone, undone_from, entity_at}
-use Rattle.mdhtml_markup.proofs.Bools.{and-both, and-left, and-right, is-other, no, not-true, or-cases, or-left-false, or-right, or-right-false}
+use Rattle.mdhtml_markup.proofs.Bools.{is-other}
 use Rattle.mdhtml_markup.specs.declared.addresses.Place.{Place}
 use Rattle.mdhtml_markup.specs.declared.addresses.Place.TheVariants.{Href, Src}
 use Rattle.mdhtml_markup.specs.Laws.{AddressesAreQuoted, AllowedAddressesAreSafe}
@@ -24,21 +25,21 @@ abbrev has : ℕ → Bool
 has b = is_address_byte b
 
 all-append : (xs ys : List ℕ) → list_all has xs ≡ true → list_all has ys ≡ true → list_all has (xs ++ ys) ≡ true
-all-append xs ys h k = list_all-append has xs ys ∙ and-both (list_all has xs) (list_all has ys) h k
+all-append xs ys h k = list_all-append has xs ys ∙ and_from (list_all has xs) (list_all has ys) h k
 
 -- each of these is one
 all-of : (p : ℕ → Bool) (xs : List ℕ) (n d : ℕ) → list_all p xs ≡ true → p d ≡ true → p (slice_index_or xs n d) ≡ true
 all-of p [] n d h k = k
-all-of p (x ∷ xs) zero d h k = and-left (p x) (list_all p xs) h
-all-of p (x ∷ xs) (suc n) d h k = all-of p xs n d (and-right (p x) (list_all p xs) h) k
+all-of p (x ∷ xs) zero d h k = (and_parts (p x) (list_all p xs) h).0
+all-of p (x ∷ xs) (suc n) d h k = all-of p xs n d (and_parts (p x) (list_all p xs) h).1 k
 
 digit-has : (n : ℕ) → has (hex_digit n) ≡ true
 digit-has n = all-of has (codes "0123456789ABCDEF") n 48 refl refl
 
 byte-has : (plain nul : Bool) (b : ℕ) → has b ≡ plain → list_all has (cond plain (b ∷ []) (cond nul (codes "%EF%BF%BD") (37 ∷ hex_digit (b / 16) ∷ hex_digit (b % 16) ∷ []))) ≡ true
-byte-has true nul b h = and-both (has b) true h refl
+byte-has true nul b h = and_from (has b) true h refl
 byte-has false true b h = refl
-byte-has false false b h = and-both (has (hex_digit (b / 16))) (has (hex_digit (b % 16)) && true) (digit-has (b / 16)) (and-both (has (hex_digit (b % 16))) true (digit-has (b % 16)) refl)
+byte-has false false b h = and_from (has (hex_digit (b / 16))) (has (hex_digit (b % 16)) && true) (digit-has (b / 16)) (and_from (has (hex_digit (b % 16))) true (digit-has (b % 16)) refl)
 
 address-has : (url : List ℕ) → list_all has (address url) ≡ true
 address-has [] = refl
@@ -66,16 +67,16 @@ abbrev stepped : (colon end : Bool) → ℕ → Option (List ℕ) → Option (Li
 stepped colon end b o = cond colon (Some []) (cond end None (option_map (λ s. b ∷ s) o))
 
 passed : (colon end : Bool) (b : ℕ) (o : Option (List ℕ)) → (colon || end) ≡ false → stepped colon end b o ≡ option_map (λ s. b ∷ s) o
-passed true end b o h = absurd (no (sym h))
-passed false true b o h = absurd (no (sym h))
+passed true end b o h = absurd (false≢true (sym h))
+passed false true b o h = absurd (false≢true (sym h))
 passed false false b o h = refl
 
 scheme-behind : (ws rest : List ℕ) → list_any inner ws ≡ false → scheme_of (ws ++ rest) ≡ option_map (λ s. ws ++ s) (scheme_of rest)
 scheme-behind [] rest h = same-scheme (scheme_of rest)
 scheme-behind (w ∷ ws) rest h =
-    let first : inner w ≡ false = or-left-false (inner w) (list_any inner ws) h in
+    let first : inner w ≡ false = (or_parts (inner w) (list_any inner ws) h).0 in
     passed (w == 58) (ends w) w (scheme_of (ws ++ rest)) first
-    ∙ ap (option_map (λ s. w ∷ s)) (scheme-behind ws rest (or-right-false (inner w) (list_any inner ws) h)) ∙ longer-scheme w ws (scheme_of rest)
+    ∙ ap (option_map (λ s. w ∷ s)) (scheme-behind ws rest (or_parts (inner w) (list_any inner ws) h).1) ∙ longer-scheme w ws (scheme_of rest)
 
 -- a byte that stands for itself
 first-same : (b : ℕ) → address_byte b ≡ b ∷ [] → (o : Option (List ℕ)) → option_map (λ s. b ∷ s) (option_map address o) ≡ option_map address (option_map (λ s. b ∷ s) o)
@@ -108,10 +109,12 @@ is-number b n h e = ap has ((Decides-eqb b n).0 e) ∙ h
 
 inner-has : (b : ℕ) → inner b ≡ true → has b ≡ true
 inner-has b h =
-    or-cases (b == 58) (ends b) h (is-number b 58 refl) (λ e. or-cases (b == 47) ((b == 63) || (b == 35)) e (is-number b 47 refl) (λ f. or-cases (b == 63) (b == 35) f (is-number b 63 refl) (is-number b 35 refl)))
+    ⊎_elim (is-number b 58 refl)
+    (λ e. ⊎_elim (is-number b 47 refl) (λ f. ⊎_elim (is-number b 63 refl) (is-number b 35 refl) (or_cases (b == 63) (b == 35) f)) (or_cases (b == 47) ((b == 63) || (b == 35)) e))
+    (or_cases (b == 58) (ends b) h)
 
 no-inner : (b : ℕ) (i : Bool) → inner b ≡ i → has b ≡ false → i ≡ false
-no-inner b true h k = absurd (no (sym k ∙ inner-has b h))
+no-inner b true h k = absurd (false≢true (sym k ∙ inner-has b h))
 no-inner b false h k = refl
 
 other-step : (b : ℕ) (bs : List ℕ) → has b ≡ false → address_byte b ≡ encoded (b == 0) b → scheme_of (address bs) ≡ option_map address (scheme_of bs)
@@ -137,17 +140,17 @@ scheme-written (b ∷ bs) = byte-written b bs (has b) refl (scheme-written bs)
 
 alnum-has : (b : ℕ) → is_ascii_alphanumeric b ≡ true → has b ≡ true
 alnum-has b h =
-    let plain : is_plain b ≡ true = ap (λ x. list_any (λ c. c == b) (codes "-_.+!*(),%#@?=;:/$~") || x) h ∙ or-right (list_any (λ c. c == b) (codes "-_.+!*(),%#@?=;:/$~")) in
+    let plain : is_plain b ≡ true = ap (λ x. list_any (λ c. c == b) (codes "-_.+!*(),%#@?=;:/$~") || x) h ∙ or_right (list_any (λ c. c == b) (codes "-_.+!*(),%#@?=;:/$~")) true refl in
     ap (λ x. x || ((b == 38) || (b == 39))) plain
 
 capital : (b : ℕ) → nat_lt b 65 ≡ false → nat_lt b 91 ≡ true → is_in_range 65 90 b ≡ true
 capital b h k = grind (arith, h, k)
 
 lower-alnum : (b : ℕ) → is_in_range 97 122 b ≡ true → is_ascii_alphanumeric b ≡ true
-lower-alnum b h = ap (λ x. (is_in_range 48 57 b || is_in_range 65 90 b) || x) h ∙ or-right (is_in_range 48 57 b || is_in_range 65 90 b)
+lower-alnum b h = ap (λ x. (is_in_range 48 57 b || is_in_range 65 90 b) || x) h ∙ or_right (is_in_range 48 57 b || is_in_range 65 90 b) true refl
 
 capital-alnum : (b : ℕ) → is_in_range 65 90 b ≡ true → is_ascii_alphanumeric b ≡ true
-capital-alnum b h = ap (λ x. (is_in_range 48 57 b || x) || is_in_range 97 122 b) h ∙ ap (λ x. x || is_in_range 97 122 b) (or-right (is_in_range 48 57 b))
+capital-alnum b h = ap (λ x. (is_in_range 48 57 b || x) || is_in_range 97 122 b) h ∙ ap (λ x. x || is_in_range 97 122 b) (or_right (is_in_range 48 57 b) true refl)
 
 alnum-by : (b : ℕ) (p q : Bool) → nat_lt b 65 ≡ p → nat_lt b 91 ≡ q → is_in_range 97 122 (to_ascii_lowercase b) ≡ true → is_ascii_alphanumeric b ≡ true
 alnum-by b true q h k e = lower-alnum b (ap (λ x. is_in_range 97 122 (cond x b (cond (nat_lt b 91) (b + 32) b))) (sym h) ∙ e)
@@ -161,18 +164,19 @@ lower-address : (s : List ℕ) → list_all is_ascii_lowercase (map to_ascii_low
 lower-address [] h = refl
 lower-address (b ∷ bs) h =
     let low = list_all is_ascii_lowercase (map to_ascii_lowercase bs) in
-    let here = lower-plain b (and-left (is_ascii_lowercase (to_ascii_lowercase b)) low h) in
+    let here = lower-plain b (and_parts (is_ascii_lowercase (to_ascii_lowercase b)) low h).0 in
     ap (λ p. cond p (b ∷ []) (encoded (b == 0) b) ++ address bs) here
-    ∙ ap (λ (w : List ℕ). b ∷ w) (lower-address bs (and-right (is_ascii_lowercase (to_ascii_lowercase b)) low h))
+    ∙ ap (λ (w : List ℕ). b ∷ w) (lower-address bs (and_parts (is_ascii_lowercase (to_ascii_lowercase b)) low h).1)
 
 known-lower : (s : List ℕ) (ks : List (List ℕ)) → list_all (list_all is_ascii_lowercase) ks ≡ true → list_any (λ k. bytes_eq (map to_ascii_lowercase s) k) ks ≡ true
     → list_all is_ascii_lowercase (map to_ascii_lowercase s) ≡ true
-known-lower s [] h k = absurd (no k)
+known-lower s [] h k = absurd (false≢true k)
 known-lower s (l ∷ ls) h k =
     let here = bytes_eq (map to_ascii_lowercase s) l in
-    or-cases here (list_any (λ x. bytes_eq (map to_ascii_lowercase s) x) ls) k
-    (λ e. ap (list_all is_ascii_lowercase) ((bytes_eq-Decides (map to_ascii_lowercase s) l).0 e) ∙ and-left (list_all is_ascii_lowercase l) (list_all (list_all is_ascii_lowercase) ls) h)
-    (λ e. known-lower s ls (and-right (list_all is_ascii_lowercase l) (list_all (list_all is_ascii_lowercase) ls) h) e)
+    ⊎_elim
+    (λ e. ap (list_all is_ascii_lowercase) ((bytes_eq-Decides (map to_ascii_lowercase s) l).0 e) ∙ (and_parts (list_all is_ascii_lowercase l) (list_all (list_all is_ascii_lowercase) ls) h).0)
+    (λ e. known-lower s ls (and_parts (list_all is_ascii_lowercase l) (list_all (list_all is_ascii_lowercase) ls) h).1 e)
+    (or_cases here (list_any (λ x. bytes_eq (map to_ascii_lowercase s) x) ls) k)
 
 known-address : (at : Place) (s : List ℕ) → is_known at s ≡ true → address s ≡ s
 known-address Href s h = lower-address s (known-lower s (schemes Href) refl h)
@@ -204,7 +208,7 @@ address-unmarked b h k =
 text-other : (b : ℕ) (t : List ℕ) → has b ≡ true → (b == 38) ≡ false → is_text_byte b t ≡ true
 text-other b t h k = ap (λ x. cond x (is_some (entity_at t)) (not (is_mark b))) k ∙ ap not (address-unmarked b h k)
 
-undone-other : (b : ℕ) (t : List ℕ) → (b == 38) ≡ false → undone (b ∷ t) ≡ b ∷ undone t
+pub undone-other : (b : ℕ) (t : List ℕ) → (b == 38) ≡ false → undone (b ∷ t) ≡ b ∷ undone t
 undone-other b t k =
     ap (λ x. elim x as (λ _. List ℕ) [
       | false ↦ b ∷ undone t
@@ -214,7 +218,7 @@ undone-other b t k =
 quoted-text : (a q : Bool) (b : ℕ) (t : List ℕ) → (b == 38) ≡ a → has b ≡ true → is_text t ≡ true → is_text (cond a (codes "&amp;") (cond q (codes "&#x27;") (b ∷ [])) ++ t) ≡ true
 quoted-text true q b t k h m = m
 quoted-text false true b t k h m = m
-quoted-text false false b t k h m = and-both (is_text_byte b t) (is_text t) (text-other b t h k) m
+quoted-text false false b t k h m = and_from (is_text_byte b t) (is_text t) (text-other b t h k) m
 
 quoted-undone : (a q : Bool) (b : ℕ) (t : List ℕ) → (b == 38) ≡ a → (b == 39) ≡ q → undone (cond a (codes "&amp;") (cond q (codes "&#x27;") (b ∷ [])) ++ t) ≡ b ∷ undone t
 quoted-undone true q b t k m = ap (λ (x : ℕ). x ∷ undone t) (sym ((Decides-eqb b 38).0 k))
@@ -224,7 +228,7 @@ quoted-undone false false b t k m = undone-other b t k
 quotes-text : (url : List ℕ) → list_all has url ≡ true → is_text (flat_map quoted_byte url) ≡ true
 quotes-text [] h = refl
 quotes-text (b ∷ bs) h =
-    quoted-text (b == 38) (b == 39) b (flat_map quoted_byte bs) refl (and-left (has b) (list_all has bs) h) (quotes-text bs (and-right (has b) (list_all has bs) h))
+    quoted-text (b == 38) (b == 39) b (flat_map quoted_byte bs) refl (and_parts (has b) (list_all has bs) h).0 (quotes-text bs (and_parts (has b) (list_all has bs) h).1)
 
 quotes-undone : (url : List ℕ) → undone (flat_map quoted_byte url) ≡ url
 quotes-undone [] = refl
@@ -234,8 +238,8 @@ quotes-safe : (at : Place) (url : List ℕ) → list_all has url ≡ true → is
 quotes-safe at url h k =
     let value = flat_map quoted_byte url in
     let read = quotes-undone url in
-    and-both (is_text value) (list_all has (undone value) && is_allowed at (undone value)) (quotes-text url h)
-    (and-both (list_all has (undone value)) (is_allowed at (undone value)) (ap (list_all has) read ∙ h) (ap (is_allowed at) read ∙ k))
+    and_from (is_text value) (list_all has (undone value) && is_allowed at (undone value)) (quotes-text url h)
+    (and_from (list_all has (undone value)) (is_allowed at (undone value)) (ap (list_all has) read ∙ h) (ap (is_allowed at) read ∙ k))
 
 pub addresses-safe : AllowedAddressesAreSafe
 addresses-safe at url h = ap (is_safe_address at) (addresses-quoted url) ∙ quotes-safe at (address url) (address-has url) (allowed-written at url h)
@@ -253,10 +257,8 @@ quoted-hex n =
 
 pub other_written : (b : ℕ) → is_plain b ≡ false → ((b == 38) || ((b == 39) || (b == 0))) ≡ false → written_byte b ≡ 37 ∷ hex_digit (b / 16) ∷ hex_digit (b % 16) ∷ []
 other_written b p h =
-    let rest = or-right-false (b == 38) ((b == 39) || (b == 0)) h in
-    let a = or-left-false (b == 38) ((b == 39) || (b == 0)) h in
-    let q = or-left-false (b == 39) (b == 0) rest in
-    let z = or-right-false (b == 39) (b == 0) rest in
+    let (a, rest) = or_parts (b == 38) ((b == 39) || (b == 0)) h in
+    let (q, z) = or_parts (b == 39) (b == 0) rest in
     let no-one : has b ≡ false = ap (λ x. x || ((b == 38) || (b == 39))) p ∙ ap (λ x. x || (b == 39)) a ∙ q in
     let e : address_byte b ≡ 37 ∷ hex_digit (b / 16) ∷ hex_digit (b % 16) ∷ [] = ap (λ x. cond x (b ∷ []) (encoded (b == 0) b)) no-one ∙ ap (λ x. encoded x b) z in
     ap (flat_map quoted_byte) e ∙ ap (λ x. 37 ∷ (x ++ (quoted_byte (hex_digit (b % 16)) ++ []))) (quoted-hex (b / 16)) ∙ ap (λ x. 37 ∷ hex_digit (b / 16) ∷ (x ++ [])) (quoted-hex (b % 16))

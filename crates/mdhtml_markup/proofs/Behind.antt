@@ -3,6 +3,8 @@ use Rattle.std.proofs.Common.{◌≡◌, ℕ, List, [], ◌∷◌, ◌++◌, tak
 use Rattle.std.specs.Char.{is_ascii_alphanumeric, is_ascii_digit, is_ascii_whitespace}
 use Rattle.std.specs.List.{list_all, prefix_len, take_while}
 use Rattle.std.specs.Prelude.{◌==◌, ◌&&◌, not, ⊤, Bool, true, false, bytes_eq, cond, codes, option_and_then}
+use Rattle.std.proofs.lemmas.Bool.{and_from, and_parts, false≢true}
+use Rattle.std.proofs.lemmas.Option.{none-some}
 use Rattle.std.proofs.lemmas.Bool.Decides.{Decides-eqb}
 use Rattle.std.proofs.lemmas.List.{take-append-drop}
 use Rattle.std.proofs.lemmas.List.Sums.{take_while-cons}
@@ -16,7 +18,7 @@ use Rattle.mdhtml_markup.specs.declared.elements.Element.TheVariants.{Anchor, Bl
 use Rattle.mdhtml_markup.specs.SafeChecks.{behind_attribute, behind_attributes, behind_name, behind_value, elements, front_of, named, tag_end}
 use Rattle.mdhtml_markup.specs.SafeHtml as safe
 use Rattle.mdhtml_markup.specs.SafeHtml.{AreAttributes, attribute_name, attributes_of, behind, entity_at, is_address_byte, is_allowed, is_language, is_mark, is_safe_address, is_text, is_text_byte, is_value, is_void, name_of, quoted, undone}
-use Rattle.mdhtml_markup.proofs.Bools.{Then, and-both, and-left, and-right, is-other, no, none-some, other-by}
+use Rattle.mdhtml_markup.proofs.Bools.{Then, is-other, other-by}
 
 -- ---- fronts
 
@@ -65,22 +67,22 @@ text-other b l h = ap not (other-by (b == 34) (is_text_byte b l) (is_text_byte 3
 text-others : (t : List ℕ) → is_text t ≡ true → list_all other t ≡ true
 text-others [] h = refl
 text-others (b ∷ bs) h =
-    and-both (other b) (list_all other bs) (text-other b bs (and-left (is_text_byte b bs) (is_text bs) h)) (text-others bs (and-right (is_text_byte b bs) (is_text bs) h))
+    and_from (other b) (list_all other bs) (text-other b bs (and_parts (is_text_byte b bs) (is_text bs) h).0) (text-others bs (and_parts (is_text_byte b bs) (is_text bs) h).1)
 
 digits-others : (t : List ℕ) → list_all is_ascii_digit t ≡ true → list_all other t ≡ true
 digits-others [] h = refl
 digits-others (b ∷ bs) h =
-    and-both (other b) (list_all other bs) (ap not (is-other is_ascii_digit b 34 refl (and-left (is_ascii_digit b) (list_all is_ascii_digit bs) h)))
-    (digits-others bs (and-right (is_ascii_digit b) (list_all is_ascii_digit bs) h))
+    and_from (other b) (list_all other bs) (ap not (is-other is_ascii_digit b 34 refl (and_parts (is_ascii_digit b) (list_all is_ascii_digit bs) h).0))
+    (digits-others bs (and_parts (is_ascii_digit b) (list_all is_ascii_digit bs) h).1)
 
 language-others : (v : List ℕ) (o : Option (List ℕ)) → behind (codes "language-") v ≡ o
     → elim o as (λ _. Bool) [ None ↦ false | Some word ↦ is_text word && list_all (λ b. not (is_ascii_whitespace b)) word ] ≡ true → list_all other v ≡ true
-language-others v None e h = absurd (no h)
+language-others v None e h = absurd (false≢true h)
 language-others v (Some word) e h =
-    ap (list_all other) (behind-is (codes "language-") v word e) ∙ text-others word (and-left (is_text word) (list_all (λ b. not (is_ascii_whitespace b)) word) h)
+    ap (list_all other) (behind-is (codes "language-") v word e) ∙ text-others word (and_parts (is_text word) (list_all (λ b. not (is_ascii_whitespace b)) word) h).0
 
 address-others : (at : Place) (v : List ℕ) → is_safe_address at v ≡ true → list_all other v ≡ true
-address-others at v h = text-others v (and-left (is_text v) (list_all is_address_byte (undone v) && is_allowed at (undone v)) h)
+address-others at v h = text-others v (and_parts (is_text v) (list_all is_address_byte (undone v) && is_allowed at (undone v)) h).0
 
 value-others : (a : AttributeName) (v : List ℕ) → is_value a v ≡ true → list_all other v ≡ true
 value-others name.Alt v h = text-others v h
@@ -100,12 +102,12 @@ drop-by p b bs h = grind (arith, h)
 pub take-front : (p : ℕ → Bool) (v l : List ℕ) → list_all p v ≡ true → prefix_len p l ≡ 0 → take_while p (v ++ l) ≡ v
 take-front p [] l h e = ap (λ n. take n l) e
 take-front p (b ∷ bs) l h e =
-    take-by p b (bs ++ l) (and-left (p b) (list_all p bs) h) ∙ ap (λ (x : List ℕ). b ∷ x) (take-front p bs l (and-right (p b) (list_all p bs) h) e)
+    take-by p b (bs ++ l) (and_parts (p b) (list_all p bs) h).0 ∙ ap (λ (x : List ℕ). b ∷ x) (take-front p bs l (and_parts (p b) (list_all p bs) h).1 e)
 
 pub drop-front : (p : ℕ → Bool) (v l : List ℕ) → list_all p v ≡ true → prefix_len p l ≡ 0 → drop (prefix_len p (v ++ l)) (v ++ l) ≡ l
 drop-front p [] l h e = ap (λ n. drop n l) e
 drop-front p (b ∷ bs) l h e =
-    drop-by p b (bs ++ l) (and-left (p b) (list_all p bs) h) ∙ drop-front p bs l (and-right (p b) (list_all p bs) h) e
+    drop-by p b (bs ++ l) (and_parts (p b) (list_all p bs) h).0 ∙ drop-front p bs l (and_parts (p b) (list_all p bs) h).1 e
 
 -- what is read of a value
 record Valued (a : AttributeName) (l : List ℕ) (P : List ℕ → Type 0) : Type 0 where
@@ -289,7 +291,7 @@ named-by true e es n f k h more = (bytes_eq-Decides n (name_of e)).0 k ∙ some-
 named-by false e es n f k h more = more h
 
 pub named-is : (es : List Element) (n : List ℕ) (f : Element) → named es n ≡ Some f → n ≡ name_of f
-named-is [] n f h = absurd (none-some h)
+named-is [] n f h = absurd (none-some f h)
 named-is (e ∷ es) n f h = named-by (bytes_eq n (name_of e)) e es n f refl h (named-is es n f)
 
 pub named-read : (e : Element) → named elements (name_of e) ≡ Some e

@@ -2,12 +2,12 @@
 use Rattle.std.proofs.Common.{◌≡◌, ◌≢◌, ℕ, zero, suc, ◌+◌, ◌-◌, ◌<◌, Bor, List, [], ◌∷◌, ◌++◌, get_or, length, length-drop, take, drop, ap, sym, refl, ◌∙◌, arith, Option, None, Some, Result, Ok, Err}
 use Rattle.std.specs.Option.{MatchOption}
 use Rattle.std.specs.Prelude.{◌↔◌, Bool, true, false, IfOk, option_map}
+use Rattle.std.proofs.lemmas.Option.{none-some}
 use Rattle.std.proofs.lemmas.Bool.Decides.{Decides-eqb}
 use Rattle.std.proofs.lemmas.List.{take_all}
 use Rattle.mdhtml_markup.specs.declared.elements.Element.{Element}
 use Rattle.mdhtml_markup.specs.SafeChecks.{behind_mark, is_safe_behind, is_safe_html}
 use Rattle.mdhtml_markup.specs.SafeHtml.{Entity, IsSafeHtml, behind, entity_at, undone, undone_from}
-use Rattle.mdhtml_markup.proofs.Bools.{none-some}
 use Rattle.mdhtml_markup.proofs.Tested.{mark-shorter, mark-step, safe-html-tested}
 use Rattle.mdhtml_markup.proofs.Behind.{behind-front, behind-is}
 
@@ -50,7 +50,7 @@ abbrev read_of : Entity → ℕ × ℕ
 read_of e = (e.1, length e.0)
 
 entity-by : (o : Option Entity) (b byte size : ℕ) (bs : List ℕ) → option_map read_of o ≡ Some (byte, size) → read_by true o b bs ≡ byte ∷ undone (drop size bs)
-entity-by None b byte size bs h = absurd (none-some h)
+entity-by None b byte size bs h = absurd (none-some (byte, size) h)
 entity-by (Some e) b byte size bs h =
     ap (λ (x : List ℕ). e.1 ∷ x) (undone-behind (length e.0) bs) ∙ ap (λ (x : ℕ). x ∷ undone (drop (length e.0) bs)) (ap byte_of h) ∙ ap (λ n. byte ∷ undone (drop n bs)) (ap size_of h)
 

@@ -1,6 +1,7 @@
 -- HTML whose tree is read as it is written is safe.
 use Rattle.std.proofs.Common.{◌≡◌, ℕ, List, [], ◌∷◌, ◌++◌, ap, sym, refl, subst, ◌∙◌, append_assoc, append-nil, Option, None, Some}
 use Rattle.std.specs.Prelude.{◌==◌, not, ⊤, Bool, true, false, cond, is_some}
+use Rattle.std.proofs.lemmas.Bool.{false≢true}
 use Rattle.mdhtml_markup.specs.declared.elements.AttributeName.{AttributeName}
 use Rattle.mdhtml_markup.specs.declared.elements.Element.{Element}
 use Rattle.mdhtml_markup.specs.declared.elements.Element.TheVariants.{Anchor, BlockQuote, Break, Code, Emphasis, Heading1, Heading2, Heading3, Heading4, Heading5, Heading6, Image, ListItem, OrderedList, Paragraph, Preformatted, Strong, ThematicBreak, UnorderedList}
@@ -9,18 +10,17 @@ use Rattle.mdhtml_markup.specs.Flow.{AreGiven, BeforeCode, BehindCode, Blocks, I
 use Rattle.mdhtml_markup.specs.Laws.{FlowIsSafe}
 use Rattle.mdhtml_markup.specs.SafeHtml as safe
 use Rattle.mdhtml_markup.specs.SafeHtml.{AreAttributes, Entity, IsSafeHtml, attributes_of, behind, close_tag, entities, entity_among, entity_at, holds_blocks, holds_items, is_mark, is_text_byte, open_tag, stands_in, void_tag}
-use Rattle.mdhtml_markup.proofs.Bools.{no}
 
 -- ---- text stays text in front of more
 
 more-by : (c : Bool) (front l r : List ℕ) → is_some (cond c (behind front l) None) ≡ true → (is_some (behind front l) ≡ true → is_some (behind front (l ++ r)) ≡ true)
     → is_some (cond c (behind front (l ++ r)) None) ≡ true
 more-by true front l r h f = f h
-more-by false front l r h f = absurd (no h)
+more-by false front l r h f = absurd (false≢true h)
 
 behind-more : (front l r : List ℕ) → is_some (behind front l) ≡ true → is_some (behind front (l ++ r)) ≡ true
 behind-more [] l r h = refl
-behind-more (f ∷ front) [] r h = absurd (no h)
+behind-more (f ∷ front) [] r h = absurd (false≢true h)
 behind-more (f ∷ front) (b ∷ l) r h = more-by (f == b) front l r h (behind-more front l r)
 
 among-by : (c d : Bool) (e : Entity) (o p : Option Entity) → is_some (cond c (Some e) o) ≡ true → (c ≡ true → d ≡ true) → (is_some o ≡ true → is_some p ≡ true)
@@ -30,7 +30,7 @@ among-by false true e o p h f g = refl
 among-by false false e o p h f g = g h
 
 among-more : (es : List Entity) (l r : List ℕ) → is_some (entity_among es l) ≡ true → is_some (entity_among es (l ++ r)) ≡ true
-among-more [] l r h = absurd (no h)
+among-more [] l r h = absurd (false≢true h)
 among-more (e ∷ es) l r h =
     among-by (is_some (behind e.0 l)) (is_some (behind e.0 (l ++ r))) e (entity_among es l) (entity_among es (l ++ r)) h (behind-more e.0 l r) (among-more es l r)
 
@@ -38,7 +38,7 @@ text-by : (c : Bool) (b : ℕ) (l r : List ℕ) → cond c (is_some (entity_at l
 text-by true b l r h = among-more entities l r h
 text-by false b l r h = h
 
-text-more : (b : ℕ) (l r : List ℕ) → is_text_byte b l ≡ true → is_text_byte b (l ++ r) ≡ true
+pub text-more : (b : ℕ) (l r : List ℕ) → is_text_byte b l ≡ true → is_text_byte b (l ++ r) ≡ true
 text-more b l r h = text-by (b == 38) b l r h
 
 -- ---- an element stands where it may
@@ -50,24 +50,24 @@ Fits Items tags = holds_items tags ≡ true
 Fits m tags = ⊤
 
 item-stands : (m : Model) (tags : List Element) → may_stand m ListItem ≡ true → Fits m tags → stands_in ListItem tags ≡ true
-item-stands Blocks tags h f = absurd (no h)
-item-stands (Phrases true) tags h f = absurd (no h)
-item-stands (Phrases false) tags h f = absurd (no h)
+item-stands Blocks tags h f = absurd (false≢true h)
+item-stands (Phrases true) tags h f = absurd (false≢true h)
+item-stands (Phrases false) tags h f = absurd (false≢true h)
 item-stands Items tags h f = f
-item-stands BeforeCode tags h f = absurd (no h)
-item-stands BehindCode tags h f = absurd (no h)
-item-stands Words tags h f = absurd (no h)
+item-stands BeforeCode tags h f = absurd (false≢true h)
+item-stands BehindCode tags h f = absurd (false≢true h)
+item-stands Words tags h f = absurd (false≢true h)
 
 -- an element that stands among blocks alone
 block-stands : (m : Model) (e : Element) (tags : List Element) → may_stand (Phrases true) e ≡ false → may_stand (Phrases false) e ≡ false → may_stand Items e ≡ false → may_stand BeforeCode e ≡ false
     → may_stand m e ≡ true → Fits m tags → holds_blocks tags ≡ true
 block-stands Blocks e tags p q i c h f = f
-block-stands (Phrases true) e tags p q i c h f = absurd (no (sym p ∙ h))
-block-stands (Phrases false) e tags p q i c h f = absurd (no (sym q ∙ h))
-block-stands Items e tags p q i c h f = absurd (no (sym i ∙ h))
-block-stands BeforeCode e tags p q i c h f = absurd (no (sym c ∙ h))
-block-stands BehindCode e tags p q i c h f = absurd (no h)
-block-stands Words e tags p q i c h f = absurd (no h)
+block-stands (Phrases true) e tags p q i c h f = absurd (false≢true (sym p ∙ h))
+block-stands (Phrases false) e tags p q i c h f = absurd (false≢true (sym q ∙ h))
+block-stands Items e tags p q i c h f = absurd (false≢true (sym i ∙ h))
+block-stands BeforeCode e tags p q i c h f = absurd (false≢true (sym c ∙ h))
+block-stands BehindCode e tags p q i c h f = absurd (false≢true h)
+block-stands Words e tags p q i c h f = absurd (false≢true h)
 
 stands : (m : Model) (e : Element) (tags : List Element) → may_stand m e ≡ true → Fits m tags → stands_in e tags ≡ true
 stands m Anchor tags h f = refl

@@ -12,6 +12,8 @@ pub mod FlowSafe
 pub mod Orders
 -- pieces
 pub mod SafeLemmas
+-- text
+pub mod ShownText
 -- safe HTML
 pub mod Tested
 -- text

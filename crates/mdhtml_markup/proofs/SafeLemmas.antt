@@ -4,6 +4,7 @@ use Rattle.std.specs.Char.{is_ascii_whitespace}
 use Rattle.std.specs.Fmt.{decimal}
 use Rattle.std.specs.List.{flat_map, list_all}
 use Rattle.std.specs.Prelude.{Bool, true, false, not, cond, bytes_eq, codes}
+use Rattle.std.proofs.lemmas.Bool.{and_from, false≢true}
 use Rattle.mdhtml_markup.specs.Addresses.{written_address}
 use Rattle.mdhtml_markup.specs.declared.addresses.Place.TheVariants as place
 use Rattle.mdhtml_markup.specs.declared.elements.AttributeName.{AttributeName}
@@ -16,11 +17,11 @@ use Rattle.mdhtml_markup.specs.SafeHtml as safe
 use Rattle.mdhtml_markup.specs.SafeHtml.{AreAttributes, IsSafeHtml, attribute_name, attributes_of, is_language, is_text, is_value, quoted}
 use Rattle.mdhtml_markup.specs.SafePieces.{AreAllowedBy, AreSafe, Closes, IsAllowed, later, name_of_attribute}
 use Rattle.mdhtml_markup.proofs.AddressLemmas.{addresses-safe}
-use Rattle.mdhtml_markup.proofs.Bools.{Then, and-both, no}
+use Rattle.mdhtml_markup.proofs.Bools.{Then}
 use Rattle.mdhtml_markup.proofs.Texts.{decimal-digits, escaped-first, escaped-solid, escaped-text}
 
 -- an attribute by its name and value
-abbrev value_of : Attribute → List ℕ
+abbrev pub value_of : Attribute → List ℕ
 value_of (Alt t) = escaped t
 value_of (Href url) = written_address url
 value_of (Language t) = codes "language-" ++ escaped t
@@ -28,7 +29,7 @@ value_of (Src url) = written_address url
 value_of (Start n) = decimal n
 value_of (Title t) = escaped t
 
-attribute-quoted : (a : Attribute) → attribute a ≡ quoted (name_of_attribute a) (value_of a)
+pub attribute-quoted : (a : Attribute) → attribute a ≡ quoted (name_of_attribute a) (value_of a)
 attribute-quoted (Alt t) = refl
 attribute-quoted (Href url) = refl
 attribute-quoted (Language t) = refl
@@ -36,22 +37,22 @@ attribute-quoted (Src url) = refl
 attribute-quoted (Start n) = refl
 attribute-quoted (Title t) = refl
 
-value-is : (a : Attribute) → IsAllowed a → is_value (name_of_attribute a) (value_of a) ≡ true
+pub value-is : (a : Attribute) → IsAllowed a → is_value (name_of_attribute a) (value_of a) ≡ true
 value-is (Alt t) h = escaped-text t
 value-is (Href url) h = addresses-safe place.Href url h
-value-is (Language t) h = and-both (is_text (escaped t)) (list_all (λ b. not (is_ascii_whitespace b)) (escaped t)) (escaped-text t) (escaped-solid t h)
+value-is (Language t) h = and_from (is_text (escaped t)) (list_all (λ b. not (is_ascii_whitespace b)) (escaped t)) (escaped-text t) (escaped-solid t h)
 value-is (Src url) h = addresses-safe place.Src url h
 value-is (Start n) h = decimal-digits n
 value-is (Title t) h = escaped-text t
 
 -- names that are written the same are the same
 pub same-name : (n m : AttributeName) → bytes_eq (attribute_name n) (attribute_name m) ≡ true → n ≡ m
-same-name name.Alt m h = elim m as (λ x. (bytes_eq (attribute_name name.Alt) (attribute_name x) ≡ true) → name.Alt ≡ x) [ name.Alt ↦ λ e. refl | name.Class ↦ λ e. absurd (no e) | name.Href ↦ λ e. absurd (no e) | name.Src ↦ λ e. absurd (no e) | name.Start ↦ λ e. absurd (no e) | name.Title ↦ λ e. absurd (no e) ] h
-same-name name.Class m h = elim m as (λ x. (bytes_eq (attribute_name name.Class) (attribute_name x) ≡ true) → name.Class ≡ x) [ name.Alt ↦ λ e. absurd (no e) | name.Class ↦ λ e. refl | name.Href ↦ λ e. absurd (no e) | name.Src ↦ λ e. absurd (no e) | name.Start ↦ λ e. absurd (no e) | name.Title ↦ λ e. absurd (no e) ] h
-same-name name.Href m h = elim m as (λ x. (bytes_eq (attribute_name name.Href) (attribute_name x) ≡ true) → name.Href ≡ x) [ name.Alt ↦ λ e. absurd (no e) | name.Class ↦ λ e. absurd (no e) | name.Href ↦ λ e. refl | name.Src ↦ λ e. absurd (no e) | name.Start ↦ λ e. absurd (no e) | name.Title ↦ λ e. absurd (no e) ] h
-same-name name.Src m h = elim m as (λ x. (bytes_eq (attribute_name name.Src) (attribute_name x) ≡ true) → name.Src ≡ x) [ name.Alt ↦ λ e. absurd (no e) | name.Class ↦ λ e. absurd (no e) | name.Href ↦ λ e. absurd (no e) | name.Src ↦ λ e. refl | name.Start ↦ λ e. absurd (no e) | name.Title ↦ λ e. absurd (no e) ] h
-same-name name.Start m h = elim m as (λ x. (bytes_eq (attribute_name name.Start) (attribute_name x) ≡ true) → name.Start ≡ x) [ name.Alt ↦ λ e. absurd (no e) | name.Class ↦ λ e. absurd (no e) | name.Href ↦ λ e. absurd (no e) | name.Src ↦ λ e. absurd (no e) | name.Start ↦ λ e. refl | name.Title ↦ λ e. absurd (no e) ] h
-same-name name.Title m h = elim m as (λ x. (bytes_eq (attribute_name name.Title) (attribute_name x) ≡ true) → name.Title ≡ x) [ name.Alt ↦ λ e. absurd (no e) | name.Class ↦ λ e. absurd (no e) | name.Href ↦ λ e. absurd (no e) | name.Src ↦ λ e. absurd (no e) | name.Start ↦ λ e. absurd (no e) | name.Title ↦ λ e. refl ] h
+same-name name.Alt m h = elim m as (λ x. (bytes_eq (attribute_name name.Alt) (attribute_name x) ≡ true) → name.Alt ≡ x) [ name.Alt ↦ λ e. refl | name.Class ↦ λ e. absurd (false≢true e) | name.Href ↦ λ e. absurd (false≢true e) | name.Src ↦ λ e. absurd (false≢true e) | name.Start ↦ λ e. absurd (false≢true e) | name.Title ↦ λ e. absurd (false≢true e) ] h
+same-name name.Class m h = elim m as (λ x. (bytes_eq (attribute_name name.Class) (attribute_name x) ≡ true) → name.Class ≡ x) [ name.Alt ↦ λ e. absurd (false≢true e) | name.Class ↦ λ e. refl | name.Href ↦ λ e. absurd (false≢true e) | name.Src ↦ λ e. absurd (false≢true e) | name.Start ↦ λ e. absurd (false≢true e) | name.Title ↦ λ e. absurd (false≢true e) ] h
+same-name name.Href m h = elim m as (λ x. (bytes_eq (attribute_name name.Href) (attribute_name x) ≡ true) → name.Href ≡ x) [ name.Alt ↦ λ e. absurd (false≢true e) | name.Class ↦ λ e. absurd (false≢true e) | name.Href ↦ λ e. refl | name.Src ↦ λ e. absurd (false≢true e) | name.Start ↦ λ e. absurd (false≢true e) | name.Title ↦ λ e. absurd (false≢true e) ] h
+same-name name.Src m h = elim m as (λ x. (bytes_eq (attribute_name name.Src) (attribute_name x) ≡ true) → name.Src ≡ x) [ name.Alt ↦ λ e. absurd (false≢true e) | name.Class ↦ λ e. absurd (false≢true e) | name.Href ↦ λ e. absurd (false≢true e) | name.Src ↦ λ e. refl | name.Start ↦ λ e. absurd (false≢true e) | name.Title ↦ λ e. absurd (false≢true e) ] h
+same-name name.Start m h = elim m as (λ x. (bytes_eq (attribute_name name.Start) (attribute_name x) ≡ true) → name.Start ≡ x) [ name.Alt ↦ λ e. absurd (false≢true e) | name.Class ↦ λ e. absurd (false≢true e) | name.Href ↦ λ e. absurd (false≢true e) | name.Src ↦ λ e. absurd (false≢true e) | name.Start ↦ λ e. refl | name.Title ↦ λ e. absurd (false≢true e) ] h
+same-name name.Title m h = elim m as (λ x. (bytes_eq (attribute_name name.Title) (attribute_name x) ≡ true) → name.Title ≡ x) [ name.Alt ↦ λ e. absurd (false≢true e) | name.Class ↦ λ e. absurd (false≢true e) | name.Href ↦ λ e. absurd (false≢true e) | name.Src ↦ λ e. absurd (false≢true e) | name.Start ↦ λ e. absurd (false≢true e) | name.Title ↦ λ e. refl ] h
 
 all-missing : (names : List AttributeName) → AreAttributes names []
 all-missing [] = safe.AreAttributes.none
@@ -79,7 +80,7 @@ allowed-by : (o : Option (List AttributeName)) (a : Attribute) (attributes : Lis
 allowed-by None a attributes h rest = absurd h
 allowed-by (Some more) a attributes h rest = (h.0, rest more h.1)
 
-attributes-are : (attributes : List Attribute) (names : List AttributeName) → AreAllowedBy names attributes → AreAttributes names (flat_map attribute attributes)
+pub attributes-are : (attributes : List Attribute) (names : List AttributeName) → AreAllowedBy names attributes → AreAttributes names (flat_map attribute attributes)
 attributes-are [] names h = all-missing names
 attributes-are (a ∷ attributes) names h =
     let both = allowed-by (later (name_of_attribute a) names) a attributes h (attributes-are attributes) in

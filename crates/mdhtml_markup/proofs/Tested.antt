@@ -3,7 +3,8 @@ use Rattle.std.proofs.Common.{◌≡◌, ℕ, ◌<◌, ◌≤◌, List, [], ◌�
 use Rattle.std.specs.Char.{is_ascii_alphanumeric}
 use Rattle.std.specs.List.{prefix_len, take_while}
 use Rattle.std.specs.Prelude.{zero, suc, ◌==◌, ◌&&◌, Bool, true, false, cond, codes, option_and_then, option_map}
-use Rattle.std.proofs.lemmas.Bool.Decides.{Decides-eqb}
+use Rattle.std.proofs.lemmas.Bool.{and_from, and_parts, false≢true}
+use Rattle.std.proofs.lemmas.Bool.Decides.{Decides-eqb, same_from_decides}
 use Rattle.std.proofs.lemmas.List.{length-append, take-append-drop}
 use Rattle.mdhtml_markup.specs.declared.elements.Element.{Element}
 use Rattle.mdhtml_markup.specs.declared.elements.Element.TheVariants.{Anchor, BlockQuote, Break, Code, Emphasis, Heading1, Heading2, Heading3, Heading4, Heading5, Heading6, Image, ListItem, OrderedList, Paragraph, Preformatted, Strong, ThematicBreak, UnorderedList}
@@ -12,7 +13,7 @@ use Rattle.mdhtml_markup.specs.SafeChecks.{is_safe_behind, Rest, behind_close, b
 use Rattle.mdhtml_markup.specs.SafeHtml as safe
 use Rattle.mdhtml_markup.specs.SafeHtml.{AreAttributes, IsSafeHtml, attributes_of, behind, close_tag, is_text_byte, is_void, name_of, open_tag, stands_in, void_tag}
 use Rattle.mdhtml_markup.proofs.Behind.{behind-front, behind-is, drop-front, ended-then, name-letters, name-read, name-stops, named-is, named-read, take-front}
-use Rattle.mdhtml_markup.proofs.Bools.{Then, and-both, and-left, and-right, no, other-by}
+use Rattle.mdhtml_markup.proofs.Bools.{Then, other-by}
 
 -- ---- what the test passes is safe
 
@@ -101,7 +102,7 @@ mark-then tags l P h = mark-by (behind (codes "/") l) tags l P refl h
 
 -- a test of what there is
 tested-then : (o : Option Rest) (f : Rest → Bool) → elim o as (λ _. Bool) [ None ↦ false | Some rest ↦ f rest ] ≡ true → Then o (λ rest. f rest ≡ true)
-tested-then None f h = absurd (no h)
+tested-then None f h = absurd (false≢true h)
 tested-then (Some rest) f h = h
 
 byte-by : (c : Bool) (n : ℕ) (tags : List Element) (b : ℕ) (l : List ℕ) → (b == 60) ≡ c
@@ -111,15 +112,15 @@ byte-by : (c : Bool) (n : ℕ) (tags : List Element) (b : ℕ) (l : List ℕ) �
     ] ≡ true
     → ((o : List Element) (r : List ℕ) → is_safe_below n o r ≡ true → IsSafeHtml o r) → IsSafeHtml tags (b ∷ l)
 byte-by false n tags b l e h more =
-    safe.IsSafeHtml.text tags b l refl (and-left (is_text_byte b l) (is_safe_below n tags l) h) (more tags l (and-right (is_text_byte b l) (is_safe_below n tags l) h))
+    safe.IsSafeHtml.text tags b l refl (and_parts (is_text_byte b l) (is_safe_below n tags l) h).0 (more tags l (and_parts (is_text_byte b l) (is_safe_below n tags l) h).1)
 byte-by true n tags b l e h more =
     let it = mark-then tags l (λ rest. is_safe_below n rest.0 rest.1 ≡ true) (tested-then (behind_mark tags l) (λ rest. is_safe_below n rest.0 rest.1) h) in
     subst (λ (x : ℕ). IsSafeHtml tags (x ∷ l)) (sym ((Decides-eqb b 60).0 e)) (it.safely (more it.rest.0 it.rest.1 it.holds))
 
 tested-safe : (n : ℕ) (tags : List Element) (l : List ℕ) → is_safe_below n tags l ≡ true → IsSafeHtml tags l
-tested-safe zero tags l h = absurd (no h)
+tested-safe zero tags l h = absurd (false≢true h)
 tested-safe (suc n) [] [] h = safe.IsSafeHtml.end
-tested-safe (suc n) (e ∷ tags) [] h = absurd (no h)
+tested-safe (suc n) (e ∷ tags) [] h = absurd (false≢true h)
 tested-safe (suc n) tags (b ∷ l) h = byte-by (b == 60) n tags b l refl h (λ o r k. tested-safe n o r k)
 
 -- ---- and what is safe passes
@@ -176,7 +177,7 @@ text-passes n tags b h e k =
     ap (λ c. elim c as (λ _. Bool) [
       | false ↦ is_text_byte b h && is_safe_below n tags h
       | true ↦ elim (behind_mark tags h) as (λ _. Bool) [ None ↦ false | Some rest ↦ is_safe_below n rest.0 rest.1 ]
-    ]) other ∙ and-both (is_text_byte b h) (is_safe_below n tags h) e k
+    ]) other ∙ and_from (is_text_byte b h) (is_safe_below n tags h) e k
 
 safe-tested : (n : ℕ) (tags : List Element) (l : List ℕ) → IsSafeHtml tags l → length l < n → is_safe_below n tags l ≡ true
 safe-tested zero tags l s k = absurd (omega (arith, k))
@@ -208,15 +209,11 @@ safe-html-tested tags h = (λ k. tested-safe (suc (length h)) tags h k, λ s. sa
 
 -- ---- a step of the test
 
-same-bool : (a b : Bool) → (a ≡ true → b ≡ true) → (b ≡ true → a ≡ true) → a ≡ b
-same-bool true b f g = sym (f refl)
-same-bool false true f g = g refl
-same-bool false false f g = refl
-
 -- any limit that is high enough serves
 enough : (n m : ℕ) (tags : List Element) (l : List ℕ) → length l < n → length l < m → is_safe_below n tags l ≡ is_safe_below m tags l
 enough n m tags l h k =
-    same-bool (is_safe_below n tags l) (is_safe_below m tags l) (λ e. safe-tested m tags l (tested-safe n tags l e) k) (λ e. safe-tested n tags l (tested-safe m tags l e) h)
+    same_from_decides (is_safe_below n tags l) (is_safe_below m tags l) (λ e. tested-safe n tags l e, λ s. safe-tested n tags l s h)
+    (λ e. tested-safe m tags l e, λ s. safe-tested m tags l s k)
 
 pub mark-shorter : (tags : List Element) (l : List ℕ) (o : List Element) (r : List ℕ) → behind_mark tags l ≡ Some (o, r) → length r ≤ length l
 mark-shorter tags l o r e =

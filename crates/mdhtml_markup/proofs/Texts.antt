@@ -4,13 +4,13 @@ use Rattle.std.specs.Char.{is_ascii_digit, is_ascii_whitespace}
 use Rattle.std.specs.Fmt.{decimal, digit_glyph, digits, digits_onto}
 use Rattle.std.specs.List.{list_all}
 use Rattle.std.specs.Prelude.{◌==◌, zero, suc, ◌&&◌, ◌||◌, not, ◌/◌, ◌%◌, Bool, true, false, cond, codes, is_some}
+use Rattle.std.proofs.lemmas.Bool.{and_from, and_parts}
 use Rattle.std.proofs.lemmas.List.{length-append}
 use Rattle.std.proofs.lemmas.List.Folds.{list_all-append}
 use Rattle.mdhtml_markup.specs.declared.elements.Element.{Element}
 use Rattle.mdhtml_markup.specs.Escapes.{escaped, escaped_byte, replacement}
 use Rattle.mdhtml_markup.specs.Laws.{EscapesAreText, EscapesAreShort}
 use Rattle.mdhtml_markup.specs.SafeHtml.{IsSafeHtml, entity_at, is_text, is_text_byte, text}
-use Rattle.mdhtml_markup.proofs.Bools.{and-both, and-left, and-right}
 
 -- what is written of a byte, by the six tests; and whether it is text where it is written itself
 abbrev picked : (a l g q x z : Bool) → ℕ → List ℕ
@@ -27,7 +27,7 @@ text-by false false true q x z b t h m = h
 text-by false false false true x z b t h m = h
 text-by false false false false true z b t h m = h
 text-by false false false false false true b t h m = h
-text-by false false false false false false b t h m = and-both (is_text_byte b t) (is_text t) (sym m) h
+text-by false false false false false false b t h m = and_from (is_text_byte b t) (is_text t) (sym m) h
 
 pub escaped-text : EscapesAreText
 escaped-text [] = refl
@@ -57,7 +57,7 @@ says (b ∷ bs) h = is_text_byte b (bs ++ h) && says bs h
 
 said : (tags : List Element) (w h : List ℕ) → says w h ≡ true → IsSafeHtml tags h → IsSafeHtml tags (w ++ h)
 said tags [] h e s = s
-said tags (b ∷ bs) h e s = text tags b (bs ++ h) refl (and-left (is_text_byte b (bs ++ h)) (says bs h) e) (said tags bs h (and-right (is_text_byte b (bs ++ h)) (says bs h) e) s)
+said tags (b ∷ bs) h e s = text tags b (bs ++ h) refl (and_parts (is_text_byte b (bs ++ h)) (says bs h) e).0 (said tags bs h (and_parts (is_text_byte b (bs ++ h)) (says bs h) e).1 s)
 
 says-by : (a l g q x z : Bool) (b : ℕ) (h : List ℕ) → itself a l g q x z (is_some (entity_at h)) ≡ is_text_byte b h → says (picked a l g q x z b) h ≡ true
 says-by true l g q x z b h m = refl
@@ -66,7 +66,7 @@ says-by false false true q x z b h m = refl
 says-by false false false true x z b h m = refl
 says-by false false false false true z b h m = refl
 says-by false false false false false true b h m = refl
-says-by false false false false false false b h m = and-both (is_text_byte b h) true (sym m) refl
+says-by false false false false false false b h m = and_from (is_text_byte b h) true (sym m) refl
 
 pub escaped-first : (tags : List Element) (t h : List ℕ) → IsSafeHtml tags h → IsSafeHtml tags (escaped t ++ h)
 escaped-first tags [] h s = s
@@ -86,14 +86,14 @@ solid-by false false true q x z b h = refl
 solid-by false false false true x z b h = refl
 solid-by false false false false true z b h = refl
 solid-by false false false false false true b h = refl
-solid-by false false false false false false b h = and-both (solid b) true h refl
+solid-by false false false false false false b h = and_from (solid b) true h refl
 
 pub escaped-solid : (t : List ℕ) → list_all solid t ≡ true → list_all solid (escaped t) ≡ true
 escaped-solid [] h = refl
 escaped-solid (b ∷ bs) h =
-    let here = solid-by (b == 38) (b == 60) (b == 62) (b == 34) (b == 27) (b == 0) b (and-left (solid b) (list_all solid bs) h) in
+    let here = solid-by (b == 38) (b == 60) (b == 62) (b == 34) (b == 27) (b == 0) b (and_parts (solid b) (list_all solid bs) h).0 in
     list_all-append solid (escaped_byte b) (escaped bs)
-    ∙ and-both (list_all solid (escaped_byte b)) (list_all solid (escaped bs)) here (escaped-solid bs (and-right (solid b) (list_all solid bs) h))
+    ∙ and_from (list_all solid (escaped_byte b)) (list_all solid (escaped bs)) here (escaped-solid bs (and_parts (solid b) (list_all solid bs) h).1)
 
 -- numbers are digits
 glyph-digit : (d : ℕ) → d < 10 → is_ascii_digit (digit_glyph false d) ≡ true
@@ -101,7 +101,7 @@ glyph-digit d h = grind (arith, h)
 
 digits-by : (last : Bool) (c : ℕ) (acc more : List ℕ) → is_ascii_digit c ≡ true → list_all is_ascii_digit acc ≡ true → list_all is_ascii_digit more ≡ true
     → list_all is_ascii_digit (cond last (c ∷ acc) more) ≡ true
-digits-by true c acc more m h k = and-both (is_ascii_digit c) (list_all is_ascii_digit acc) m h
+digits-by true c acc more m h k = and_from (is_ascii_digit c) (list_all is_ascii_digit acc) m h
 digits-by false c acc more m h k = k
 
 digits-are : (k n : ℕ) (acc : List ℕ) → list_all is_ascii_digit acc ≡ true → list_all is_ascii_digit (digits_onto k 10 false n acc) ≡ true
@@ -109,7 +109,7 @@ digits-are zero n acc h = h
 digits-are (suc k) n acc h =
     let c = digit_glyph false (n % 10) in
     let m : is_ascii_digit c ≡ true = glyph-digit (n % 10) (omega arith) in
-    digits-by (n / 10 == 0) c acc (digits_onto k 10 false (n / 10) (c ∷ acc)) m h (digits-are k (n / 10) (c ∷ acc) (and-both (is_ascii_digit c) (list_all is_ascii_digit acc) m h))
+    digits-by (n / 10 == 0) c acc (digits_onto k 10 false (n / 10) (c ∷ acc)) m h (digits-are k (n / 10) (c ∷ acc) (and_from (is_ascii_digit c) (list_all is_ascii_digit acc) m h))
 
 pub decimal-digits : (n : ℕ) → list_all is_ascii_digit (decimal n) ≡ true
 unfolding digits

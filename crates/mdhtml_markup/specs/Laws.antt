@@ -11,6 +11,7 @@ use Rattle.mdhtml_markup.specs.Pieces.{Piece, html_from, is_fresh}
 use Rattle.mdhtml_markup.specs.SafeChecks.{is_safe_behind, is_safe_html}
 use Rattle.mdhtml_markup.specs.SafeHtml.{IsSafeHtml, is_allowed, is_safe_address, is_text}
 use Rattle.mdhtml_markup.specs.SafePieces.{AreSafe}
+use Rattle.mdhtml_markup.specs.ShownText.{said_from, text_of}
 
 -- what is written of a text is text, whatever the text is
 abbrev pub EscapesAreText : Type 0
@@ -31,6 +32,10 @@ AllowedAddressesAreSafe = (at : Place) (url : List ℕ) → is_allowed at url �
 -- the bytes of safe pieces are safe HTML
 abbrev pub SafePiecesAreSafeHtml : Type 0
 SafePiecesAreSafeHtml = (fresh : Bool) (tags : List Element) (ps : List Piece) → AreSafe tags ps → IsSafeHtml tags (html_from fresh ps)
+
+-- the text between the tags of safe pieces, with its entities undone, is what they say: nothing is left out, and nothing is read otherwise
+abbrev pub TextIsKept : Type 0
+TextIsKept = (fresh : Bool) (tags : List Element) (ps : List Piece) → AreSafe tags ps → text_of (html_from fresh ps) ≡ said_from fresh ps
 
 -- the bytes of pieces are those of the first ones, and then those of the others, which begin a line if the first ones end one
 abbrev pub PiecesAreWrittenInOrder : Type 0

@@ -16,3 +16,5 @@ pub mod SafeChecks
 pub mod SafeHtml
 -- pieces
 pub mod SafePieces
+-- text
+pub mod ShownText

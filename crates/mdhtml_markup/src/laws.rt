@@ -1,6 +1,6 @@
 //! Laws of text, of addresses and of pieces of HTML. Each is a function that does nothing; its contract is the law.
 
-ghost use Rattle.mdhtml_markup.specs.Laws.{AddressesAreQuoted, AllowedAddressesAreSafe, EscapesAreShort, EscapesAreText, ExamplesAreTested, FlowIsSafe, PiecesAreWrittenInOrder, SafeHtmlIsTested, SafePiecesAreSafeHtml};
+ghost use Rattle.mdhtml_markup.specs.Laws.{AddressesAreQuoted, AllowedAddressesAreSafe, EscapesAreShort, EscapesAreText, ExamplesAreTested, FlowIsSafe, PiecesAreWrittenInOrder, SafeHtmlIsTested, SafePiecesAreSafeHtml, TextIsKept};
 
 /// What is written of a text is text, with no marks, whatever the text is, and at most six times as long.
 pub fn escapes_are_text()
@@ -37,4 +37,9 @@ pub fn flow_is_safe()
 /// Examples of HTML that is safe, and of HTML that is not.
 pub fn examples_are_tested()
     ensures { ExamplesAreTested }
+{}
+
+/// The text between the tags of safe pieces is what they say.
+pub fn text_is_kept()
+    ensures { TextIsKept }
 {}
