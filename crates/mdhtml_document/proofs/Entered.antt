@@ -1,0 +1,166 @@
+-- Spans that are entered: the lists of a document go with its events, and each event is one step of the walk.
+use Rattle.std.proofs.Common.{◌≡◌, ℕ, suc, List, [], ◌∷◌, ◌++◌, drop, ap, sym, refl, ◌∙◌, Option, None, Some}
+use Rattle.std.specs.Prelude.{⊤, ◌&&◌, Bool, true, false, cond}
+use denote.Enum.Bare.{same_true}
+use Rattle.markdown_base.specs.contracts.event.Name.{the_type}
+use Rattle.markdown_base.specs.declared.configuration.CompileOptions.{CompileOptions}
+use Rattle.markdown_base.specs.declared.event.Event.{Event}
+use Rattle.markdown_base.specs.declared.event.Kind.TheVariants.{Enter, Exit}
+use Rattle.markdown_base.specs.declared.event.Name.{Name}
+use Rattle.markdown_base.specs.declared.event.Name.TheVariants as name
+use Rattle.markdown_base.specs.Events.{is_enter, same_name}
+use Rattle.markdown_edits.specs.SpanWalks.{is_wanted}
+use Rattle.mdblock_containers.specs.declared.list_shapes.ListShape.{ListShape}
+use Rattle.mdblock_containers.specs.Lists.{is_loose, list_names, list_start}
+use Rattle.mdblock_containers.specs.ListShapes.{shape_of, shapes_from}
+use Rattle.mdhtml_document.specs.declared.links.Whole.{Whole}
+use Rattle.mdhtml_document.specs.declared.names.Block.{Block}
+use Rattle.mdhtml_document.specs.declared.names.Block.TheVariants as block
+use Rattle.mdhtml_document.specs.declared.shapes.Mode.{Mode}
+use Rattle.mdhtml_document.specs.declared.shapes.Mode.TheVariants as mode
+use Rattle.mdhtml_document.specs.Frames.{AreListsOf, Open, closed_of, is_list, list_at, lists_behind, lookup_of, loose_of, mode_of, start_of}
+use Rattle.mdhtml_document.specs.Written.{after}
+use Rattle.mdhtml_document.specs.Html.{Shape, block_shape, shape_by}
+use Rattle.mdhtml_document.specs.Names.{block_of, blocks_by_name, named}
+use Rattle.mdhtml_document.specs.Walks.{Entered, alt_from, shape_at, shape_in, walked, walked_in}
+use Rattle.mdhtml_document.proofs.Walked.{enter-walked, exit-walked}
+use Rattle.mdhtml_document.proofs.Written.{after-append}
+use Rattle.mddocument_link_targets.specs.declared.strings.Reading.TheVariants.{Decoded}
+use Rattle.mddocument_link_targets.specs.declared.targets.Parts.{Parts}
+use Rattle.mddocument_link_targets.specs.Spans.{inside}
+use Rattle.mddocument_link_targets.specs.Strings.{given_at}
+
+-- ---- the list that is entered
+
+abbrev at_by : Bool → List ListShape → Option ListShape
+at_by c [] = None
+at_by c (l ∷ ls) = cond c (Some l) None
+
+abbrev behind_by : Bool → List ListShape → List ListShape
+behind_by c [] = []
+behind_by c (l ∷ ls) = cond c ls (l ∷ ls)
+
+at-is : (lists : List ListShape) (e : Event) → list_at lists e ≡ at_by (is_list e) lists
+at-is [] e = refl
+at-is (l ∷ ls) e = refl
+
+behind-is : (lists : List ListShape) (e : Event) → lists_behind lists e ≡ behind_by (is_list e) lists
+behind-is [] e = refl
+behind-is (l ∷ ls) e = refl
+
+-- the lists from an event on, if it enters one or not
+abbrev lists_by : Bool → (first : ListShape) → (rest : List ListShape) → List ListShape
+lists_by c first rest = cond c (first ∷ rest) rest
+
+none-behind : (rest : List ListShape) → behind_by false rest ≡ rest
+none-behind [] = refl
+none-behind (l ∷ ls) = refl
+
+none-at : (rest : List ListShape) → at_by false rest ≡ None
+none-at [] = refl
+none-at (l ∷ ls) = refl
+
+behind-of : (c : Bool) (first : ListShape) (rest : List ListShape) → behind_by c (lists_by c first rest) ≡ rest
+behind-of true first rest = refl
+behind-of false first rest = none-behind rest
+
+at-of : (c : Bool) (first : ListShape) (rest : List ListShape) → at_by c (lists_by c first rest) ≡ cond c (Some first) None
+at-of true first rest = refl
+at-of false first rest = none-at rest
+
+step-by : (c : Bool) (bytes : List ℕ) (at : ℕ) (es : List Event) (rest : List ListShape)
+    → elim (cond c (Some es) None) as (λ (_ : Option (List Event)). List ListShape) [ None ↦ rest | Some inner ↦ shape_of bytes at inner ∷ rest ] ≡ lists_by c (shape_of bytes at es) rest
+step-by true bytes at es rest = refl
+step-by false bytes at es rest = refl
+
+shapes-step : (bytes : List ℕ) (at : ℕ) (e : Event) (es : List Event) → shapes_from bytes at (e ∷ es) ≡ lists_by (is_list e) (shape_of bytes at es) (shapes_from bytes (suc at) es)
+shapes-step bytes at e es = step-by (is_list e) bytes at es (shapes_from bytes (suc at) es)
+
+pub lists-step : (bytes : List ℕ) (lists : List ListShape) (e : Event) (es : List Event) → AreListsOf bytes lists (e ∷ es) → AreListsOf bytes (lists_behind lists e) es
+lists-step bytes lists e es h =
+    record {
+      at = suc h.at;
+      are = behind-is lists e ∙ ap (behind_by (is_list e)) (h.are ∙ shapes-step bytes h.at e es) ∙ behind-of (is_list e) (shape_of bytes h.at es) (shapes_from bytes (suc h.at) es);
+    }
+
+list-at : (bytes : List ℕ) (lists : List ListShape) (e : Event) (es : List Event) (h : AreListsOf bytes lists (e ∷ es)) → list_at lists e ≡ cond (is_list e) (Some (shape_of bytes h.at es)) None
+list-at bytes lists e es h =
+    at-is lists e ∙ ap (at_by (is_list e)) (h.are ∙ shapes-step bytes h.at e es) ∙ at-of (is_list e) (shape_of bytes h.at es) (shapes_from bytes (suc h.at) es)
+
+pub exit-lists : (bytes : List ℕ) (lists : List ListShape) (e : Event) (es : List Event) → e.kind ≡ Exit → AreListsOf bytes lists (e ∷ es) → AreListsOf bytes lists es
+exit-lists bytes lists e es exits h =
+    record {
+      at = suc h.at;
+      are = h.are ∙ shapes-step bytes h.at e es ∙ ap (λ k. lists_by (is_enter k && is_wanted list_names e.name) (shape_of bytes h.at es) (shapes_from bytes (suc h.at) es)) exits;
+    }
+
+-- ---- what is said of a list matters of lists alone
+
+abbrev EachNamed : {A : Type 0} → (P : A → Type 0) → Name → List (Name × A) → Type 0
+EachNamed P n [] = ⊤
+EachNamed P n (p ∷ ps) = (same_name n p.0 ≡ true → P p.1) × EachNamed P n ps
+
+named-by : {A : Type 0} (P : A → Type 0) (c : Bool) (x y : A) → (c ≡ true → P x) → P y → P (cond c x y)
+named-by P true x y h k = h refl
+named-by P false x y h k = k
+
+named-each : {A : Type 0} (P : A → Type 0) (ps : List (Name × A)) (other : A) (n : Name) → EachNamed P n ps → P other → P (named ps other n)
+named-each P [] other n h k = k
+named-each P (p ∷ ps) other n h k = named-by P (same_name n p.0) p.1 (named ps other n) h.0 (named-each P ps other n h.1 k)
+
+no-list : {A : Type 0} (n m : Name) → is_wanted list_names n ≡ false → is_wanted list_names m ≡ true → same_name n m ≡ true → A
+no-list n m h k same = absurd (no (sym k ∙ ap (is_wanted list_names) (sym (same_true the_type tt n m same)) ∙ h))
+  where
+    no : true ≡ false → ⊥
+    no e = cc
+
+module _ (options : CompileOptions) (bytes : List ℕ) (lookup : (label : List ℕ) → Option Parts) (tab : ℕ) where
+  block-unlisted : (tight : Bool) (n : Name) (es : List Event) (l m : Bool) (s t : Option ℕ) → is_wanted list_names n ≡ false
+      → block_shape options bytes lookup tab tight (block_of n) es l s ≡ block_shape options bytes lookup tab tight (block_of n) es m t
+  block-unlisted tight n es l m s t h =
+      named-each (λ b. block_shape options bytes lookup tab tight b es l s ≡ block_shape options bytes lookup tab tight b es m t) blocks_by_name block.Other n
+      (λ _. refl, (λ _. refl, (λ _. refl, (λ _. refl, (λ _. refl, (λ _. refl, (λ e. no-list n name.ListUnordered h refl e, (λ e. no-list n name.ListOrdered h refl e, (λ _. refl, (λ _. refl, (λ _. refl, (λ _. refl, (λ _. refl, tt)))))))))))))
+      refl
+
+  unlisted : (w : Mode) (n : Name) (es : List Event) (l m : Bool) (s t : Option ℕ) (said alt : List ℕ) → is_wanted list_names n ≡ false
+      → shape_by options bytes lookup tab w n es l s said alt ≡ shape_by options bytes lookup tab w n es m t said alt
+  unlisted mode.Flow n es l m s t said alt h = block-unlisted false n es l m s t h
+  unlisted mode.Tight n es l m s t said alt h = block-unlisted true n es l m s t h
+  unlisted mode.LooseItems n es l m s t said alt h = refl
+  unlisted mode.TightItems n es l m s t said alt h = refl
+  unlisted mode.Heading n es l m s t said alt h = refl
+  unlisted mode.Text n es l m s t said alt h = refl
+  unlisted mode.Nothing n es l m s t said alt h = refl
+
+  listed-by : (c : Bool) (w : Mode) (n : Name) (at : ℕ) (es inner : List Event) (said alt : List ℕ) → is_wanted list_names n ≡ c
+      → shape_by options bytes lookup tab w n inner (loose_of (cond c (Some (shape_of bytes at es)) None)) (start_of (cond c (Some (shape_of bytes at es)) None)) said alt
+      ≡ shape_by options bytes lookup tab w n inner (is_loose es) (list_start bytes es) said alt
+  listed-by true w n at es inner said alt h = refl
+  listed-by false w n at es inner said alt h = unlisted w n inner false (is_loose es) None (list_start bytes es) said alt h
+
+-- ---- steps
+
+pub enter-step : (w : Whole) (os next : List Open) (lists : List ListShape) (e : Event) (es : List Event) (old new : List ℕ) → e.kind ≡ Enter → AreListsOf w.bytes.now lists (e ∷ es)
+    → Entered (shape_in w (mode_of os) (list_at lists e) e es) old new os next
+    → after new (walked_in w next es) ≡ after old (walked_in w os (e ∷ es))
+enter-step w os next lists e es old new enters h entered =
+    let lookup = lookup_of w in
+    let by = λ (list : Option ListShape). shape_by w.options.now w.bytes.now lookup w.tab (mode_of os) e.name (inside es) (loose_of list) (start_of list) (given_at w.bytes.now Decoded e es) (alt_from w.bytes.now 0 (inside es)) in
+    let here = shape_at w.options.now w.bytes.now lookup w.tab (mode_of os) e es in
+    let listed : is_list e ≡ is_wanted list_names e.name = ap (λ k. is_enter k && is_wanted list_names e.name) enters in
+    let same : by (list_at lists e) ≡ here =
+    ap by (list-at w.bytes.now lists e es h ∙ ap (λ c. cond c (Some (shape_of w.bytes.now h.at es)) None) listed)
+    ∙ listed-by w.options.now w.bytes.now lookup w.tab (is_wanted list_names e.name) (mode_of os) e.name h.at es (inside es) (given_at w.bytes.now Decoded e es) (alt_from w.bytes.now 0 (inside es)) refl
+    in
+    let go = λ (s : Shape). after (after old s.opened) (walked_in w (record { mode = s.inside; closed = s.closed } ∷ os) es) in
+    ap (λ (out : List ℕ). after out (walked_in w next es)) entered.written
+    ∙ ap (λ (o : List Open). after (after old (by (list_at lists e)).opened) (walked_in w o es)) entered.stack
+    ∙ ap go same
+    ∙ sym (after-append old here.opened (walked_in w (record { mode = here.inside; closed = here.closed } ∷ os) es))
+    ∙ ap (after old) (sym (enter-walked w.options.now w.bytes.now lookup w.tab os e es enters))
+
+pub exit-step : (w : Whole) (os next : List Open) (e : Event) (es : List Event) (old new : List ℕ) → e.kind ≡ Exit → new ≡ after old (closed_of os) → next ≡ drop 1 os
+    → after new (walked_in w next es) ≡ after old (walked_in w os (e ∷ es))
+exit-step w os next e es old new exits written rest =
+    ap (λ (out : List ℕ). after out (walked_in w next es)) written ∙ ap (λ (o : List Open). after (after old (closed_of os)) (walked_in w o es)) rest
+    ∙ sym (after-append old (closed_of os) (walked_in w (drop 1 os) es)) ∙ ap (after old) (sym (exit-walked w.options.now w.bytes.now (lookup_of w) w.tab os e es exits))

@@ -1,0 +1,503 @@
+-- The HTML of a document is read as the tree that it is written as, where no link is in a link: each tag stands where its element may.
+use Rattle.std.proofs.Common.{◌≡◌, ℕ, List, [], ◌∷◌, ◌++◌, ap, sym, refl, subst, ◌∙◌, Option, None, Some, append_assoc, append-nil}
+use Rattle.std.proofs.lemmas.Bool.{and_parts, false≢true, not-true, or_parts}
+use Rattle.std.specs.Char.{is_ascii_whitespace}
+use Rattle.std.specs.List.{flat_map, take_while}
+use Rattle.std.specs.Prelude.{◌&&◌, ◌||◌, ◌==◌, ⊤, Bool, true, false, cond, codes, not}
+use Rattle.markdown_base.specs.declared.configuration.CompileOptions.{CompileOptions}
+use Rattle.markdown_base.specs.declared.event.Event.{Event}
+use Rattle.markdown_base.specs.declared.event.Name.{Name}
+use Rattle.markdown_base.specs.declared.event.Name.TheVariants as name
+use Rattle.mdblock_containers.specs.Lists.{is_loose, list_start}
+use Rattle.mdhtml_document.specs.declared.names.Block.{Block}
+use Rattle.mdhtml_document.specs.declared.names.Block.TheVariants as block
+use Rattle.mdhtml_document.specs.declared.names.Inline.{Inline}
+use Rattle.mdhtml_document.specs.declared.names.Inline.TheVariants as inline
+use Rattle.mdhtml_document.specs.declared.shapes.Mode.{Mode}
+use Rattle.mdhtml_document.specs.declared.shapes.Mode.TheVariants as mode
+use Rattle.mdhtml_document.specs.Html.{Shape, address_at, alone, autolink, block_shape, blocks, code, container, heading, heading_shape, image_of, inline_shape, item_shape, items, language, length_of_first, line, link_to, ordered, parts_in_link, pieces, raw, setext_rank, shape, shape_by, through, titled, told, within_line}
+use Rattle.mdhtml_document.specs.HtmlLaws.{AreSafeOptions, HtmlIsFlow, are_apart, has_links, has_links_by, is_linked}
+use Rattle.mdhtml_document.specs.Names.{block_of, inline_of}
+use Rattle.mdhtml_document.specs.Spans.{Nothing, Span, Spans, events_of, spans_of}
+use Rattle.mdhtml_document.specs.Values.{alt_of, autolink_address, behind_first_line, code_lines, code_text, html_flow, html_text, is_email, said, title_from}
+use Rattle.mdhtml_document.proofs.Safe.{email-is, href-is, language-is, moved, src-is}
+use Rattle.mdhtml_markup.specs.declared.addresses.Place.TheVariants as place
+use Rattle.mdhtml_markup.specs.declared.elements.AttributeName.{AttributeName}
+use Rattle.mdhtml_markup.specs.declared.elements.Element.{Element}
+use Rattle.mdhtml_markup.specs.declared.elements.Element.TheVariants.{Anchor, BlockQuote, Break, Code, Emphasis, Heading1, Heading2, Heading3, Heading4, Heading5, Heading6, Image, ListItem, OrderedList, Paragraph, Preformatted, Strong, ThematicBreak, UnorderedList}
+use Rattle.mdhtml_markup.specs.Escapes.{escaped}
+use Rattle.mdhtml_markup.specs.Flow as flow
+use Rattle.mdhtml_markup.specs.Flow.{AreGiven, BeforeCode, BehindCode, Blocks, IsContent, Items, Model, Phrases, Words, after, inside, may_be_missing, may_end, may_say, may_stand}
+use Rattle.mdhtml_markup.specs.Pieces.{Alt, Attribute, Close, Feed, Fresh, Href, Kept, Language, Open, Piece, Src, Start, Text, Title, Void, attribute, html_from, is_fresh, written}
+use Rattle.mdhtml_markup.specs.SafeHtml.{attributes_of, is_allowed, is_text, is_text_byte, is_void, open_tag, void_tag}
+use Rattle.mdhtml_markup.specs.SafePieces.{IsAllowed, name_of_attribute}
+use Rattle.mdhtml_markup.proofs.FlowSafe.{text-more}
+use Rattle.mdhtml_markup.proofs.Orders.{written-in-order}
+use Rattle.mdhtml_markup.proofs.SafeLemmas.{attribute-quoted, value-is, value_of}
+use Rattle.mdhtml_markup.proofs.Texts.{escaped-text}
+use Rattle.mddocument_link_targets.specs.declared.targets.Parts.{Parts}
+use Rattle.mddocument_link_targets.specs.Spans.{first_in}
+use Rattle.mddocument_link_targets.specs.Strings.{decoded}
+
+-- ---- content, by pieces
+
+-- pieces, whether a line has just begun or not
+abbrev IsOf : Model → List Piece → Type 0
+IsOf m ps = (fresh : Bool) → IsContent m (html_from fresh ps)
+
+-- where any text may stand
+abbrev Speaks : Model → Type 0
+Speaks m = (b : ℕ) → may_say m b ≡ true
+
+text-first : (m : Model) (w h : List ℕ) → Speaks m → is_text w ≡ true → IsContent m h → IsContent m (w ++ h)
+text-first m [] h s t c = c
+text-first m (b ∷ bs) h s t c =
+    flow.IsContent.text m b (bs ++ h) refl (s b) (text-more b bs h ((and_parts (is_text_byte b bs) (is_text bs) t).0)) (text-first m bs h s ((and_parts (is_text_byte b bs) (is_text bs) t).1) c)
+
+text-of : (m : Model) (t : List ℕ) (k : List Piece) → Speaks m → IsOf m k → IsOf m (Text t ∷ k)
+text-of m t k s rest fresh = text-first m (escaped t) _ s (escaped-text t) (rest _)
+
+-- line feeds may stand wherever text may, and in lists
+abbrev Breaks : Model → Type 0
+Breaks m = may_say m 10 ≡ true
+
+feed-of : (m : Model) (k : List Piece) → Breaks m → IsOf m k → IsOf m (Feed ∷ k)
+feed-of m k s rest fresh = flow.IsContent.text m 10 _ refl s refl (rest _)
+
+fresh-by : (m : Model) (fresh : Bool) (h : List ℕ) → Breaks m → IsContent m h → IsContent m (cond fresh [] (10 ∷ []) ++ h)
+fresh-by m true h s c = c
+fresh-by m false h s c = flow.IsContent.text m 10 h refl s refl c
+
+fresh-of : (m : Model) (k : List Piece) → Breaks m → IsOf m k → IsOf m (Fresh ∷ k)
+fresh-of m k s rest fresh = fresh-by m fresh _ s (rest _)
+
+-- an element with its content
+element-of : (m : Model) (e : Element) (attributes : List Attribute) (inner k : List Piece) → is_void e ≡ false → may_stand m e ≡ true
+    → AreGiven (attributes_of e) (flat_map attribute attributes) → IsOf (inside m e) inner → IsOf (after m) k → IsOf m (Open e attributes ∷ (inner ++ (Close e ∷ k)))
+element-of m e attributes inner k kind stands its content rest fresh =
+    let w = flat_map attribute attributes in
+    let begun = is_fresh fresh (open_tag e w) in
+    flow.IsContent.element m e w (html_from begun inner) _ (ap (λ (x : List ℕ). open_tag e w ++ x) (written-in-order begun inner (Close e ∷ k))) kind stands its (content begun) (rest _)
+
+void-of : (m : Model) (e : Element) (attributes : List Attribute) (k : List Piece) → is_void e ≡ true → may_stand m e ≡ true
+    → AreGiven (attributes_of e) (flat_map attribute attributes) → IsOf (after m) k → IsOf m (Void e attributes ∷ k)
+void-of m e attributes k kind stands its rest fresh = flow.IsContent.void m e (flat_map attribute attributes) _ refl kind stands its (rest _)
+
+-- ---- attributes
+
+all-missing : (a : AttributeName) (names : List AttributeName) → may_be_missing a ≡ true → AreGiven names [] → AreGiven (a ∷ names) []
+all-missing a names m h = flow.AreGiven.missing a names m h
+
+first-given : (a : Attribute) (names : List AttributeName) (more : List ℕ) → IsAllowed a → AreGiven names more → AreGiven (name_of_attribute a ∷ names) (attribute a ++ more)
+first-given a names more allowed rest =
+    flow.AreGiven.given (name_of_attribute a) names (value_of a) more (ap (λ (x : List ℕ). x ++ more) (attribute-quoted a)) (value-is a allowed) rest
+
+titles-given : (title : Option (List ℕ)) → AreGiven (name_of_attribute (Title []) ∷ []) (flat_map attribute (titled title))
+titles-given None = flow.AreGiven.missing _ [] refl flow.AreGiven.none
+titles-given (Some t) = first-given (Title (title_from false t)) [] [] tt flow.AreGiven.none
+
+link-given : (url : List ℕ) (title : Option (List ℕ)) → is_allowed place.Href url ≡ true → AreGiven (attributes_of Anchor) (flat_map attribute (Href url ∷ titled title))
+link-given url title h = first-given (Href url) _ _ h (titles-given title)
+
+image-given : (url alt : List ℕ) (title : Option (List ℕ)) → is_allowed place.Src url ≡ true → AreGiven (attributes_of Image) (flat_map attribute (Src url ∷ (Alt alt ∷ titled title)))
+image-given url alt title h = first-given (Src url) _ _ h (first-given (Alt alt) _ _ tt (titles-given title))
+
+language-given : (bytes : List ℕ) (info : Option (List Event)) → AreGiven (attributes_of Code) (flat_map attribute (language bytes info))
+language-given bytes None = flow.AreGiven.missing _ [] refl flow.AreGiven.none
+language-given bytes (Some info) = first-given (Language (take_while (λ b. not (is_ascii_whitespace b)) (decoded bytes info))) [] [] (language-is bytes (Some info)).0 flow.AreGiven.none
+
+start-given : (one : Bool) (n : ℕ) → AreGiven (attributes_of OrderedList) (flat_map attribute (cond one [] (Start n ∷ [])))
+start-given true n = flow.AreGiven.missing _ [] refl flow.AreGiven.none
+start-given false n = first-given (Start n) [] [] tt flow.AreGiven.none
+
+ordered-given : (n : Option ℕ) → AreGiven (attributes_of OrderedList) (flat_map attribute (ordered n))
+ordered-given None = flow.AreGiven.missing _ [] refl flow.AreGiven.none
+ordered-given (Some n) = start-given (n == 1) n
+
+-- ---- shapes
+
+-- pieces in front of content
+record Flows (m : Model) (ps : List Piece) : Type 0 where
+  front : (k : List Piece) → IsOf m k → IsOf m (ps ++ k)
+
+ended : (m : Model) → may_end m ≡ true → IsOf m []
+ended m e fresh = flow.IsContent.end m e
+
+whole-of : (m : Model) (ps : List Piece) → may_end m ≡ true → Flows m ps → IsOf m ps
+whole-of m ps e kept = subst (IsOf m) (append-nil ps) (kept.front [] (ended m e))
+
+-- text stands among blocks and among text
+abbrev IsText : Model → Type 0
+IsText Blocks = ⊤
+IsText (Phrases in_link) = ⊤
+IsText m = ⊥
+
+-- where spans of a mode stand
+abbrev Suits : Mode → Model → Type 0
+Suits mode.Flow m = m ≡ Blocks
+Suits mode.Tight m = m ≡ Blocks
+Suits mode.LooseItems m = m ≡ Items
+Suits mode.TightItems m = m ≡ Items
+Suits mode.Heading m = m ≡ Phrases false
+Suits mode.Text m = IsText m
+Suits mode.Nothing m = ⊤
+
+abbrev in_link : Model → Bool
+in_link (Phrases linked) = linked
+in_link m = false
+
+-- there is no link among spans that are written in a link
+abbrev IsApart : Mode → Model → (linked : Bool) → Type 0
+IsApart mode.Flow m linked = in_link m ≡ true → linked ≡ false
+IsApart mode.Tight m linked = in_link m ≡ true → linked ≡ false
+IsApart mode.LooseItems m linked = in_link m ≡ true → linked ≡ false
+IsApart mode.TightItems m linked = in_link m ≡ true → linked ≡ false
+IsApart mode.Heading m linked = in_link m ≡ true → linked ≡ false
+IsApart mode.Text m linked = in_link m ≡ true → linked ≡ false
+IsApart mode.Nothing m linked = ⊤
+
+apart-first : (w : Mode) (m : Model) (a b : Bool) → IsApart w m (a || b) → IsApart w m a
+apart-first mode.Flow m a b h = λ e. (or_parts a b (h e)).0
+apart-first mode.Tight m a b h = λ e. (or_parts a b (h e)).0
+apart-first mode.LooseItems m a b h = λ e. (or_parts a b (h e)).0
+apart-first mode.TightItems m a b h = λ e. (or_parts a b (h e)).0
+apart-first mode.Heading m a b h = λ e. (or_parts a b (h e)).0
+apart-first mode.Text m a b h = λ e. (or_parts a b (h e)).0
+apart-first mode.Nothing m a b h = tt
+
+apart-rest : (w : Mode) (m : Model) (a b : Bool) → IsApart w m (a || b) → IsApart w m b
+apart-rest mode.Flow m a b h = λ e. (or_parts a b (h e)).1
+apart-rest mode.Tight m a b h = λ e. (or_parts a b (h e)).1
+apart-rest mode.LooseItems m a b h = λ e. (or_parts a b (h e)).1
+apart-rest mode.TightItems m a b h = λ e. (or_parts a b (h e)).1
+apart-rest mode.Heading m a b h = λ e. (or_parts a b (h e)).1
+apart-rest mode.Text m a b h = λ e. (or_parts a b (h e)).1
+apart-rest mode.Nothing m a b h = tt
+
+-- A shape is content around what is written of the spans in it, which are linked if a link is among them
+record Around (m : Model) (s : Shape) (linked : Bool) : Type 0 where
+  model : Model
+  suits : Suits s.inside model
+  apart : IsApart s.inside model linked
+  around : (inner k : List Piece) → Flows model inner → IsOf m k → IsOf m (s.opened ++ (inner ++ (s.closed ++ k)))
+
+alone-around : (m : Model) (ps : List Piece) (linked : Bool) → Flows m ps → Around m (alone ps) linked
+alone-around m ps linked kept =
+    record { model = m; suits = tt; apart = tt; around = λ inner k fronted rest. kept.front (inner ++ k) (fronted.front k rest) }
+
+nothing-around : (m : Model) (linked : Bool) → Around m (alone []) linked
+nothing-around m linked = alone-around m [] linked (record { front = λ k rest. rest })
+
+through-around : (m : Model) (w : Mode) (linked : Bool) → Suits w m → IsApart w m linked → Around m (through w) linked
+through-around m w linked s a = record { model = m; suits = s; apart = a; around = λ inner k fronted rest. fronted.front k rest }
+
+-- blocks among blocks: what they hold, and that text in them is in no link
+line-around : (e : Element) (w : Mode) (n : Model) (linked : Bool) → is_void e ≡ false → may_stand Blocks e ≡ true → attributes_of e ≡ [] → inside Blocks e ≡ n → may_end n ≡ true
+    → Suits w n → IsApart w n linked → Around Blocks (line e w) linked
+line-around e w n linked kind stands none holds ends suits apart =
+    record {
+      model = n;
+      suits = suits;
+      apart = apart;
+      around = λ inner k fronted rest.
+          fresh-of Blocks (Open e [] ∷ (inner ++ (Close e ∷ Feed ∷ k))) refl
+          (element-of Blocks e [] inner (Feed ∷ k) kind stands (subst (λ (names : List AttributeName). AreGiven names []) (sym none) flow.AreGiven.none)
+          (subst (λ x. IsOf x inner) (sym holds) (whole-of n inner ends fronted)) (feed-of Blocks k refl rest));
+    }
+
+container-around : (e : Element) (attributes : List Attribute) (w : Mode) (n : Model) (linked : Bool) → is_void e ≡ false → may_stand Blocks e ≡ true
+    → AreGiven (attributes_of e) (flat_map attribute attributes) → inside Blocks e ≡ n → may_end n ≡ true → Breaks n → Suits w n → IsApart w n linked
+    → Around Blocks (container e attributes w) linked
+container-around e attributes w n linked kind stands its holds ends breaks suits apart =
+    record {
+      model = n;
+      suits = suits;
+      apart = apart;
+      around = λ inner k fronted rest.
+          let content : IsOf n (Feed ∷ (inner ++ (Fresh ∷ []))) = feed-of n (inner ++ (Fresh ∷ [])) breaks (fronted.front (Fresh ∷ []) (fresh-of n [] breaks (ended n ends))) in
+          let whole = element-of Blocks e attributes (Feed ∷ (inner ++ (Fresh ∷ []))) (Feed ∷ k) kind stands its (subst (λ x. IsOf x (Feed ∷ (inner ++ (Fresh ∷ [])))) (sym holds) content) (feed-of Blocks k refl rest) in
+          fresh-of Blocks (Open e attributes ∷ Feed ∷ (inner ++ (Fresh ∷ Close e ∷ Feed ∷ k))) refl (subst (λ (x : List Piece). IsOf Blocks (Open e attributes ∷ Feed ∷ x)) (append_assoc inner (Fresh ∷ []) (Close e ∷ Feed ∷ k)) whole);
+    }
+
+code-around : (attributes : List Attribute) (t : List ℕ) (linked : Bool) → AreGiven (attributes_of Code) (flat_map attribute attributes) → Around Blocks (code attributes t) linked
+code-around attributes t linked its =
+    let inner : IsOf BeforeCode (Open Code attributes ∷ Text t ∷ Close Code ∷ []) =
+    element-of BeforeCode Code attributes (Text t ∷ []) [] refl refl its (text-of Words t [] (λ b. refl) (ended Words refl)) (ended BehindCode refl) in
+    alone-around Blocks _ linked
+    (record {
+      front = λ k rest.
+          fresh-of Blocks (Open Preformatted [] ∷ Open Code attributes ∷ Text t ∷ Close Code ∷ Close Preformatted ∷ Feed ∷ k) refl
+          (element-of Blocks Preformatted [] (Open Code attributes ∷ Text t ∷ Close Code ∷ []) (Feed ∷ k) refl refl flow.AreGiven.none inner (feed-of Blocks k refl rest));
+    })
+
+-- ---- headings
+
+record IsHeading (e : Element) : Type 0 where
+  kind : is_void e ≡ false
+  stands : may_stand Blocks e ≡ true
+  none : attributes_of e ≡ []
+  holds : inside Blocks e ≡ Phrases false
+
+heading-by : (c : Bool) (d e : Element) → IsHeading d → IsHeading e → IsHeading (cond c d e)
+heading-by true d e p q = p
+heading-by false d e p q = q
+
+heading-is : (rank : ℕ) → IsHeading (heading rank)
+heading-is rank =
+    heading-by (rank == 1) _ _ (record { kind = refl; stands = refl; none = refl; holds = refl })
+    (heading-by (rank == 2) _ _ (record { kind = refl; stands = refl; none = refl; holds = refl })
+    (heading-by (rank == 3) _ _ (record { kind = refl; stands = refl; none = refl; holds = refl })
+    (heading-by (rank == 4) _ _ (record { kind = refl; stands = refl; none = refl; holds = refl })
+    (heading-by (rank == 5) _ _ (record { kind = refl; stands = refl; none = refl; holds = refl }) (record { kind = refl; stands = refl; none = refl; holds = refl })))))
+
+heading-around : (rank : ℕ) (linked : Bool) → Around Blocks (line (heading rank) mode.Heading) linked
+heading-around rank linked =
+    let h = heading-is rank in
+    line-around (heading rank) mode.Heading (Phrases false) linked h.kind h.stands h.none h.holds refl refl (λ e. absurd (false≢true e))
+
+-- ---- text
+
+after-text : (m : Model) → IsText m → after m ≡ m
+after-text Blocks t = refl
+after-text (Phrases in_link) t = refl
+after-text Items t = absurd t
+after-text BeforeCode t = absurd t
+after-text BehindCode t = absurd t
+after-text Words t = absurd t
+
+speaks : (m : Model) → IsText m → Speaks m
+speaks Blocks t b = refl
+speaks (Phrases in_link) t b = refl
+speaks Items t b = absurd t
+speaks BeforeCode t b = absurd t
+speaks BehindCode t b = absurd t
+speaks Words t b = absurd t
+
+-- elements of text stand wherever it does; a link, if that is in no link
+record IsPhrase (e : Element) : Type 0 where
+  stands : (m : Model) → IsText m → may_stand m e ≡ true
+
+phrase-by : (e : Element) → may_stand Blocks e ≡ true → ((in_link : Bool) → may_stand (Phrases in_link) e ≡ true) → IsPhrase e
+phrase-by e b p =
+    record {
+      stands = λ m. elim m as (λ x. IsText x → may_stand x e ≡ true) [
+        | Blocks ↦ λ t. b
+        | Phrases in_link ↦ λ t. p in_link
+        | Items ↦ λ t. absurd t
+        | BeforeCode ↦ λ t. absurd t
+        | BehindCode ↦ λ t. absurd t
+        | Words ↦ λ t. absurd t
+      ];
+    }
+
+link-stands : (m : Model) → IsText m → (in_link m ≡ true → true ≡ false) → may_stand m Anchor ≡ true
+link-stands Blocks t h = refl
+link-stands (Phrases false) t h = refl
+link-stands (Phrases true) t h = absurd (false≢true (sym (h refl)))
+link-stands Items t h = absurd t
+link-stands BeforeCode t h = absurd t
+link-stands BehindCode t h = absurd t
+link-stands Words t h = absurd t
+
+-- an element with text in it; and a void one
+phrase-front : (m : Model) (e : Element) (attributes : List Attribute) (inner : List Piece) → IsText m → is_void e ≡ false → may_stand m e ≡ true
+    → AreGiven (attributes_of e) (flat_map attribute attributes) → IsOf (inside m e) inner → (k : List Piece) → IsOf m k → IsOf m (Open e attributes ∷ (inner ++ (Close e ∷ k)))
+phrase-front m e attributes inner t kind stands its content k rest =
+    element-of m e attributes inner k kind stands its content (subst (λ x. IsOf x k) (sym (after-text m t)) rest)
+
+void-front : (m : Model) (e : Element) (attributes : List Attribute) → IsText m → is_void e ≡ true → may_stand m e ≡ true
+    → AreGiven (attributes_of e) (flat_map attribute attributes) → Flows m (Void e attributes ∷ [])
+void-front m e attributes t kind stands its = record { front = λ k rest. void-of m e attributes k kind stands its (subst (λ x. IsOf x k) (sym (after-text m t)) rest) }
+
+-- text in an element within a line
+within-around : (m : Model) (e : Element) (attributes : List Attribute) (linked within : Bool) → IsText m → is_void e ≡ false → may_stand m e ≡ true
+    → AreGiven (attributes_of e) (flat_map attribute attributes) → inside m e ≡ Phrases within → (within ≡ true → linked ≡ false) → Around m (within_line e attributes) linked
+within-around m e attributes linked within t kind stands its holds apart =
+    record {
+      model = Phrases within;
+      suits = tt;
+      apart = apart;
+      around = λ inner k fronted rest. phrase-front m e attributes inner t kind stands its (subst (λ x. IsOf x inner) (sym holds) (whole-of (Phrases within) inner refl fronted)) k rest;
+    }
+
+-- what emphasis holds is in a link if that is
+phrases-hold : (m : Model) → IsText m → flow.phrases_in m ≡ Phrases (in_link m)
+phrases-hold Blocks t = refl
+phrases-hold (Phrases in_link) t = refl
+phrases-hold Items t = absurd t
+phrases-hold BeforeCode t = absurd t
+phrases-hold BehindCode t = absurd t
+phrases-hold Words t = absurd t
+
+text-flows : (m : Model) (t : List ℕ) → IsText m → Flows m (Text t ∷ [])
+text-flows m t s = record { front = λ k rest. text-of m t k (speaks m s) rest }
+
+code-flows : (m : Model) (t : List ℕ) → IsText m → Flows m (Open Code [] ∷ Text t ∷ Close Code ∷ [])
+code-flows m t s =
+    record {
+      front = phrase-front m Code [] (Text t ∷ []) s refl ((phrase-by Code refl (λ l. refl)).stands m s) (flow.AreGiven.missing _ [] refl flow.AreGiven.none)
+          (text-of Words t [] (λ b. refl) (ended Words refl));
+    }
+
+module _ (options : CompileOptions) (bytes : List ℕ) (lookup : (label : List ℕ) → Option Parts) (tab : ℕ) (safe : AreSafeOptions options) where
+  raw-flows : (m : Model) (h : List ℕ) → IsText m → Flows m (raw options h ∷ [])
+  raw-flows m h s = subst (λ x. Flows m (cond x (Kept h) (Text h) ∷ [])) (sym safe.html) (text-flows m h s)
+
+  link-around : (m : Model) (p : Option Parts) (linked : Bool) → IsText m → (in_link m ≡ true → true ≡ false) → linked ≡ false → Around m (link_to options p) linked
+  link-around m None linked t h apart = through-around m mode.Text linked t (λ e. apart)
+  link-around m (Some parts) linked t h apart =
+      within-around m Anchor (Href (address_at options place.Href parts.destination) ∷ titled parts.title) linked true t refl (link-stands m t h) (link-given (address_at options place.Href parts.destination) parts.title (href-is options bytes lookup tab safe parts.destination)) refl
+      (λ e. apart)
+
+  image-around : (m : Model) (alt : List ℕ) (p : Option Parts) (linked : Bool) → IsText m → Around m (image_of options alt p) linked
+  image-around m alt None linked t = alone-around m _ linked (text-flows m alt t)
+  image-around m alt (Some parts) linked t =
+      alone-around m _ linked
+      (void-front m Image (Src (address_at options place.Src parts.destination) ∷ (Alt alt ∷ titled parts.title)) t refl ((phrase-by Image refl (λ l. refl)).stands m t)
+      (image-given (address_at options place.Src parts.destination) alt parts.title (src-is options bytes lookup tab safe parts.destination)))
+
+  autolink-around : (m : Model) (es : List Event) (linked : Bool) → IsText m → (in_link m ≡ true → true ≡ false) → Around m (autolink options bytes es) linked
+  autolink-around m es linked t h =
+      let address = autolink_address bytes es in
+      let url = cond (is_email es) (codes "mailto:" ++ address) (address_at options place.Href address) in
+      alone-around m _ linked
+      (record {
+        front = phrase-front m Anchor (Href url ∷ []) (Text address ∷ []) t refl (link-stands m t h) (link-given url None (email-is options bytes lookup tab safe (is_email es) address))
+            (text-of (Phrases true) address [] (λ b. refl) (ended (Phrases true) refl));
+      })
+
+  inline-around : (m : Model) (i : Inline) (es : List Event) (said alt : List ℕ) (linked : Bool) → IsText m → (in_link m ≡ true → has_links_by i linked ≡ false)
+      → is_linked i linked ≡ false → Around m (inline_shape options bytes lookup tab i es said alt) linked
+  inline-around m inline.Ending es said alt linked t h a = alone-around m _ linked (record { front = λ k rest. feed-of m k (speaks m t 10) rest })
+  inline-around m inline.Break es said alt linked t h a = alone-around m _ linked (void-front m Break [] t refl ((phrase-by Break refl (λ l. refl)).stands m t) flow.AreGiven.none)
+  inline-around m inline.Emphasis es said alt linked t h a =
+      within-around m Emphasis [] linked (in_link m) t refl ((phrase-by Emphasis refl (λ l. refl)).stands m t) flow.AreGiven.none (phrases-hold m t) h
+  inline-around m inline.Strong es said alt linked t h a =
+      within-around m Strong [] linked (in_link m) t refl ((phrase-by Strong refl (λ l. refl)).stands m t) flow.AreGiven.none (phrases-hold m t) h
+  inline-around m inline.Code es said alt linked t h a = alone-around m _ linked (code-flows m (code_text bytes es) t)
+  inline-around m inline.Html es said alt linked t h a = alone-around m _ linked (raw-flows m (html_text bytes es) t)
+  inline-around m inline.Autolink es said alt linked t h a = autolink-around m es linked t h
+  inline-around m inline.Link es said alt linked t h a = link-around m (parts_in_link bytes lookup es) linked t h a
+  inline-around m inline.Image es said alt linked t h a = image-around m alt (parts_in_link bytes lookup es) linked t
+  inline-around m inline.Tail es said alt linked t h a = nothing-around m linked
+  inline-around m inline.Other es said alt linked t h a =
+      record { model = m; suits = t; apart = h; around = λ inner k fronted rest. text-of m said (inner ++ k) (speaks m t) (fronted.front k rest) }
+
+  blocks-suit : (tight : Bool) → Suits (blocks tight) Blocks
+  blocks-suit true = refl
+  blocks-suit false = refl
+
+  blocks-apart : (tight linked : Bool) → IsApart (blocks tight) Blocks linked
+  blocks-apart true linked = λ e. absurd (false≢true e)
+  blocks-apart false linked = λ e. absurd (false≢true e)
+
+  items-suit : (loose : Bool) → Suits (items loose) Items
+  items-suit true = refl
+  items-suit false = refl
+
+  items-apart : (loose linked : Bool) → IsApart (items loose) Items linked
+  items-apart true linked = λ e. absurd (false≢true e)
+  items-apart false linked = λ e. absurd (false≢true e)
+
+  block-around : (tight : Bool) (b : Block) (es : List Event) (loose : Bool) (start : Option ℕ) (linked : Bool)
+      → Around Blocks (block_shape options bytes lookup tab tight b es loose start) linked
+  block-around true block.Paragraph es loose start linked = through-around Blocks mode.Text linked tt (λ e. absurd (false≢true e))
+  block-around false block.Paragraph es loose start linked = line-around Paragraph mode.Text (Phrases false) linked refl refl refl refl refl tt (λ e. absurd (false≢true e))
+  block-around tight block.HeadingAtx es loose start linked = heading-around (length_of_first name.HeadingAtxSequence es) linked
+  block-around tight block.HeadingSetext es loose start linked = heading-around (setext_rank bytes es) linked
+  block-around tight block.HeadingText es loose start linked = nothing-around Blocks linked
+  block-around tight block.Quote es loose start linked = container-around BlockQuote [] mode.Flow Blocks linked refl refl flow.AreGiven.none refl refl refl refl (λ e. absurd (false≢true e))
+  block-around tight block.Bullets es loose start linked =
+      container-around UnorderedList [] (items loose) Items linked refl refl flow.AreGiven.none refl refl refl (items-suit loose) (items-apart loose linked)
+  block-around tight block.Numbers es loose start linked =
+      container-around OrderedList (ordered start) (items loose) Items linked refl refl (ordered-given start) refl refl refl (items-suit loose) (items-apart loose linked)
+  block-around tight block.Item es loose start linked = through-around Blocks (blocks tight) linked (blocks-suit tight) (blocks-apart tight linked)
+  block-around tight block.Fenced es loose start linked = code-around _ _ linked (language-given bytes (first_in name.CodeFencedFenceInfo es))
+  block-around tight block.Indented es loose start linked = code-around [] _ linked (flow.AreGiven.missing _ [] refl flow.AreGiven.none)
+  block-around tight block.Html es loose start linked =
+      alone-around Blocks _ linked
+      (record { front = λ k rest. fresh-of Blocks (raw options (html_flow bytes tab es) ∷ Fresh ∷ k) refl ((raw-flows Blocks (html_flow bytes tab es) tt).front (Fresh ∷ k) (fresh-of Blocks k refl rest)) })
+  block-around tight block.Rule es loose start linked =
+      alone-around Blocks _ linked
+      (record { front = λ k rest. fresh-of Blocks (Void ThematicBreak [] ∷ Feed ∷ k) refl (void-of Blocks ThematicBreak [] (Feed ∷ k) refl refl flow.AreGiven.none (feed-of Blocks k refl rest)) })
+  block-around tight block.Other es loose start linked = nothing-around Blocks linked
+
+  -- an item, among items
+  item-around : (tight : Bool) (linked : Bool) → Around Items (line ListItem (blocks tight)) linked
+  item-around tight linked =
+      record {
+        model = Blocks;
+        suits = blocks-suit tight;
+        apart = blocks-apart tight linked;
+        around = λ inner k fronted rest.
+            fresh-of Items (Open ListItem [] ∷ (inner ++ (Close ListItem ∷ Feed ∷ k))) refl (element-of Items ListItem [] inner (Feed ∷ k) refl refl flow.AreGiven.none (whole-of Blocks inner refl fronted) (feed-of Items k refl rest));
+      }
+
+  items-around : (tight : Bool) (b : Block) (linked : Bool) → Around Items (item_shape tight b) linked
+  items-around tight block.Item linked = item-around tight linked
+  items-around tight block.Paragraph linked = nothing-around Items linked
+  items-around tight block.HeadingAtx linked = nothing-around Items linked
+  items-around tight block.HeadingSetext linked = nothing-around Items linked
+  items-around tight block.HeadingText linked = nothing-around Items linked
+  items-around tight block.Quote linked = nothing-around Items linked
+  items-around tight block.Bullets linked = nothing-around Items linked
+  items-around tight block.Numbers linked = nothing-around Items linked
+  items-around tight block.Fenced linked = nothing-around Items linked
+  items-around tight block.Indented linked = nothing-around Items linked
+  items-around tight block.Html linked = nothing-around Items linked
+  items-around tight block.Rule linked = nothing-around Items linked
+  items-around tight block.Other linked = nothing-around Items linked
+
+  headings-around : (b : Block) (linked : Bool) → Around (Phrases false) (heading_shape b) linked
+  headings-around block.HeadingText linked = through-around (Phrases false) mode.Text linked tt (λ e. absurd (false≢true e))
+  headings-around block.Paragraph linked = nothing-around (Phrases false) linked
+  headings-around block.HeadingAtx linked = nothing-around (Phrases false) linked
+  headings-around block.HeadingSetext linked = nothing-around (Phrases false) linked
+  headings-around block.Quote linked = nothing-around (Phrases false) linked
+  headings-around block.Bullets linked = nothing-around (Phrases false) linked
+  headings-around block.Numbers linked = nothing-around (Phrases false) linked
+  headings-around block.Item linked = nothing-around (Phrases false) linked
+  headings-around block.Fenced linked = nothing-around (Phrases false) linked
+  headings-around block.Indented linked = nothing-around (Phrases false) linked
+  headings-around block.Html linked = nothing-around (Phrases false) linked
+  headings-around block.Rule linked = nothing-around (Phrases false) linked
+  headings-around block.Other linked = nothing-around (Phrases false) linked
+
+  -- what is written of spans is content, wherever they stand
+  blocks-at : (tight : Bool) (m : Model) (n : Name) (es : List Event) (loose : Bool) (start : Option ℕ) (linked : Bool) → m ≡ Blocks
+      → Around m (block_shape options bytes lookup tab tight (block_of n) es loose start) linked
+  blocks-at tight m n es loose start linked s =
+      subst (λ x. Around x (block_shape options bytes lookup tab tight (block_of n) es loose start) linked) (sym s) (block-around tight (block_of n) es loose start linked)
+
+  items-at : (tight : Bool) (m : Model) (n : Name) (linked : Bool) → m ≡ Items → Around m (item_shape tight (block_of n)) linked
+  items-at tight m n linked s = subst (λ x. Around x (item_shape tight (block_of n)) linked) (sym s) (items-around tight (block_of n) linked)
+
+  shape-around : (w : Mode) (m : Model) (n : Name) (linked : Bool) (es : List Event) (loose : Bool) (start : Option ℕ) (said alt : List ℕ) → Suits w m
+      → IsApart w m (has_links_by (inline_of n) linked) → is_linked (inline_of n) linked ≡ false → Around m (shape_by options bytes lookup tab w n es loose start said alt) linked
+  shape-around mode.Flow m n linked es loose start said alt s a l = blocks-at false m n es loose start linked s
+  shape-around mode.Tight m n linked es loose start said alt s a l = blocks-at true m n es loose start linked s
+  shape-around mode.LooseItems m n linked es loose start said alt s a l = items-at false m n linked s
+  shape-around mode.TightItems m n linked es loose start said alt s a l = items-at true m n linked s
+  shape-around mode.Heading m n linked es loose start said alt s a l = subst (λ x. Around x (heading_shape (block_of n)) linked) (sym s) (headings-around (block_of n) linked)
+  shape-around mode.Text m n linked es loose start said alt s a l = inline-around m (inline_of n) es said alt linked s a l
+  shape-around mode.Nothing m n linked es loose start said alt s a l = nothing-around m linked
+
+  pieces-flow : (w : Mode) (m : Model) (s : Spans) → Suits w m → IsApart w m (has_links s) → are_apart s ≡ true → Flows m (pieces options bytes lookup tab w s)
+  pieces-flow w m Nothing suits apart h = record { front = λ k rest. rest }
+  pieces-flow w m (Span e f s behind) suits apart h =
+      let i = inline_of e.name in
+      let here = shape options bytes lookup tab w e f s in
+      let inner = pieces options bytes lookup tab here.inside s in
+      let outer = pieces options bytes lookup tab w behind in
+      let unlinked = not-true (is_linked i (has_links s)) ((and_parts (not (is_linked i (has_links s))) (are_apart s && are_apart behind) h).0) in
+      let both = (and_parts (not (is_linked i (has_links s))) (are_apart s && are_apart behind) h).1 in
+      let es = events_of s in
+      let it : Around m here (has_links s) = shape-around w m e.name (has_links s) es (is_loose es) (list_start bytes es) (said bytes e f s) (alt_of bytes s) suits (apart-first w m (has_links_by i (has_links s)) (has_links behind) apart) unlinked in
+      let first = pieces-flow here.inside it.model s it.suits it.apart ((and_parts (are_apart s) (are_apart behind) both).0) in
+      let rest = pieces-flow w m behind suits (apart-rest w m (has_links_by i (has_links s)) (has_links behind) apart) ((and_parts (are_apart s) (are_apart behind) both).1) in
+      record { front = λ k more. subst (IsOf m) (sym (moved options bytes lookup tab safe here.opened inner here.closed outer k)) (it.around inner (outer ++ k) first (rest.front k more)) }
+
+pub html-flow : HtmlIsFlow
+html-flow options bytes lookup tab events safe apart =
+    let ps = pieces options bytes lookup tab mode.Flow (spans_of events) in
+    whole-of Blocks ps refl (pieces-flow options bytes lookup tab safe mode.Flow Blocks (spans_of events) refl (λ e. absurd (false≢true e)) apart) true

@@ -1,0 +1,86 @@
+-- The spans of events: their kinds, what is in them, and what is said of them by the events behind an enter.
+use Rattle.std.proofs.Common.{◌≡◌, ℕ, suc, ◌+◌, List, [], ◌∷◌, ◌++◌, length, take, drop, ap, sym, refl, ◌∙◌, append_assoc, length-append, arith}
+use Rattle.std.proofs.Math.Seq.{take-append_seam}
+use Rattle.std.specs.Prelude.{⊤, ◌&&◌, not, true, false, cond}
+use Rattle.markdown_base.specs.declared.event.Event.{Event}
+use Rattle.markdown_base.specs.declared.event.Kind.{Kind}
+use Rattle.markdown_base.specs.declared.event.Kind.TheVariants.{Enter, Exit}
+use Rattle.markdown_base.specs.Events.{is_enter}
+use Rattle.mdhtml_document.specs.Spans.{Nothing, Opened, Outer, Span, Spans, entered, events_of, opened, opened_by}
+use Rattle.mdhtml_document.specs.Values.{said}
+use Rattle.mddocument_link_targets.specs.declared.strings.Reading.TheVariants.{Decoded}
+use Rattle.mddocument_link_targets.specs.Spans.{inside, size_by, size_from}
+use Rattle.mddocument_link_targets.specs.Strings.{given, given_at}
+
+-- each span begins with an enter and ends with an exit
+abbrev pub AreKinded : Spans → Type 0
+AreKinded Nothing = ⊤
+AreKinded (Span e f s behind) = (e.kind ≡ Enter) × (f.kind ≡ Exit) × AreKinded s × AreKinded behind
+
+abbrev pub AreOuter : List Outer → Type 0
+AreOuter [] = ⊤
+AreOuter (o ∷ os) = (o.exit.kind ≡ Exit) × AreKinded o.behind × AreOuter os
+
+abbrev pub IsKinded : Opened → Type 0
+IsKinded o = AreKinded o.inside × AreOuter o.around
+
+entered-kinded : (e : Event) (s : Spans) (os : List Outer) → e.kind ≡ Enter → AreKinded s → AreOuter os → IsKinded (entered e s os)
+entered-kinded e s [] h k o = (tt, tt)
+entered-kinded e s (x ∷ xs) h k o = ((h, o.0, k, o.1), o.2)
+
+step-kinded : (k : Kind) (e : Event) (rest : Opened) → e.kind ≡ k → IsKinded rest → IsKinded (opened_by k e rest)
+step-kinded Enter e rest h r = entered-kinded e rest.inside rest.around h r.0 r.1
+step-kinded Exit e rest h r = (tt, (h, r.0, r.1))
+
+pub opened-kinded : (es : List Event) → IsKinded (opened es)
+opened-kinded [] = (tt, tt)
+opened-kinded (e ∷ es) = step-kinded e.kind e (opened es) refl (opened-kinded es)
+
+-- ---- what is in a span
+
+enter-size : (depth : ℕ) (e : Event) (es : List Event) → e.kind ≡ Enter → size_from depth (e ∷ es) ≡ suc (size_from (suc depth) es)
+enter-size depth e es h = ap (λ k. size_by k depth (λ d. size_from d es)) h
+
+exit-size : (depth : ℕ) (e : Event) (es : List Event) → e.kind ≡ Exit → size_from (suc depth) (e ∷ es) ≡ suc (size_from depth es)
+exit-size depth e es h = ap (λ k. size_by k (suc depth) (λ d. size_from d es)) h
+
+end-size : (e : Event) (es : List Event) → e.kind ≡ Exit → size_from 0 (e ∷ es) ≡ 0
+end-size e es h = ap (λ k. size_by k 0 (λ d. size_from d es)) h
+
+-- the events of a span, and others behind them
+pub span-append : (e f : Event) (s behind : Spans) (zs : List Event) → events_of (Span e f s behind) ++ zs ≡ e ∷ (events_of s ++ f ∷ (events_of behind ++ zs))
+span-append e f s behind zs = ap (λ (x : List Event). e ∷ x) (append_assoc (events_of s) (f ∷ events_of behind) zs)
+
+passed-size : (depth : ℕ) (s : Spans) (zs : List Event) → AreKinded s → size_from depth (events_of s ++ zs) ≡ length (events_of s) + size_from depth zs
+passed-size depth Nothing zs h = omega arith
+passed-size depth (Span e f s behind) zs h =
+    let whole = ap (size_from depth) (span-append e f s behind zs) in
+    let first = enter-size depth e (events_of s ++ f ∷ (events_of behind ++ zs)) h.0 in
+    let inner = passed-size (suc depth) s (f ∷ (events_of behind ++ zs)) h.2 in
+    let last = exit-size depth f (events_of behind ++ zs) h.1 in
+    let outer = passed-size depth behind zs h.3 in
+    let long = ap suc (length-append (events_of s) (f ∷ events_of behind)) in
+    omega (arith, whole, first, inner, last, outer, long)
+
+-- what is in a span are the events of the spans in it
+pub inside-of : (s : Spans) (f : Event) (ys : List Event) → AreKinded s → f.kind ≡ Exit → inside (events_of s ++ f ∷ ys) ≡ events_of s
+inside-of s f ys h exits =
+    let size : size_from 0 (events_of s ++ f ∷ ys) ≡ length (events_of s) =
+    let a = passed-size 0 s (f ∷ ys) h in
+    let z = end-size f ys exits in
+    omega (arith, a, z)
+    in
+    ap (λ n. take n (events_of s ++ f ∷ ys)) size ∙ take-append_seam (events_of s) (f ∷ ys)
+
+-- ---- what a span says
+
+given-by : (k l : Kind) (t : List ℕ) → k ≡ Enter → l ≡ Exit → cond (is_enter k && not (is_enter l)) t [] ≡ t
+given-by k l t h e = ap (λ x. cond (is_enter x && not (is_enter l)) t []) h ∙ ap (λ x. cond (not (is_enter x)) t []) e
+
+none-by : (k l : Kind) (t : List ℕ) → k ≡ Enter → l ≡ Enter → cond (is_enter k && not (is_enter l)) t [] ≡ []
+none-by k l t h e = ap (λ x. cond (is_enter x && not (is_enter l)) t []) h ∙ ap (λ x. cond (not (is_enter x)) t []) e
+
+pub said-of : (bytes : List ℕ) (e f : Event) (s : Spans) (ys : List Event) → e.kind ≡ Enter → f.kind ≡ Exit → AreKinded s
+    → given_at bytes Decoded e (events_of s ++ f ∷ ys) ≡ said bytes e f s
+said-of bytes e f Nothing ys h k a = given-by e.kind f.kind (given bytes Decoded e.name e.point.index f.point.index) h k
+said-of bytes e f (Span d g s behind) ys h k a = none-by e.kind d.kind (given bytes Decoded e.name e.point.index d.point.index) h a.0

@@ -1,0 +1,92 @@
+-- What the code knows of open spans, and what of a document.
+use Rattle.std.specs.Option.{option_map_or}
+use Rattle.std.specs.Prelude.{◌≡◌, ℕ, ◌&&◌, Bool, true, false, cond, List, [], ◌∷◌, ◌++◌, drop, map, reverse, Option, None, Some, option_and_then}
+use Rattle.markdown_base.specs.declared.event.Event.{Event}
+use Rattle.markdown_base.specs.Events.{is_enter}
+use Rattle.markdown_edits.specs.SpanWalks.{is_wanted}
+use Rattle.mdblock_containers.specs.declared.list_shapes.ListShape.{ListShape}
+use Rattle.mdblock_containers.specs.Lists.{list_names}
+use Rattle.mdblock_containers.specs.ListShapes.{shapes_from}
+use Rattle.mdhtml_document.specs.declared.shapes.End.{End}
+use Rattle.mdhtml_document.specs.declared.shapes.End.TheVariants as end
+use Rattle.mdhtml_document.specs.declared.shapes.Frame.{Frame}
+use Rattle.mdhtml_document.specs.declared.shapes.Mode.{Mode}
+use Rattle.mdhtml_document.specs.declared.shapes.Mode.TheVariants as mode
+use Rattle.mdhtml_document.specs.declared.links.Whole.{Whole}
+use Rattle.mdhtml_document.specs.Html.{Shape, extent}
+use Rattle.mdhtml_document.specs.Written.{after}
+use Rattle.mdhtml_markup.specs.Pieces.{Close, Feed, Fresh, Piece}
+use Rattle.mddocument_link_targets.specs.declared.definitions.Definitions.{Definitions}
+use Rattle.mddocument_link_targets.specs.declared.targets.Parts.{Parts}
+use Rattle.mddocument_link_targets.specs.Defined.{defined_at}
+use Rattle.mddocument_link_targets.specs.Targets.{parts_of}
+
+-- what ends a span
+abbrev pub closed_by : End → List Piece
+closed_by end.Nothing = []
+closed_by (end.WithinLine e) = Close e ∷ []
+closed_by (end.Line e) = Close e ∷ Feed ∷ []
+closed_by (end.Lines e) = Fresh ∷ Close e ∷ Feed ∷ []
+
+-- a span that is open: what is written of the spans in it, and what ends it
+pub record Open : Type 0 where
+  pub mode : Mode
+  pub closed : List Piece
+
+abbrev pub open_of : Frame → Open
+open_of f = record { mode = f.mode; closed = closed_by f.end }
+
+-- those of frames, the innermost first
+abbrev pub opens : List Frame → List Open
+opens frames = map open_of (reverse frames)
+
+-- what is written of spans behind them, and what ends the innermost one
+abbrev pub mode_of : List Open → Mode
+mode_of [] = mode.Flow
+mode_of (o ∷ os) = o.mode
+
+abbrev pub closed_of : List Open → List Piece
+closed_of [] = []
+closed_of (o ∷ os) = o.closed
+
+-- The beginning of a span of a shape was written, and the frame says the rest
+pub record Opens (s : Shape) (old new : List ℕ) (frame : Frame) : Type 0 where
+  pub written : new ≡ after old s.opened
+  pub mode : frame.mode ≡ s.inside
+  pub closed : closed_by frame.end ≡ s.closed
+
+-- what is said of the list that an event enters, if it does
+abbrev pub loose_of : Option ListShape → Bool
+loose_of list = option_map_or (λ l. l.is_loose) list false
+
+abbrev pub start_of : Option ListShape → Option ℕ
+start_of list = option_and_then (λ l. l.start) list
+
+-- these are the lists among events
+pub record AreListsOf (bytes : List ℕ) (lists : List ListShape) (events : List Event) : Type 0 where
+  pub at : ℕ
+  pub are : lists ≡ shapes_from bytes at events
+
+-- an event enters a list
+abbrev pub is_list : Event → Bool
+is_list e = is_enter e.kind && is_wanted list_names e.name
+
+-- the list that it enters, by the lists from there on, and those behind it
+abbrev pub list_at : List ListShape → Event → Option ListShape
+list_at [] e = None
+list_at (l ∷ ls) e = cond (is_list e) (Some l) None
+
+abbrev pub lists_behind : List ListShape → Event → List ListShape
+lists_behind [] e = []
+lists_behind (l ∷ ls) e = cond (is_list e) ls (l ∷ ls)
+
+-- how many bytes the definition of a label is, by what is known of definitions
+abbrev pub size_by : List Event → Definitions → (label : List ℕ) → ℕ
+size_by events definitions label = option_map_or (λ at. extent (drop at events)) (defined_at definitions label) 0
+
+-- what labels are defined as, by the same: nothing, if there are too many references
+abbrev pub led_by : (bytes : List ℕ) → List Event → Definitions → (are_too_many : Bool) → (label : List ℕ) → Option Parts
+led_by bytes events definitions too_many label = cond too_many None (option_and_then (λ at. parts_of bytes events at) (defined_at definitions label))
+
+abbrev pub lookup_of : Whole → (label : List ℕ) → Option Parts
+lookup_of w label = led_by w.bytes.now w.events.now w.definitions.now w.are_too_many label

@@ -1,0 +1,250 @@
+-- HTML of a document, by its events. The definition has no states: it goes down the tree of the document's spans.
+use Rattle.std.specs.List.{take_while}
+use Rattle.std.specs.Char.{is_ascii_whitespace}
+use Rattle.std.specs.Option.{option_map_or}
+use Rattle.std.specs.Prelude.{ℕ, ◌+◌, ◌-◌, ◌==◌, ◌||◌, max, nat_lt, not, Bool, true, false, cond, List, [], ◌∷◌, ◌++◌, codes, drop, length, slice_get, Option, None, Some, option_and_then}
+use Rattle.markdown_base.specs.declared.configuration.CompileOptions.{CompileOptions}
+use Rattle.markdown_base.specs.declared.event.Event.{Event}
+use Rattle.markdown_base.specs.declared.event.Name.{Name}
+use Rattle.markdown_base.specs.declared.event.Name.TheVariants as name
+use Rattle.mdblock_containers.specs.Lists.{is_loose, list_start}
+use Rattle.mdhtml_document.specs.declared.names.Block.{Block}
+use Rattle.mdhtml_document.specs.declared.names.Block.TheVariants as block
+use Rattle.mdhtml_document.specs.declared.names.Inline.{Inline}
+use Rattle.mdhtml_document.specs.declared.names.Inline.TheVariants as inline
+use Rattle.mdhtml_document.specs.declared.shapes.Mode.{Mode}
+use Rattle.mdhtml_document.specs.declared.shapes.Mode.TheVariants as mode
+use Rattle.mdhtml_document.specs.Names.{block_of, inline_of}
+use Rattle.mdhtml_document.specs.Spans.{Nothing, Span, Spans, events_of, spans_of}
+use Rattle.mdhtml_document.specs.Values.{alt_of, autolink_address, behind_first_line, code_lines, code_text, html_flow, html_text, is_email, said, title_from}
+use Rattle.mdhtml_markup.specs.Addresses.{allowed}
+use Rattle.mdhtml_markup.specs.declared.addresses.Place.{Place}
+use Rattle.mdhtml_markup.specs.declared.addresses.Place.TheVariants as place
+use Rattle.mdhtml_markup.specs.declared.elements.Element.{Element}
+use Rattle.mdhtml_markup.specs.declared.elements.Element.TheVariants.{Anchor, BlockQuote, Break, Code, Emphasis, Heading1, Heading2, Heading3, Heading4, Heading5, Heading6, Image, ListItem, OrderedList, Paragraph, Preformatted, Strong, ThematicBreak, UnorderedList}
+use Rattle.mdhtml_markup.specs.Pieces.{Alt, Attribute, Close, Feed, Fresh, Href, Kept, Language, Open, Piece, Src, Start, Text, Title, Void, html}
+use Rattle.mddocument_link_targets.specs.declared.targets.Parts.{Parts}
+use Rattle.mddocument_link_targets.specs.declared.targets.Target.{Target}
+use Rattle.mddocument_link_targets.specs.declared.targets.Target.TheVariants as target
+use Rattle.mddocument_link_targets.specs.Spans.{enters, first_in, inside}
+use Rattle.mddocument_link_targets.specs.Strings.{decoded}
+use Rattle.mddocument_link_targets.specs.Targets.{definition_of, parts_of, target_in}
+
+-- ---- shapes
+
+-- What is written of a span: pieces in front of the spans in it, what is written of these, and pieces behind them
+pub record Shape : Type 0 where
+  pub opened : List Piece
+  pub inside : Mode
+  pub closed : List Piece
+
+-- nothing of a span but what is in it; and pieces, of which it is all
+abbrev pub through : Mode → Shape
+through m = record { opened = []; inside = m; closed = [] }
+
+abbrev pub alone : List Piece → Shape
+alone ps = record { opened = ps; inside = mode.Nothing; closed = [] }
+
+-- an element within a line; one with lines of its own; and one with text
+abbrev pub within_line : Element → List Attribute → Shape
+within_line e attributes = record { opened = Open e attributes ∷ []; inside = mode.Text; closed = Close e ∷ [] }
+
+abbrev pub container : Element → List Attribute → Mode → Shape
+container e attributes m = record { opened = Fresh ∷ Open e attributes ∷ Feed ∷ []; inside = m; closed = Fresh ∷ Close e ∷ Feed ∷ [] }
+
+abbrev pub line : Element → Mode → Shape
+line e m = record { opened = Fresh ∷ Open e [] ∷ []; inside = m; closed = Close e ∷ Feed ∷ [] }
+
+-- a text, and what is in the span
+abbrev pub told : List ℕ → Shape
+told t = record { opened = Text t ∷ []; inside = mode.Text; closed = [] }
+
+-- code
+abbrev pub code : List Attribute → List ℕ → Shape
+code attributes t = alone (Fresh ∷ Open Preformatted [] ∷ Open Code attributes ∷ Text t ∷ Close Code ∷ Close Preformatted ∷ Feed ∷ [])
+
+-- ---- what blocks say
+
+-- the element of a heading of a rank
+abbrev pub heading : ℕ → Element
+heading rank =
+    cond (rank == 1) Heading1 (cond (rank == 2) Heading2 (cond (rank == 3) Heading3 (cond (rank == 4) Heading4 (cond (rank == 5) Heading5 Heading6))))
+
+-- the length of the first span of a name among events, and the byte that it begins with
+abbrev pub length_of_first : Name → List Event → ℕ
+length_of_first n [] = 0
+length_of_first n (e ∷ []) = 0
+length_of_first n (e ∷ (f ∷ fs)) = cond (enters n e) (f.point.index - e.point.index) (length_of_first n (f ∷ fs))
+
+abbrev pub byte_of_first : List ℕ → Name → List Event → Option ℕ
+byte_of_first bytes n [] = None
+byte_of_first bytes n (e ∷ es) = cond (enters n e) (slice_get bytes e.point.index) (byte_of_first bytes n es)
+
+-- the rank of a heading that is underlined, by the byte of its underline
+abbrev pub setext_rank : List ℕ → List Event → ℕ
+setext_rank bytes es = cond (option_map_or (λ b. b == 61) (byte_of_first bytes name.HeadingSetextUnderlineSequence es) false) 1 2
+
+-- "the first word of the info string is typically used to specify the language of the code sample, and rendered in the class attribute of the code tag" (4.5)
+abbrev pub language : List ℕ → Option (List Event) → List Attribute
+language bytes None = []
+language bytes (Some info) = Language (take_while (λ b. not (is_ascii_whitespace b)) (decoded bytes info)) ∷ []
+
+-- the number that a list starts with, unless it is 1
+abbrev pub ordered : Option ℕ → List Attribute
+ordered None = []
+ordered (Some n) = cond (n == 1) [] (Start n ∷ [])
+
+abbrev pub items : (is_loose : Bool) → Mode
+items loose = cond loose mode.LooseItems mode.TightItems
+
+abbrev pub blocks : (tight : Bool) → Mode
+blocks tight = cond tight mode.Tight mode.Flow
+
+-- ---- what is allowed
+
+-- an address that is written at a place
+abbrev pub address_at : CompileOptions → Place → List ℕ → List ℕ
+address_at options place.Href url = cond options.allow_dangerous_protocol url (allowed place.Href url)
+address_at options place.Src url = cond (options.allow_dangerous_protocol || options.allow_any_img_src) url (allowed place.Src url)
+
+-- HTML of the document: as it is, or as text
+abbrev pub raw : CompileOptions → List ℕ → Piece
+raw options h = cond options.allow_dangerous_html (Kept h) (Text h)
+
+-- ---- links and images
+
+-- What a link or an image leads to, by the events in it: what its resource says, or what its label is defined as
+abbrev pub parts_in_link : (bytes : List ℕ) → (lookup : (label : List ℕ) → Option Parts) → List Event → Option Parts
+parts_in_link bytes lookup es =
+    elim (target_in bytes es) [ target.Parts parts ↦ Some parts | target.Label label ↦ lookup label ]
+
+abbrev pub titled : (title : Option (List ℕ)) → List Attribute
+titled title = option_map_or (λ t. Title (title_from false t) ∷ []) title []
+
+-- A link that leads nowhere is its text alone, and an image that does is what it is described by
+abbrev pub link_to : CompileOptions → Option Parts → Shape
+link_to options None = through mode.Text
+link_to options (Some parts) = within_line Anchor (Href (address_at options place.Href parts.destination) ∷ titled parts.title)
+
+abbrev pub image_of : CompileOptions → (alt : List ℕ) → Option Parts → Shape
+image_of options alt None = alone (Text alt ∷ [])
+image_of options alt (Some parts) = alone (Void Image (Src (address_at options place.Src parts.destination) ∷ (Alt alt ∷ titled parts.title)) ∷ [])
+
+abbrev pub autolink : CompileOptions → (bytes : List ℕ) → List Event → Shape
+autolink options bytes es =
+    let address = autolink_address bytes es in
+    let url = cond (is_email es) (codes "mailto:" ++ address) (address_at options place.Href address) in
+    alone (Open Anchor (Href url ∷ []) ∷ Text address ∷ Close Anchor ∷ [])
+
+-- ---- spans
+
+-- a span directly in a list
+abbrev pub item_shape : (tight : Bool) → Block → Shape
+item_shape tight block.Item = line ListItem (blocks tight)
+item_shape tight _ = alone []
+
+-- and directly in a heading
+abbrev pub heading_shape : Block → Shape
+heading_shape block.HeadingText = through mode.Text
+heading_shape _ = alone []
+
+-- options, a document, what its labels are defined as, and the distance of its tab stops
+module _ (options : CompileOptions) (bytes : List ℕ) (lookup : (label : List ℕ) → Option Parts) (tab : ℕ) where
+  -- A span among blocks, by what it is, the events in it, and what is said of it if it is a list. The blocks of an item of a tight list are tight:
+  -- paragraphs are text alone. An item has tags in a list alone, and a heading's text is written in a heading alone
+  abbrev pub block_shape : (tight : Bool) → Block → List Event → (is_loose : Bool) → (start : Option ℕ) → Shape
+  block_shape tight block.Paragraph es loose start = cond tight (through mode.Text) (line Paragraph mode.Text)
+  block_shape tight block.HeadingAtx es loose start = line (heading (length_of_first name.HeadingAtxSequence es)) mode.Heading
+  block_shape tight block.HeadingSetext es loose start = line (heading (setext_rank bytes es)) mode.Heading
+  block_shape tight block.HeadingText es loose start = alone []
+  block_shape tight block.Quote es loose start = container BlockQuote [] mode.Flow
+  block_shape tight block.Bullets es loose start = container UnorderedList [] (items loose)
+  block_shape tight block.Numbers es loose start = container OrderedList (ordered start) (items loose)
+  block_shape tight block.Item es loose start = through (blocks tight)
+  block_shape tight block.Fenced es loose start = code (language bytes (first_in name.CodeFencedFenceInfo es)) (code_lines bytes tab (behind_first_line es))
+  block_shape tight block.Indented es loose start = code [] (code_lines bytes tab es)
+  block_shape tight block.Html es loose start = alone (Fresh ∷ raw options (html_flow bytes tab es) ∷ Fresh ∷ [])
+  block_shape tight block.Rule es loose start = alone (Fresh ∷ Void ThematicBreak [] ∷ Feed ∷ [])
+  block_shape tight block.Other es loose start = alone []
+
+  -- a span of inline text, by what it is, the events in it, what it says if it is an innermost one, and what it is described by if it is an image
+  abbrev pub inline_shape : Inline → List Event → (said alt : List ℕ) → Shape
+  inline_shape inline.Ending es said alt = alone (Feed ∷ [])
+  inline_shape inline.Break es said alt = alone (Void Break [] ∷ [])
+  inline_shape inline.Emphasis es said alt = within_line Emphasis []
+  inline_shape inline.Strong es said alt = within_line Strong []
+  inline_shape inline.Code es said alt = alone (Open Code [] ∷ Text (code_text bytes es) ∷ Close Code ∷ [])
+  inline_shape inline.Html es said alt = alone (raw options (html_text bytes es) ∷ [])
+  inline_shape inline.Autolink es said alt = autolink options bytes es
+  inline_shape inline.Link es said alt = link_to options (parts_in_link bytes lookup es)
+  inline_shape inline.Image es said alt = image_of options alt (parts_in_link bytes lookup es)
+  inline_shape inline.Tail es said alt = alone []
+  inline_shape inline.Other es said alt = told said
+
+  abbrev pub shape_by : Mode → Name → List Event → (is_loose : Bool) → (start : Option ℕ) → (said alt : List ℕ) → Shape
+  shape_by mode.Flow n es loose start said alt = block_shape false (block_of n) es loose start
+  shape_by mode.Tight n es loose start said alt = block_shape true (block_of n) es loose start
+  shape_by mode.LooseItems n es loose start said alt = item_shape false (block_of n)
+  shape_by mode.TightItems n es loose start said alt = item_shape true (block_of n)
+  shape_by mode.Heading n es loose start said alt = heading_shape (block_of n)
+  shape_by mode.Text n es loose start said alt = inline_shape (inline_of n) es said alt
+  shape_by mode.Nothing n es loose start said alt = alone []
+
+  abbrev pub shape : Mode → (enter exit : Event) → Spans → Shape
+  shape m e f s = let es = events_of s in shape_by m e.name es (is_loose es) (list_start bytes es) (said bytes e f s) (alt_of bytes s)
+
+  -- the pieces of spans
+  abbrev pub pieces : Mode → Spans → List Piece
+  pieces m Nothing = []
+  pieces m (Span e f s behind) =
+      let here = shape m e f s in
+      here.opened ++ (pieces here.inside s ++ (here.closed ++ pieces m behind))
+
+-- ---- HTML
+
+-- HTML of events, by what labels are defined as
+abbrev pub html_by : CompileOptions → (bytes : List ℕ) → (lookup : (label : List ℕ) → Option Parts) → (tab : ℕ) → List Event → List ℕ
+html_by options bytes lookup tab events = html (pieces options bytes lookup tab mode.Flow (spans_of events))
+
+-- what labels are defined as by the events of a document: the first definition of a label counts
+abbrev pub defined_in : (bytes : List ℕ) → List Event → (label : List ℕ) → Option Parts
+defined_in bytes events label = option_and_then (λ at. parts_of bytes events at) (definition_of bytes events label)
+
+-- how many bytes of a document the first of these events enters a span over
+abbrev pub place_of_first : List Event → ℕ
+place_of_first [] = 0
+place_of_first (e ∷ es) = e.point.index
+
+abbrev pub extent : List Event → ℕ
+extent [] = 0
+extent (e ∷ es) = place_of_first (drop (length (inside es)) es) - e.point.index
+
+-- how many the definition of a label is
+abbrev pub size_of_label : (bytes : List ℕ) → List Event → (label : List ℕ) → ℕ
+size_of_label bytes events label = option_map_or (λ at. extent (drop at events)) (definition_of bytes events label) 0
+
+-- and that of the label of a link or an image, if it has one
+abbrev pub size_of_target : (size : (label : List ℕ) → ℕ) → Target → ℕ
+size_of_target size (target.Parts parts) = 0
+size_of_target size (target.Label label) = size label
+
+-- The definitions that links and images refer to, all together; links and images within an image are not written
+abbrev pub referred : (bytes : List ℕ) → (size : (label : List ℕ) → ℕ) → Inline → List Event → (inner : ℕ) → ℕ
+referred bytes size inline.Link es inner = size_of_target size (target_in bytes es) + inner
+referred bytes size inline.Image es inner = size_of_target size (target_in bytes es)
+referred bytes size _ es inner = inner
+
+abbrev pub references : (bytes : List ℕ) → (size : (label : List ℕ) → ℕ) → Spans → ℕ
+references bytes size Nothing = 0
+references bytes size (Span e f s behind) = referred bytes size (inline_of e.name) (events_of s) (references bytes size s) + references bytes size behind
+
+-- A document may refer so much that its HTML were far longer than itself: then labels lead nowhere
+abbrev pub are_too_many : (bytes : List ℕ) → List Event → Bool
+are_too_many bytes events = nat_lt (max 100000 (length bytes)) (references bytes (size_of_label bytes events) (spans_of events))
+
+abbrev pub led_to : (bytes : List ℕ) → List Event → (label : List ℕ) → Option Parts
+led_to bytes events label = cond (are_too_many bytes events) None (defined_in bytes events label)
+
+-- HTML of the events of a document
+abbrev pub html_of_events : CompileOptions → (bytes : List ℕ) → (tab : ℕ) → List Event → List ℕ
+html_of_events options bytes tab events = html_by options bytes (led_to bytes events) tab events

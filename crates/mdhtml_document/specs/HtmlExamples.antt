@@ -1,0 +1,224 @@
+-- HTML of some documents, with their events.
+use Rattle.std.specs.Prelude.{ℕ, List, [], ◌∷◌, None, codes}
+use Rattle.markdown_base.specs.declared.event.Event.{Event}
+use Rattle.markdown_base.specs.declared.event.Kind.{Kind}
+use Rattle.markdown_base.specs.declared.event.Kind.TheVariants.{Enter, Exit}
+use Rattle.markdown_base.specs.declared.event.Name.{Name}
+use Rattle.markdown_base.specs.declared.event.Name.TheVariants as name
+use Rattle.markdown_base.specs.Presets.{default_compile_options}
+use Rattle.mdhtml_document.specs.Html.{html_of_events}
+
+abbrev pub event : Kind → Name → (line column index : ℕ) → Event
+event kind n line column index = record { kind = kind; name = n; point = record { line = line; column = column; index = index; vs = 0 }; link = None }
+
+-- A document, its events, and its HTML with the default options
+pub record HtmlExample : Type 0 where
+  pub document : List ℕ
+  pub events : List Event
+  pub html : List ℕ
+
+abbrev pub html_of : HtmlExample → HtmlExample
+html_of e = record e { html = html_of_events default_compile_options e.document 4 e.events }
+
+-- a heading; a list with HTML, which is shown, and a quote; an address that is not allowed, with a title, and an image; fenced code
+abbrev pub html_examples : List HtmlExample
+html_examples =
+    record {
+      document = codes "# a *b*";
+      events =
+          event Enter name.HeadingAtx 1 1 0
+          ∷ event Enter name.HeadingAtxSequence 1 1 0
+          ∷ event Exit name.HeadingAtxSequence 1 2 1
+          ∷ event Enter name.SpaceOrTab 1 2 1
+          ∷ event Exit name.SpaceOrTab 1 3 2
+          ∷ event Enter name.HeadingAtxText 1 3 2
+          ∷ event Enter name.Data 1 3 2
+          ∷ event Exit name.Data 1 5 4
+          ∷ event Enter name.Emphasis 1 5 4
+          ∷ event Enter name.EmphasisSequence 1 5 4
+          ∷ event Exit name.EmphasisSequence 1 6 5
+          ∷ event Enter name.EmphasisText 1 6 5
+          ∷ event Enter name.Data 1 6 5
+          ∷ event Exit name.Data 1 7 6
+          ∷ event Exit name.EmphasisText 1 7 6
+          ∷ event Enter name.EmphasisSequence 1 7 6
+          ∷ event Exit name.EmphasisSequence 1 8 7
+          ∷ event Exit name.Emphasis 1 8 7
+          ∷ event Exit name.HeadingAtxText 1 8 7
+          ∷ event Exit name.HeadingAtx 1 8 7
+          ∷ [];
+      html = codes "<h1>a <em>b</em></h1>\n";
+    } ∷
+    record {
+      document = codes "- <b>\n- c\n\n> d";
+      events =
+          event Enter name.ListUnordered 1 1 0
+          ∷ event Enter name.ListItem 1 1 0
+          ∷ event Enter name.ListItemPrefix 1 1 0
+          ∷ event Enter name.ListItemMarker 1 1 0
+          ∷ event Exit name.ListItemMarker 1 2 1
+          ∷ event Enter name.SpaceOrTab 1 2 1
+          ∷ event Exit name.SpaceOrTab 1 3 2
+          ∷ event Exit name.ListItemPrefix 1 3 2
+          ∷ event Enter name.HtmlFlow 1 3 2
+          ∷ event Enter name.HtmlFlowData 1 3 2
+          ∷ event Exit name.HtmlFlowData 1 6 5
+          ∷ event Exit name.HtmlFlow 1 6 5
+          ∷ event Exit name.ListItem 1 6 5
+          ∷ event Enter name.LineEnding 1 6 5
+          ∷ event Exit name.LineEnding 2 1 6
+          ∷ event Enter name.ListItem 2 1 6
+          ∷ event Enter name.ListItemPrefix 2 1 6
+          ∷ event Enter name.ListItemMarker 2 1 6
+          ∷ event Exit name.ListItemMarker 2 2 7
+          ∷ event Enter name.SpaceOrTab 2 2 7
+          ∷ event Exit name.SpaceOrTab 2 3 8
+          ∷ event Exit name.ListItemPrefix 2 3 8
+          ∷ event Enter name.Paragraph 2 3 8
+          ∷ event Enter name.Data 2 3 8
+          ∷ event Exit name.Data 2 4 9
+          ∷ event Exit name.Paragraph 2 4 9
+          ∷ event Exit name.ListItem 2 4 9
+          ∷ event Exit name.ListUnordered 2 4 9
+          ∷ event Enter name.LineEnding 2 4 9
+          ∷ event Exit name.LineEnding 3 1 10
+          ∷ event Enter name.BlankLineEnding 3 1 10
+          ∷ event Exit name.BlankLineEnding 4 1 11
+          ∷ event Enter name.BlockQuote 4 1 11
+          ∷ event Enter name.BlockQuotePrefix 4 1 11
+          ∷ event Enter name.BlockQuoteMarker 4 1 11
+          ∷ event Exit name.BlockQuoteMarker 4 2 12
+          ∷ event Enter name.SpaceOrTab 4 2 12
+          ∷ event Exit name.SpaceOrTab 4 3 13
+          ∷ event Exit name.BlockQuotePrefix 4 3 13
+          ∷ event Enter name.Paragraph 4 3 13
+          ∷ event Enter name.Data 4 3 13
+          ∷ event Exit name.Data 4 4 14
+          ∷ event Exit name.Paragraph 4 4 14
+          ∷ event Exit name.BlockQuote 4 4 14
+          ∷ [];
+      html = codes "<ul>\n<li>\n&lt;b&gt;\n</li>\n<li>c</li>\n</ul>\n<blockquote>\n<p>d</p>\n</blockquote>\n";
+    } ∷
+    record {
+      document = codes "[a](JAVASCRIPT:x 'q\"') ![*b*](/u?v&w)";
+      events =
+          event Enter name.Paragraph 1 1 0
+          ∷ event Enter name.Link 1 1 0
+          ∷ event Enter name.Label 1 1 0
+          ∷ event Enter name.LabelLink 1 1 0
+          ∷ event Enter name.LabelMarker 1 1 0
+          ∷ event Exit name.LabelMarker 1 2 1
+          ∷ event Exit name.LabelLink 1 2 1
+          ∷ event Enter name.LabelText 1 2 1
+          ∷ event Enter name.Data 1 2 1
+          ∷ event Exit name.Data 1 3 2
+          ∷ event Exit name.LabelText 1 3 2
+          ∷ event Enter name.LabelEnd 1 3 2
+          ∷ event Enter name.LabelMarker 1 3 2
+          ∷ event Exit name.LabelMarker 1 4 3
+          ∷ event Exit name.LabelEnd 1 4 3
+          ∷ event Exit name.Label 1 4 3
+          ∷ event Enter name.Resource 1 4 3
+          ∷ event Enter name.ResourceMarker 1 4 3
+          ∷ event Exit name.ResourceMarker 1 5 4
+          ∷ event Enter name.ResourceDestination 1 5 4
+          ∷ event Enter name.ResourceDestinationRaw 1 5 4
+          ∷ event Enter name.ResourceDestinationString 1 5 4
+          ∷ event Enter name.Data 1 5 4
+          ∷ event Exit name.Data 1 17 16
+          ∷ event Exit name.ResourceDestinationString 1 17 16
+          ∷ event Exit name.ResourceDestinationRaw 1 17 16
+          ∷ event Exit name.ResourceDestination 1 17 16
+          ∷ event Enter name.SpaceOrTab 1 17 16
+          ∷ event Exit name.SpaceOrTab 1 18 17
+          ∷ event Enter name.ResourceTitle 1 18 17
+          ∷ event Enter name.ResourceTitleMarker 1 18 17
+          ∷ event Exit name.ResourceTitleMarker 1 19 18
+          ∷ event Enter name.ResourceTitleString 1 19 18
+          ∷ event Enter name.Data 1 19 18
+          ∷ event Exit name.Data 1 21 20
+          ∷ event Exit name.ResourceTitleString 1 21 20
+          ∷ event Enter name.ResourceTitleMarker 1 21 20
+          ∷ event Exit name.ResourceTitleMarker 1 22 21
+          ∷ event Exit name.ResourceTitle 1 22 21
+          ∷ event Enter name.ResourceMarker 1 22 21
+          ∷ event Exit name.ResourceMarker 1 23 22
+          ∷ event Exit name.Resource 1 23 22
+          ∷ event Exit name.Link 1 23 22
+          ∷ event Enter name.Data 1 23 22
+          ∷ event Exit name.Data 1 24 23
+          ∷ event Enter name.Image 1 24 23
+          ∷ event Enter name.Label 1 24 23
+          ∷ event Enter name.LabelImage 1 24 23
+          ∷ event Enter name.LabelImageMarker 1 24 23
+          ∷ event Exit name.LabelImageMarker 1 25 24
+          ∷ event Enter name.LabelMarker 1 25 24
+          ∷ event Exit name.LabelMarker 1 26 25
+          ∷ event Exit name.LabelImage 1 26 25
+          ∷ event Enter name.LabelText 1 26 25
+          ∷ event Enter name.Emphasis 1 26 25
+          ∷ event Enter name.EmphasisSequence 1 26 25
+          ∷ event Exit name.EmphasisSequence 1 27 26
+          ∷ event Enter name.EmphasisText 1 27 26
+          ∷ event Enter name.Data 1 27 26
+          ∷ event Exit name.Data 1 28 27
+          ∷ event Exit name.EmphasisText 1 28 27
+          ∷ event Enter name.EmphasisSequence 1 28 27
+          ∷ event Exit name.EmphasisSequence 1 29 28
+          ∷ event Exit name.Emphasis 1 29 28
+          ∷ event Exit name.LabelText 1 29 28
+          ∷ event Enter name.LabelEnd 1 29 28
+          ∷ event Enter name.LabelMarker 1 29 28
+          ∷ event Exit name.LabelMarker 1 30 29
+          ∷ event Exit name.LabelEnd 1 30 29
+          ∷ event Exit name.Label 1 30 29
+          ∷ event Enter name.Resource 1 30 29
+          ∷ event Enter name.ResourceMarker 1 30 29
+          ∷ event Exit name.ResourceMarker 1 31 30
+          ∷ event Enter name.ResourceDestination 1 31 30
+          ∷ event Enter name.ResourceDestinationRaw 1 31 30
+          ∷ event Enter name.ResourceDestinationString 1 31 30
+          ∷ event Enter name.Data 1 31 30
+          ∷ event Exit name.Data 1 35 34
+          ∷ event Enter name.Data 1 35 34
+          ∷ event Exit name.Data 1 37 36
+          ∷ event Exit name.ResourceDestinationString 1 37 36
+          ∷ event Exit name.ResourceDestinationRaw 1 37 36
+          ∷ event Exit name.ResourceDestination 1 37 36
+          ∷ event Enter name.ResourceMarker 1 37 36
+          ∷ event Exit name.ResourceMarker 1 38 37
+          ∷ event Exit name.Resource 1 38 37
+          ∷ event Exit name.Image 1 38 37
+          ∷ event Exit name.Paragraph 1 38 37
+          ∷ [];
+      html = codes "<p><a href=\"\" title=\"q&quot;\">a</a> <img src=\"/u?v&amp;w\" alt=\"b\" /></p>\n";
+    } ∷
+    record {
+      document = codes "~~~ r\n a<\n~~~";
+      events =
+          event Enter name.CodeFenced 1 1 0
+          ∷ event Enter name.CodeFencedFence 1 1 0
+          ∷ event Enter name.CodeFencedFenceSequence 1 1 0
+          ∷ event Exit name.CodeFencedFenceSequence 1 4 3
+          ∷ event Enter name.SpaceOrTab 1 4 3
+          ∷ event Exit name.SpaceOrTab 1 5 4
+          ∷ event Enter name.CodeFencedFenceInfo 1 5 4
+          ∷ event Enter name.Data 1 5 4
+          ∷ event Exit name.Data 1 6 5
+          ∷ event Exit name.CodeFencedFenceInfo 1 6 5
+          ∷ event Exit name.CodeFencedFence 1 6 5
+          ∷ event Enter name.LineEnding 1 6 5
+          ∷ event Exit name.LineEnding 2 1 6
+          ∷ event Enter name.CodeFlowChunk 2 1 6
+          ∷ event Exit name.CodeFlowChunk 2 4 9
+          ∷ event Enter name.LineEnding 2 4 9
+          ∷ event Exit name.LineEnding 3 1 10
+          ∷ event Enter name.CodeFencedFence 3 1 10
+          ∷ event Enter name.CodeFencedFenceSequence 3 1 10
+          ∷ event Exit name.CodeFencedFenceSequence 3 4 13
+          ∷ event Exit name.CodeFencedFence 3 4 13
+          ∷ event Exit name.CodeFenced 3 4 13
+          ∷ [];
+      html = codes "<pre><code class=\"language-r\"> a&lt;\n</code></pre>\n";
+    } ∷
+    []

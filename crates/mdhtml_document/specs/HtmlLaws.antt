@@ -1,0 +1,72 @@
+-- Laws of the HTML of documents.
+use Rattle.std.specs.Prelude.{◌≡◌, ◌++◌, ℕ, ◌&&◌, ◌||◌, not, Bool, true, false, List, [], Option}
+use Rattle.markdown_base.specs.declared.configuration.CompileOptions.{CompileOptions}
+use Rattle.markdown_base.specs.declared.event.Event.{Event}
+use Rattle.markdown_base.specs.Events.{IsBalanced}
+use Rattle.mdhtml_document.specs.declared.names.Inline.{Inline}
+use Rattle.mdhtml_document.specs.declared.names.Inline.TheVariants as inline
+use Rattle.mdhtml_document.specs.declared.shapes.Mode.TheVariants as mode
+use Rattle.mdhtml_document.specs.Html.{html_by, pieces}
+use Rattle.mdhtml_document.specs.Names.{inline_of}
+use Rattle.mdhtml_document.specs.Spans.{Nothing, Span, Spans, spans_of}
+use Rattle.mdhtml_markup.specs.Flow.{IsFlow}
+use Rattle.mdhtml_markup.specs.Pieces.{is_fresh}
+use Rattle.mdhtml_markup.specs.SafeHtml.{IsSafeHtml}
+use Rattle.mdhtml_markup.specs.ShownText.{said_from, text_of}
+use Rattle.mddocument_link_targets.specs.declared.targets.Parts.{Parts}
+
+-- no option that lets something through is on
+pub record AreSafeOptions (options : CompileOptions) : Type 0 where
+  pub html : options.allow_dangerous_html ≡ false
+  pub protocol : options.allow_dangerous_protocol ≡ false
+  pub images : options.allow_any_img_src ≡ false
+
+-- Whatever the document is, whatever its labels are defined as, and whatever its events are, its HTML is safe
+abbrev pub HtmlIsSafe : Type 0
+HtmlIsSafe =
+    (options : CompileOptions) (bytes : List ℕ) (lookup : (label : List ℕ) → Option Parts) (tab : ℕ) (events : List Event) → AreSafeOptions options
+    → IsSafeHtml [] (html_by options bytes lookup tab events)
+
+-- The text between its tags, with its entities undone, is all texts of the document's pieces, and their line feeds: nothing that is written as text is lost
+abbrev pub HtmlKeepsText : Type 0
+HtmlKeepsText =
+    (options : CompileOptions) (bytes : List ℕ) (lookup : (label : List ℕ) → Option Parts) (tab : ℕ) (events : List Event) → AreSafeOptions options
+    → text_of (html_by options bytes lookup tab events) ≡ said_from true (pieces options bytes lookup tab mode.Flow (spans_of events))
+
+-- There is a link in a span of inline text, by what that is and whether there is one among the spans in it. An image's links are told as text
+abbrev pub has_links_by : Inline → (inner : Bool) → Bool
+has_links_by inline.Link inner = true
+has_links_by inline.Autolink inner = true
+has_links_by inline.Image inner = false
+has_links_by _ inner = inner
+
+abbrev pub has_links : Spans → Bool
+has_links Nothing = false
+has_links (Span e f s behind) = has_links_by (inline_of e.name) (has_links s) || has_links behind
+
+-- it is a link, and there is one in it
+abbrev pub is_linked : Inline → (inner : Bool) → Bool
+is_linked inline.Link inner = inner
+is_linked _ inner = false
+
+-- No link is in a link. (CommonMark lets an autolink be in one; HTML does not)
+abbrev pub are_apart : Spans → Bool
+are_apart Nothing = true
+are_apart (Span e f s behind) = not (is_linked (inline_of e.name) (has_links s)) && (are_apart s && are_apart behind)
+
+-- Where no link is in a link, a browser reads the HTML as the tree that it is written as: each tag stands where its element may
+abbrev pub HtmlIsFlow : Type 0
+HtmlIsFlow =
+    (options : CompileOptions) (bytes : List ℕ) (lookup : (label : List ℕ) → Option Parts) (tab : ℕ) (events : List Event) → AreSafeOptions options
+    → are_apart (spans_of events) ≡ true → IsFlow (html_by options bytes lookup tab events)
+
+-- behind a whole line, and where nothing was written yet, HTML begins as at the start
+abbrev pub EndsLine : List ℕ → Type 0
+EndsLine h = is_fresh true h ≡ true
+
+-- HTML of two parts of a document, read apart and by the same labels, is the HTML of the one and then of the other
+abbrev pub HtmlOfBoth : Type 0
+HtmlOfBoth =
+    (options : CompileOptions) (bytes : List ℕ) (lookup : (label : List ℕ) → Option Parts) (tab : ℕ) (es fs : List Event) → IsBalanced es → IsBalanced fs
+    → EndsLine (html_by options bytes lookup tab es)
+    → html_by options bytes lookup tab (es ++ fs) ≡ html_by options bytes lookup tab es ++ html_by options bytes lookup tab fs

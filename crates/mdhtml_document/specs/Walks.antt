@@ -1,0 +1,86 @@
+-- The definitions of HTML as walks over events, an event at a time: what the code does.
+use Rattle.std.specs.Prelude.{◌≡◌, ℕ, zero, suc, ◌+◌, Bool, true, false, cond, List, [], ◌∷◌, ◌++◌, drop, length, Option}
+use Rattle.markdown_base.specs.declared.configuration.CompileOptions.{CompileOptions}
+use Rattle.markdown_base.specs.declared.event.Event.{Event}
+use Rattle.markdown_base.specs.Events.{is_enter}
+use Rattle.mdblock_containers.specs.declared.list_shapes.ListShape.{ListShape}
+use Rattle.mdblock_containers.specs.Lists.{is_loose, list_start}
+use Rattle.mdhtml_document.specs.declared.names.Inline.{Inline}
+use Rattle.mdhtml_document.specs.declared.names.Inline.TheVariants as inline
+use Rattle.mdhtml_document.specs.declared.shapes.Mode.{Mode}
+use Rattle.mdhtml_document.specs.declared.links.Whole.{Whole}
+use Rattle.mdhtml_document.specs.Frames.{Open, closed_of, lookup_of, loose_of, mode_of, start_of}
+use Rattle.mdhtml_document.specs.Written.{after}
+use Rattle.mdhtml_document.specs.Html.{Shape, referred, shape_by}
+use Rattle.mdhtml_document.specs.Names.{inline_of}
+use Rattle.mdhtml_document.specs.Values.{alt_by}
+use Rattle.mdhtml_markup.specs.Pieces.{Piece}
+use Rattle.mddocument_link_targets.specs.declared.strings.Reading.TheVariants.{Decoded}
+use Rattle.mddocument_link_targets.specs.declared.targets.Parts.{Parts}
+use Rattle.mddocument_link_targets.specs.Spans.{inside}
+use Rattle.mddocument_link_targets.specs.Strings.{given_at}
+
+-- ---- descriptions of images
+
+-- what is in a span is passed over, by what that is
+abbrev pub is_passed : Inline → Bool
+is_passed inline.Ending = true
+is_passed inline.Code = true
+is_passed inline.Html = true
+is_passed inline.Autolink = true
+is_passed inline.Tail = true
+is_passed _ = false
+
+abbrev pub passed : Inline → List Event → ℕ
+passed i es = cond (is_passed i) (length (inside es)) 0
+
+-- The description that events give, by how many of them are passed over first
+abbrev pub alt_from : (bytes : List ℕ) → (skip : ℕ) → List Event → List ℕ
+alt_from bytes skip [] = []
+alt_from bytes zero (e ∷ es) =
+    cond (is_enter e.kind) (alt_by bytes (inline_of e.name) (inside es) (given_at bytes Decoded e es) [] ++ alt_from bytes (passed (inline_of e.name) es) es) (alt_from bytes 0 es)
+alt_from bytes (suc n) (e ∷ es) = alt_from bytes n es
+
+-- ---- references
+
+abbrev pub is_left : Inline → Bool
+is_left inline.Image = true
+is_left _ = false
+
+abbrev pub left : Inline → List Event → ℕ
+left i es = cond (is_left i) (length (inside es)) 0
+
+abbrev pub references_from : (bytes : List ℕ) → (size : (label : List ℕ) → ℕ) → (skip : ℕ) → List Event → ℕ
+references_from bytes size skip [] = 0
+references_from bytes size zero (e ∷ es) =
+    cond (is_enter e.kind) (referred bytes size (inline_of e.name) (inside es) 0 + references_from bytes size (left (inline_of e.name) es) es) (references_from bytes size 0 es)
+references_from bytes size (suc n) (e ∷ es) = references_from bytes size n es
+
+-- ---- pieces
+
+module _ (options : CompileOptions) (bytes : List ℕ) (lookup : (label : List ℕ) → Option Parts) (tab : ℕ) where
+  -- the shape of the span that an event enters, by the events behind that
+  abbrev pub shape_at : Mode → Event → List Event → Shape
+  shape_at m e es = shape_by options bytes lookup tab m e.name (inside es) (is_loose es) (list_start bytes es) (given_at bytes Decoded e es) (alt_from bytes 0 (inside es))
+
+  -- the pieces of events behind spans that are open, the innermost first
+  abbrev pub entered : List Open → Shape → (rest : List Open → List Piece) → List Piece
+  entered os s rest = s.opened ++ rest (record { mode = s.inside; closed = s.closed } ∷ os)
+
+  abbrev pub walked : List Open → List Event → List Piece
+  walked os [] = []
+  walked os (e ∷ es) = cond (is_enter e.kind) (entered os (shape_at (mode_of os) e es) (λ next. walked next es)) (closed_of os ++ walked (drop 1 os) es)
+
+-- A span of a shape was entered: its beginning was written, and it is open
+pub record Entered (s : Shape) (old new : List ℕ) (before behind : List Open) : Type 0 where
+  pub written : new ≡ after old s.opened
+  pub stack : behind ≡ record { mode = s.inside; closed = s.closed } ∷ before
+
+-- ---- of a document, as the code knows it
+
+abbrev pub shape_in : Whole → Mode → (list : Option ListShape) → Event → List Event → Shape
+shape_in w m list e es =
+    shape_by w.options.now w.bytes.now (lookup_of w) w.tab m e.name (inside es) (loose_of list) (start_of list) (given_at w.bytes.now Decoded e es) (alt_from w.bytes.now 0 (inside es))
+
+abbrev pub walked_in : Whole → List Open → List Event → List Piece
+walked_in w os es = walked w.options.now w.bytes.now (lookup_of w) w.tab os es

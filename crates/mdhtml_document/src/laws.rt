@@ -1,0 +1,36 @@
+//! Laws of the HTML of documents. Each is a function that does nothing; its contract is the law.
+
+ghost use Rattle.std.specs.Prelude.{◌≡◌, map};
+ghost use Rattle.mdhtml_document.specs.HtmlExamples.{html_examples, html_of};
+ghost use Rattle.mdhtml_document.specs.HtmlLaws.{HtmlIsFlow, HtmlIsSafe, HtmlKeepsText, HtmlOfBoth};
+ghost use Rattle.mdhtml_document.specs.Spans.{SpansKeepEvents};
+
+/// Whatever the document is, its HTML is safe, if no option lets something through.
+pub fn html_is_safe()
+    ensures { HtmlIsSafe }
+{}
+
+/// The text between the tags of the HTML is what its pieces say.
+pub fn html_keeps_text()
+    ensures { HtmlKeepsText }
+{}
+
+/// A browser reads the HTML as the tree that it is written as, if no option lets something through, and no link is in a link.
+pub fn html_is_flow()
+    ensures { HtmlIsFlow }
+{}
+
+/// The tree of a document's spans has all its events.
+pub fn spans_keep_events()
+    ensures { SpansKeepEvents }
+{}
+
+/// The HTML of a document that is read in two parts is that of the one and then of the other.
+pub fn html_of_both()
+    ensures { HtmlOfBoth }
+{}
+
+/// The HTML of four documents.
+pub fn html_of_documents()
+    ensures { map html_of html_examples ≡ html_examples }
+{}

@@ -1,0 +1,27 @@
+//! HTML of a document, by its events.
+#![tactic(auto)]
+
+// blocks: what is written of them, and the text of code and of HTML
+mod block_shapes;
+mod blocks;
+// inline text: what images are described by
+mod descriptions;
+// HTML: of a document's events, by options
+pub mod html;
+// laws: HTML is safe, stands where it may, and keeps its text
+pub mod laws;
+// blocks
+mod lines;
+// links: what they lead to, and how much of a document they refer to
+mod links;
+// spans: names as what HTML makes of them, shapes, events in a span
+pub mod names;
+// links
+mod references;
+// spans
+pub mod shapes;
+mod spans;
+// inline text
+mod text_shapes;
+// HTML
+mod writer;

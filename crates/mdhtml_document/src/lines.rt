@@ -1,0 +1,129 @@
+//! Lines of text that spans say: code, and HTML within text.
+
+ghost use Rattle.std.specs.List.{list_all, prefix_len};
+ghost use Rattle.std.specs.Prelude.{◌≡◌, ◌==◌, ◌++◌, ◌≤◌, ◌∷◌, IfOk, false, length};
+ghost use Rattle.mdhtml_document.specs.Values.{code_text, html_text, is_blank, line_text, lines_from, stripped};
+
+use crate::spans::bytes_at;
+use markdown_base::event::{Event, Name};
+use mddocument_link_targets::spans::enters;
+use std::alloc::{AllocError, Global};
+
+/// Whether a byte is a space or a tab.
+pub(crate) fn is_blank(byte: u8) -> bool
+    ensures { result ≡ is_blank byte }
+{
+    byte == b' ' || byte == b'\t'
+}
+
+/// How many blanks come first.
+fn blanks_first(text: &[u8]) -> usize
+    ensures value { result ≡ prefix_len is_blank text.now }
+    ensures within { result ≤ length text.now }
+{
+    text.iter().take_while(|byte| is_blank(**byte)).count()
+}
+
+/// A text without the blanks that it begins with, if it begins a line.
+fn line_text(is_start: bool, text: &[u8]) -> &[u8]
+    ensures { result.now ≡ line_text is_start text.now }
+{
+    if is_start {
+        &text[blanks_first(text)..]
+    } else {
+        text
+    }
+}
+
+/// Whether all bytes are spaces.
+fn is_spaces(text: &[u8]) -> bool
+    ensures { result ≡ list_all (λ b. b == 32) text.now }
+{
+    text.iter().all(|byte| *byte == b' ')
+}
+
+/// A text without a space at both ends, if it has both, and more than spaces.
+fn stripped(text: &[u8]) -> &[u8]
+    ensures { result.now ≡ stripped text.now }
+{
+    let len = text.len();
+    if len > 1 && text[0] == b' ' && text[len - 1] == b' ' && !is_spaces(text) {
+        &text[1..len - 1]
+    } else {
+        text
+    }
+}
+
+/// Adds what an event says in lines. Returns whether a line starts behind it.
+fn push_line(
+    text: &mut Vec<u8>,
+    bytes: &[u8],
+    name: Name,
+    ending: u8,
+    is_start: bool,
+    event: &Event,
+    behind: &[Event],
+) -> Result<bool, AllocError>
+    ensures { IfOk result (λ next. text.new.items ++ lines_from bytes.now name ending next behind.now ≡ text.old.items ++ lines_from bytes.now name ending is_start (event.now ∷ behind.now)) }
+{
+    if enters(event, Name::LineEnding) {
+        text.push(ending)?;
+        return Ok(true);
+    }
+    if enters(event, name) {
+        text.extend_from_slice(line_text(is_start, bytes_at(bytes, event, behind)))?;
+        return Ok(false);
+    }
+    Ok(is_start)
+}
+
+/// Lines of spans of a name, with this byte for each line ending.
+fn lines_of(
+    alloc: Global,
+    bytes: &[u8],
+    name: Name,
+    ending: u8,
+    events: &[Event],
+) -> Result<Vec<u8>, AllocError>
+    ensures { IfOk result (λ text. text.items ≡ lines_from bytes.now name ending false events.now) }
+{
+    let mut text = Vec::new(alloc);
+    let mut is_start = false;
+    for (i, event) in events.iter().enumerate() {
+        is_start = push_line(
+            &mut text,
+            bytes,
+            name,
+            ending,
+            is_start,
+            event,
+            &events[i + 1..],
+        )?;
+    }
+    Ok(text)
+}
+
+/// What a code span says, by the events in it.
+pub(crate) fn code_text(
+    alloc: Global,
+    bytes: &[u8],
+    events: &[Event],
+) -> Result<Vec<u8>, AllocError>
+    ensures { IfOk result (λ text. text.items ≡ code_text bytes.now events.now) }
+{
+    let text = lines_of(alloc, bytes, Name::CodeTextData, b' ', events)?;
+    let mut inner = Vec::new(alloc);
+    inner.extend_from_slice(stripped(text.as_slice()))?;
+    Ok(inner)
+}
+
+/// HTML within text, by the events in it.
+pub(crate) fn html_text(
+    alloc: Global,
+    bytes: &[u8],
+    events: &[Event],
+) -> Result<Vec<u8>, AllocError>
+    ensures { IfOk result (λ text. text.items ≡ html_text bytes.now events.now) }
+{
+    lines_of(alloc, bytes, Name::HtmlTextData, b'\n', events)
+}

@@ -1,0 +1,102 @@
+//! Beginnings of spans of inline text.
+
+ghost use Rattle.std.specs.Prelude.{◌≡◌, ◌∷◌, [], IfOk};
+ghost use Rattle.mddocument_link_targets.specs.Spans.{inside};
+ghost use Rattle.mddocument_link_targets.specs.Strings.{given_at};
+ghost use Rattle.mddocument_link_targets.specs.declared.strings.Reading.TheVariants as reading;
+ghost use Rattle.mdhtml_document.specs.Frames.{Opens, lookup_of};
+ghost use Rattle.mdhtml_document.specs.Html.{inline_shape, raw, told, alone};
+ghost use Rattle.mdhtml_document.specs.Values.{code_text, html_text};
+ghost use Rattle.mdhtml_document.specs.Walks.{alt_from};
+ghost use Rattle.mdhtml_markup.specs.Pieces.{Close, Open, Text};
+ghost use Rattle.mdhtml_markup.specs.declared.elements.Element.TheVariants as element;
+
+use crate::block_shapes::push_raw;
+use crate::lines::{code_text, html_text};
+use crate::links::{Whole, autolink, image, open_link};
+use crate::names::Inline;
+use crate::shapes::{DONE, Frame, Mode, open_within_line, through};
+use crate::spans::inside;
+use markdown_base::event::Event;
+use mddocument_link_targets::strings::{Reading, push_given_at};
+use mdhtml_markup::elements::Element;
+use mdhtml_markup::escape::push_escaped;
+use std::alloc::{AllocError, Global};
+
+/// Writes a code span, by the events in it.
+fn code(
+    alloc: Global,
+    out: &mut Vec<u8>,
+    bytes: &[u8],
+    inner: &[Event],
+) -> Result<Frame, AllocError>
+    ensures { IfOk result (λ frame. Opens (alone (Open element.Code [] ∷ Text (code_text bytes.now inner.now) ∷ Close element.Code ∷ [])) out.old.items out.new.items frame) }
+{
+    let text = code_text(alloc, bytes, inner)?;
+    out.extend_from_slice(b"<code>")?;
+    push_escaped(out, text.as_slice())?;
+    out.extend_from_slice(b"</code>")?;
+    Ok(DONE)
+}
+
+/// Writes HTML within text, by the events in it.
+fn html(
+    alloc: Global,
+    out: &mut Vec<u8>,
+    whole: &Whole<'_>,
+    inner: &[Event],
+) -> Result<Frame, AllocError>
+    ensures { IfOk result (λ frame. Opens (alone (raw whole.now.options.now (html_text whole.now.bytes.now inner.now) ∷ [])) out.old.items out.new.items frame) }
+{
+    let html = html_text(alloc, whole.bytes, inner)?;
+    push_raw(out, whole.options, html.as_slice())?;
+    Ok(DONE)
+}
+
+/// Writes what a span says, if it is an innermost one.
+fn told(
+    alloc: Global,
+    out: &mut Vec<u8>,
+    bytes: &[u8],
+    event: &Event,
+    behind: &[Event],
+) -> Result<Frame, AllocError>
+    ensures { IfOk result (λ frame. Opens (told (given_at bytes.now reading.Decoded event.now behind.now)) out.old.items out.new.items frame) }
+{
+    let mut text = Vec::new(alloc);
+    push_given_at(&mut text, bytes, Reading::Decoded, event, behind)?;
+    push_escaped(out, text.as_slice())?;
+    Ok(through(Mode::Text))
+}
+
+/// Begins a span of inline text, by what it is, the event that enters it and those behind that.
+pub(crate) fn open_inline(
+    alloc: Global,
+    out: &mut Vec<u8>,
+    whole: &Whole<'_>,
+    inline: Inline,
+    event: &Event,
+    behind: &[Event],
+) -> Result<Frame, AllocError>
+    ensures { IfOk result (λ frame. Opens (inline_shape whole.now.options.now whole.now.bytes.now (lookup_of whole.now) whole.now.tab inline (inside behind.now) (given_at whole.now.bytes.now reading.Decoded event.now behind.now) (alt_from whole.now.bytes.now 0 (inside behind.now))) out.old.items out.new.items frame) }
+{
+    match inline {
+        Inline::Ending => {
+            out.push(b'\n')?;
+            Ok(DONE)
+        }
+        Inline::Break => {
+            out.extend_from_slice(b"<br />")?;
+            Ok(DONE)
+        }
+        Inline::Emphasis => open_within_line(out, Element::Emphasis),
+        Inline::Strong => open_within_line(out, Element::Strong),
+        Inline::Code => code(alloc, out, whole.bytes, inside(behind)),
+        Inline::Html => html(alloc, out, whole, inside(behind)),
+        Inline::Autolink => autolink(out, whole, inside(behind)),
+        Inline::Link => open_link(alloc, out, whole, inside(behind)),
+        Inline::Image => image(alloc, out, whole, inside(behind)),
+        Inline::Tail => Ok(DONE),
+        Inline::Other => told(alloc, out, whole.bytes, event, behind),
+    }
+}
