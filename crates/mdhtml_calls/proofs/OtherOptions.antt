@@ -1,0 +1,84 @@
+-- HTML of events is the same by options that let the same through.
+use Rattle.std.proofs.Common.{◌≡◌, ◌∙◌, ◌++◌, ap, refl, ℕ, Bool, true, false, List, Option, None, Some}
+use Rattle.markdown_base.specs.declared.configuration.CompileOptions.{CompileOptions}
+use Rattle.markdown_base.specs.declared.event.Event.{Event}
+use Rattle.markdown_base.specs.declared.event.Name.{Name}
+use Rattle.mddocument_link_targets.specs.declared.targets.Parts.{Parts}
+use Rattle.mdhtml_calls.specs.Laws.{as_let_through}
+use Rattle.mdhtml_document.specs.declared.names.Block.{Block}
+use Rattle.mdhtml_document.specs.declared.names.Block.TheVariants as block
+use Rattle.mdhtml_document.specs.declared.names.Inline.{Inline}
+use Rattle.mdhtml_document.specs.declared.names.Inline.TheVariants as inline
+use Rattle.mdhtml_document.specs.declared.shapes.Mode.{Mode}
+use Rattle.mdhtml_document.specs.declared.shapes.Mode.TheVariants as mode
+use Rattle.mdhtml_document.specs.Html.{Shape, block_shape, html_by, inline_shape, link_to, image_of, parts_in_link, pieces, shape, shape_by}
+use Rattle.mdhtml_document.specs.Names.{block_of, inline_of}
+use Rattle.mdhtml_document.specs.Spans.{Nothing, Span, Spans, spans_of}
+use Rattle.mdhtml_markup.specs.Pieces.{Piece, html}
+
+link-same : (options : CompileOptions) (parts : Option Parts) → link_to options parts ≡ link_to (as_let_through options) parts
+link-same options None = refl
+link-same options (Some parts) = refl
+
+image-same : (options : CompileOptions) (alt : List ℕ) (parts : Option Parts) → image_of options alt parts ≡ image_of (as_let_through options) alt parts
+image-same options alt None = refl
+image-same options alt (Some parts) = refl
+
+-- pieces of a span of this shape, and of what is behind it
+abbrev around : (inside : Mode → List Piece) → (behind : List Piece) → Shape → List Piece
+around inside behind here = here.opened ++ (inside here.inside ++ (here.closed ++ behind))
+
+module _ (options : CompileOptions) (bytes : List ℕ) (lookup : (label : List ℕ) → Option Parts) (tab : ℕ) where
+  block-same : (tight : Bool) (b : Block) (es : List Event) (loose : Bool) (start : Option ℕ)
+      → block_shape options bytes lookup tab tight b es loose start ≡ block_shape (as_let_through options) bytes lookup tab tight b es loose start
+  block-same tight block.Paragraph es loose start = refl
+  block-same tight block.HeadingAtx es loose start = refl
+  block-same tight block.HeadingSetext es loose start = refl
+  block-same tight block.HeadingText es loose start = refl
+  block-same tight block.Quote es loose start = refl
+  block-same tight block.Bullets es loose start = refl
+  block-same tight block.Numbers es loose start = refl
+  block-same tight block.Item es loose start = refl
+  block-same tight block.Fenced es loose start = refl
+  block-same tight block.Indented es loose start = refl
+  block-same tight block.Html es loose start = refl
+  block-same tight block.Rule es loose start = refl
+  block-same tight block.Other es loose start = refl
+
+  inline-same : (i : Inline) (es : List Event) (said alt : List ℕ)
+      → inline_shape options bytes lookup tab i es said alt ≡ inline_shape (as_let_through options) bytes lookup tab i es said alt
+  inline-same inline.Ending es said alt = refl
+  inline-same inline.Break es said alt = refl
+  inline-same inline.Emphasis es said alt = refl
+  inline-same inline.Strong es said alt = refl
+  inline-same inline.Code es said alt = refl
+  inline-same inline.Html es said alt = refl
+  inline-same inline.Autolink es said alt = refl
+  inline-same inline.Link es said alt = link-same options (parts_in_link bytes lookup es)
+  inline-same inline.Image es said alt = image-same options alt (parts_in_link bytes lookup es)
+  inline-same inline.Tail es said alt = refl
+  inline-same inline.Other es said alt = refl
+
+  by-name : (m : Mode) (n : Name) (es : List Event) (loose : Bool) (start : Option ℕ) (said alt : List ℕ)
+      → shape_by options bytes lookup tab m n es loose start said alt ≡ shape_by (as_let_through options) bytes lookup tab m n es loose start said alt
+  by-name mode.Flow n es loose start said alt = block-same false (block_of n) es loose start
+  by-name mode.Tight n es loose start said alt = block-same true (block_of n) es loose start
+  by-name mode.LooseItems n es loose start said alt = refl
+  by-name mode.TightItems n es loose start said alt = refl
+  by-name mode.Heading n es loose start said alt = refl
+  by-name mode.Text n es loose start said alt = inline-same (inline_of n) es said alt
+  by-name mode.Nothing n es loose start said alt = refl
+
+  shape-same : (m : Mode) (e f : Event) (s : Spans) → shape options bytes lookup tab m e f s ≡ shape (as_let_through options) bytes lookup tab m e f s
+  shape-same m e f s = by-name m e.name _ _ _ _ _
+
+  pieces-same : (m : Mode) (s : Spans) → pieces options bytes lookup tab m s ≡ pieces (as_let_through options) bytes lookup tab m s
+  pieces-same m Nothing = refl
+  pieces-same m (Span e f s behind) =
+      let there = shape (as_let_through options) bytes lookup tab m e f s in
+      ap (around (λ i. pieces options bytes lookup tab i s) (pieces options bytes lookup tab m behind)) (shape-same m e f s)
+      ∙ ap (λ ps. there.opened ++ (ps ++ (there.closed ++ pieces options bytes lookup tab m behind))) (pieces-same there.inside s)
+      ∙ ap (λ ps. there.opened ++ (pieces (as_let_through options) bytes lookup tab there.inside s ++ (there.closed ++ ps))) (pieces-same m behind)
+
+  pub html-same : (events : List Event) → html_by options bytes lookup tab events ≡ html_by (as_let_through options) bytes lookup tab events
+  html-same events = ap html (pieces-same mode.Flow (spans_of events))

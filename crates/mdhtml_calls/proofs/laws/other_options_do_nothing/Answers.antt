@@ -1,0 +1,8 @@
+use Rattle.mddocument.specs.DocumentEvents.{document_events}
+use Rattle.mddocument.specs.Documents.{document}
+use Rattle.mdhtml_calls.proofs.OtherOptions.{html-same}
+use Rattle.mdhtml_calls.proofs.laws.other_options_do_nothing.Goals as goal
+use Rattle.mdhtml_document.specs.Html.{led_to}
+
+pub returns : goal.returns
+returns _ = λ options bytes. let events = document_events (document options.parse bytes) in html-same options.compile bytes (led_to bytes events) options.parse.tab_size events

@@ -1,0 +1,4 @@
+-- html
+pub mod Document
+-- laws
+pub mod Laws

@@ -1,0 +1,8 @@
+//! Laws of the HTML of documents. Each is a function that does nothing; its contract is the law.
+
+ghost use Rattle.mdhtml_calls.specs.Laws.{OtherOptionsDoNothing};
+
+/// Of the options for HTML only `allow_any_img_src`, `allow_dangerous_html` and `allow_dangerous_protocol` do something.
+pub fn other_options_do_nothing()
+    ensures { OtherOptionsDoNothing }
+{}
