@@ -1,0 +1,19 @@
+//! Writes a document as HTML: reads standard input to its end, and writes HTML to standard output.
+//!
+//! Usage: `mdhtml [--unsafe] [--tab n]`. Without `--unsafe` the HTML is safe: raw HTML is shown as text, and an address with a scheme that is
+//! not allowed is left out. With it both are written as they stand, and nothing of this is promised. `--tab` is the tab size, from 1 to 16; the
+//! default is 4.
+//!
+//! The status is 0 if all was written. If something fails, a line on standard error says what, and the status is 1. If the
+//! arguments are not accepted, the usage line is shown there, and the status is 2.
+#![tactic(auto)]
+
+pub use mdhtml_program::arguments::{Choice, USAGE, read_words};
+use mdhtml_program::call::answer_call;
+pub use mdhtml_program::failure::Failure;
+pub use mdhtml_program::program::write_html;
+use std::process::ExitCode;
+
+fn main(rt: HostRuntime) -> ExitCode {
+    answer_call(&rt, &mut rt.stdin(), &mut rt.stdout())
+}

@@ -1,0 +1,4 @@
+-- What proofs cite from below
+mod Prelude
+-- arguments
+pub mod Words

@@ -1,0 +1,19 @@
+//! All of the program that writes HTML but its `main`: it reads a document and writes its HTML, for any reader and writer.
+#![tactic(auto)]
+
+// program: `write_html`: reads, makes HTML, writes
+pub mod program;
+
+// arguments: what those of the command line choose
+pub mod arguments;
+
+// input and output: reading to the end, within the limit; writing
+pub mod read;
+pub mod write;
+
+// call: what a call does, for any system, reader and writer
+pub mod call;
+
+// failure: why the program fails; the law that the usage line stays
+pub mod failure;
+pub mod laws;

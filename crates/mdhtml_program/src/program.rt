@@ -1,0 +1,35 @@
+//! What the program does, for any reader and writer.
+
+ghost use Rattle.std.specs.Prelude.{◌≡◌, ◌≢◌, false, IfErr, OnOk, IsErrOf};
+ghost use Rattle.std.specs.Io.KnownBytes.{Keeps};
+ghost use Rattle.mdhtml_program.specs.Program.{Writes, WritesFront, WritesSafe};
+ghost use Rattle.mdhtml_program.specs.Input.{ReadsPastLimit};
+
+use crate::arguments::{Choice, options_of};
+use crate::failure::Failure;
+use crate::read::read_to_end;
+use crate::write::write_all;
+use mdhtml_calls::html::to_html_with_options;
+use std::alloc::Global;
+use std::io::{Read, Write};
+
+/// Reads a document to its end, makes its HTML, and then writes that.
+///
+/// Returns the first failure, in the order of reading, length, making HTML, and writing. After `Write`, a beginning of the HTML was written, and
+/// after any other failure nothing. What was written is safe HTML, unless the choice is unsafe or something failed.
+pub fn write_html<R: Read, W: Write>(
+    alloc: Global,
+    reader: &mut R,
+    writer: &mut W,
+    choice: &Choice,
+) -> Result<(), Failure>
+    ensures written { OnOk result (Writes choice.now R.remaining reader.old reader.new W.contents writer.old writer.new) }
+    ensures safe { choice.now.is_unsafe ≡ false → OnOk result (WritesSafe (W.contents writer.old) (W.contents writer.new)) }
+    ensures too_long { IsErrOf result Failure.TooLong → ReadsPastLimit choice.now.tab (R.remaining reader.old) (R.remaining reader.new) }
+    ensures cut_short { IsErrOf result Failure.Write → WritesFront choice.now R.remaining reader.old reader.new W.contents writer.old writer.new }
+    ensures nothing { IfErr result (λ failure. failure ≢ Failure.Write → Keeps (W.contents writer.old) (W.contents writer.new)) }
+{
+    let bytes = read_to_end(alloc, reader, choice.tab)?;
+    let html = to_html_with_options(alloc, bytes.as_slice(), &options_of(choice))?;
+    write_all(writer, html.as_slice())
+}

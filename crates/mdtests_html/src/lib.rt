@@ -1,0 +1,16 @@
+//! Tests of HTML: as bytes, of documents, and of the program that writes it, with fakes of what it reads and writes.
+#![tactic(auto)]
+
+// calls: documents as HTML, by options
+#[cfg(test)]
+mod calls;
+
+// program: arguments, what is written, and reads and writes that fail
+#[cfg(test)]
+mod fakes;
+// bytes: text, addresses and safe HTML
+#[cfg(test)]
+mod markup;
+// program
+#[cfg(test)]
+mod program;
