@@ -1,0 +1,118 @@
+-- The sections of a document stand in the spans of containers around them; so its skeleton stands.
+use Rattle.std.proofs.Common.{◌≡◌, ◌∙◌, ℕ, zero, suc, Bool, true, false, cond, List, [], ◌∷◌, ◌++◌, None, drop, inl, inr, length, map, refl, sym, subst, take}
+use Rattle.std.proofs.lemmas.Bool.{cond_both, false_from_ne_true, false≢true}
+use Rattle.std.specs.List.{AllByRecursion, flat_map}
+use Rattle.std.specs.Prelude.{◌&&◌}
+use Rattle.markdown_base.proofs.Common.{every-append, every-drop}
+use Rattle.markdown_base.specs.declared.configuration.Constructs.{Constructs}
+use Rattle.markdown_base.specs.Virtual.{virtual}
+use Rattle.markdown_tokenizer.specs.Text.{Given}
+use Rattle.mdconstructs_machines.specs.LineEvents.{lines_in}
+use Rattle.mdinline_labels.specs.declared.definitions.Definition.{Definition}
+use Rattle.mdinline_labels.specs.Definitions.{definitions}
+use Rattle.mdblock_leaf_blocks.specs.LeafBlocks.{Line}
+use Rattle.mdblock_containers.proofs.FrameFacts.{left_is}
+use Rattle.mdblock_containers.proofs.SeatFacts.{document_lines}
+use Rattle.mdblock_containers.specs.Rows.{Row, nothing_known}
+use Rattle.mdblock_containers.specs.Skeleton.{Frame, Part, further, parts, parts_in}
+use Rattle.mdblock_definitions.proofs.SectionTurns.{AreCut, document-cut}
+use Rattle.mdblock_definitions.specs.Blocks.{document_skeleton}
+use Rattle.mdblock_definitions.specs.Rows.{Known, known_after, row_of, rows, rows_from}
+use Rattle.mdblock_definitions.specs.Sections.{Section, before_defined, begins_text, cut, defined_in, defining, in_same, lines, paragraph_of, sections, sections_in, sections_of, text_in, undefined}
+use Rattle.mdblock_definitions.specs.Skeleton.{sections_marks}
+use Rattle.mddocument_rules.specs.Standing.{holds_blocks}
+use Rattle.mddocument_rules.specs.StandingLaws.{SkeletonsStand}
+use Rattle.mddocument_rules.proofs.Frames.{Stacked, frames-roomy, frames-stacked, within}
+use Rattle.mddocument_rules.proofs.Passes.{chained-stand}
+use Rattle.mddocument_rules.proofs.Places.{Stands, walks-stand}
+use Rattle.mddocument_rules.proofs.Sections.{AllStandIn, IsRoomy, sections-stand}
+use Rattle.mddocument_rules.proofs.Walk.{Walks}
+
+-- a line that is left blank is blank
+abbrev IsLeft : Row → Type 0
+IsLeft r = r.is_left_blank ≡ true → r.is_blank ≡ true
+
+-- ---- parts
+record PartStands (p : Part) : Type 0 where
+  stacked : Stacked [] p.frames
+  roomy : p.first.is_blank ≡ false → holds_blocks (within [] p.frames) ≡ true
+
+parts-stand : (bound : ℕ) (all : List Row) → AllByRecursion IsLeft all → AllByRecursion PartStands (parts_in bound all)
+parts-stand zero all h = tt
+parts-stand (suc bound) [] h = tt
+parts-stand (suc bound) (row ∷ behind) h =
+    let n = cond row.is_blank 0 (further behind) in (
+      record { stacked = frames-stacked row behind; roomy = λ e. frames-roomy row behind (false_from_ne_true row.is_left_blank (λ l. false≢true (sym e ∙ h.0 l))) },
+      parts-stand bound (drop n behind) (every-drop IsLeft n behind h.1),
+    )
+
+-- ---- sections of one part
+abbrev SectionStands : (bytes : List ℕ) → Section → Type 0
+SectionStands bytes s = Stacked [] s.part.frames × IsRoomy bytes s
+
+module _ (fs : List Frame) where
+  abbrev InFrames : Section → Type 0
+  InFrames s = s.part.frames ≡ fs
+
+  others-in : (around : Part) (ps : List Part) → around.frames ≡ fs → AllByRecursion InFrames (map (λ p. record { part = p; inside = lines false }) (map (in_same around) ps))
+  others-in around [] e = tt
+  others-in around (p ∷ ps) e = (e, others-in around ps e)
+
+  of-parts-in : (is_behind : Bool) (around : Part) (ps : List Part) → around.frames ≡ fs → AllByRecursion InFrames (sections_of is_behind (map (in_same around) ps))
+  of-parts-in is_behind around [] e = tt
+  of-parts-in is_behind around (p ∷ ps) e = (e, others-in around ps e)
+
+  defining-in : (ds : List Definition) (around : Part) (all : List Row) → around.frames ≡ fs → AllByRecursion InFrames (defining ds around all)
+  defining-in ds around [] e = tt
+  defining-in ds around (row ∷ more) e = (e, tt)
+
+  sections-in : (on : Constructs) (bound : ℕ) (is_behind : Bool) (around : Part) (all : List Row) → around.frames ≡ fs → AllByRecursion InFrames (sections_in on bound is_behind around all)
+  sections-in on zero is_behind around all e = tt
+  sections-in on (suc bound) is_behind around [] e = tt
+  sections-in on (suc bound) is_behind around (row ∷ more) e =
+      let all = row ∷ more in
+      let n = before_defined on false all in
+      let behind = drop n all in
+      let d = defined_in on behind in
+      let ds = definitions (text_in (paragraph_of behind)) in
+      every-append InFrames (undefined is_behind around (take n all)) (defining ds around (take d behind) ++ sections_in on bound true around (drop d behind)) (of-parts-in (is_behind && begins_text (take n all)) around (parts (take n all)) e)
+      (every-append InFrames (defining ds around (take d behind)) (sections_in on bound true around (drop d behind)) (defining-in ds around (take d behind) e) (sections-in on bound true around (drop d behind) e))
+
+in-frames-stand : (bytes : List ℕ) (fs : List Frame) → Stacked [] fs → holds_blocks (within [] fs) ≡ true → (ss : List Section) → AllByRecursion (InFrames fs) ss → AllByRecursion (SectionStands bytes) ss
+in-frames-stand bytes fs k r [] h = tt
+in-frames-stand bytes fs k r (s ∷ ss) h = ((subst (Stacked []) (sym h.0) k, inr (subst (λ (l : List Frame). holds_blocks (within [] l) ≡ true) (sym h.0) r)), in-frames-stand bytes fs k r ss h.1)
+
+cut-stands : (bytes : List ℕ) (on : Constructs) (p : Part) → PartStands p → AllByRecursion (SectionStands bytes) (cut on p)
+cut-stands bytes on p h =
+    cond_both p.first.is_blank (record { part = p; inside = lines false } ∷ []) (sections_in on (suc (length p.more)) false p (p.first ∷ p.more)) (AllByRecursion (SectionStands bytes)) (λ e. ((h.stacked, inl (refl, e)), tt))
+    (λ e. in-frames-stand bytes p.frames h.stacked (h.roomy e) (sections_in on (suc (length p.more)) false p (p.first ∷ p.more)) (sections-in p.frames on (suc (length p.more)) false p (p.first ∷ p.more) refl))
+
+all-cut-stand : (bytes : List ℕ) (on : Constructs) (ps : List Part) → AllByRecursion PartStands ps → AllByRecursion (SectionStands bytes) (flat_map (cut on) ps)
+all-cut-stand bytes on [] h = tt
+all-cut-stand bytes on (p ∷ ps) h = every-append (SectionStands bytes) (cut on p) (flat_map (cut on) ps) (cut-stands bytes on p h.0) (all-cut-stand bytes on ps h.1)
+
+-- ---- lines
+rows-are-left : (on : Constructs) (k : Known) (n : ℕ) (ls : List Line) → AllByRecursion IsLeft (rows_from on k n ls)
+rows-are-left on k n [] = tt
+rows-are-left on k n (l ∷ ls) = ((λ e. (left_is on k.before n l e).0), rows-are-left on (known_after on k (row_of on k n l)) (suc n) ls)
+
+join : (bytes : List ℕ) (fs : List Frame) (ss : List Section) → AreCut bytes fs ss → AllByRecursion (SectionStands bytes) ss → AllStandIn bytes fs ss
+join bytes fs [] c h = tt
+join bytes fs (s ∷ ss) c h = (record { turn = c.0; stacked = h.0.0; roomy = h.0.1 }, join bytes s.part.frames ss c.2 h.1)
+
+pub all-stand-in : (g : Given) → let on = g.options.constructs in AllStandIn g.bytes [] (sections on (rows on (lines_in (virtual g.tab g.bytes))))
+all-stand-in g =
+    let on = g.options.constructs in
+    let ls = lines_in (virtual g.tab g.bytes) in
+    let all = rows on ls in
+    join g.bytes [] (sections on all) (document-cut g.bytes on ls (document_lines g.tab g.bytes)) (all-cut-stand g.bytes on (parts all) (parts-stand (length all) all (rows-are-left on (record { before = nothing_known on; text = [] }) 1 ls)))
+
+-- The skeleton of a document
+pub skeleton-walks : (g : Given) → Walks Stands [] (document_skeleton g)
+skeleton-walks g =
+    let on = g.options.constructs in
+    let ss = sections on (rows on (lines_in (virtual g.tab g.bytes))) in
+    chained-stand 0 None [] (sections_marks g.bytes ss) (sections-stand g.bytes ss (all-stand-in g))
+
+pub skeletons-stand : SkeletonsStand
+skeletons-stand g = walks-stand [] (document_skeleton g) (skeleton-walks g)

@@ -1,0 +1,95 @@
+-- Walks over events, with the names of the spans around each, of which the innermost comes first.
+use Rattle.std.proofs.Common.{◌≡◌, List, [], ◌∷◌, ◌++◌, drop, refl, subst, sym}
+use Rattle.std.specs.List.{AllByRecursion}
+use Rattle.markdown_base.specs.declared.event.Event.{Event}
+use Rattle.markdown_base.specs.declared.event.Kind.{Kind}
+use Rattle.markdown_base.specs.declared.event.Kind.TheVariants.{Enter, Exit}
+use Rattle.markdown_base.specs.declared.event.Name.{Name}
+use Rattle.markdown_base.specs.Events.{IsBalanced, empty, span}
+use Rattle.markdown_tokenizer.proofs.Positions.Order.{every-back, every-front}
+
+-- what is around behind an event
+abbrev pub behind_one : Kind → Name → List Name → List Name
+behind_one Enter n around = n ∷ around
+behind_one Exit n around = drop 1 around
+
+abbrev pub behind_all : List Name → List Event → List Name
+behind_all around [] = around
+behind_all around (e ∷ es) = behind_all (behind_one e.kind e.name around) es
+
+-- what is asked of an enter is nothing of an exit
+abbrev pub IfEnter : Kind → Type 0 → Type 0
+IfEnter Enter T = T
+IfEnter Exit T = Unit {0}
+
+-- each enter has a property, by what is around it
+module _ (P : List Name → Event → Type 0) where
+  abbrev pub Walks : List Name → List Event → Type 0
+  Walks around [] = Unit {0}
+  Walks around (e ∷ es) = IfEnter e.kind (P around e) × Walks (behind_one e.kind e.name around) es
+
+-- what is around has a property from the first event to behind the last
+module _ (Ok : List Name → Type 0) where
+  abbrev pub Stays : List Name → List Event → Type 0
+  Stays around [] = Ok around
+  Stays around (e ∷ es) = Ok around × Stays (behind_one e.kind e.name around) es
+
+-- ---- two lists
+pub behind-both : (around : List Name) (xs ys : List Event) → behind_all around (xs ++ ys) ≡ behind_all (behind_all around xs) ys
+behind-both around [] ys = refl
+behind-both around (e ∷ xs) ys = behind-both (behind_one e.kind e.name around) xs ys
+
+module _ (P : List Name → Event → Type 0) where
+  pub walks-both : (around : List Name) (xs ys : List Event) → Walks P around xs → Walks P (behind_all around xs) ys → Walks P around (xs ++ ys)
+  walks-both around [] ys h k = k
+  walks-both around (e ∷ xs) ys h k = (h.0, walks-both (behind_one e.kind e.name around) xs ys h.1 k)
+
+  pub walks-split : (around : List Name) (xs ys : List Event) → Walks P around (xs ++ ys) → Walks P around xs × Walks P (behind_all around xs) ys
+  walks-split around [] ys h = (tt, h)
+  walks-split around (e ∷ xs) ys h = let r = walks-split (behind_one e.kind e.name around) xs ys h.1 in ((h.0, r.0), r.1)
+
+module _ (Ok : List Name → Type 0) where
+  pub stays-both : (around : List Name) (xs ys : List Event) → Stays Ok around xs → Stays Ok (behind_all around xs) ys → Stays Ok around (xs ++ ys)
+  stays-both around [] ys h k = k
+  stays-both around (e ∷ xs) ys h k = (h.0, stays-both (behind_one e.kind e.name around) xs ys h.1 k)
+
+  pub stays-first : (around : List Name) (xs : List Event) → Stays Ok around xs → Ok around
+  stays-first around [] h = h
+  stays-first around (e ∷ xs) h = h.0
+
+  pub stays-behind : (around : List Name) (xs ys : List Event) → Stays Ok around (xs ++ ys) → Stays Ok (behind_all around xs) ys
+  stays-behind around [] ys h = h
+  stays-behind around (e ∷ xs) ys h = stays-behind (behind_one e.kind e.name around) xs ys h.1
+
+-- ---- balanced lists
+pub behind-balanced : {xs : List Event} → IsBalanced xs → (around : List Name) → behind_all around xs ≡ around
+behind-balanced empty around = refl
+behind-balanced (span e f xs ys is en ex same b c) around = rw (is, en, behind-both (e.name ∷ around) xs (f ∷ ys), behind-balanced b (e.name ∷ around), ex) (behind-balanced c around)
+
+-- Names that may stand in any such place, and in which any of them may stand
+module _ (P : List Name → Event → Type 0) (Ok : List Name → Type 0) (Free : Event → Type 0) (may : (around : List Name) (e : Event) → Ok around → Free e → P around e)
+    (inside : (around : List Name) (e : Event) → Ok around → Free e → Ok (e.name ∷ around)) where
+  pub free-walks : {xs : List Event} → IsBalanced xs → AllByRecursion Free xs → (around : List Name) → Ok around → Walks P around xs
+  free-walks empty h around ok = tt
+  free-walks (span e f xs ys is en ex same b c) h around ok =
+      let h2 : AllByRecursion Free (e ∷ (xs ++ f ∷ ys)) = subst (AllByRecursion Free) is h in
+      let within = free-walks b (every-front Free xs (f ∷ ys) h2.1) (e.name ∷ around) (inside around e ok h2.0) in
+      let behind = free-walks c (every-back Free xs (f ∷ ys) h2.1).1 around ok in
+      let rest : Walks P (behind_all (e.name ∷ around) xs) (f ∷ ys) = rw (behind-balanced b (e.name ∷ around), ex) (tt, behind) in
+      let all : Walks P (e.name ∷ around) (xs ++ f ∷ ys) = walks-both P (e.name ∷ around) xs (f ∷ ys) within rest in
+      let enters : IfEnter e.kind (P around e) = subst (λ (k : Kind). IfEnter k (P around e)) (sym en) (may around e ok h2.0) in
+      let behind_enter : Walks P (behind_one e.kind e.name around) (xs ++ f ∷ ys) = subst (λ (k : Kind). Walks P (behind_one k e.name around) (xs ++ f ∷ ys)) (sym en) all in
+      subst (Walks P around) (sym is) (enters, behind_enter)
+
+-- what stays in place, whatever is entered
+module _ (Ok : List Name → Type 0) (Low : Event → Type 0) (inside : (around : List Name) (e : Event) → Low e → Ok (e.name ∷ around)) where
+  pub low-stays : {xs : List Event} → IsBalanced xs → AllByRecursion Low xs → (around : List Name) → Ok around → Stays Ok around xs
+  low-stays empty h around ok = ok
+  low-stays (span e f xs ys is en ex same b c) h around ok =
+      let h2 : AllByRecursion Low (e ∷ (xs ++ f ∷ ys)) = subst (AllByRecursion Low) is h in
+      let top = inside around e h2.0 in
+      let within = low-stays b (every-front Low xs (f ∷ ys) h2.1) (e.name ∷ around) top in
+      let behind = low-stays c (every-back Low xs (f ∷ ys) h2.1).1 around ok in
+      let rest : Stays Ok (behind_all (e.name ∷ around) xs) (f ∷ ys) = rw (behind-balanced b (e.name ∷ around), ex) (top, behind) in
+      let all : Stays Ok (e.name ∷ around) (xs ++ f ∷ ys) = stays-both Ok (e.name ∷ around) xs (f ∷ ys) within rest in
+      rw (is, en) (ok, all)

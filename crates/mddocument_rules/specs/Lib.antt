@@ -1,0 +1,3 @@
+-- standing
+pub mod Standing
+pub mod StandingLaws

@@ -1,0 +1,21 @@
+-- What is promised of what stands in what.
+use Rattle.std.specs.Prelude.{◌≡◌, ℕ, [], true, List}
+use Rattle.markdown_base.specs.declared.configuration.Constructs.{Constructs}
+use Rattle.markdown_base.specs.declared.event.Name.{Name}
+use Rattle.markdown_base.specs.Virtual.{Seat}
+use Rattle.markdown_tokenizer.specs.Text.{Given, IsDocument}
+use Rattle.mdblock_leaf_blocks.specs.LeafEvents.{flow_events}
+use Rattle.mdblock_definitions.specs.Blocks.{document_blocks, document_skeleton}
+use Rattle.mddocument_rules.specs.Standing.{all_stand, holds_blocks, may_stand}
+
+-- Leaf blocks stand where blocks may stand
+abbrev pub LeafBlocksStand : Type 0
+LeafBlocksStand = (on : Constructs) (bytes : List ℕ) (seats : List Seat) (around : List Name) → holds_blocks around ≡ true → all_stand may_stand around (flow_events on bytes seats) ≡ true
+
+-- and so do block quotes, lists and definitions; in a list stand its items
+abbrev pub SkeletonsStand : Type 0
+SkeletonsStand = (g : Given) → all_stand may_stand [] (document_skeleton g) ≡ true
+
+-- So it is of all blocks of each document
+abbrev pub BlocksStand : Type 0
+BlocksStand = (g : Given) → IsDocument g → all_stand may_stand [] (document_blocks g) ≡ true
