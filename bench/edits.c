@@ -1,5 +1,5 @@
 /* Edits a document of 2,500 paragraphs of 400 bytes by the static library, to be measured: prints the document's length, how many bytes the
- * sections have that were replaced, and how many sections were read again beside them.
+ * sections have that were replaced, and how many sections beside them have other events.
  * usage: edits MODE TIMES [plain]   (MODE is print, which writes the document out; read, which reads it TIMES times and edits nothing; keep, which keeps
  * it for edits; or byte, line or paragraph, which keeps it, and TIMES times types a byte, types a line ending, or takes 400 bytes out and puts them back, each at
  * another place; with plain the paragraphs have no markup) */

@@ -15,6 +15,9 @@ pub mod SectionSizes
 -- seams
 pub mod Joined
 pub mod SettledBytes
+pub mod Unique
+-- trims
+pub mod Trims
 -- putting in
 pub mod AskedAgain
 pub mod AskedInBrackets
@@ -23,6 +26,7 @@ pub mod AskingCode
 pub mod LabelBytes
 pub mod MayStand
 pub mod NewLabels
+pub mod NothingNamed
 pub mod PutBack
 pub mod PutChanged
 pub mod PutKept

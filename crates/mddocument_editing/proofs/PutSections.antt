@@ -1,8 +1,8 @@
 -- Sections with others in the place of some: the document that is kept then, and what changed.
-use Rattle.std.proofs.Common.{◌≡◌, ◌⊎◌, ℕ, ◌+◌, ◌≤◌, ◌<◌, List, [], ◌++◌, length, get_or, take, drop, subst, sym, ap, ◌∙◌, arith, map-id}
+use Rattle.std.proofs.Common.{◌≡◌, ◌⊎◌, ℕ, ◌+◌, ◌-◌, ◌≤◌, ◌<◌, List, [], ◌++◌, length, get_or, take, drop, subst, sym, ap, ◌∙◌, arith, map-id}
 use Rattle.std.proofs.lemmas.Iterator.{items_from_drains}
 use Rattle.std.proofs.lemmas.Iterator.Adapters.{YieldsList-from_vec}
-use Rattle.std.proofs.lemmas.List.{append_assoc, drop-map, drop_at, length-append, length-take-le, map-append, take-map, take_at}
+use Rattle.std.proofs.lemmas.List.{append_assoc, drop-map, drop_at, get_or-append_right, get_or_append_left, length-append, length-take-le, map-append, take-map, take_at}
 use Rattle.std.specs.Iterator.{Drains}
 use Rattle.std.specs.List.{AllByRecursion}
 use Rattle.std.specs.Prelude.{Contains}
@@ -16,9 +16,10 @@ use Rattle.markdown_tokenizer.proofs.Positions.Order.{every-back, every-front}
 use Rattle.mdinline_labels.specs.Defined.{defines}
 use Rattle.mddocument_parts.specs.Sections.{document_of}
 use Rattle.mddocument_editing.proofs.SectionBytes.{sections-within}
-use Rattle.mddocument_editing.specs.Divided.{Divided, IsDivided, is_label_of, section_events}
-use Rattle.mddocument_editing.specs.Edits.{IsChange}
+use Rattle.mddocument_editing.specs.Divided.{Divided, IsDivided, is_label_of}
+use Rattle.mddocument_editing.specs.Edits.{IsChange, KeepsEvents, ascend_from, section_of}
 use Rattle.mddocument_editing.specs.Kept.{IsKept, IsRead, bytes_of_sections, divided_of}
+use Rattle.mddocument_editing.specs.Trims.{AreTrimmed}
 use Rattle.mddocument_editing.specs.declared.kept.Kept.{Kept}
 use Rattle.mddocument_editing.specs.declared.section.Section.{Section}
 
@@ -69,20 +70,46 @@ module _ (old : Divided) (from end : ℕ) (parts : List (List ℕ)) where
   replaced = record { options = old.options; sections = take from old.sections ++ (parts ++ drop end old.sections) }
 
   -- what changes, if these are the others that do
-  pub change-of : (new_to : ℕ) (others : Vec ℕ Global) → from ≤ end → end ≤ length old.sections → new_to ≡ from + length parts
-      → ((i : ℕ) → i < length replaced.sections → (i < from) ⊎ (new_to ≤ i) → ¬ Contains others.items i → let section = get_or replaced.sections i [] in section_events replaced section ≡ section_events old section)
+  pub change-of : (new_to : ℕ) (others : Vec ℕ Global) → from ≤ end → end ≤ length old.sections → new_to ≡ from + length parts → AreTrimmed old.sections from end parts → ascend_from 0 others.items
+      → AllByRecursion (λ i. (i < length replaced.sections) × ((i < from) ⊎ (new_to ≤ i))) others.items → AllByRecursion (λ i. ¬ KeepsEvents old replaced (section_of replaced i)) others.items
+      → ((i : ℕ) → i < length replaced.sections → (i < from) ⊎ (new_to ≤ i) → ¬ Contains others.items i → KeepsEvents old replaced (section_of replaced i))
       → IsChange old replaced (record { from = from; old_to = end; new_to = new_to; others = others })
-  change-of new_to others order within is same =
+  change-of new_to others order within is trimmed up outside differ same =
       let front = take from old.sections in
       let behind = drop end old.sections in
       let size : length front ≡ from = length-take-le from old.sections (omega arith) in
       let all = length-append front (parts ++ behind) in
       let more = length-append parts behind in
       let both : length (front ++ parts) ≡ new_to = length-append front parts ∙ ap (λ n. n + length parts) size ∙ sym is in
+      -- one of the parts, by its number among all
+      let one : (k : ℕ) → k < length parts → get_or (front ++ (parts ++ behind)) (from + k) [] ≡ get_or parts k [] = λ k lt.
+      let e : from + k - from ≡ k = omega arith in
+      get_or-append_right front (parts ++ behind) from (from + k) [] size (omega arith) ∙ ap (λ j. get_or (parts ++ behind) j []) e ∙ get_or_append_left parts behind [] k lt
+      in
       record {
         old_within = (order, within);
         new_within = (omega arith, omega arith);
         front = take_at front (parts ++ behind) from size;
         behind = ap (drop new_to) (sym (append_assoc front parts behind)) ∙ drop_at (front ++ parts) behind new_to both;
+        first = λ gone come alike.
+            let some : 0 < length parts = omega arith in
+            let e : from ≡ from + 0 = omega arith in
+            trimmed.first gone some (sym (ap (λ j. get_or (front ++ (parts ++ behind)) j []) e ∙ one 0 some) ∙ alike);
+        last = λ gone come alike.
+            let some : 0 < length parts = omega arith in
+            let lt : length parts - 1 < length parts = omega arith in
+            let e : new_to - 1 ≡ from + (length parts - 1) = omega arith in
+            trimmed.last gone some (sym (ap (λ j. get_or (front ++ (parts ++ behind)) j []) e ∙ one (length parts - 1) lt) ∙ alike);
+        ascend = up;
+        outside = outside;
+        differ = differ;
         same = same;
       }
+
+  -- the same, if no others do
+  pub change-alone : (new_to : ℕ) (others : Vec ℕ Global) → from ≤ end → end ≤ length old.sections → new_to ≡ from + length parts → AreTrimmed old.sections from end parts → others.items ≡ []
+      → ((bytes : List ℕ) → KeepsEvents old replaced bytes) → IsChange old replaced (record { from = from; old_to = end; new_to = new_to; others = others })
+  change-alone new_to others order within is trimmed none keeps =
+      change-of new_to others order within is trimmed (subst (ascend_from 0) (sym none) tt)
+      (subst (AllByRecursion (λ i. (i < length replaced.sections) × ((i < from) ⊎ (new_to ≤ i)))) (sym none) tt)
+      (subst (AllByRecursion (λ i. ¬ KeepsEvents old replaced (section_of replaced i))) (sym none) tt) (λ i lt side unnamed. keeps (section_of replaced i))

@@ -1,12 +1,15 @@
 -- Sections that are read again, and their events put in.
-use Rattle.std.proofs.Common.{◌≡◌, ℕ, zero, suc, ◌+◌, ◌<◌, Bool, true, false, cond, List, [], ◌∷◌, ◌++◌, length, get_or, take, set, map, refl, sym, ap, ◌∙◌, arith}
-use Rattle.std.proofs.lemmas.List.{append-nil, append_assoc, length-append, take_more, length-take-le}
+use Rattle.std.proofs.Common.{◌≡◌, ℕ, zero, suc, ◌+◌, ◌<◌, Bool, List, [], ◌∷◌, ◌++◌, length, Option, Some, None, get_or, take, set, map, refl, sym, ap, ◌∙◌, subst, arith, append-nil, append_assoc, inl, inr}
+use Rattle.std.proofs.lemmas.List.{length-append, length-take-le, take_more}
+use Rattle.std.proofs.lemmas.List.Elements.{Contains-append_right}
+use Rattle.std.specs.List.{AllByRecursion}
+use Rattle.std.specs.Prelude.{Contains, IfNone, IfSome}
 use Rattle.markdown_base.specs.declared.configuration.ParseOptions.{ParseOptions}
 use Rattle.markdown_base.specs.declared.event.Event.{Event}
-use Rattle.mdinline_labels.specs.Defined.{defines}
-use Rattle.mdinline_labels.specs.declared.labels.Labels.{Labels}
 use Rattle.mddocument_parts.specs.BothDocuments.{events_by}
-use Rattle.mddocument_editing.specs.Put.{looks_up, put_all, put_at, rereads, with_events}
+use Rattle.mddocument_editing.specs.Edits.{ascend_from}
+use Rattle.mddocument_editing.specs.Kept.{IsRead, bytes_of_sections}
+use Rattle.mddocument_editing.specs.Put.{AreReread, HasEvents, put_all, put_at, with_events}
 use Rattle.mddocument_editing.specs.declared.put.Reread.{Reread}
 use Rattle.mddocument_editing.specs.declared.section.Section.{Section}
 
@@ -30,68 +33,138 @@ put-behind : (xs : List Section) (s : Section) (ys : List Section) (events : Lis
 put-behind [] s ys events = refl
 put-behind (x ∷ xs) s ys events = ap (λ zs. x ∷ zs) (put-behind xs s ys events)
 
-pub put-all-append : (sections : List Section) (os ps : List Reread) → put_all sections (os ++ ps) ≡ put_all (put_all sections os) ps
-put-all-append sections [] ps = refl
-put-all-append sections (o ∷ os) ps = put-all-append (put_at o.section o.events sections) os ps
+-- the numbers of those that were read again
+abbrev pub numbers : List Reread → List ℕ
+numbers others = map (λ other. other.section) others
 
--- a section with its new events, or as it is, and what is put in for it
-abbrev pub put_if : Bool → List Event → Section → Section
-put_if again events s = cond again (with_events events s) s
+-- numbers that ascend do so from a lower one, too
+ascend-lower : (n : ℕ) (ks : List ℕ) → ascend_from (suc n) ks → ascend_from n ks
+ascend-lower n [] up = tt
+ascend-lower n (k ∷ ks) up = (omega (arith, up.0), up.1)
 
-abbrev pub reread_if : Bool → ℕ → List Event → List Reread
-reread_if again n events = cond again (record { section = n; events = events } ∷ []) []
+module _ (read : List ℕ → List Event) where
+  -- one list of sections behind another
+  pub rereads-append : (n : ℕ) (xs ys : List Section) (os ps : List Reread) → AreReread read n xs os → AreReread read (n + length xs) ys ps → AreReread read n (xs ++ ys) (os ++ ps)
+  rereads-append n [] ys os ps none more =
+      let e : n + 0 ≡ n = omega arith in
+      subst (λ zs. AreReread read n ys (zs ++ ps)) (sym none) (subst (λ k. AreReread read k ys ps) e more)
+  rereads-append n (x ∷ xs) ys os ps (inl is) more =
+      let e : n + suc (length xs) ≡ n + 1 + length xs = omega arith in
+      inl (is.0, rereads-append (n + 1) xs ys os ps is.1 (subst (λ k. AreReread read k ys ps) e more))
+  rereads-append n (x ∷ xs) ys os ps (inr is) more =
+      let e : n + suc (length xs) ≡ n + 1 + length xs = omega arith in
+      inr (is.0 ++ ps, (ap (λ zs. zs ++ ps) is.1.0, (is.1.1.0, rereads-append (n + 1) xs ys is.0 ps is.1.1.1 (subst (λ k. AreReread read k ys ps) e more))))
 
-put-one : (b : Bool) (events : List Event) (s : Section) (xs ys : List Section) → put_all (xs ++ s ∷ ys) (reread_if b (length xs) events) ≡ xs ++ put_if b events s ∷ ys
-put-one true events s xs ys = put-behind xs s ys events
-put-one false events s xs ys = refl
+  -- of sections with their events none is read again
+  pub rereads-none : (n : ℕ) (xs : List Section) → AllByRecursion (HasEvents read) xs → AreReread read n xs []
+  rereads-none n [] all = refl
+  rereads-none n (x ∷ xs) all = inl (all.0, rereads-none (n + 1) xs all.1)
 
-module _ (options : ParseOptions) (old new : Labels) where
-  -- the events of a section by the new labels
-  abbrev pub new_events : Section → List Event
-  new_events s = events_by options (defines new) s.part.bytes.items
+  -- one section more: it has its events, or is read again
+  module _ (n i : ℕ) (xs : List Section) (s : Section) (os : List Reread) (lt : i < length xs) (is : s ≡ get_or xs i s) (before : AreReread read n (take i xs) os) where
+    one-more : (ps : List Reread) → AreReread read (n + i) (s ∷ []) ps → AreReread read n (take (i + 1) xs) (os ++ ps)
+    one-more ps one =
+        let long = length-take-le i xs (omega (arith, lt)) in
+        subst (λ ys. AreReread read n ys (os ++ ps)) (sym (take_more xs i s lt ∙ ap (λ z. take i xs ++ z ∷ []) (sym is)))
+        (rereads-append n (take i xs) (s ∷ []) os ps before (subst (λ k. AreReread read (n + k) (s ∷ []) ps) (sym long) one))
 
-  -- a section, read again if it may look up a label that changes
-  abbrev pub again : Section → Section
-  again s = put_if (looks_up old new s) (new_events s) s
+    pub rereads-stay : HasEvents read s → AreReread read n (take (i + 1) xs) os
+    rereads-stay has = subst (AreReread read n (take (i + 1) xs)) (append-nil os) (one-more [] (inl (has, refl)))
 
-  abbrev pub reread_at : ℕ → Section → List Reread
-  reread_at n s = reread_if (looks_up old new s) n (new_events s)
+    pub rereads-differ : (events : List Event) → events ≡ read s.part.bytes.items → ¬ HasEvents read s → AreReread read n (take (i + 1) xs) (os ++ record { section = n + i; events = events } ∷ [])
+    rereads-differ events new differs =
+        let r : Reread = record { section = n + i; events = events } in
+        one-more (r ∷ []) (inr ([], (ap (λ (es : List Event). record { section = n + i; events = es } ∷ []) new, (differs, refl))))
 
-  pub rereads-append : (n : ℕ) (xs ys : List Section) → rereads options old new n (xs ++ ys) ≡ rereads options old new n xs ++ rereads options old new (n + length xs) ys
-  rereads-append n [] ys = let e : n + 0 ≡ n = omega arith in ap (λ k. rereads options old new k ys) (sym e)
-  rereads-append n (x ∷ xs) ys =
-      let e : n + 1 + length xs ≡ n + suc (length xs) = omega arith in
-      ap (λ os. reread_at n x ++ os) (rereads-append (n + 1) xs ys ∙ ap (λ k. rereads options old new (n + 1) xs ++ rereads options old new k ys) e)
-      ∙ sym (append_assoc (reread_at n x) (rereads options old new (n + 1) xs) (rereads options old new (n + suc (length xs)) ys))
+  -- what was found of one more section
+  pub rereads-found : (n i : ℕ) (xs : List Section) (s : Section) (found : Option (List Event)) (before after : List Reread) → i < length xs → s ≡ get_or xs i s → AreReread read n (take i xs) before
+      → IfNone found (HasEvents read s) → IfSome found (λ events. (events ≡ read s.part.bytes.items) × ¬ HasEvents read s)
+      → IfNone found (after ≡ before) → IfSome found (λ events. after ≡ before ++ record { section = n + i; events = events } ∷ []) → AreReread read n (take (i + 1) xs) after
+  rereads-found n i xs s None before after lt is so_far has new stays more = subst (AreReread read n (take (i + 1) xs)) (sym stays) (rereads-stay n i xs s before lt is so_far has)
+  rereads-found n i xs s (Some events) before after lt is so_far has new stays more =
+      subst (AreReread read n (take (i + 1) xs)) (sym more) (rereads-differ n i xs s before lt is so_far events new.0 new.1)
 
-  -- one section more
-  pub rereads-more : (n : ℕ) (xs : List Section) (i : ℕ) (d : Section) → i < length xs
-      → rereads options old new n (take (i + 1) xs) ≡ rereads options old new n (take i xs) ++ reread_at (n + i) (get_or xs i d)
-  rereads-more n xs i d lt =
-      ap (rereads options old new n) (take_more xs i d lt) ∙ rereads-append n (take i xs) (get_or xs i d ∷ [])
-      ∙ ap (λ k. rereads options old new n (take i xs) ++ rereads options old new (n + k) (get_or xs i d ∷ [])) (length-take-le i xs (omega arith))
-      ∙ ap (λ os. rereads options old new n (take i xs) ++ os) (append-nil (reread_at (n + i) (get_or xs i d)))
+  -- numbers ascend
+  pub rereads-ascend : (n : ℕ) (ss : List Section) (os : List Reread) → AreReread read n ss os → ascend_from n (numbers os)
+  rereads-ascend n [] os none = subst (λ zs. ascend_from n (numbers zs)) (sym none) tt
+  rereads-ascend n (s ∷ ss) os (inl is) =
+      let e : n + 1 ≡ suc n = omega arith in
+      ascend-lower n (numbers os) (subst (λ k. ascend_from k (numbers os)) e (rereads-ascend (n + 1) ss os is.1))
+  rereads-ascend n (s ∷ ss) os (inr is) =
+      let e : n + 1 ≡ suc n = omega arith in
+      subst (λ zs. ascend_from n (numbers zs)) (sym is.1.0) (omega arith, subst (λ k. ascend_from k (numbers is.0)) e (rereads-ascend (n + 1) ss is.0 is.1.1.1))
 
-  -- sections between others, read again, are put there
-  pub put-all-again : (xs ss ys : List Section) (n : ℕ) → length xs ≡ n → put_all (xs ++ (ss ++ ys)) (rereads options old new n ss) ≡ xs ++ (map again ss ++ ys)
-  put-all-again xs [] ys n len = refl
-  put-all-again xs (s ∷ ss) ys n len =
-      let next = put-all-again (xs ++ again s ∷ []) ss ys (n + 1) (length-append xs (again s ∷ []) ∙ ap (λ k. k + 1) len) in
-      put-all-append (xs ++ (s ∷ (ss ++ ys))) (reread_at n s) (rereads options old new (n + 1) ss)
-      ∙ ap (λ k. put_all (put_all (xs ++ (s ∷ (ss ++ ys))) (reread_at k s)) (rereads options old new (n + 1) ss)) (sym len)
-      ∙ ap (λ zs. put_all zs (rereads options old new (n + 1) ss)) (put-one (looks_up old new s) (new_events s) s xs (ss ++ ys) ∙ sym (append_assoc xs (again s ∷ []) (ss ++ ys)))
-      ∙ next ∙ append_assoc xs (again s ∷ []) (map again ss ++ ys)
+  -- what holds of each section with other events holds of all that are read again
+  pub rereads-each : (Q : ℕ → Type 0) (n : ℕ) (ss : List Section) (os : List Reread) → AreReread read n ss os
+      → ((i : ℕ) (s : Section) → i < length ss → s ≡ get_or ss i s → ¬ HasEvents read s → Q (n + i)) → AllByRecursion (λ (other : Reread). Q other.section) os
+  rereads-each Q n [] os none q = subst (AllByRecursion (λ (other : Reread). Q other.section)) (sym none) tt
+  rereads-each Q n (x ∷ xs) os (inl is) q =
+      rereads-each Q (n + 1) xs os is.1
+      (λ i s lt there differs. let e : n + suc i ≡ n + 1 + i = omega arith in subst Q e (q (suc i) s (omega (arith, lt)) there differs))
+  rereads-each Q n (x ∷ xs) os (inr is) q =
+      let z : n + 0 ≡ n = omega arith in
+      subst (AllByRecursion (λ (other : Reread). Q other.section)) (sym is.1.0) (
+        subst Q z (q 0 x (omega arith) refl is.1.1.0),
+        rereads-each Q (n + 1) xs is.0 is.1.1.1 (λ i s lt there differs. let e : n + suc i ≡ n + 1 + i = omega arith in subst Q e (q (suc i) s (omega (arith, lt)) there differs)),
+      )
 
-  -- one section more: it may be read again, or not
-  module _ (n : ℕ) (xs : List Section) (i : ℕ) (s : Section) (lt : i < length xs) (is : s ≡ get_or xs i s) where
-    one-more : (b : Bool) → looks_up old new s ≡ b → rereads options old new n (take (i + 1) xs) ≡ rereads options old new n (take i xs) ++ reread_if b (n + i) (new_events s)
-    one-more b looks =
-        rereads-more n xs i s lt ∙ ap (λ z. rereads options old new n (take i xs) ++ reread_at (n + i) z) (sym is)
-        ∙ ap (λ a. rereads options old new n (take i xs) ++ reread_if a (n + i) (new_events s)) looks
+  -- a section that is not read again has its events
+  pub rereads-same : (n : ℕ) (ss : List Section) (os : List Reread) → AreReread read n ss os → (i : ℕ) (s : Section) → i < length ss → s ≡ get_or ss i s → ¬ Contains (numbers os) (n + i) → HasEvents read s
+  rereads-same n [] os none i s lt there unnamed = absurd (omega (arith, lt))
+  rereads-same n (x ∷ xs) os (inl is) zero s lt there unnamed = subst (HasEvents read) (sym there) is.0
+  rereads-same n (x ∷ xs) os (inl is) (suc i) s lt there unnamed =
+      let e : n + 1 + i ≡ n + suc i = omega arith in
+      rereads-same (n + 1) xs os is.1 i s (omega (arith, lt)) there (λ has. unnamed (subst (Contains (numbers os)) e has))
+  rereads-same n (x ∷ xs) os (inr is) zero s lt there unnamed =
+      let e : n ≡ n + 0 = omega arith in
+      absurd (unnamed (subst (λ zs. Contains (numbers zs) (n + 0)) (sym is.1.0) (0, omega arith, e)))
+  rereads-same n (x ∷ xs) os (inr is) (suc i) s lt there unnamed =
+      let e : n + 1 + i ≡ n + suc i = omega arith in
+      rereads-same (n + 1) xs is.0 is.1.1.1 i s (omega (arith, lt)) there
+      (λ has. unnamed (subst (λ zs. Contains (numbers zs) (n + suc i)) (sym is.1.0) (Contains-append_right (n ∷ []) (numbers is.0) (n + suc i) (subst (Contains (numbers is.0)) e has))))
 
-    pub rereads-looks : (events : List Event) → looks_up old new s ≡ true → events ≡ new_events s
-        → rereads options old new n (take (i + 1) xs) ≡ rereads options old new n (take i xs) ++ record { section = n + i; events = events } ∷ []
-    rereads-looks events looks read = one-more true looks ∙ ap (λ es. rereads options old new n (take i xs) ++ record { section = n + i; events = es } ∷ []) (sym read)
+  -- sections with their events between two lists of others
+  pub rereads-three : (front between behind : List Section) (from new_to : ℕ) (os ps : List Reread) → length front ≡ from → new_to ≡ from + length between → AllByRecursion (HasEvents read) between
+      → AreReread read 0 front os → AreReread read new_to behind ps → AreReread read 0 (front ++ (between ++ behind)) (os ++ ps)
+  rereads-three front between behind from new_to os ps long ends has first last =
+      let e : new_to ≡ 0 + length front + length between = omega (arith, long, ends) in
+      rereads-append 0 front (between ++ behind) os ps first
+      (rereads-append (0 + length front) between behind [] ps (rereads-none (0 + length front) between has) (subst (λ k. AreReread read k behind ps) e last))
 
-    pub rereads-stay : looks_up old new s ≡ false → rereads options old new n (take (i + 1) xs) ≡ rereads options old new n (take i xs)
-    rereads-stay looks = one-more false looks ∙ append-nil (rereads options old new n (take i xs))
+-- a section that was read, by whatever labels
+abbrev pub IsReadBySome : ParseOptions → Section → Type 0
+IsReadBySome options s = (defined : List ℕ → Bool) × IsRead options defined s
+
+-- by other labels it has been read, if it has the events that they give
+pub read-as : (options : ParseOptions) (defined : List ℕ → Bool) (s : Section) → IsReadBySome options s → HasEvents (events_by options defined) s → IsRead options defined s
+read-as options defined s is has = record { limit = is.1.limit; labels = is.1.labels; lines = is.1.lines; asks = is.1.asks; events = sym has }
+
+-- sections, read again where they have other events: the events are put in
+pub put-again : (options : ParseOptions) (defined : List ℕ → Bool) (xs ss : List Section) (n : ℕ) (os : List Reread) → length xs ≡ n → AreReread (events_by options defined) n ss os
+    → AllByRecursion (IsReadBySome options) ss
+    → (after : List Section) × ((put_all (xs ++ ss) os ≡ xs ++ after) × ((bytes_of_sections after ≡ bytes_of_sections ss) × AllByRecursion (IsRead options defined) after))
+put-again options defined xs [] n os len none all = ([], (ap (put_all (xs ++ [])) none, (refl, tt)))
+put-again options defined xs (s ∷ ss) n os len (inl is) all =
+    let next = put-again options defined (xs ++ s ∷ []) ss (n + 1) os (length-append xs (s ∷ []) ∙ ap (λ k. k + 1) len) is.1 all.1 in (
+      s ∷ next.0,
+      (
+        ap (λ zs. put_all zs os) (sym (append_assoc xs (s ∷ []) ss)) ∙ next.1.0 ∙ append_assoc xs (s ∷ []) next.0,
+        (ap (λ bs. s.part.bytes.items ∷ bs) next.1.1.0, (read-as options defined s all.0 is.0, next.1.1.1)),
+      ),
+    )
+put-again options defined xs (s ∷ ss) n os len (inr is) all =
+    let events = events_by options defined s.part.bytes.items in
+    let t = with_events events s in
+    let rest = is.0 in
+    let next = put-again options defined (xs ++ t ∷ []) ss (n + 1) rest (length-append xs (t ∷ []) ∙ ap (λ k. k + 1) len) is.1.1.1 all.1 in
+    let here : put_at n events (xs ++ s ∷ ss) ≡ (xs ++ t ∷ []) ++ ss = ap (λ k. put_at k events (xs ++ s ∷ ss)) (sym len) ∙ put-behind xs s ss events ∙ sym (append_assoc xs (t ∷ []) ss) in
+    let is_read = all.0.1 in (
+      t ∷ next.0,
+      (
+        ap (put_all (xs ++ s ∷ ss)) is.1.0 ∙ ap (λ zs. put_all zs rest) here ∙ next.1.0 ∙ append_assoc xs (t ∷ []) next.0,
+        (
+          ap (λ bs. s.part.bytes.items ∷ bs) next.1.1.0,
+          (record { limit = is_read.limit; labels = is_read.labels; lines = is_read.lines; asks = is_read.asks; events = refl }, next.1.1.1),
+        ),
+      ),
+    )

@@ -1,5 +1,5 @@
 -- A document that can be edited, as contracts see it: how it is read, and its sections.
-use Rattle.std.specs.Prelude.{ℕ, Bool, List, length, map, take, drop}
+use Rattle.std.specs.Prelude.{◌≡◌, ℕ, Bool, List, length, map, take, drop}
 use Rattle.markdown_base.specs.declared.configuration.ParseOptions.{ParseOptions}
 use Rattle.markdown_base.specs.declared.event.Event.{Event}
 use Rattle.markdown_base.specs.Virtual.{IsWithinLimit}
@@ -19,10 +19,14 @@ pub record Divided : Type 0 where
 abbrev pub bytes_of : Divided → List ℕ
 bytes_of d = document_of d.sections
 
--- Its bytes are within the limit, and its sections are these, cut at each rest. So two such documents with the same bytes and options are the same
+-- Its bytes are within the limit, and its sections are these, cut at each rest
 pub record IsDivided (d : Divided) : Type 0 where
   pub limit : IsWithinLimit d.options.tab_size (bytes_of d)
   pub sections : AreSectionsOf d.options (bytes_of d) d.sections
+
+-- So two documents with the same bytes, read with the same options, are the same: they have the same sections
+abbrev pub DividedIsUnique : Type 0
+DividedIsUnique = (d e : Divided) → IsDivided d → IsDivided e → d.options ≡ e.options → bytes_of d ≡ bytes_of e → d ≡ e
 
 -- a label is defined in the document
 abbrev pub is_label_of : Divided → List ℕ → Bool

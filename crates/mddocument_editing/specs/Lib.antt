@@ -9,6 +9,8 @@ pub mod Kept
 pub mod Seams
 pub mod Seen
 pub mod Settled
+-- trims
+pub mod Trims
 -- putting in
 pub mod Asking
 pub mod InBrackets

@@ -17,7 +17,8 @@ pub struct Edit<'a> {
     pub with: &'a [u8],
 }
 
-/// What an edit changed. Sections in front of the replaced ones and behind them have the bytes that they had.
+/// What an edit changed. Sections in front of the replaced ones and behind them have the bytes that they had. As many stay at both ends as can: if
+/// sections were replaced by others, the first ones differ, and so do the last. An edit that leaves the document as it was changes nothing.
 #[derive(Debug, Drop)]
 pub struct Change {
     /// The first section that was replaced, and the first new one.
@@ -26,7 +27,7 @@ pub struct Change {
     pub old_to: usize,
     /// The section behind the last new one, as they are numbered now.
     pub new_to: usize,
-    /// Other sections that were read again, since a label came or went, as they are numbered now.
+    /// Other sections that have other events than before, since a label came or went: all of them, in order, as they are numbered now.
     pub others: Vec<usize>,
 }
 

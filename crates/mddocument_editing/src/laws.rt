@@ -2,7 +2,8 @@
 
 ghost use Rattle.mddocument_editing.specs.Asking.{AskedLabelsAreInBrackets, BracketsDecide, BytesWithoutEndAskNothing};
 ghost use Rattle.mddocument_editing.specs.Cuts.{EndingsAreCounted, PartsStartLines};
-ghost use Rattle.mddocument_editing.specs.Divided.{EventsOfAllSectionsAreTheDocuments};
+ghost use Rattle.mddocument_editing.specs.Divided.{DividedIsUnique, EventsOfAllSectionsAreTheDocuments};
+ghost use Rattle.mddocument_editing.specs.Edits.{NothingIsNamed};
 ghost use Rattle.mddocument_editing.specs.PositionParts.{EndingsAdd, OffsetsMove, OffsetsStay, PositionsMove, PositionsStay};
 ghost use Rattle.mddocument_editing.specs.Positions.{CharactersAreAllBytes, CharactersAreUtf8, OffsetsComeBack, PositionsComeBack, UnitsAreWritten};
 
@@ -63,4 +64,14 @@ pub fn asked_labels_are_in_brackets()
 /// The events between section 0 and the number of sections are those of the document.
 pub fn events_of_all_sections_are_the_documents()
     ensures { EventsOfAllSectionsAreTheDocuments }
+{}
+
+/// An edit that leaves the bytes of a document changes nothing: no section is replaced, and no other has other events.
+pub fn an_edit_of_nothing_names_nothing()
+    ensures { NothingIsNamed }
+{}
+
+/// Two documents with the same bytes, read with the same options, have the same sections. So what an edit leaves is what reading its bytes anew gives.
+pub fn the_same_bytes_are_the_same_document()
+    ensures { DividedIsUnique }
 {}

@@ -16,6 +16,9 @@ mod section;
 // seams: sections that are cut again
 mod recut;
 
+// trims: sections that stay at the ends of those
+mod trim;
+
 // putting in: sections that changed; which others are read again
 mod asking;
 mod put;

@@ -1,16 +1,18 @@
 //! Sections that are put in the place of others.
 
-ghost use Rattle.std.specs.Prelude.{◌≡◌, ◌≤◌, ◌<◌, ◌+◌, ◌++◌, ◌^◌, ◌↔◌, IfOk, IfNone, IfSome, IsErrOf, List, OnErr, OnOk, ℕ, drop, length, map, take, true, false};
+ghost use Rattle.std.specs.Prelude.{◌≡◌, ◌≤◌, ◌<◌, ◌+◌, ◌++◌, ◌∷◌, [], ◌^◌, ◌↔◌, IfOk, IfNone, IfSome, IsErrOf, List, OnErr, OnOk, ℕ, drop, length, map, take, true, false};
 ghost use Rattle.std.specs.List.{AllByRecursion};
 ghost use Rattle.markdown_base.specs.Virtual.{IsWithinLimit};
 ghost use Rattle.markdown_tokenizer.specs.Text.{IsDocument};
 ghost use Rattle.mddocument.specs.Documents.{document};
 ghost use Rattle.mdinline_labels.specs.Defined.{defines};
+ghost use Rattle.mddocument_parts.specs.BothDocuments.{events_by};
 ghost use Rattle.mddocument_editing.specs.Divided.{bytes_of, is_label_of};
 ghost use Rattle.mddocument_editing.specs.Edits.{IsChange};
 ghost use Rattle.mddocument_editing.specs.FirstRest.{items_of};
 ghost use Rattle.mddocument_editing.specs.Kept.{ArePackable, IsKept, IsLabelled, IsPackable, IsRecut, IsRead, bytes_of_parts, bytes_of_sections, divided_of, recut_document};
-ghost use Rattle.mddocument_editing.specs.Put.{looks_up, put_all, rereads};
+ghost use Rattle.mddocument_editing.specs.Put.{AreReread, HasEvents, IsReadDocument, looks_up, put_all};
+ghost use Rattle.mddocument_editing.specs.Trims.{AreTrimmed};
 
 use crate::asking::may_ask;
 use crate::edit::{Change, Refused};
@@ -19,6 +21,8 @@ use crate::packed::{PackError, Packed};
 use crate::recut::Recut;
 use crate::section::{Part, Section, events_of, parts_of, sections_of};
 use markdown_base::configuration::ParseOptions;
+use markdown_base::event::Event;
+use markdown_base::laws::equal_events_are_one;
 use mdinline_labels::labels::Labels;
 use mdinline_machine::inlines::Inlines;
 use std::alloc::{AllocError, Global};
@@ -86,8 +90,73 @@ fn looks_up(
     Ok(section.asks && may_ask(alloc, old, new, section.part.bytes.as_slice())?)
 }
 
-/// Appends the events of those sections that may look up a label that comes or goes, read again by this machine, which knows the new labels.
-/// The first of the sections has a number.
+/// Whether this is the same event.
+fn is_same(one: &Event, other: &Event) -> bool
+    ensures { (result ≡ true) ↔ (one.now ≡ other.now) }
+{
+    equal_events_are_one();
+    *one == *other
+}
+
+/// Whether these are the same events.
+fn are_same(one: &Packed, other: &Packed) -> bool
+    ensures { (result ≡ true) ↔ (one.now ≡ other.now) }
+{
+    if one.len() != other.len() {
+        return false;
+    }
+    for index in 0..one.len() {
+        let event = one.event(index);
+        let like = other.event(index);
+        let same = is_same(&event, &like);
+        if !same {
+            return false;
+        }
+    }
+    true
+}
+
+/// The events of a section, read again by this machine, which knows the new labels. `None` if they are those that it has.
+fn new_events(
+    alloc: Global,
+    options: &ParseOptions,
+    old: &Labels,
+    machine: &Inlines,
+    section: &Section,
+) -> Result<Option<Packed>, PackError>
+    requires { IsReadDocument options.now (defines old.now) section.now }
+    ensures none { IfOk result (λ found. IfNone found (HasEvents (events_by options.now (defines machine.now.labels)) section.now)) }
+    ensures some { IfOk result (λ found. IfSome found (λ events. (events ≡ events_by options.now (defines machine.now.labels) section.now.part.bytes.items) × ¬ HasEvents (events_by options.now (defines machine.now.labels)) section.now)) }
+    ensures fits { IsPackable options.now (defines machine.now.labels) section.now.part.bytes.items → ¬ IsErrOf result PackError.TooLong }
+{
+    let asks = looks_up(alloc, old, &machine.labels, section)?;
+    if !asks {
+        return Ok(None);
+    }
+    let events = events_of(alloc, options, machine, section.part.bytes.as_slice())?;
+    let same = are_same(&events, &section.events);
+    if same {
+        return Ok(None);
+    }
+    Ok(Some(events))
+}
+
+/// Appends the events of a section that was read again, with its number, if there are some.
+fn push_found(
+    others: &mut Vec<Reread>,
+    section: usize,
+    found: Option<Packed>,
+) -> Result<(), AllocError>
+    ensures none { OnOk result (IfNone found (others.new.items ≡ others.old.items)) }
+    ensures some { OnOk result (IfSome found (λ events. others.new.items ≡ others.old.items ++ record { section = section; events = events } ∷ [])) }
+{
+    if let Some(events) = found {
+        others.push(Reread { section, events })?;
+    }
+    Ok(())
+}
+
+/// Those of the sections that have other events by this machine, which knows the new labels. The first of the sections has a number.
 fn read_again(
     alloc: Global,
     options: &ParseOptions,
@@ -95,25 +164,18 @@ fn read_again(
     machine: &Inlines,
     sections: &[Section],
     first: usize,
-    others: &mut Vec<Reread>,
-) -> Result<(), PackError>
-    requires limit { AllByRecursion (λ section. IsWithinLimit options.now.tab_size section.part.bytes.items) sections.now }
+) -> Result<Vec<Reread>, PackError>
+    requires read { AllByRecursion (IsReadDocument options.now (defines old.now)) sections.now }
     requires numbers { first + length sections.now < 2 ^ 64 }
-    ensures others { OnOk result (others.new.items ≡ others.old.items ++ rereads options.now old.now machine.now.labels first sections.now) }
+    ensures others { IfOk result (λ others. AreReread (events_by options.now (defines machine.now.labels)) first sections.now others.items) }
     ensures fits { AllByRecursion (λ section. IsPackable options.now (defines machine.now.labels) section.part.bytes.items) sections.now → ¬ IsErrOf result PackError.TooLong }
 {
+    let mut others = Vec::new(alloc);
     for index in 0..sections.len() {
-        let section = &sections[index];
-        let asks = looks_up(alloc, old, &machine.labels, section)?;
-        if asks {
-            let events = events_of(alloc, options, machine, section.part.bytes.as_slice())?;
-            others.push(Reread {
-                section: first + index,
-                events,
-            })?;
-        }
+        let found = new_events(alloc, options, old, machine, &sections[index])?;
+        push_found(&mut others, first + index, found)?;
     }
-    Ok(())
+    Ok(others)
 }
 
 /// The numbers of sections that were read again.
@@ -142,6 +204,7 @@ pub(crate) fn put(alloc: Global, kept: &mut Kept, recut: Recut) -> Result<Change
     requires kept { IsKept kept.old }
     requires possible { IsDocument (document kept.old.options (bytes_of (divided_of kept.old))) }
     requires recut { IsRecut kept.old recut.from recut.end (items_of recut.parts.items) }
+    requires trimmed { AreTrimmed (bytes_of_sections kept.old.sections.items) recut.from recut.end (items_of recut.parts.items) }
     ensures kept { IsKept kept.new }
     ensures document { IfOk result (λ _. divided_of kept.new ≡ recut_document kept.old recut.from recut.end (items_of recut.parts.items)) }
     ensures change { IfOk result (IsChange (divided_of kept.old) (divided_of kept.new)) }
@@ -167,6 +230,7 @@ fn put_same(
 ) -> Result<Change, Refused>
     requires kept { IsKept kept.old }
     requires recut { IsRecut kept.old from end (bytes_of_parts parts.items) }
+    requires trimmed { AreTrimmed (bytes_of_sections kept.old.sections.items) from end (bytes_of_parts parts.items) }
     requires labelled { AllByRecursion (IsLabelled kept.old.options) parts.items }
     requires labels { (label : List ℕ) → defines kept.old.machine.labels label ≡ is_label_of (recut_document kept.old from end (bytes_of_parts parts.items)) label }
     ensures kept { IsKept kept.new }
@@ -187,7 +251,7 @@ fn put_same(
     })
 }
 
-/// As [`put`], where this machine knows the labels. Others that may look up one that comes or goes are read again.
+/// As [`put`], where this machine knows the labels. Others that may look up one that comes or goes are read again, and those told that have other events.
 fn put_other(
     alloc: Global,
     kept: &mut Kept,
@@ -199,6 +263,7 @@ fn put_other(
     requires kept { IsKept kept.old }
     requires possible { IsDocument (document kept.old.options (bytes_of (divided_of kept.old))) }
     requires recut { IsRecut kept.old from end (bytes_of_parts parts.items) }
+    requires trimmed { AreTrimmed (bytes_of_sections kept.old.sections.items) from end (bytes_of_parts parts.items) }
     requires labelled { AllByRecursion (IsLabelled kept.old.options) parts.items }
     requires labels { (label : List ℕ) → defines machine.labels label ≡ is_label_of (recut_document kept.old from end (bytes_of_parts parts.items)) label }
     ensures kept { IsKept kept.new }
@@ -210,7 +275,7 @@ fn put_other(
 {
     let read = read_parts(alloc, &kept.options, &machine, parts)?;
     let new_to = from + read.len();
-    let others = read_others(alloc, kept, &machine, from, end, new_to)?;
+    let others = read_others(alloc, kept, &machine, from, end, read.as_slice())?;
     let numbers = numbers_of(alloc, others.as_slice())?;
     kept.sections.splice(from..end, read)?;
     kept.machine = machine;
@@ -243,35 +308,57 @@ fn read_parts(
     }
 }
 
-/// The sections in front of some and behind them that may look up a label that comes or goes, read again by this machine, which knows the new labels.
+/// As [`read_again`], with the error of an edit.
+fn read_side(
+    alloc: Global,
+    kept: &Kept,
+    machine: &Inlines,
+    sections: &[Section],
+    first: usize,
+) -> Result<Vec<Reread>, Refused>
+    requires read { AllByRecursion (IsReadDocument kept.now.options (defines kept.now.machine.labels)) sections.now }
+    requires numbers { first + length sections.now < 2 ^ 64 }
+    ensures others { IfOk result (λ others. AreReread (events_by kept.now.options (defines machine.now.labels)) first sections.now others.items) }
+    ensures range { ¬ IsErrOf result Refused.Range }
+    ensures fits { AllByRecursion (λ section. IsPackable kept.now.options (defines machine.now.labels) section.part.bytes.items) sections.now → ¬ IsErrOf result Refused.TooLong }
+{
+    match read_again(
+        alloc,
+        &kept.options,
+        &kept.machine.labels,
+        machine,
+        sections,
+        first,
+    ) {
+        Ok(others) => Ok(others),
+        Err(error) => Err(refused(error)),
+    }
+}
+
+/// Those of the sections in front of some and behind them that have other events by this machine, which knows the new labels. Sections that it read
+/// come between.
 fn read_others(
     alloc: Global,
     kept: &Kept,
     machine: &Inlines,
     from: usize,
     end: usize,
-    new_to: usize,
+    read: &[Section],
 ) -> Result<Vec<Reread>, Refused>
-    requires limit { AllByRecursion (λ section. IsWithinLimit kept.now.options.tab_size section.part.bytes.items) kept.now.sections.items }
+    requires kept { AllByRecursion (IsReadDocument kept.now.options (defines kept.now.machine.labels)) kept.now.sections.items }
     requires order { from ≤ end }
     requires within { end ≤ length kept.now.sections.items }
-    requires numbers { new_to + length (drop end kept.now.sections.items) < 2 ^ 64 }
-    ensures others { let again = rereads kept.now.options kept.now.machine.labels machine.now.labels in IfOk result (λ others. others.items ≡ again 0 (take from kept.now.sections.items) ++ again new_to (drop end kept.now.sections.items)) }
+    requires read { AllByRecursion (IsRead kept.now.options (defines machine.now.labels)) read.now }
+    requires numbers { from + length read.now + length (drop end kept.now.sections.items) < 2 ^ 64 }
+    ensures others { IfOk result (λ others. AreReread (events_by kept.now.options (defines machine.now.labels)) 0 (take from kept.now.sections.items ++ (read.now ++ drop end kept.now.sections.items)) others.items) }
     ensures range { ¬ IsErrOf result Refused.Range }
     ensures fits { let are_packable = AllByRecursion (λ section. IsPackable kept.now.options (defines machine.now.labels) section.part.bytes.items) in are_packable (take from kept.now.sections.items) → are_packable (drop end kept.now.sections.items) → ¬ IsErrOf result Refused.TooLong }
 {
     let sections = kept.sections.as_slice();
-    let options = &kept.options;
-    let old = &kept.machine.labels;
-    let front = &sections[..from];
-    let behind = &sections[end..];
-    let mut others = Vec::new(alloc);
-    if let Err(error) = read_again(alloc, options, old, machine, front, 0, &mut others) {
-        return Err(refused(error));
-    }
-    if let Err(error) = read_again(alloc, options, old, machine, behind, new_to, &mut others) {
-        return Err(refused(error));
-    }
+    let mut others = read_side(alloc, kept, machine, &sections[..from], 0)?;
+    let new_to = from + read.len();
+    let mut more = read_side(alloc, kept, machine, &sections[end..], new_to)?;
+    others.append(&mut more)?;
     Ok(others)
 }
 

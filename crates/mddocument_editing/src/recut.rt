@@ -9,12 +9,14 @@ ghost use Rattle.mddocument_editing.specs.FirstRest.{items_of};
 ghost use Rattle.mddocument_editing.specs.Kept.{IsKept, IsRecut, bytes_of_sections, divided_of, recut_sections};
 ghost use Rattle.mddocument_editing.specs.Seams.{IsSeam};
 ghost use Rattle.mddocument_editing.specs.Settled.{is_settled};
+ghost use Rattle.mddocument_editing.specs.Trims.{AreTrimmed};
 
 use crate::cut::cut;
 use crate::edit::Edit;
 use crate::kept::Kept;
 use crate::lookup::section_and_left;
 use crate::section::Section;
+use crate::trim::trim;
 use std::alloc::{AllocError, Global};
 
 /// Parts in the place of the sections from one up to another.
@@ -192,13 +194,14 @@ fn cut_from(
     }
 }
 
-/// Cuts a document again where it is edited.
+/// Cuts a document again where it is edited. Of what is cut again, as much stays at both ends as can.
 pub(crate) fn cut_again(alloc: Global, kept: &Kept, edit: &Edit) -> Result<Recut, AllocError>
     requires kept { IsKept kept.now }
     requires inside { IsInside edit.now (bytes_of (divided_of kept.now)) }
     requires limit { IsWithinLimit kept.now.options.tab_size (edited edit.now (bytes_of (divided_of kept.now))) }
     ensures recut { IfOk result (λ r. IsRecut kept.now r.from r.end (items_of r.parts.items)) }
     ensures bytes { IfOk result (λ r. document_of (recut_sections kept.now r.from r.end (items_of r.parts.items)) ≡ edited edit.now (bytes_of (divided_of kept.now))) }
+    ensures trimmed { IfOk result (λ r. AreTrimmed (bytes_of_sections kept.now.sections.items) r.from r.end (items_of r.parts.items)) }
 {
     // It is not 0, so the length of a document within the limit fits `usize`.
     let _columns = kept.options.tab_size.get();
@@ -206,5 +209,6 @@ pub(crate) fn cut_again(alloc: Global, kept: &Kept, edit: &Edit) -> Result<Recut
     let (from, start) = first_touched(sections, edit.from);
     let (behind, _) = behind(sections, from, start, edit.to);
     let text = edited_bytes(alloc, &sections[from..behind], start, edit)?;
-    cut_from(alloc, kept, from, behind, text)
+    let recut = cut_from(alloc, kept, from, behind, text)?;
+    Ok(trim(kept, recut))
 }

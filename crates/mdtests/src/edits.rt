@@ -229,7 +229,7 @@ fn references_are_read_again(rt: HostRuntime) -> Result<(), AllocError> {
     };
     match sections.replace(rt.alloc(), &edit) {
         Ok(change) => {
-            assert_eq!(rt; (change.from, change.old_to, change.new_to), (2, 4, 3));
+            assert_eq!(rt; (change.from, change.old_to, change.new_to), (3, 4, 3));
             assert_eq!(rt; change.others.as_slice(), [0].as_slice());
         }
         Err(error) => assert_eq!(rt; error, Refused::Memory),
@@ -250,7 +250,7 @@ fn other_references_are_not_read_again(rt: HostRuntime) -> Result<(), AllocError
     };
     match sections.replace(rt.alloc(), &edit) {
         Ok(change) => {
-            assert_eq!(rt; (change.from, change.old_to, change.new_to), (3, 5, 4));
+            assert_eq!(rt; (change.from, change.old_to, change.new_to), (4, 5, 4));
             assert_eq!(rt; change.others.as_slice(), [0, 1].as_slice());
             assert!(rt; is_as_read(rt.alloc(), &sections, &document[..23])?);
         }

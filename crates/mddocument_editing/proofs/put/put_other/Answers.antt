@@ -1,13 +1,14 @@
-use Rattle.std.proofs.Common.{◌+◌, take, drop, ap, ◌∙◌}
+use Rattle.std.proofs.Common.{◌+◌, ◌++◌, take, drop, subst, ap, ◌∙◌}
 use Rattle.std.proofs.lemmas.Result.{err_from_is_err_and}
-use Rattle.markdown_base.proofs.Common.{every-map}
-use Rattle.markdown_base.specs.Virtual.{IsWithinLimit}
 use Rattle.mdinline_labels.specs.Defined.{defines}
-use Rattle.mddocument_editing.specs.Kept.{IsRead, bytes_of_parts, bytes_of_sections}
+use Rattle.mddocument_parts.specs.BothDocuments.{events_by}
+use Rattle.mddocument_editing.specs.Kept.{bytes_of_parts, bytes_of_sections}
+use Rattle.mddocument_editing.specs.Put.{AreReread}
 use Rattle.mddocument_editing.proofs.PackedParts.{behind-fits, front-fits, parts-fit}
 use Rattle.mddocument_editing.proofs.PutChanged.{ArePutIn, below, then-change, then-document, then-kept}
-use Rattle.mddocument_editing.proofs.PutOthers.{numbers}
+use Rattle.mddocument_editing.proofs.PutOthers.{read-documents}
 use Rattle.mddocument_editing.proofs.PutSections.{parts-within, spliced}
+use Rattle.mddocument_editing.proofs.Rereads.{numbers}
 use Rattle.mddocument_editing.proofs.put.put_other.Goals.{In_ok-splice}
 use Rattle.mddocument_editing.proofs.put.put_other.Goals as goal
 
@@ -17,10 +18,10 @@ read_parts-requires-clause-limit c =
     let sections = bytes_of_sections kept.sections.items in
     parts-within kept.options.tab_size (take c.args.from sections) (bytes_of_parts c.args.parts.items) (drop c.args.end sections) c.requires.recut.divided.limit
 
-pub read_others-requires-clause-limit : goal.read_others-requires-clause-limit
-read_others-requires-clause-limit c =
+pub read_others-requires-clause-kept : goal.read_others-requires-clause-kept
+read_others-requires-clause-kept c =
     let kept = c.args.kept.now in
-    every-map (IsRead kept.options (defines kept.machine.labels)) (λ section. IsWithinLimit kept.options.tab_size section.part.bytes.items) (λ section is. is.limit) kept.sections.items c.requires.kept.read
+    read-documents kept.options (defines kept.machine.labels) kept.sections.items c.requires.possible c.requires.kept.read
 
 -- the sections that were read are put in the place of some
 put-in : (c : In_ok-splice) → ArePutIn c.args.kept.now c.args.machine c.args.from c.args.end (c.args.from + c.len.result) (bytes_of_parts c.args.parts.items) c.in_ok-read.read.items c.splice.new.self.items c.in_ok-others.others.items
@@ -28,13 +29,17 @@ put-in c =
     let read = c.in_ok-read.read in
     let h = c.in_ok-splice.ensures.items in record {
       kept = c.requires.kept;
-      possible = c.requires.possible;
       recut = c.requires.recut;
+      trimmed = c.requires.trimmed;
       labels = c.requires.labels;
       bytes = c.in_ok-read.ensures.bytes;
       are_read = c.in_ok-read.ensures.read;
       ends = ap (λ n. c.args.from + n) (c.len.ensures ∙ read.ok.0);
-      rereads_are = c.in_ok-others.ensures.others;
+      rereads_are =
+          subst
+          (λ rs. AreReread (events_by c.args.kept.now.options (defines c.args.machine.labels)) 0 (take c.args.from c.args.kept.now.sections.items ++ (rs ++ drop c.args.end c.args.kept.now.sections.items))
+          c.in_ok-others.others.items)
+          c.as_slice.ensures.value c.in_ok-others.ensures.others;
       sections_are = spliced c.args.from c.args.end c.args.kept.now.sections.items read.items c.splice.new.self.items h.0 h.1 h.2.0 (h.2.1 ∙ read.ok.0) h.3 h.4;
     }
 
@@ -50,7 +55,7 @@ returns-clause-kept c = then-kept (put-in (goal.at.returns-clause-kept c).In_ok-
 pub returns-clause-change : goal.returns-clause-change
 returns-clause-change c =
     then-change (put-in (goal.at.returns-clause-change c).In_ok-splice) c.put_events.new.sections c.put_events.ensures c.in_ok-numbers.numbers
-    (c.in_ok-numbers.ensures ∙ ap numbers c.as_slice.ensures.value)
+    (c.in_ok-numbers.ensures ∙ ap numbers c.as_slice-2.ensures.value)
 
 pub returns-in_err-read-clause-fits : goal.returns-in_err-read-clause-fits
 returns-in_err-read-clause-fits c fits long =

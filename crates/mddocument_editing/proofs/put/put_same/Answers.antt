@@ -1,4 +1,4 @@
-use Rattle.std.proofs.Common.{◌≡◌, ℕ, ◌+◌, Bool, ◌++◌, List, [], length, get_or, take, drop, subst, sym, ap, ◌∙◌, arith}
+use Rattle.std.proofs.Common.{◌≡◌, ℕ, ◌+◌, Bool, ◌++◌, List, length, take, drop, subst, sym, ap, ◌∙◌, arith}
 use Rattle.std.proofs.lemmas.List.{length-map}
 use Rattle.std.proofs.lemmas.Result.{err_from_is_err_and}
 use Rattle.std.specs.List.{AllByRecursion}
@@ -8,7 +8,7 @@ use Rattle.mddocument_editing.specs.Divided.{Divided, is_label_of}
 use Rattle.mddocument_editing.specs.Edits.{IsChange}
 use Rattle.mddocument_editing.specs.Kept.{IsRead, bytes_of_parts, bytes_of_sections, divided_of, recut_document}
 use Rattle.mddocument_editing.proofs.PackedParts.{parts-fit}
-use Rattle.mddocument_editing.proofs.PutSections.{bytes-put, change-of, every-put, kept-as, parts-within, spliced}
+use Rattle.mddocument_editing.proofs.PutSections.{bytes-put, change-alone, every-put, kept-as, parts-within, spliced}
 use Rattle.mddocument_editing.proofs.put.put_same.Goals.{In_ok-splice}
 use Rattle.mddocument_editing.proofs.put.put_same.Goals as goal
 
@@ -57,8 +57,8 @@ returns-clause-change c =
     ap (λ n. from + n) (c.len.ensures ∙ read.ok.0 ∙ sym (length-map read.items (λ section. section.part.bytes.items)) ∙ ap length c.in_ok-read.ensures.bytes)
     in
     subst (λ (d : Divided). IsChange old d (record { from = from; old_to = end; new_to = from + c.len.result; others = c.new.result })) (sym (returns-clause-document c))
-    (change-of old from end parts (from + c.len.result) c.new.result c.requires.recut.order (omega (arith, c.requires.recut.within)) size
-    (λ i within side none. ap (λ (defined : List ℕ → Bool). events_by kept.options defined (get_or new.sections i [])) labels))
+    (change-alone old from end parts (from + c.len.result) c.new.result c.requires.recut.order (omega (arith, c.requires.recut.within)) size c.requires.trimmed c.new.ensures.items
+    (λ bytes. ap (λ (defined : List ℕ → Bool). events_by kept.options defined bytes) labels))
 
 pub returns-in_err-read-clause-fits : goal.returns-in_err-read-clause-fits
 returns-in_err-read-clause-fits c fits long =

@@ -1,9 +1,6 @@
-use Rattle.std.proofs.Common.{◌≡◌, sym, subst}
-use Rattle.std.specs.Prelude.{IfOk}
+use Rattle.std.proofs.Common.{ap, ◌∙◌, sym, subst}
 use Rattle.markdown_base.specs.Virtual.{IsWithinLimit}
 use Rattle.mddocument_parts.specs.Sections.{document_of}
-use Rattle.mddocument_editing.specs.FirstRest.{items_of}
-use Rattle.mddocument_editing.specs.Kept.{recut_sections}
 use Rattle.mddocument_editing.proofs.PutKept.{short-kept, touched-bytes, touched-seam, touched-within}
 use Rattle.mddocument_editing.proofs.recut.cut_again.Goals as goal
 
@@ -33,4 +30,4 @@ pub returns-clause-bytes : goal.returns-clause-bytes
 returns-clause-bytes c =
     let told = touched-bytes c.args.kept.now c.args.edit.now c.as_slice-sections.ensures.value c.behind-behind.ensures.order c.first_touched-from.ensures.start c.behind-behind.ensures.start c.first_touched-from.ensures.before c.requires.inside.0
     c.behind-behind.ensures.behind c.in_ok-text.ensures in
-    subst (λ bs. IfOk c.cut_from.result (λ r. document_of (recut_sections c.args.kept.now r.from r.end (items_of r.parts.items)) ≡ bs)) told c.cut_from.ensures.bytes
+    ap document_of c.trim.ensures.same ∙ c.in_ok-recut.ensures.bytes ∙ told

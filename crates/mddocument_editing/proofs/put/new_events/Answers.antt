@@ -1,0 +1,29 @@
+use Rattle.std.proofs.Common.{◌≡◌, subst, sym, ap, ◌∙◌}
+use Rattle.std.proofs.lemmas.Bool.{false≢true}
+use Rattle.std.proofs.lemmas.Result.{err_from_is_err_and}
+use Rattle.mdinline_labels.specs.Defined.{defines}
+use Rattle.mddocument_parts.specs.BothDocuments.{events_by}
+use Rattle.mddocument_editing.proofs.PutOthers.{has-unasked}
+use Rattle.mddocument_editing.proofs.put.new_events.Goals as goal
+use Rattle.mddocument_editing.specs.Kept.{IsPackable}
+use Rattle.mddocument_editing.specs.declared.packed.PackError.TheVariants.{TooLong}
+
+pub returns-then-not-asks-clause-none : goal.returns-then-not-asks-clause-none
+returns-then-not-asks-clause-none c = has-unasked c.args.options.now c.args.old.now c.args.machine.now.labels c.args.section.now c.requires (sym c.in_ok-asks.ensures ∙ c.if-not-asks.true)
+
+pub returns-then-same-clause-none : goal.returns-then-same-clause-none
+returns-then-same-clause-none c =
+    let read = events_by c.args.options.now (defines c.args.machine.now.labels) in
+    sym (c.in_ok-events.ensures ∙ ap read c.as_slice.ensures.value) ∙ c.are_same-same.ensures.0 c.if-same.true
+
+pub returns-clause-some : goal.returns-clause-some
+returns-clause-some c =
+    let read = events_by c.args.options.now (defines c.args.machine.now.labels) in
+    let new = c.in_ok-events.ensures ∙ ap read c.as_slice.ensures.value in
+    (new, (λ has. false≢true (sym c.if-same.false ∙ c.are_same-same.ensures.1 (new ∙ has))))
+
+pub returns-in_err-events-clause-fits : goal.returns-in_err-events-clause-fits
+returns-in_err-events-clause-fits c fits long =
+    let p = err_from_is_err_and c.from_residual-in_err-events.result c.from_residual-in_err-events.ensures.1 in
+    let is : c.in_err-events.field-0.0 ≡ TooLong = cc (p.1, p.2, long) in
+    c.in_err-events.ensures is (subst (IsPackable c.args.options.now (defines c.args.machine.now.labels)) (sym c.as_slice.ensures.value) fits)

@@ -1,0 +1,7 @@
+use Rattle.std.proofs.Common.{◌≡◌, ◌-◌, ◌++◌, length, drop}
+use Rattle.mddocument_editing.specs.FirstRest.{items_of}
+use Rattle.mddocument_editing.specs.Kept.{bytes_of_sections}
+use Rattle.mddocument_editing.proofs.trim.stay_behind.Given as goal
+
+abbrev pub invariant-loop-count : goal.invariant-loop-count
+invariant-loop-count l = drop (l.end - l.count) (bytes_of_sections l.sections) ≡ drop (length (items_of l.parts) - l.count) (items_of l.parts) ++ drop l.end (bytes_of_sections l.sections)
