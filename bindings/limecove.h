@@ -482,7 +482,7 @@ struct limecove_changed {
     size_t new_to; /* the section behind the last new one, as they are numbered now */
     size_t start;  /* where the new sections start: a byte index into the document as it is now */
     size_t end;    /* where they end: the index of the byte behind them */
-    size_t others; /* how many other sections were read again, since a label came or went */
+    size_t others; /* how many other sections have other events than before, since a label came or went */
 };
 
 /* A place in a document as editors ask for it. */
@@ -591,8 +591,8 @@ LIMECOVE_API struct limecove_answer limecove_document_replace(struct limecove_do
 LIMECOVE_API struct limecove_answer limecove_document_events(struct limecove_document *document, size_t from, size_t to,
                                                              struct limecove_record *records, size_t records_len);
 
-/* Writes the numbers of the sections that the last edit read again and did not replace, from this one of them on, over the first numbers, as
- * many as fit. Returns how many were written. */
+/* Writes the numbers of the sections that the last edit did not replace and that have other events than before it, in order, from this one of
+ * them on, over the first numbers, as many as fit. Returns how many were written. */
 LIMECOVE_API size_t limecove_document_others(struct limecove_document *document, size_t from, size_t *numbers, size_t numbers_len);
 
 /* Writes the place of a byte index, in units of UTF-8 if utf16 is 0, else of UTF-16. Returns LIMECOVE_READ, LIMECOVE_NO_SUCH_BYTES behind the

@@ -132,7 +132,7 @@ static size_t is_change(struct limecove_document *document, const struct limecov
     return change->others;
 }
 
-static size_t others, kept; /* how many others were read again, and how many sections stayed */
+static size_t others, kept; /* how many others have other events than before, and how many sections stayed */
 
 /* Puts random bytes in the place of others, in the library and here. Returns how many sections there are. */
 static size_t edit(struct limecove_document *document, size_t sections) {
@@ -267,6 +267,6 @@ int main(int argc, char **argv) {
     }
     for (int i = 4; i < argc; i++)
         edit_file(argv[i], edits);
-    printf("%zu sections stayed, and %zu others were read again\n", kept, others);
+    printf("%zu sections stayed, and %zu others have other events than before\n", kept, others);
     return 0;
 }

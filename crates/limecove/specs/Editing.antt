@@ -62,7 +62,7 @@ start_in held section = option_map_or (λ it. start_of it.sections.sections sect
 abbrev pub written : List ℕ → List ℕ → List ℕ
 written old numbers = take (length old) numbers ++ drop (length numbers) old
 
--- the sections that the last edit read again and did not replace
+-- the sections that the last edit did not replace and that have other events than before it
 abbrev pub others_in : Option Held → List ℕ
 others_in held = option_map_or (λ it. it.others.items) held []
 

@@ -4,7 +4,7 @@ use denote.RattleType.{RattleType}
 use Rattle.limecove.specs.declared.held.Held.{Held}
 use Rattle.limecove.specs.contracts.held.Held as held
 
--- a document with what its last edit read again, as a type
+-- a document with the sections to which its last edit gave other events, as a type
 abbrev pub held_row : RattleType
 held_row = held.the_row
 

@@ -114,8 +114,8 @@ pub extern "C" fn limecove_document_events(
     }
 }
 
-/// Writes the numbers of the sections that the last edit read again and did not replace, from this one of them on, over the first numbers,
-/// as many as fit. Returns how many were written. There are none if the document is not open.
+/// Writes the numbers of the sections that the last edit did not replace and that have other events than before it, in order, from this one of
+/// them on, over the first numbers, as many as fit. Returns how many were written. There are none if the document is not open.
 #[unsafe(no_mangle)]
 pub extern "C" fn limecove_document_others(
     alloc: Global,

@@ -28,7 +28,7 @@ pub struct Changed {
     pub start: usize,
     /// Where they end: the index of the byte behind them.
     pub end: usize,
-    /// How many other sections were read again, since a label came or went.
+    /// How many other sections have other events than before, since a label came or went.
     pub others: usize,
 }
 

@@ -209,7 +209,7 @@ pub struct Changed {
     pub start: usize,
     /// Where they end: the index of the byte behind them.
     pub end: usize,
-    /// How many other sections were read again, since a label came or went.
+    /// How many other sections have other events than before, since a label came or went.
     pub others: usize,
 }
 
@@ -376,8 +376,8 @@ extern "C" {
         records_len: usize,
     ) -> Answer;
 
-    /// Writes the numbers of the sections that the last edit read again and did not replace, from this one of them on, over the first
-    /// numbers, as many as fit. Returns how many were written.
+    /// Writes the numbers of the sections that the last edit did not replace and that have other events than before it, in order, from this
+    /// one of them on, over the first numbers, as many as fit. Returns how many were written.
     ///
     /// # Safety
     ///

@@ -40,7 +40,7 @@ pub struct Document {
     /// outlives a call.
     document: UnsafeCell<limecove_sys::Document>,
     sections: usize,
-    /// How many others the last edit read again.
+    /// To how many others the last edit gave other events.
     others: usize,
 }
 
@@ -67,7 +67,7 @@ impl Changed {
         self.0.start..self.0.end
     }
 
-    /// How many other sections were read again, since a label came or went: [`Document::others`] says which.
+    /// How many other sections have other events than before, since a label came or went: [`Document::others`] says which.
     pub const fn others(&self) -> usize {
         self.0.others
     }
@@ -157,7 +157,7 @@ impl Document {
         Ok(Changed(change))
     }
 
-    /// The sections that the last edit read again and did not replace, as they are numbered now.
+    /// The sections that the last edit did not replace and that have other events than before it, in order, as they are numbered now.
     ///
     /// # Errors
     ///
