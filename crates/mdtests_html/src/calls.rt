@@ -39,18 +39,21 @@ fn options_let_through(rt: HostRuntime) -> Result<(), AllocError> {
     options.compile.allow_any_img_src = true;
     let html = to_html_with_options(rt.alloc(), document, &options)?;
     assert!(rt;
-        html.as_slice() == b"<p>&lt;b&gt; <a href=\"\">a</a> <img src=\"z:d\" alt=\"c\" /></p>\n"
+        html.as_slice()
+            == b"<p>&lt;b&gt; <a href=\"\">a</a> <img src=\"z:d\" alt=\"c\" /></p>\n".as_slice()
     );
     options.compile.allow_dangerous_html = true;
     let html = to_html_with_options(rt.alloc(), document, &options)?;
     assert!(rt;
-        html.as_slice() == b"<p><b> <a href=\"\">a</a> <img src=\"z:d\" alt=\"c\" /></p>\n"
+        html.as_slice()
+            == b"<p><b> <a href=\"\">a</a> <img src=\"z:d\" alt=\"c\" /></p>\n".as_slice()
     );
     options.compile.allow_any_img_src = false;
     options.compile.allow_dangerous_protocol = true;
     let html = to_html_with_options(rt.alloc(), document, &options)?;
     assert!(rt;
-        html.as_slice() == b"<p><b> <a href=\"x:y\">a</a> <img src=\"z:d\" alt=\"c\" /></p>\n"
+        html.as_slice()
+            == b"<p><b> <a href=\"x:y\">a</a> <img src=\"z:d\" alt=\"c\" /></p>\n".as_slice()
     );
     Ok(())
 }
