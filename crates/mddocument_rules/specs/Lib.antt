@@ -1,3 +1,4 @@
 -- standing
 pub mod Standing
 pub mod StandingLaws
+pub mod TextLaws
