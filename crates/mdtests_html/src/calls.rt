@@ -32,28 +32,37 @@ fn documents_are_html(rt: HostRuntime) -> Result<(), AllocError> {
     Ok(())
 }
 
+/// What is let through of HTML, of addresses of any kind, and of addresses of images; and the HTML then of a document with these.
+const LET_THROUGH: &[(bool, bool, bool, &[u8])] = &[
+    (
+        false,
+        false,
+        true,
+        b"<p>&lt;b&gt; <a href=\"\">a</a> <img src=\"z:d\" alt=\"c\" /></p>\n",
+    ),
+    (
+        true,
+        false,
+        true,
+        b"<p><b> <a href=\"\">a</a> <img src=\"z:d\" alt=\"c\" /></p>\n",
+    ),
+    (
+        true,
+        true,
+        false,
+        b"<p><b> <a href=\"x:y\">a</a> <img src=\"z:d\" alt=\"c\" /></p>\n",
+    ),
+];
+
 #[test]
 fn options_let_through(rt: HostRuntime) -> Result<(), AllocError> {
-    let document = b"<b> [a](x:y) ![c](z:d)";
-    let mut options = Options::default();
-    options.compile.allow_any_img_src = true;
-    let html = to_html_with_options(rt.alloc(), document, &options)?;
-    assert!(rt;
-        html.as_slice()
-            == b"<p>&lt;b&gt; <a href=\"\">a</a> <img src=\"z:d\" alt=\"c\" /></p>\n".as_slice()
-    );
-    options.compile.allow_dangerous_html = true;
-    let html = to_html_with_options(rt.alloc(), document, &options)?;
-    assert!(rt;
-        html.as_slice()
-            == b"<p><b> <a href=\"\">a</a> <img src=\"z:d\" alt=\"c\" /></p>\n".as_slice()
-    );
-    options.compile.allow_any_img_src = false;
-    options.compile.allow_dangerous_protocol = true;
-    let html = to_html_with_options(rt.alloc(), document, &options)?;
-    assert!(rt;
-        html.as_slice()
-            == b"<p><b> <a href=\"x:y\">a</a> <img src=\"z:d\" alt=\"c\" /></p>\n".as_slice()
-    );
+    for &(html, protocol, images, wanted) in LET_THROUGH {
+        let mut options = Options::default();
+        options.compile.allow_dangerous_html = html;
+        options.compile.allow_dangerous_protocol = protocol;
+        options.compile.allow_any_img_src = images;
+        let html = to_html_with_options(rt.alloc(), b"<b> [a](x:y) ![c](z:d)", &options)?;
+        assert!(rt; html.as_slice() == wanted);
+    }
     Ok(())
 }
