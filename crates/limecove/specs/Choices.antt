@@ -11,6 +11,7 @@ use Rattle.mdconstructs.specs.declared.choice.Which.{Which}
 use Rattle.mdconstructs.specs.declared.choice.Which.TheVariants.{Lines, Paragraphs, Peek, Deep, Back, Save, Text, Flow, Document}
 use Rattle.mdconstructs.specs.Choices.{choice_together}
 use Rattle.mdconstructs.specs.Documents.{options_with}
+use Rattle.limecove.specs.declared.choose.HtmlOptions.{HtmlOptions}
 use Rattle.limecove.specs.declared.choose.Options.{Options}
 use Rattle.limecove.specs.declared.choose.TextOptions.{TextOptions}
 
@@ -53,6 +54,9 @@ no_such_machine = 6
 abbrev pub links_no_text : ℕ
 links_no_text = 7
 
+abbrev pub no_such_permission : ℕ
+no_such_permission = 11
+
 -- what a machine, a cut and `deep` choose with a tab size, if they are accepted together
 abbrev pub together : Options → ℕ → Result Choice ℕ
 together options t =
@@ -71,6 +75,18 @@ abbrev pub text_choice_of : TextOptions → Result ℕ ℕ
 text_choice_of options =
     cond (nat_eq options.size 24)
     (option_map_or (λ t. cond (are_constructs options.constructs) (Ok t) (Err no_such_construct)) (tab_of options.tab_size) (Err no_such_tab_size))
+    (Err other_size)
+
+-- a sum of bits has alone the bits of what HTML may let through
+abbrev pub are_permissions : ℕ → Bool
+are_permissions bits = nat_lt bits 8
+
+-- the tab size that options of HTML choose, or the code of the first thing that there is not: their size, tab size, constructs, permissions
+abbrev pub html_choice_of : HtmlOptions → Result ℕ ℕ
+html_choice_of options =
+    cond (nat_eq options.size 32)
+    (option_map_or (λ t. cond (are_constructs options.constructs) (cond (are_permissions options.allow) (Ok t) (Err no_such_permission)) (Err no_such_construct))
+    (tab_of options.tab_size) (Err no_such_tab_size))
     (Err other_size)
 
 -- whether a sum of bits has a bit

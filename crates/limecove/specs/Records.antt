@@ -13,6 +13,7 @@ use Rattle.mdconstructs.specs.declared.choice.Choice.{Choice}
 use Rattle.mdconstructs.specs.declared.ranges.ByteRange.{ByteRange}
 use Rattle.mdconstructs.specs.Documents.{AreEventsOf, options_with}
 use Rattle.mdconstructs.specs.TextEvents.{text_events}
+use Rattle.limecove.specs.declared.choose.HtmlOptions.{HtmlOptions}
 use Rattle.limecove.specs.declared.choose.Options.{Options}
 use Rattle.limecove.specs.declared.choose.TextOptions.{TextOptions}
 use Rattle.limecove.specs.declared.record.Record.{Record}
@@ -123,6 +124,20 @@ echoed_text options = record {
   vs = 0;
   previous = options.constructs;
   next = 0;
+}
+
+-- the numbers of options of HTML, in the same fields; what they let through is `next`
+abbrev pub echoed_html : HtmlOptions → Record
+echoed_html options = record {
+  kind = 0;
+  content = 0;
+  name = 0;
+  line = options.size;
+  column = options.tab_size;
+  index = 0;
+  vs = 0;
+  previous = options.constructs;
+  next = options.allow;
 }
 
 -- the numbers of a range: where it begins as the line, and where it ends as the column

@@ -1,11 +1,12 @@
 //! Options as numbers, and what they choose.
 
-ghost use Rattle.std.specs.Prelude.{◌≡◌, ◌<◌, ◌≤◌, IfErr, IfOk};
+ghost use Rattle.std.specs.Prelude.{◌≡◌, ◌<◌, ◌≤◌, ◌⊎◌, IfErr, IfOk};
 ghost use Rattle.mdconstructs.specs.Choices.{CanCut};
-ghost use Rattle.limecove.specs.Choices.{choice_of, constructs_of, machine_of, tab_of, text_choice_of};
+ghost use Rattle.limecove.specs.Choices.{choice_of, constructs_of, html_choice_of, machine_of, tab_of, text_choice_of};
 
 use crate::code::{
-    LINKS_NO_TEXT, NO_SUCH_CONSTRUCT, NO_SUCH_MACHINE, NO_SUCH_TAB_SIZE, OTHER_SIZE, TOO_LONG,
+    LINKS_NO_TEXT, NO_SUCH_CONSTRUCT, NO_SUCH_MACHINE, NO_SUCH_PERMISSION, NO_SUCH_TAB_SIZE,
+    OTHER_SIZE, TOO_LONG,
 };
 use markdown::configuration::{Constructs, TabSize};
 use mdconstructs::choice::{Choice, Which, links_text};
@@ -53,10 +54,21 @@ pub const DEFINITION: u64 = 524288;
 /// The bits of all constructs.
 pub const ALL_CONSTRUCTS: u64 = 1048575;
 
+/// The bit of HTML in the document, which is kept as HTML. Without it, it is shown as text.
+pub const ALLOW_DANGEROUS_HTML: u64 = 1;
+/// The bit of addresses of any protocol, of links and images.
+pub const ALLOW_DANGEROUS_PROTOCOL: u64 = 2;
+/// The bit of addresses of any protocol, of images alone.
+pub const ALLOW_ANY_IMG_SRC: u64 = 4;
+/// The bits of all that HTML may let through.
+pub const ALLOW_ALL: u64 = 7;
+
 /// How many bytes `TextOptions` has.
 pub const TEXT_OPTIONS_SIZE: usize = 24;
 /// How many bytes `Options` has.
 pub const OPTIONS_SIZE: usize = 40;
+/// How many bytes `HtmlOptions` has.
+pub const HTML_OPTIONS_SIZE: usize = 32;
 
 /// How text is read.
 #[repr(C)]
@@ -88,6 +100,20 @@ pub struct Options {
     /// If it is not 0, the chunks of text that the machine links are read too. Only paragraphs, text, flow and document
     /// link any.
     pub deep: u32,
+}
+
+/// How a document is read, and what its HTML may let through.
+#[repr(C)]
+#[derive(Clone, Copy, Debug, PartialEq, Eq)]
+pub struct HtmlOptions {
+    /// How many bytes these options have for the caller: [`HTML_OPTIONS_SIZE`].
+    pub size: usize,
+    /// The distance from one tab stop to the next, from 1 to 16 columns. 0 is 4.
+    pub tab_size: usize,
+    /// The constructs that are on: the sum of their bits.
+    pub constructs: u64,
+    /// What the HTML may let through: the sum of the bits. If it is 0, the HTML is safe.
+    pub allow: u64,
 }
 
 /// What options choose. If they choose nothing, it returns the code that says why.
@@ -138,6 +164,26 @@ pub(crate) fn choose_text(options: &TextOptions) -> Result<TabSize, u32>
     };
     if options.constructs > ALL_CONSTRUCTS {
         return Err(NO_SUCH_CONSTRUCT);
+    }
+    Ok(tab)
+}
+
+/// The tab size that options of HTML choose. If they choose nothing, it returns the code that says why.
+pub(crate) fn choose_html(options: &HtmlOptions) -> Result<TabSize, u32>
+    ensures chosen { result ≡ html_choice_of options.now }
+    ensures codes { IfErr result (λ code. (TOO_LONG < code) × ((code ≤ NO_SUCH_CONSTRUCT) ⊎ (code ≡ NO_SUCH_PERMISSION))) }
+{
+    if options.size != HTML_OPTIONS_SIZE {
+        return Err(OTHER_SIZE);
+    }
+    let Some(tab) = tab_of(options.tab_size) else {
+        return Err(NO_SUCH_TAB_SIZE);
+    };
+    if options.constructs > ALL_CONSTRUCTS {
+        return Err(NO_SUCH_CONSTRUCT);
+    }
+    if options.allow > ALLOW_ALL {
+        return Err(NO_SUCH_PERMISSION);
     }
     Ok(tab)
 }

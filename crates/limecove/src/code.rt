@@ -26,3 +26,5 @@ pub const NO_SUCH_RANGES: u32 = 8;
 pub const NO_SUCH_BYTES: u32 = 9;
 /// The document is not open.
 pub const NOT_OPEN: u32 = 10;
+/// A bit is set of what HTML may let through that lets nothing through.
+pub const NO_SUCH_PERMISSION: u32 = 11;

@@ -1,9 +1,9 @@
 //! Options as records, for callers that compare layouts.
 
 ghost use Rattle.std.specs.Prelude.{◌≡◌};
-ghost use Rattle.limecove.specs.Records.{echoed, echoed_range, echoed_text, numbered};
+ghost use Rattle.limecove.specs.Records.{echoed, echoed_html, echoed_range, echoed_text, numbered};
 
-use crate::choose::{Options, TextOptions};
+use crate::choose::{HtmlOptions, Options, TextOptions};
 use crate::record::Record;
 use mdconstructs::ranges::ByteRange;
 
@@ -57,6 +57,23 @@ pub(crate) fn echo_of_text(options: &TextOptions) -> Record
         vs: 0,
         previous: constructs,
         next: 0,
+    }
+}
+
+/// The numbers of options of HTML, in the same fields; what they let through is `next`.
+pub(crate) fn echo_of_html(options: &HtmlOptions) -> Record
+    ensures { result ≡ echoed_html options.now }
+{
+    Record {
+        kind: 0,
+        content: 0,
+        name: 0,
+        line: options.size,
+        column: options.tab_size,
+        index: 0,
+        vs: 0,
+        previous: options.constructs as usize,
+        next: options.allow as usize,
     }
 }
 

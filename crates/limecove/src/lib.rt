@@ -14,6 +14,11 @@ mod tests;
 mod choose;
 mod echo;
 
+// HTML: a document as HTML
+pub mod html;
+#[cfg(test)]
+mod html_tests;
+
 // records: events as records; the numbers of names; the loop that writes records
 mod record;
 
@@ -36,11 +41,11 @@ ghost use Rattle.markdown.specs.Virtual.{IsWithinLimit};
 ghost use Rattle.mdconstructs.specs.ByteRanges.{AreRanges};
 ghost use Rattle.limecove.specs.Choices.{choice_of, text_choice_of};
 ghost use Rattle.limecove.specs.Readings.{IsClosed, events_in};
-ghost use Rattle.limecove.specs.Records.{AreRead, AreReadAsText, AreReadInRanges, HoldsEventsOf, HoldsTextIn, HoldsTextOf, echoed, echoed_range, echoed_text, filled, numbered};
+ghost use Rattle.limecove.specs.Records.{AreRead, AreReadAsText, AreReadInRanges, HoldsEventsOf, HoldsTextIn, HoldsTextOf, echoed, echoed_html, echoed_range, echoed_text, filled, numbered};
 
-use crate::choose::{Options, TextOptions, choose, choose_text, constructs_of};
+use crate::choose::{HtmlOptions, Options, TextOptions, choose, choose_text, constructs_of};
 use crate::code::{LINKS_NO_TEXT, NO_SUCH_RANGES, OUT_OF_MEMORY, READ, TOO_LONG, VERSION};
-use crate::echo::{echo_of, echo_of_range, echo_of_text, numbered};
+use crate::echo::{echo_of, echo_of_html, echo_of_range, echo_of_text, numbered};
 use crate::kept::Reading;
 use crate::reading::copy_from;
 use crate::record::{Record, write_records};
@@ -283,6 +288,15 @@ pub extern "C" fn limecove_echo_range(range: &ByteRange, of_range: &mut Record)
     ensures { of_range.new ≡ echoed_range range.now }
 {
     *of_range = echo_of_range(range);
+}
+
+/// Writes back options of HTML as [`limecove_echo`] does options: the size as the line, the tab size as the column, the constructs as
+/// `previous`, what they let through as `next`, and 0 in all other fields.
+#[unsafe(no_mangle)]
+pub extern "C" fn limecove_echo_html(options: &HtmlOptions, of_options: &mut Record)
+    ensures { of_options.new ≡ echoed_html options.now }
+{
+    *of_options = echo_of_html(options);
 }
 
 /// The events of a document that is read as text. If there are none, the code that says why.
