@@ -56,7 +56,8 @@ enum limecove_code {
     LIMECOVE_LINKS_NO_TEXT = 7,     /* deep is on for a machine that links no text */
     LIMECOVE_NO_SUCH_RANGES = 8,    /* the ranges cannot be read as one text, or the document has no such sections */
     LIMECOVE_NO_SUCH_BYTES = 9,     /* a range is not in the document, or a place is at none of its characters */
-    LIMECOVE_NOT_OPEN = 10          /* the document is not open */
+    LIMECOVE_NOT_OPEN = 10,         /* the document is not open */
+    LIMECOVE_NO_SUCH_PERMISSION = 11 /* a bit is set of what HTML may let through that lets nothing through */
 };
 
 /* The constructs, as bits. */
@@ -82,6 +83,14 @@ enum limecove_construct {
     LIMECOVE_LABEL_END = 262144,          /* ends of labels: without it there are no links and no images */
     LIMECOVE_DEFINITION = 524288,         /* link reference definitions */
     LIMECOVE_ALL_CONSTRUCTS = 1048575
+};
+
+/* What HTML may let through, as bits. If none is set, the HTML is safe, whatever the document is. */
+enum limecove_permission {
+    LIMECOVE_ALLOW_DANGEROUS_HTML = 1,     /* HTML in the document is kept as HTML; without it, it is shown as text */
+    LIMECOVE_ALLOW_DANGEROUS_PROTOCOL = 2, /* links and images have addresses of any protocol */
+    LIMECOVE_ALLOW_ANY_IMG_SRC = 4,        /* images alone have addresses of any protocol */
+    LIMECOVE_ALLOW_ALL = 7
 };
 
 /* Whether a span begins or ends. */
@@ -427,6 +436,14 @@ struct limecove_options {
     uint32_t deep;       /* if it is not 0, the chunks that LIMECOVE_PARAGRAPHS, LIMECOVE_TEXT, LIMECOVE_FLOW or LIMECOVE_DOCUMENT links are read too */
 };
 
+/* How a document is read, and what its HTML may let through. Later versions of the library take options of this size too. */
+struct limecove_html_options {
+    size_t size;         /* sizeof(struct limecove_html_options) */
+    size_t tab_size;     /* how many columns tab stops are apart, from 1 to 16; 0 is 4 */
+    uint64_t constructs; /* the sum of the bits of limecove_construct that are on */
+    uint64_t allow;      /* the sum of the bits of limecove_permission that are set; if it is 0, the HTML is safe */
+};
+
 /* A range of a document. Ranges can be read as one text if none runs backwards or past the end, and each begins where the one before it
  * ends; or that one ends at the beginning of a line, and the next begins later in the line, as behind a quote mark. The first begins
  * anywhere. A CR LF is read where its LF is. */
@@ -448,11 +465,11 @@ struct limecove_record {
     size_t next;      /* index of the enter after in the chain, or LIMECOVE_NO_INDEX */
 };
 
-/* How a call ended, and how many events there are. */
+/* How a call ended, and how many there are of what it writes: events, or bytes of HTML. */
 struct limecove_answer {
     uint32_t code;    /* of limecove_code */
     uint32_t version; /* LIMECOVE_VERSION of the library */
-    size_t count;     /* events of the document, also if there are more than records; 0 if it was not read */
+    size_t count;     /* events of the document, or bytes of its HTML, also if there are more than fit; 0 if it was not read */
 };
 
 /* A document that was read, with its events in the library's memory. It begins as LIMECOVE_NO_READING, and only the library changes it. One
@@ -512,6 +529,16 @@ LIMECOVE_INLINE struct limecove_options limecove_default_options(void) {
     return options;
 }
 
+/* Safe HTML of the whole document, with all of CommonMark, and tab stops at every 4 columns. */
+LIMECOVE_INLINE struct limecove_html_options limecove_default_html_options(void) {
+    struct limecove_html_options options;
+    options.size = sizeof options;
+    options.tab_size = 4;
+    options.constructs = LIMECOVE_ALL_CONSTRUCTS;
+    options.allow = 0;
+    return options;
+}
+
 /* A name as text, as "CodeText". NULL if there is no name of this number. */
 LIMECOVE_INLINE const char *limecove_name_text(uint32_t name) {
 #define LIMECOVE_TEXT_OF(upper, text, is_void) text,
@@ -532,7 +559,7 @@ LIMECOVE_INLINE int limecove_name_is_void(uint32_t name) {
 LIMECOVE_INLINE const char *limecove_code_text(uint32_t code) {
     static const char *const texts[] = {"read", "out of memory", "document too long", "options of another size",
                                         "no such tab size", "no such construct", "no such machine", "the machine links no text",
-                                        "the ranges are no text", "no such bytes", "the document is not open"};
+                                        "the ranges are no text", "no such bytes", "the document is not open", "no such permission"};
     return code < sizeof texts / sizeof *texts ? texts[code] : NULL;
 }
 
@@ -575,6 +602,12 @@ LIMECOVE_API size_t limecove_copy(struct limecove_reading *reading, size_t from,
 
 /* Gives back the memory of a reading, which is then not open. If it is not open, nothing changes. */
 LIMECOVE_API void limecove_close(struct limecove_reading *reading);
+
+/* Makes a document HTML. Writes the first bytes of the HTML over the first bytes of `out`, as many as fit, and nothing else. The count is how
+ * many bytes the HTML has: if there are more than out_len, a call with that many writes all. No 0 is put behind it. `out` may be NULL if
+ * out_len is 0, and shares no byte with the document or the options. If the code is not LIMECOVE_READ, nothing is written. */
+LIMECOVE_API struct limecove_answer limecove_html(const uint8_t *document, size_t document_len, const struct limecove_html_options *options,
+                                                  uint8_t *out, size_t out_len);
 
 /* Reads a whole document with these constructs and tab stops, and keeps it for edits. If the code is LIMECOVE_READ, it is open, and the
  * count is that of its sections; else it is not open. It is not open before, as its memory would be lost. */
@@ -622,6 +655,10 @@ LIMECOVE_API struct limecove_answer limecove_echo(const struct limecove_options 
 
 /* Writes back a range as limecove_echo does options: where it begins as the line, where it ends as the column, and 0 in all other fields. */
 LIMECOVE_API void limecove_echo_range(const struct limecove_byte_range *range, struct limecove_record *of_range);
+
+/* Writes back options of HTML as limecove_echo does options: the size as the line, the tab size as the column, the constructs as previous,
+ * what they let through as next, and 0 in all other fields. */
+LIMECOVE_API void limecove_echo_html(const struct limecove_html_options *options, struct limecove_record *of_options);
 
 #ifdef __cplusplus
 }

@@ -170,7 +170,7 @@ def rust(names, machines):
 
 # What crosses the border: the name of each struct in both Rattle and Rust, and where Rattle declares it.
 RANGES = CRATES / "mddocument/src/ranges.rt"
-STRUCTS = {"Record": "record.rt", "TextOptions": "choose.rt", "Options": "choose.rt", "Answer": "lib.rt", "ByteRange": RANGES, "Changed": "edits.rt", "Place": "edits.rt"}
+STRUCTS = {"Record": "record.rt", "TextOptions": "choose.rt", "Options": "choose.rt", "HtmlOptions": "choose.rt", "Answer": "lib.rt", "ByteRange": RANGES, "Changed": "edits.rt", "Place": "edits.rt"}
 # The same type in Rattle and Rust, and in C.
 TYPES = {"u16": "uint16_t", "u32": "uint32_t", "u64": "uint64_t", "usize": "size_t"}
 # The fields of a reading, as the three declare them. `kept` is a struct of one pointer.
@@ -239,9 +239,9 @@ def differences():
     bits = numbers(LIMECOVE / "src/choose.rt", r"pub const (\w+): u64 = (\d+);")
     rust = numbers(FOREIGN, r"pub const (\w+): u(?:32|64) = (\d+);")
     c = numbers(HEADER, r"#define LIMECOVE_(VERSION) (\d+)")
-    c |= enum_numbers("code") | enum_numbers("construct")
+    c |= enum_numbers("code") | enum_numbers("construct") | enum_numbers("permission")
     for other, theirs in [(FOREIGN, rust), (HEADER, c)]:
-        if len(root) != 12 or len(bits) != 21 or theirs != root | bits:
+        if len(root) != 13 or len(bits) != 25 or theirs != root | bits:
             lines.append(f"{other}: the numbers are {theirs}, and {root | bits} in code.rt and choose.rt")
     contents = numbers(LIMECOVE / "specs/Records.antt", r"(?m)^content_number (\w+) = (\d+)$")
     contents["CONTENT"] = contents.pop("CONTENTOFCONTENT", None)

@@ -156,6 +156,31 @@ static void documents_in_turn(const uint8_t *document, size_t len, const uint8_t
     CHECK(kept.is_open == 0 && blocks == before && failed == 0);
 }
 
+/* The same for HTML: it is the same, or nothing is written. */
+static void html_in_turn(const uint8_t *document, size_t len) {
+    static uint8_t all[65536], out[65536];
+    struct limecove_html_options options = limecove_default_html_options();
+    size_t count = limecove_html(document, len, &options, all, sizeof all).count;
+    CHECK(count <= sizeof all);
+    for (long n = 0;; n++) {
+        long before = blocks;
+        memset(out, 0xa5, sizeof out);
+        failed = 0;
+        left = n;
+        struct limecove_answer answer = limecove_html(document, len, &options, out, sizeof out);
+        left = -1;
+        CHECK(blocks == before && answer.version == LIMECOVE_VERSION);
+        if (answer.code == LIMECOVE_READ) {
+            CHECK(answer.count == count && memcmp(out, all, count) == 0 && untouched(out + count, sizeof out - count));
+            if (failed == 0)
+                return;
+            continue;
+        }
+        CHECK(failed > 0 && answer.code == LIMECOVE_OUT_OF_MEMORY && answer.count == 0 && untouched(out, sizeof out));
+        ended++;
+    }
+}
+
 static void each_in_turn(size_t way, const uint8_t *document, size_t len, struct limecove_text_options text, size_t cut) {
     static struct limecove_record all[4096], records[4096];
     size_t count = read_so(way, document, len, text, cut, all, 4096).count;
@@ -195,6 +220,7 @@ int main(int argc, char **argv) {
         size_t with_len;
         uint8_t *with = random_document(&with_len);
         documents_in_turn(document, len, with, with_len);
+        html_in_turn(document, len);
         free(with);
         free(document);
     }

@@ -22,6 +22,12 @@ LIES(limecove_options, machine, 32, 4);
 LIES(limecove_options, deep, 36, 4);
 IS(sizeof(struct limecove_options) == 40);
 
+LIES(limecove_html_options, size, 0, 8);
+LIES(limecove_html_options, tab_size, 8, 8);
+LIES(limecove_html_options, constructs, 16, 8);
+LIES(limecove_html_options, allow, 24, 8);
+IS(sizeof(struct limecove_html_options) == 32);
+
 LIES(limecove_byte_range, from, 0, 8);
 LIES(limecove_byte_range, to, 8, 8);
 IS(sizeof(struct limecove_byte_range) == 16);
@@ -74,6 +80,7 @@ static int is(const struct limecove_record *record, uint32_t name, size_t line, 
 int main(void) {
     struct limecove_options options;
     struct limecove_text_options text;
+    struct limecove_html_options html;
     struct limecove_byte_range range;
     struct limecove_record records[5]; /* the first and the last are guards */
     struct limecove_answer answer;
@@ -101,5 +108,15 @@ int main(void) {
     limecove_echo_range(&range, &records[1]);
     CHECK(untouched(&records[0], sizeof *records) && untouched(&records[2], 3 * sizeof *records));
     CHECK(is(&records[1], 0, LONG(10), LONG(11), 0, 0, 0));
+    html.size = LONG(12);
+    html.tab_size = LONG(13);
+    html.constructs = LONG(14);
+    html.allow = LONG(15);
+    memset(records, 0xa5, sizeof records);
+    limecove_echo_html(&html, &records[1]);
+    CHECK(untouched(&records[0], sizeof *records) && untouched(&records[2], 3 * sizeof *records));
+    CHECK(records[1].next == LONG(15));
+    records[1].next = 0;
+    CHECK(is(&records[1], 0, LONG(12), LONG(13), 0, 0, LONG(14)));
     return 0;
 }

@@ -98,7 +98,63 @@ static void texts_of_numbers(void) {
     CHECK(strcmp(limecove_code_text(LIMECOVE_OUT_OF_MEMORY), "out of memory") == 0);
     CHECK(strcmp(limecove_code_text(LIMECOVE_LINKS_NO_TEXT), "the machine links no text") == 0);
     CHECK(strcmp(limecove_code_text(LIMECOVE_NO_SUCH_RANGES), "the ranges are no text") == 0);
-    CHECK(limecove_code_text(LIMECOVE_NOT_OPEN + 1) == NULL);
+    CHECK(strcmp(limecove_code_text(LIMECOVE_NO_SUCH_PERMISSION), "no such permission") == 0);
+    CHECK(limecove_code_text(LIMECOVE_NO_SUCH_PERMISSION + 1) == NULL);
+}
+
+/* HTML of a document, as the options say, in every room: the first bytes are written, as many as fit, and no byte behind them. */
+static void is_html(const char *document, const struct limecove_html_options *options, const char *html) {
+    size_t len = strlen(document), count = strlen(html);
+    uint8_t out[256];
+    CHECK(count + GUARD <= sizeof out);
+    for (size_t room = 0; room <= count + GUARD; room++) {
+        memset(out, 0xa5, sizeof out);
+        struct limecove_answer answer = limecove_html((const uint8_t *)document, len, options, room == 0 ? NULL : out, room);
+        size_t written = room < count ? room : count;
+        CHECK(answer.code == LIMECOVE_READ && answer.version == LIMECOVE_VERSION && answer.count == count);
+        CHECK(memcmp(out, html, written) == 0 && untouched(out + written, sizeof out - written));
+    }
+}
+
+/* HTML is safe, but for what the options let through. */
+static void documents_are_html(void) {
+    const char *document = "<b> [c](d:e) ![f](d:g)";
+    struct limecove_html_options options = limecove_default_html_options();
+    is_html("", &options, "");
+    is_html("# a *b*\n\n- c\n", &options, "<h1>a <em>b</em></h1>\n<ul>\n<li>c</li>\n</ul>\n");
+    is_html("\ta", &options, "<pre><code>a\n</code></pre>\n");
+    is_html(document, &options, "<p>&lt;b&gt; <a href=\"\">c</a> <img src=\"\" alt=\"f\" /></p>\n");
+    options.allow = LIMECOVE_ALLOW_DANGEROUS_HTML;
+    is_html(document, &options, "<p><b> <a href=\"\">c</a> <img src=\"\" alt=\"f\" /></p>\n");
+    options.allow = LIMECOVE_ALLOW_DANGEROUS_PROTOCOL;
+    is_html(document, &options, "<p>&lt;b&gt; <a href=\"d:e\">c</a> <img src=\"d:g\" alt=\"f\" /></p>\n");
+    options.allow = LIMECOVE_ALLOW_ANY_IMG_SRC;
+    is_html(document, &options, "<p>&lt;b&gt; <a href=\"\">c</a> <img src=\"d:g\" alt=\"f\" /></p>\n");
+    options.allow = LIMECOVE_ALLOW_ALL;
+    is_html(document, &options, "<p><b> <a href=\"d:e\">c</a> <img src=\"d:g\" alt=\"f\" /></p>\n");
+    options = limecove_default_html_options();
+    options.constructs -= LIMECOVE_ATTENTION;
+    is_html("*a*", &options, "<p>*a*</p>\n");
+    options.tab_size = 2;
+    is_html("\ta", &options, "<p>a</p>\n");
+}
+
+/* Options of HTML that choose nothing: the code says why, and nothing is written. */
+static void html_is_refused(void) {
+    struct limecove_html_options options[4];
+    const uint32_t codes[] = {LIMECOVE_OTHER_SIZE, LIMECOVE_NO_SUCH_TAB_SIZE, LIMECOVE_NO_SUCH_CONSTRUCT, LIMECOVE_NO_SUCH_PERMISSION};
+    uint8_t out[16];
+    memset(out, 0xa5, sizeof out);
+    for (size_t i = 0; i < 4; i++)
+        options[i] = limecove_default_html_options();
+    options[0].size = 24;
+    options[1].tab_size = 17;
+    options[2].constructs = LIMECOVE_ALL_CONSTRUCTS + 1;
+    options[2].allow = options[3].allow = LIMECOVE_ALLOW_ALL + 1;
+    for (size_t i = 0; i < 4; i++) {
+        struct limecove_answer answer = limecove_html((const uint8_t *)"a", 1, &options[i], out, sizeof out);
+        CHECK(answer.code == codes[i] && answer.count == 0 && untouched(out, sizeof out));
+    }
 }
 
 /* Whether a document has a span of this name, with these constructs. */
@@ -175,6 +231,8 @@ int main(int argc, char **argv) {
     refused();
     no_ranges();
     texts_of_numbers();
+    documents_are_html();
+    html_is_refused();
     for (long n = argc > 1 ? atol(argv[1]) : 200; n > 0; n--) {
         size_t len;
         uint8_t *document = random_document(&len);

@@ -37,6 +37,8 @@ pub const NO_SUCH_RANGES: u32 = 8;
 pub const NO_SUCH_BYTES: u32 = 9;
 /// The document is not open.
 pub const NOT_OPEN: u32 = 10;
+/// A bit is set of what HTML may let through that lets nothing through.
+pub const NO_SUCH_PERMISSION: u32 = 11;
 
 /// The bit of code spans.
 pub const CODE_TEXT: u64 = 1;
@@ -81,10 +83,19 @@ pub const DEFINITION: u64 = 524288;
 /// The bits of all constructs. Up to version 3 they were 16383, and those from [`BLOCK_QUOTE`] on were on without bits.
 pub const ALL_CONSTRUCTS: u64 = 1048575;
 
+/// The bit of HTML in the document, which is kept as HTML. Without it, it is shown as text.
+pub const ALLOW_DANGEROUS_HTML: u64 = 1;
+/// The bit of addresses of any protocol, of links and images.
+pub const ALLOW_DANGEROUS_PROTOCOL: u64 = 2;
+/// The bit of addresses of any protocol, of images alone.
+pub const ALLOW_ANY_IMG_SRC: u64 = 4;
+/// The bits of all that HTML may let through.
+pub const ALLOW_ALL: u64 = 7;
+
 /// An index in a record's link that there is not.
 pub const NO_INDEX: usize = usize::MAX;
 
-/// How a call ended, and how many events there are.
+/// How a call ended, and how many there are of what it writes: events, or bytes of HTML.
 #[repr(C)]
 #[derive(Clone, Copy, Debug, PartialEq, Eq)]
 pub struct Answer {
@@ -92,7 +103,7 @@ pub struct Answer {
     pub code: u32,
     /// [`VERSION`] of the library.
     pub version: u32,
-    /// How many events the document has, also if there are more than records. 0 if it was not read.
+    /// How many events the document has, or how many bytes its HTML, also if there are more than fit. 0 if it was not read.
     pub count: usize,
 }
 
@@ -124,6 +135,20 @@ pub struct Options {
     pub machine: u32,
     /// If it is not 0, the chunks of text that the machine links are read too.
     pub deep: u32,
+}
+
+/// How a document is read, and what its HTML may let through.
+#[repr(C)]
+#[derive(Clone, Copy, Debug, PartialEq, Eq)]
+pub struct HtmlOptions {
+    /// `size_of::<HtmlOptions>()`.
+    pub size: usize,
+    /// The distance from one tab stop to the next, from 1 to 16 columns. 0 is 4.
+    pub tab_size: usize,
+    /// The constructs that are on: the sum of their bits.
+    pub constructs: u64,
+    /// What the HTML may let through: the sum of the bits. If it is 0, the HTML is safe.
+    pub allow: u64,
 }
 
 /// A range of a document. Ranges can be read as one text if none runs backwards or past the end, and each begins where the one before it
@@ -332,6 +357,21 @@ extern "C" {
     /// The reading is [`NO_READING`], or as a call of the library left it.
     pub fn limecove_close(reading: *mut Reading);
 
+    /// Makes a document HTML. Writes the first bytes of the HTML over the first bytes of `out`, as many as fit, and nothing else. The count
+    /// is how many bytes the HTML has. If the code is not [`READ`], nothing is written.
+    ///
+    /// # Safety
+    ///
+    /// The library has this [`VERSION`]. Each pointer is to as many bytes as the length after it says, or the length is 0. `options` is to
+    /// options. `out` shares no byte with the document or the options.
+    pub fn limecove_html(
+        document: *const u8,
+        document_len: usize,
+        options: *const HtmlOptions,
+        out: *mut u8,
+        out_len: usize,
+    ) -> Answer;
+
     /// Reads a whole document with these constructs and tab stops, and keeps it for edits. If the code is [`READ`], it is open, and the
     /// count is that of its sections. Else it is not open.
     ///
@@ -460,4 +500,12 @@ extern "C" {
     ///
     /// As of [`limecove_echo`].
     pub fn limecove_echo_range(range: *const ByteRange, of_range: *mut Record);
+
+    /// Writes back options of HTML as [`limecove_echo`] does options: the size as the line, the tab size as the column, the constructs as
+    /// `previous`, what they let through as `next`, and 0 in all other fields.
+    ///
+    /// # Safety
+    ///
+    /// As of [`limecove_echo`].
+    pub fn limecove_echo_html(options: *const HtmlOptions, of_options: *mut Record);
 }

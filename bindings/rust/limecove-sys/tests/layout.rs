@@ -1,9 +1,10 @@
 //! The layout of each struct, field by field, as the library has it.
 
 use limecove_sys::{
-    limecove_close, limecove_copy, limecove_echo, limecove_echo_range, limecove_open_text,
-    limecove_read_text_in, limecove_version, Answer, ByteRange, Options, Reading, Record,
-    TextOptions, ALL_CONSTRUCTS, NO_READING, READ, VERSION,
+    limecove_close, limecove_copy, limecove_echo, limecove_echo_html, limecove_echo_range,
+    limecove_html, limecove_open_text, limecove_read_text_in, limecove_version, Answer, ByteRange,
+    HtmlOptions, Options, Reading, Record, TextOptions, ALLOW_DANGEROUS_HTML, ALL_CONSTRUCTS,
+    NO_READING, READ, VERSION,
 };
 use std::mem::size_of;
 
@@ -126,9 +127,47 @@ fn ranges_cross() {
     assert_eq!((records[0], records[3]), (all(9), all(9)));
 }
 
+/// A record as the library leaves it of options of HTML, and HTML in room for a part of it.
+#[test]
+fn html_crosses() {
+    let long = |number: usize| 0x0101_0101_0101_0101 * number;
+    let options = HtmlOptions {
+        size: long(1),
+        tab_size: long(2),
+        constructs: long(3) as u64,
+        allow: long(4) as u64,
+    };
+    let mut of_options = all(!0);
+    let html = HtmlOptions {
+        size: size_of::<HtmlOptions>(),
+        tab_size: 0,
+        constructs: ALL_CONSTRUCTS,
+        allow: ALLOW_DANGEROUS_HTML,
+    };
+    let mut out = [0xa5; 12];
+    // SAFETY: the version is compared first, and each pointer is to its type.
+    let answer = unsafe {
+        assert_eq!(limecove_version(), VERSION);
+        limecove_echo_html(&options, &mut of_options);
+        let room = &mut out[1..11];
+        limecove_html(b"a <b>".as_ptr(), 5, &html, room.as_mut_ptr(), room.len())
+    };
+    let want = Record {
+        line: long(1),
+        column: long(2),
+        previous: long(3),
+        next: long(4),
+        ..all(0)
+    };
+    assert_eq!(of_options, want);
+    assert_eq!((answer.code, answer.count), (READ, 13));
+    assert_eq!(&out, b"\xa5<p>a <b></\xa5");
+}
+
 #[test]
 fn sizes_are_those_of_the_library() {
     assert_eq!((size_of::<Options>(), size_of::<TextOptions>()), (40, 24));
+    assert_eq!(size_of::<HtmlOptions>(), 32);
     assert_eq!((size_of::<Record>(), size_of::<Answer>()), (56, 16));
     assert_eq!((size_of::<Reading>(), size_of::<ByteRange>()), (16, 16));
 }
