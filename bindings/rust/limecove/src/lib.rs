@@ -18,6 +18,7 @@
 //! | events | [`tokenize`], [`with_ranges`] | linear in the document, as measured; 56 bytes an event |
 //! | a few events at a time | [`Reading`] | the list stays in the library; the same time for each event |
 //! | events of a document that is edited | [`Document`] | an edit reads the sections that change, and those that a label reaches |
+//! | HTML, safe by default | [`to_html`], [`to_html_with_options`], [`to_html_bytes`] | the document is read once, and twice if the HTML is more than twice as long |
 //! | spans, flat | [`spans`], [`spans_by_start`] | linear in the events, in any nesting |
 //! | spans, as a tree | [`Tree`], [`Node`] | made in linear time; about 100 bytes a span |
 //! | the span at a byte | [`Tree::node_at`] | a logarithm, and the depth there |
@@ -30,6 +31,7 @@
 mod definitions;
 mod document;
 mod event;
+mod html;
 mod lines;
 mod list;
 mod names;
@@ -47,6 +49,7 @@ pub use crate::document::{Changed, Document, Encoding, Place};
 pub use crate::event::{
     spans, spans_by_start, with_ranges, Content, Event, Kind, Link, Point, Span, Spans, WithRanges,
 };
+pub use crate::html::{to_html, to_html_bytes, to_html_with_options, HtmlOptions};
 pub use crate::lines::{LineColumn, LineIndex};
 pub use crate::list::{List, ListMarker};
 pub use crate::names::{Machine, Name, UnknownName};

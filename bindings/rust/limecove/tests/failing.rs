@@ -5,8 +5,8 @@
 //! own, glibc's, do their work.
 
 use limecove::{
-    spans, spans_by_start, tokenize, tokenize_text, with_ranges, Document, Error, Event, LineIndex,
-    Machine, Options, TextOptions, Tree,
+    spans, spans_by_start, to_html, tokenize, tokenize_text, with_ranges, Document, Error, Event,
+    LineIndex, Machine, Options, TextOptions, Tree,
 };
 use std::ffi::c_void;
 use std::fmt::Debug;
@@ -218,6 +218,10 @@ fn main() {
     ] {
         let events = tokenize(document, &Options::default()).expect("there is memory");
         ends.of_tree(document, &events);
+    }
+    let quotes = "\"".repeat(500);
+    for document in ["", document, "- [a](b 'c')\n\n  ![d](e:f)\n", &quotes] {
+        ends.of_call(|| to_html(document));
     }
     ends.of_edit("# a\n\n[b]\n\n# c\n", 14..14, "\n[b]: d\n");
     ends.of_edit("# a\n\n[b]\n\n# c\n\n[b]: d\n", 15..22, "");
