@@ -16,19 +16,8 @@ use crate::edit::Edit;
 use crate::kept::Kept;
 use crate::lookup::section_and_left;
 use crate::section::Section;
-use crate::trim::trim;
+use crate::trim::{Recut, trim};
 use std::alloc::{AllocError, Global};
-
-/// Parts in the place of the sections from one up to another.
-#[derive(Drop)]
-pub(crate) struct Recut {
-    /// The first section that they replace.
-    pub(crate) from: usize,
-    /// The section behind the last one that they replace.
-    pub(crate) end: usize,
-    /// Their bytes.
-    pub(crate) parts: Vec<Vec<u8>>,
-}
 
 /// Whether a line ends in bytes, whatever comes behind them.
 fn is_settled(bytes: &[u8]) -> bool

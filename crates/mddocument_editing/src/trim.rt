@@ -1,4 +1,4 @@
-//! Sections that stay at the two ends of those that are cut again.
+//! Parts in the place of sections, and which of them stay at the two ends.
 
 ghost use Rattle.std.specs.Prelude.{◌≡◌, ◌↔◌, ◌≤◌, List, drop, length, true};
 ghost use Rattle.mddocument_editing.specs.FirstRest.{items_of};
@@ -6,8 +6,18 @@ ghost use Rattle.mddocument_editing.specs.Kept.{IsRecut, bytes_of_sections, recu
 ghost use Rattle.mddocument_editing.specs.Trims.{AreTrimmed, StayBehind, StayInFront};
 
 use crate::kept::Kept;
-use crate::recut::Recut;
 use crate::section::Section;
+
+/// Parts in the place of the sections from one up to another.
+#[derive(Drop)]
+pub(crate) struct Recut {
+    /// The first section that they replace.
+    pub(crate) from: usize,
+    /// The section behind the last one that they replace.
+    pub(crate) end: usize,
+    /// Their bytes.
+    pub(crate) parts: Vec<Vec<u8>>,
+}
 
 /// Whether a section has these bytes.
 fn is_part(section: &Section, part: &[u8]) -> bool

@@ -44,6 +44,5 @@ pub use Rattle.mdinline_emphasis.specs.declared.unicode.TheConstants.{PUNCTUATIO
 pub use Rattle.markdown_base.proofs.Facts.Bools.{and-left}
 pub use Rattle.markdown_base.proofs.Facts.Lists.{get-take}
 pub use Rattle.mdinline_emphasis.specs.declared.pairs.Marker.{Marker}
-pub use Rattle.mdinline_emphasis.specs.declared.pairs.Marker.TheVariants.{Asterisk, Underscore}
 pub use Rattle.mdinline_emphasis.specs.declared.pairs.Style.{Style}
 pub use Rattle.mdinline_emphasis.specs.declared.pairs.Style.TheVariants.{Emphasis as OfEmphasis, Strong as OfStrong}
