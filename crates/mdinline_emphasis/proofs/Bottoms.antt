@@ -1,5 +1,5 @@
 -- Of the runs that wait before the place of a search of its kind that found nothing, none fits: this stays so.
-use Rattle.mdinline_emphasis.proofs.Prelude.{◌≡◌, ◌≢◌, ℕ, zero, suc, ◌+◌, ◌-◌, ◌*◌, ◌==◌, ◌<◌, ◌≤◌, Bool, true, false, cond, List, [], ◌∷◌, ◌++◌, Option, Some, None, take, length, set, refl, sym, ap, ◌∙◌, arith, inl, inr, get_or-set_same, get_or-set_other, slice_get_within, slice_get-get_or, slice_get, slice_index, ◌&&◌, ◌||◌, not, nat_tests, Run, same, may_pair, opening, closing, last_of, may_pair_there, run_there, with_pair, with_pair_of, third, kind, AreBottoms, AreInOrder, NoneFitsBefore, cases_eq, style_of, Marker, marker_number}
+use Rattle.mdinline_emphasis.proofs.Prelude.{◌≡◌, ◌≢◌, ℕ, zero, suc, ◌+◌, ◌-◌, ◌*◌, ◌==◌, ◌<◌, ◌≤◌, Bool, true, false, cond, List, [], ◌∷◌, ◌++◌, Option, Some, None, take, length, set, refl, sym, ap, ◌∙◌, arith, inl, inr, get_or-set_same, get_or-set_other, slice_get_within, slice_get-get_or, slice_get, slice_index, ◌&&◌, ◌||◌, not, nat_tests, Run, same, may_pair, opening, closing, last_of, may_pair_there, run_there, with_pair, with_pair_of, third, kind, AreBottoms, AreInOrder, NoneFitsBefore, cases_eq, is_tilde, style_of, Marker, marker_number}
 use Rattle.mdinline_emphasis.proofs.Markers.{number-is}
 use Rattle.mdinline_emphasis.proofs.Stands.{pushed-at}
 
@@ -23,7 +23,9 @@ parts a a' true false t t' m m' e = absurd (omega (arith, e, m, m'))
 parts a a' false true t t' m m' e = absurd (omega (arith, e, m, m'))
 
 abbrev fits_by : Run → Marker → Bool → Bool → Bool → Bool
-fits_by o marker opens one two = same o.marker marker && ((not (o.closes || opens)) || not (((o.rest == 1) && two) || ((o.rest == 2) && one)))
+fits_by o marker opens one two =
+    same o.marker marker
+    && cond (is_tilde marker) (((o.rest == 1) && one) || ((o.rest == 2) && two)) (not (o.closes || opens) || not (((o.rest == 1) && two) || ((o.rest == 2) && one)))
 
 fits-kind : (o r r' : Run) → kind r ≡ kind r' → may_pair o r ≡ may_pair o r'
 fits-kind o r r' e =

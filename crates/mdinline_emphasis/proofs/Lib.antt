@@ -31,3 +31,5 @@ mod RunsFrom
 mod Searches
 mod Stands
 mod Steps
+mod Struck
+mod StruckExamples

@@ -32,12 +32,12 @@ pub use Rattle.markdown_tokenizer.specs.Plain.{HaveNoLinks}
 pub use Rattle.mdinline_emphasis.specs.Beside.{AreBeside, AreUnpaired, PairsBeside}
 pub use Rattle.mdinline_emphasis.specs.Classes.{AsciiHasItsClasses, BeginWith, CharsAreUtf8, EndWith, are_sorted, char_of, class_at_end, class_of, first_char, in_ranges, last_bytes, last_char, only, shown_char}
 pub use Rattle.mdinline_emphasis.specs.Costs.{above, emphasis_a_run, ends_at, ends_of_pairs, kinds_of_runs, looks, markers_left, pairs_a_run, to_pay, waiting_from}
-pub use Rattle.mdinline_emphasis.specs.Emphasis.{Delimiter, Pair, Run, all_in_pairs, close_pairs, closes_yet, closings, data_of, events_of_runs, gave, have_two, head_events, in_lists, in_pairs, inner_name, later, look_back, marker_byte, markers_of, markers_of_all, may_pair, on_stack, openings, opens_yet, outer_name, paired, pairs_from, run_events, same, style_of, styles, tail_events}
+pub use Rattle.mdinline_emphasis.specs.Emphasis.{Delimiter, Pair, Run, all_in_pairs, are_both, close_pairs, closes_yet, closings, data_of, events_of_runs, gave, have_two, head_events, in_lists, in_pairs, inner_name, is_tilde, later, lengths_fit, look_back, marker_byte, markers_of, markers_of_all, may_pair, on_stack, openings, opens_yet, outer_name, paired, pairs_from, run_events, same, style_of, styles, tail_events}
 pub use Rattle.mdinline_emphasis.specs.InTurn.{Found, SoFar, Waiting, all_runs, all_waiting, close, closing, in_turn_from, last_fitting, none_read, opening, paired_in_turn, put, put_back, put_behind}
 pub use Rattle.mdinline_emphasis.specs.LawStatements.{AreFresh, EndsTakeMarkers, LeavesBalanced, RunsAreFew}
 pub use Rattle.mdinline_emphasis.specs.Places.{AllHaveRoom, AreApart, ArePlacesInside, HasRoom, Standing, markers, standing}
 pub use Rattle.mdinline_emphasis.specs.RunEdits.{EditsMakeEmphasis, EmphasisCanBeMade, HasRunsAt, edits_of, in_place, index_of}
-pub use Rattle.mdinline_emphasis.specs.Runs.{depth_after, end_before, index_of_event, is_sequence, marker_from, run_at, runs_from, runs_in, text_before, text_behind}
+pub use Rattle.mdinline_emphasis.specs.Runs.{depth_after, end_before, index_of_event, is_sequence, marker_from, may_mark, run_at, runs_from, runs_in, text_before, text_behind}
 pub use Rattle.mdinline_emphasis.specs.Searches.{AreBottoms, AreInOrder, IsNext, NoneFitsBefore, Stands, StandsAt, as_run, kind, last_of, left_of, marker_number, may_pair_there, positions, run_there, third, with_pair, with_pair_of}
 pub use Rattle.mdinline_emphasis.specs.declared.pairs.Delimiters.{Delimiters}
 pub use Rattle.mdinline_emphasis.specs.declared.unicode.TheConstants.{PUNCTUATION, WHITE_SPACE}
@@ -45,4 +45,4 @@ pub use Rattle.markdown_base.proofs.Facts.Bools.{and-left}
 pub use Rattle.markdown_base.proofs.Facts.Lists.{get-take}
 pub use Rattle.mdinline_emphasis.specs.declared.pairs.Marker.{Marker}
 pub use Rattle.mdinline_emphasis.specs.declared.pairs.Style.{Style}
-pub use Rattle.mdinline_emphasis.specs.declared.pairs.Style.TheVariants.{Emphasis as OfEmphasis, Strong as OfStrong}
+pub use Rattle.mdinline_emphasis.specs.declared.pairs.Style.TheVariants.{Emphasis as OfEmphasis, Strong as OfStrong, Struck, StruckTwice}

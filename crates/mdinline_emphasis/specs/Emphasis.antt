@@ -1,33 +1,39 @@
--- Emphasis: which delimiter runs of a text open and close it, and the events of it.
+-- Emphasis and strikethrough: which delimiter runs of a text open and close them, and the events of them.
 --
 -- The runs are paired by CommonMark's procedure "process emphasis" (0.31, appendix "A parsing strategy"), from the front. A run that can close
 -- looks back in the delimiter stack for the first opener that matches. What is above that one leaves the stack. Opener and closer give one marker
 -- each, or two if both have two; an opener without markers leaves the stack. So it goes on until the run has no markers, or finds no opener.
 -- Then it comes onto the stack itself, if it can open. The procedure keeps runs on its stack that can only close; none of them is an opener.
-use Rattle.std.specs.Prelude.{ℕ, zero, suc, ◌+◌, ◌-◌, ◌==◌, ◌&&◌, ◌||◌, not, nat_le, nat_lt, Bool, cond, List, [], ◌∷◌, ◌++◌, map, reverse, None}
+use Rattle.std.specs.Prelude.{ℕ, zero, suc, ◌+◌, ◌-◌, ◌==◌, ◌&&◌, ◌||◌, not, nat_le, nat_lt, Bool, true, false, cond, List, [], ◌∷◌, ◌++◌, map, reverse, None}
 use Rattle.std.specs.List.{filter, flat_map}
 use Rattle.markdown_base.specs.declared.event.Event.{Event}
 use Rattle.markdown_base.specs.declared.event.Kind.{Kind}
 use Rattle.markdown_base.specs.declared.event.Kind.TheVariants.{Enter, Exit}
 use Rattle.markdown_base.specs.declared.event.Name.{Name}
-use Rattle.markdown_base.specs.declared.event.Name.TheVariants.{Data, Emphasis, EmphasisSequence, EmphasisText, Strong, StrongSequence, StrongText}
+use Rattle.markdown_base.specs.declared.event.Name.TheVariants.{Data, Emphasis, EmphasisSequence, EmphasisText, GfmStrikethrough, GfmStrikethroughSequence, GfmStrikethroughText, Strong, StrongSequence, StrongText}
 use Rattle.markdown_base.specs.declared.event.Point.{Point}
 use Rattle.mdinline_emphasis.specs.declared.pairs.Marker.{Marker}
-use Rattle.mdinline_emphasis.specs.declared.pairs.Marker.TheVariants.{Asterisk, Underscore}
+use Rattle.mdinline_emphasis.specs.declared.pairs.Marker.TheVariants.{Asterisk, Underscore, Tilde}
 use Rattle.mdinline_emphasis.specs.declared.pairs.Style.{Style}
-use Rattle.mdinline_emphasis.specs.declared.pairs.Style.TheVariants.{Emphasis as OfEmphasis, Strong as OfStrong}
+use Rattle.mdinline_emphasis.specs.declared.pairs.Style.TheVariants.{Emphasis as OfEmphasis, Strong as OfStrong, Struck, StruckTwice}
 
 -- all markers, and the byte of each
 abbrev pub all_markers : List Marker
-all_markers = Asterisk ∷ Underscore ∷ []
+all_markers = Asterisk ∷ Underscore ∷ Tilde ∷ []
 
 abbrev pub marker_byte : Marker → ℕ
 marker_byte Asterisk = 42
 marker_byte Underscore = 95
+marker_byte Tilde = 126
+
+-- a marker is a tilde, which makes strikethrough (GFM 0.29, 6.5); the others make emphasis
+abbrev pub is_tilde : Marker → Bool
+is_tilde Tilde = true
+is_tilde _ = false
 
 -- A delimiter run: the index of its enter, its place, its marker, its length modulo 3, and whether it can open and close
--- emphasis. It closes pairs, the inner ones first, and opens pairs, the outer ones first. Each pair has a style: emphasis, with one marker at
--- each end, or strong emphasis, with two. The other markers are left.
+-- pairs. It closes pairs, the inner ones first, and opens pairs, the outer ones first. Each pair has a style: emphasis, with one marker at
+-- each end, or strong emphasis, with two, or strikethrough, with one or two. The other markers are left.
 pub record Run : Type 0 where
   pub index : ℕ
   pub start : Point
@@ -48,22 +54,37 @@ rule_of_three a b = not (((a == 1) && (b == 2)) || ((a == 2) && (b == 1)))
 abbrev pub same : Marker → Marker → Bool
 same a b = marker_byte a == marker_byte b
 
--- an opener matches a run that closes: it has the same marker, and the rule of three allows it
+-- both lengths are one, or both are two
+abbrev pub are_both : (a b : ℕ) → Bool
+are_both a b = ((a == 1) && (b == 1)) || ((a == 2) && (b == 2))
+
+-- The lengths of two runs of a marker fit, by what is left of them modulo 3. Tildes: "any text wrapped in a matching pair of one or two tildes" (GFM
+-- 0.29, 6.5), so both have one or both have two. Of the others the rule of three is asked, if one of the two runs can both open and close
+abbrev pub lengths_fit : Marker → (one_does_both : Bool) → (a b : ℕ) → Bool
+lengths_fit marker one_does_both a b = cond (is_tilde marker) (are_both a b) (not one_does_both || rule_of_three a b)
+
+-- an opener matches a run that closes: it has the same marker, and their lengths fit
 abbrev pub may_pair : (opener closer : Run) → Bool
-may_pair o r = same o.marker r.marker && ((not (o.closes || r.opens)) || rule_of_three o.rest r.rest)
+may_pair o r = same o.marker r.marker && lengths_fit r.marker (o.closes || r.opens) o.rest r.rest
 
 -- both runs have two markers
 abbrev pub have_two : (opener closer : Run) → Bool
 have_two o r = nat_le 2 o.left && nat_le 2 r.left
 
--- the style of a pair: it is strong emphasis if both runs have two markers
+-- the style of a pair of a marker: strikethrough for tildes, else strong emphasis, if both runs have two markers, or emphasis
+abbrev pub style_by : Marker → (both_have_two : Bool) → Style
+style_by marker two = cond (is_tilde marker) (cond two StruckTwice Struck) (cond two OfStrong OfEmphasis)
+
+-- the style of a pair of two runs
 abbrev pub style_of : (opener closer : Run) → Style
-style_of o r = cond (have_two o r) OfStrong OfEmphasis
+style_of o r = style_by r.marker (have_two o r)
 
 -- how many markers a pair has at each end
 abbrev pub markers_of : Style → ℕ
 markers_of OfEmphasis = 1
 markers_of OfStrong = 2
+markers_of Struck = 1
+markers_of StruckTwice = 2
 
 -- a run can open, or close, a pair more: it has markers left
 abbrev pub opens_yet : Run → Bool
@@ -159,14 +180,20 @@ unlinked_event kind name p = record { kind = kind; name = name; point = p; link 
 abbrev pub outer_name : Style → Name
 outer_name OfEmphasis = Emphasis
 outer_name OfStrong = Strong
+outer_name Struck = GfmStrikethrough
+outer_name StruckTwice = GfmStrikethrough
 
 abbrev pub sequence_name : Style → Name
 sequence_name OfEmphasis = EmphasisSequence
 sequence_name OfStrong = StrongSequence
+sequence_name Struck = GfmStrikethroughSequence
+sequence_name StruckTwice = GfmStrikethroughSequence
 
 abbrev pub inner_name : Style → Name
 inner_name OfEmphasis = EmphasisText
 inner_name OfStrong = StrongText
+inner_name Struck = GfmStrikethroughText
+inner_name StruckTwice = GfmStrikethroughText
 
 abbrev pub closings : Point → List Style → List Event
 closings p [] = []

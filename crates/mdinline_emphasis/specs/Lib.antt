@@ -14,5 +14,6 @@ pub mod RunEdits
 pub mod Runs
 -- pairs
 pub mod Searches
+pub mod Struck
 -- classes
 pub mod Unicode

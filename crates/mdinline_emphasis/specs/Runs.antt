@@ -1,6 +1,6 @@
--- The delimiter runs of a text (CommonMark, "Emphasis and strong emphasis"): its attention sequences that are in no other span, each with the
+-- The delimiter runs of a text (CommonMark, "Emphasis and strong emphasis"; GFM, "Strikethrough"): its attention sequences that are in no other span, each with the
 -- characters beside it.
-use Rattle.std.specs.Prelude.{ℕ, suc, ◌+◌, ◌-◌, ◌%◌, ◌==◌, ◌&&◌, ◌||◌, not, Bool, true, false, cond, nat_lt, List, [], ◌∷◌, length, take, drop, slice_get, Option, Some, None}
+use Rattle.std.specs.Prelude.{ℕ, suc, ◌+◌, ◌-◌, ◌%◌, ◌==◌, ◌&&◌, ◌||◌, not, Bool, true, false, cond, nat_le, nat_lt, List, [], ◌∷◌, length, take, drop, slice_get, Option, Some, None}
 use Rattle.markdown_base.specs.declared.event.Event.{Event}
 use Rattle.markdown_base.specs.declared.event.Kind.{Kind as EventKind}
 use Rattle.markdown_base.specs.declared.event.Kind.TheVariants.{Enter, Exit}
@@ -10,8 +10,8 @@ use Rattle.markdown_base.specs.declared.util.char.Kind.TheVariants.{Whitespace, 
 use Rattle.markdown_base.specs.Events.{is_enter, same_name}
 use Rattle.mdinline_emphasis.specs.Classes.{class_before, class_after}
 use Rattle.mdinline_emphasis.specs.declared.pairs.Marker.{Marker}
-use Rattle.mdinline_emphasis.specs.declared.pairs.Marker.TheVariants.{Asterisk, Underscore}
-use Rattle.mdinline_emphasis.specs.Emphasis.{Run, all_markers, emphasised, marker_byte}
+use Rattle.mdinline_emphasis.specs.declared.pairs.Marker.TheVariants.{Asterisk, Underscore, Tilde}
+use Rattle.mdinline_emphasis.specs.Emphasis.{Run, all_markers, emphasised, is_tilde, marker_byte}
 
 abbrev pub is_punctuation : Kind → Bool
 is_punctuation Punctuation = true
@@ -34,15 +34,19 @@ abbrev pub is_underscore : Marker → Bool
 is_underscore Underscore = true
 is_underscore _ = false
 
--- A run of asterisks can open emphasis (rule 1 of 6.2) and strong emphasis (rule 5) if it is left-flanking; a run of underscores (rules 2 and
+-- A run of asterisks can open emphasis (rule 1 of 6.2) and strong emphasis (rule 5) if it is left-flanking, and so one of tildes; a run of underscores (rules 2 and
 -- 6) if it is left-flanking, and not right-flanking or behind punctuation
 abbrev pub can_open : (marker : Marker) → (before after : Kind) → Bool
 can_open marker before after = is_left_flanking before after && (not (is_underscore marker) || (not (is_right_flanking before after) || is_punctuation before))
 
--- A run of asterisks can close emphasis (rule 3 of 6.2) and strong emphasis (rule 7) if it is right-flanking; a run of underscores (rules 4
+-- A run of asterisks can close emphasis (rule 3 of 6.2) and strong emphasis (rule 7) if it is right-flanking, and so one of tildes; a run of underscores (rules 4
 -- and 8) if it is right-flanking, and not left-flanking or before punctuation
 abbrev pub can_close : (marker : Marker) → (before after : Kind) → Bool
 can_close marker before after = is_right_flanking before after && (not (is_underscore marker) || (not (is_left_flanking before after) || is_punctuation after))
+
+-- A run of so many markers may be in a pair: "Three or more tildes do not create a strikethrough" (GFM 0.29, 6.5)
+abbrev pub may_mark : Marker → (length : ℕ) → Bool
+may_mark marker length = not (is_tilde marker) || nat_le length 2
 
 -- The class of the character at an end of a run: that of the document there, if the text goes on there; else white space. The text goes on if the
 -- event beside the run stands at the same index
@@ -64,10 +68,10 @@ is_marker_of (m ∷ ms) byte = (byte == marker_byte m) || is_marker_of ms byte
 abbrev pub is_marker : ℕ → Bool
 is_marker byte = is_marker_of all_markers byte
 
--- the marker that a byte is: `*`, or else `_`
+-- the marker that a byte is: `*`, `~`, or else `_`
 abbrev pub marker_from : Option ℕ → Marker
 marker_from None = Underscore
-marker_from (Some byte) = cond (byte == 42) Asterisk Underscore
+marker_from (Some byte) = cond (byte == 42) Asterisk (cond (byte == 126) Tilde Underscore)
 
 -- the run of an attention sequence: the index of its enter in the list, its enter and its exit, and where the events beside it stand
 abbrev pub run_at : List ℕ → ℕ → (e f : Event) → (before behind : Option ℕ) → Run
@@ -81,8 +85,8 @@ run_at bytes index e f before behind =
       start = e.point;
       marker = marker;
       rest = length % 3;
-      opens = can_open marker before_it after_it;
-      closes = can_close marker before_it after_it;
+      opens = may_mark marker length && can_open marker before_it after_it;
+      closes = may_mark marker length && can_close marker before_it after_it;
       closed = [];
       left = length;
       opened = [];

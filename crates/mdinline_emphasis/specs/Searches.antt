@@ -4,7 +4,7 @@ use Rattle.mdinline_emphasis.specs.Costs.{kinds_a_marker}
 use Rattle.mdinline_emphasis.specs.declared.pairs.Delimiters.{Delimiters}
 use Rattle.mdinline_emphasis.specs.Emphasis.{Run, may_pair, style_of}
 use Rattle.mdinline_emphasis.specs.declared.pairs.Marker.{Marker}
-use Rattle.mdinline_emphasis.specs.declared.pairs.Marker.TheVariants.{Asterisk, Underscore}
+use Rattle.mdinline_emphasis.specs.declared.pairs.Marker.TheVariants.{Asterisk, Underscore, Tilde}
 use Rattle.mdinline_emphasis.specs.InTurn.{Waiting, SoFar, all_runs, all_waiting, opening, closing, put, close}
 
 -- the run that a value of the code stands for: it lists the pairs that it opens the other way round
@@ -39,8 +39,9 @@ last_of rs openers r (suc k) = cond (may_pair_there (run_there rs (slice_get ope
 abbrev pub marker_number : Marker → ℕ
 marker_number Underscore = 0
 marker_number Asterisk = 1
+marker_number Tilde = 2
 
--- what the rule of three asks of a length modulo 3
+-- what is asked of a length modulo 3: whether it is 1 or 2
 abbrev pub third : ℕ → ℕ
 third b = cond (b == 1) 1 (cond (b == 2) 2 0)
 

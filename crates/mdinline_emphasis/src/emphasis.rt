@@ -37,6 +37,7 @@ fn outer_name(style: Style) -> Name
     match style {
         Style::Emphasis => Name::Emphasis,
         Style::Strong => Name::Strong,
+        Style::Struck | Style::StruckTwice => Name::GfmStrikethrough,
     }
 }
 
@@ -47,6 +48,7 @@ fn sequence_name(style: Style) -> Name
     match style {
         Style::Emphasis => Name::EmphasisSequence,
         Style::Strong => Name::StrongSequence,
+        Style::Struck | Style::StruckTwice => Name::GfmStrikethroughSequence,
     }
 }
 
@@ -57,6 +59,7 @@ fn inner_name(style: Style) -> Name
     match style {
         Style::Emphasis => Name::EmphasisText,
         Style::Strong => Name::StrongText,
+        Style::Struck | Style::StruckTwice => Name::GfmStrikethroughText,
     }
 }
 

@@ -4,6 +4,7 @@ ghost use Rattle.mdinline_emphasis.specs.Beside.{PairsBeside};
 ghost use Rattle.mdinline_emphasis.specs.Classes.{AsciiHasItsClasses, CharsAreUtf8};
 ghost use Rattle.mdinline_emphasis.specs.LawStatements.{EndsTakeMarkers, LeavesBalanced, RunsAreFew};
 ghost use Rattle.mdinline_emphasis.specs.RunEdits.{EditsMakeEmphasis, EmphasisCanBeMade};
+ghost use Rattle.mdinline_emphasis.specs.Struck.{TildesAreWhole};
 
 /// Emphasis leaves a balanced list.
 pub fn emphasis_is_balanced()
@@ -14,6 +15,12 @@ pub fn emphasis_is_balanced()
 /// emphasis with no text in it could only lie between two runs of one marker.
 pub fn neighbours_of_pairs()
     ensures { PairsBeside }
+{}
+
+/// A run of tildes is in no pair, or the whole of it is an end of one strikethrough, by one tilde or by two. So three or more tildes make none, and no
+/// tilde of a pair is left.
+pub fn tildes_are_whole()
+    ensures { TildesAreWhole }
 {}
 
 /// One edit for each run makes emphasis: the edits can be made, and leave the events of the definition, balanced.

@@ -1,7 +1,7 @@
 //! Pairs of delimiter runs, in linear time, and the events in place of a run.
 
 ghost use Rattle.std.specs.Prelude.{ℕ, slice_index, nat_lt, slice_get, Ok, true, false, cond, IfOk, ◌≡◌, ◌+◌, ◌-◌, ◌*◌, ◌<◌, ◌≤◌, ◌^◌, length, map, None, All, IfSome, OnOk, ◌++◌};
-ghost use Rattle.mdinline_emphasis.specs.Emphasis.{all_markers, marker_byte, paired, rule_of_three, same, may_pair, have_two, style_of, markers_of, closes_yet, opens_yet};
+ghost use Rattle.mdinline_emphasis.specs.Emphasis.{all_markers, are_both, is_tilde, lengths_fit, marker_byte, paired, rule_of_three, same, may_pair, have_two, style_by, style_of, markers_of, closes_yet, opens_yet};
 ghost use Rattle.mdinline_emphasis.specs.InTurn.{opening, closing};
 ghost use Rattle.mdinline_emphasis.specs.Searches.{as_run, last_of, with_pair, left_of, marker_number, third, kind, AreBottoms, AreInOrder, NoneFitsBefore, IsNext, HasClosed, ClosesNothing, IsTaken};
 ghost use Rattle.mdinline_emphasis.specs.Costs.{kinds_of_runs, pairs_a_run, markers_left, looks, to_pay};
@@ -19,10 +19,12 @@ pub enum Marker {
     Asterisk,
     /// `_`.
     Underscore,
+    /// `~`.
+    Tilde,
 }
 
 /// How many kinds of closers there are: of each marker, those that open too and those that do not, of each length modulo 3.
-const KINDS: usize = 12;
+const KINDS: usize = 18;
 
 /// What a pair makes of the text between its runs.
 #[derive(Clone, Copy, PartialEq, Eq)]
@@ -31,6 +33,10 @@ pub enum Style {
     Emphasis,
     /// Strong emphasis, with two.
     Strong,
+    /// Strikethrough, with one tilde at each end.
+    Struck,
+    /// Strikethrough, with two.
+    StruckTwice,
 }
 
 /// A delimiter run.
@@ -44,9 +50,9 @@ pub struct Delimiters {
     pub marker: Marker,
     /// How many markers it has, modulo 3.
     pub rest: usize,
-    /// It can open emphasis.
+    /// It can open pairs.
     pub opens: bool,
-    /// It can close emphasis.
+    /// It can close pairs.
     pub closes: bool,
     /// The pairs that it closes, the inner ones first, by their styles.
     pub closed: Vec<Style>,
@@ -70,6 +76,7 @@ fn marker_byte(marker: Marker) -> u8
     match marker {
         Marker::Asterisk => b'*',
         Marker::Underscore => b'_',
+        Marker::Tilde => b'~',
     }
 }
 
@@ -80,15 +87,46 @@ fn same(a: Marker, b: Marker) -> bool
     marker_byte(a) == marker_byte(b)
 }
 
-/// Whether an opener and a closer may be a pair: the same marker, and the rule of three.
+/// Whether a marker is a tilde.
+pub(crate) fn is_tilde(marker: Marker) -> bool
+    ensures { result ≡ is_tilde marker }
+{
+    matches!(marker, Marker::Tilde)
+}
+
+/// Whether two lengths are both one, or both two.
+fn are_both(a: usize, b: usize) -> bool
+    ensures { result ≡ are_both a b }
+{
+    a == 1 && b == 1 || a == 2 && b == 2
+}
+
+/// Whether the lengths of two runs of a marker fit, modulo 3: tildes have as many, and of the others the rule of three is asked, if one of
+/// the two can both open and close.
+fn lengths_fit(marker: Marker, one_does_both: bool, a: usize, b: usize) -> bool
+    ensures { result ≡ lengths_fit marker one_does_both a b }
+{
+    if is_tilde(marker) {
+        are_both(a, b)
+    } else {
+        !one_does_both || rule_of_three(a, b)
+    }
+}
+
+/// Whether an opener and a closer may be a pair: the same marker, and lengths that fit.
 fn may_pair(opener: &Delimiters, closer: &Delimiters) -> bool
     ensures { result ≡ may_pair (as_run opener.now) (as_run closer.now) }
 {
     same(opener.marker, closer.marker)
-        && (!(opener.closes || closer.opens) || rule_of_three(opener.rest, closer.rest))
+        && lengths_fit(
+            closer.marker,
+            opener.closes || closer.opens,
+            opener.rest,
+            closer.rest,
+        )
 }
 
-/// What the rule of three asks of a length modulo 3.
+/// What is asked of a length modulo 3: whether it is 1 or 2.
 fn third(rest: usize) -> usize
     ensures third { result ≡ third rest }
     ensures below { result < 3 }
@@ -110,6 +148,7 @@ fn marker_number(marker: Marker) -> usize
     match marker {
         Marker::Underscore => 0,
         Marker::Asterisk => 1,
+        Marker::Tilde => 2,
     }
 }
 
@@ -172,15 +211,28 @@ fn have_two(opener: &Delimiters, closer: &Delimiters) -> bool
     opener.left >= 2 && closer.left >= 2
 }
 
-/// The style of a pair of two runs.
-fn style_of(opener: &Delimiters, closer: &Delimiters) -> Style
-    ensures { result ≡ style_of (as_run opener.now) (as_run closer.now) }
+/// The style of a pair of a marker, by whether both runs have two.
+fn style_by(marker: Marker, two: bool) -> Style
+    ensures { result ≡ style_by marker two }
 {
-    if have_two(opener, closer) {
+    if is_tilde(marker) {
+        if two {
+            Style::StruckTwice
+        } else {
+            Style::Struck
+        }
+    } else if two {
         Style::Strong
     } else {
         Style::Emphasis
     }
+}
+
+/// The style of a pair of two runs.
+fn style_of(opener: &Delimiters, closer: &Delimiters) -> Style
+    ensures { result ≡ style_of (as_run opener.now) (as_run closer.now) }
+{
+    style_by(closer.marker, have_two(opener, closer))
 }
 
 /// How many markers a pair has at each end.
@@ -188,8 +240,8 @@ pub(crate) fn markers_of(style: Style) -> usize
     ensures { result ≡ markers_of style }
 {
     match style {
-        Style::Emphasis => 1,
-        Style::Strong => 2,
+        Style::Emphasis | Style::Struck => 1,
+        Style::Strong | Style::StruckTwice => 2,
     }
 }
 

@@ -1,11 +1,11 @@
 //! The delimiter runs of a text: its attention sequences, each with the characters beside it.
 
 ghost use Rattle.std.specs.Prelude.{◌≡◌, ◌+◌, ◌-◌, ◌<◌, ◌≤◌, ◌^◌, length, map, slice_get, IfOk};
-ghost use Rattle.mdinline_emphasis.specs.Runs.{is_punctuation, is_other, is_left_flanking, is_right_flanking, can_open, can_close, class_beside, marker_from, run_at, is_sequence, index_of_event, depth_after, runs_in};
+ghost use Rattle.mdinline_emphasis.specs.Runs.{is_punctuation, is_other, is_left_flanking, is_right_flanking, can_open, can_close, class_beside, marker_from, may_mark, run_at, is_sequence, index_of_event, depth_after, runs_in};
 ghost use Rattle.mdinline_emphasis.specs.Searches.{as_run};
 
 use crate::classes::{class_after, class_before};
-use crate::pairs::{Delimiters, Marker};
+use crate::pairs::{Delimiters, Marker, is_tilde};
 use markdown_base::event::{Event, Kind, Name};
 use markdown_base::util::char::Kind as Class;
 use mdconstructs_loop_counts::Turns;
@@ -41,7 +41,7 @@ fn is_right_flanking(before: &Class, after: &Class) -> bool
     is_other(before) || is_punctuation(before) && !is_other(after)
 }
 
-/// Whether a run can open emphasis.
+/// Whether a run can open pairs, by its marker and what is beside it.
 fn can_open(marker: Marker, before: &Class, after: &Class) -> bool
     ensures { result ≡ can_open marker before.now after.now }
 {
@@ -51,7 +51,7 @@ fn can_open(marker: Marker, before: &Class, after: &Class) -> bool
             || is_punctuation(before))
 }
 
-/// Whether a run can close emphasis.
+/// Whether a run can close pairs, by its marker and what is beside it.
 fn can_close(marker: Marker, before: &Class, after: &Class) -> bool
     ensures { result ≡ can_close marker before.now after.now }
 {
@@ -61,14 +61,22 @@ fn can_close(marker: Marker, before: &Class, after: &Class) -> bool
             || is_punctuation(after))
 }
 
-/// The marker at an index: an asterisk, or else an underscore.
+/// The marker at an index: an asterisk, a tilde, or else an underscore.
 fn marker_at(bytes: &[u8], index: usize) -> Marker
     ensures { result ≡ marker_from (slice_get bytes.now index) }
 {
     match bytes.get(index) {
         Some(b'*') => Marker::Asterisk,
+        Some(b'~') => Marker::Tilde,
         _ => Marker::Underscore,
     }
+}
+
+/// Whether a run of so many markers may be in a pair: one of tildes has two at most.
+fn may_mark(marker: Marker, length: usize) -> bool
+    ensures { result ≡ may_mark marker length }
+{
+    !is_tilde(marker) || length <= 2
 }
 
 /// The class of the character at an end of a run: that of the document there, if the event beside the run stands at the same index.
@@ -130,13 +138,14 @@ fn run_at(
     let after_it = class_beside(behind, end, class_after(bytes, end));
     let marker = marker_at(bytes, start);
     let left = end.saturating_sub(start);
+    let marks = may_mark(marker, left);
     Delimiters {
         index,
         start: enter.point,
         marker,
         rest: left % 3,
-        opens: can_open(marker, &before_it, &after_it),
-        closes: can_close(marker, &before_it, &after_it),
+        opens: marks && can_open(marker, &before_it, &after_it),
+        closes: marks && can_close(marker, &before_it, &after_it),
         closed: Vec::new(alloc),
         left,
         opened: Vec::new(alloc),
