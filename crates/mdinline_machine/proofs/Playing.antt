@@ -31,9 +31,12 @@ data-class _ = inr (inr ((λ e. absurd (cc)), (λ before. refl)))
 
 -- delimiters are punctuation, and punctuation begins nothing else
 delimiter-class : (b : ℕ) → is_delimiter b ≡ true → text_byte b ≡ punctuation
-delimiter-class b h = elim (b == 42) as (λ t. (b == 42) ≡ t → (t || ((b == 95) || false)) ≡ true → text_byte b ≡ punctuation) [
-  | true ↦ λ e i. let same : b ≡ 42 = grind (arith, nat_tests) in ap text_byte same
-  | false ↦ λ e i. let same : b ≡ 95 = grind (arith, nat_tests) in ap text_byte same
+delimiter-class b h = elim (b == 42) as (λ t. (b == 42) ≡ t → (t || ((b == 95) || ((b == 126) || false))) ≡ true → text_byte b ≡ punctuation) [
+  | true ↦ λ e i. ap text_byte (eqb-true b 42 e)
+  | false ↦ λ e i. elim (b == 95) as (λ t. (b == 95) ≡ t → (t || ((b == 126) || false)) ≡ true → text_byte b ≡ punctuation) [
+    | true ↦ λ e i. ap text_byte (eqb-true b 95 e)
+    | false ↦ λ e i. let same : b ≡ 126 = grind (arith, nat_tests) in ap text_byte same
+  ] refl i
 ] refl h
 
 -- brackets and ends begin at bytes of their own, which are punctuation and no delimiters

@@ -106,7 +106,7 @@ pub use Rattle.mdinline_machine.specs.InlineTable.{at_data_break, before_email, 
 pub use Rattle.mdinline_machine.specs.LawStatements.{MakesLinks, ReadsChainsAsInlineText, ReadsChainsAsStrings, ReadsInlineText, ReadsStrings, RunsWithin, StaysReadyAfterInlineText, StaysReadyAfterStrings}
 pub use Rattle.mdinline_machine.specs.Laws.Inlines.{inlines-lawful}
 pub use Rattle.mdinline_machine.specs.Laws.Registered.{before-resolver, goes-on}
-pub use Rattle.mdinline_machine.specs.RunRows.{attention_inside, attention_inside_rows, attention_start, begins_run, is_byte, is_delimiter, run_begins, run_goes_on, run_states}
+pub use Rattle.mdinline_machine.specs.RunRows.{attention_inside, attention_inside_rows, attention_start, begins_run, is_byte, is_delimiter, marker_is_on, run_begins, run_goes_on, run_states}
 pub use Rattle.mdinline_machine.specs.StringEvents.{is_string_special, string_data, string_events, string_grammars, string_item_at, string_part}
 pub use Rattle.mdinline_machine.specs.StringTable.{between_strings, registers, string_before, string_before_data, string_before_rows, string_constructs, string_data_rows, string_start, string_states}
 pub use Rattle.mdinline_machine.specs.declared.names.TheConstants.{DataSpace, DataSpaces, DataWhite, TextBeforeEmail, TextBeforeTag, TextLineStart, TextLineWhite, TextSpace, TextSpaces, TextWhite}

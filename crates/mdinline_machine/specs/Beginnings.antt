@@ -4,6 +4,7 @@ use Rattle.std.specs.List.{list_any}
 use Rattle.markdown_base.specs.declared.configuration.Constructs.{Constructs}
 use Rattle.mdinline_emphasis.specs.Emphasis.{all_markers, marker_byte}
 use Rattle.mdinline_text_machine.specs.TextBytes.{TextByte, ampersand, backslash, backtick, less, punctuation}
+use Rattle.mdinline_machine.specs.RunRows.{marker_is_on}
 
 -- a byte, the option that has on what begins with it, and its class
 pub record Beginning : Type 0 where
@@ -30,7 +31,7 @@ marked_beginnings =
 
 -- delimiter runs, of each marker
 abbrev pub run_beginnings : List Beginning
-run_beginnings = map (λ marker. begins (marker_byte marker) (λ on. on.attention) punctuation) all_markers
+run_beginnings = map (λ marker. begins (marker_byte marker) (marker_is_on marker) punctuation) all_markers
 
 -- `[` and `!` of labels, and `]`
 abbrev pub bracket_beginnings : List Beginning

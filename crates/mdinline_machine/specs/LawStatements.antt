@@ -1,5 +1,5 @@
 -- What is promised of inline text.
-use Rattle.std.specs.Prelude.{◌≡◌, ℕ, ◌-◌, ◌^◌, ◌<◌, ◌≤◌, ◌==◌, ◌||◌, Bool, List, Option, Some, false, length, map, true}
+use Rattle.std.specs.Prelude.{◌≡◌, ℕ, ◌-◌, ◌^◌, ◌<◌, ◌≤◌, ◌==◌, ◌&&◌, ◌||◌, Bool, List, Option, Some, false, length, map, true}
 use Rattle.markdown_base.specs.declared.configuration.Constructs.{Constructs}
 use Rattle.markdown_base.specs.declared.event.Content.{Content}
 use Rattle.markdown_base.specs.declared.event.Content.TheVariants.{String, Text as TextContent}
@@ -96,3 +96,7 @@ BracketsAreListed = (on : Constructs) (byte : ℕ) → (is_of_bracket byte ≡ i
 -- data ends at a byte that is a line ending, or that a mark of the list begins with, or something else of it that is on
 abbrev pub DataEndsAtListed : Type 0
 DataEndsAtListed = (on : Constructs) (byte : ℕ) → ends_data on byte ≡ (is_line_feed byte || (is_first marked_beginnings byte || is_first_on punctuation_beginnings on byte))
+
+-- Without strikethrough runs begin with `*` and `_` alone, if attention is on: a tilde begins none, and data goes on over it
+abbrev pub TildesAreData : Type 0
+TildesAreData = (on : Constructs) → on.gfm_strikethrough ≡ false → ((byte : ℕ) → begins_run on byte ≡ (on.attention && ((byte == 42) || (byte == 95)))) × (ends_data on 126 ≡ false)

@@ -1,6 +1,6 @@
--- Delimiter runs (CommonMark, "Emphasis and strong emphasis"): the part of a table that reads them. A run is one or more bytes `*`, or one or
--- more bytes `_`.
-use Rattle.std.specs.Prelude.{ℕ, ◌==◌, ◌&&◌, Bool, true, false, List, [], ◌∷◌, Option, Some, None}
+-- Delimiter runs (CommonMark, "Emphasis and strong emphasis"; GFM, "Strikethrough"): the part of a table that reads them. A run is one or more
+-- bytes `*`, or one or more bytes `_`, or one or more bytes `~`.
+use Rattle.std.specs.Prelude.{ℕ, ◌==◌, ◌&&◌, Bool, true, false, cond, List, [], ◌∷◌, Option, Some, None}
 use Rattle.markdown_base.specs.declared.configuration.Constructs.{Constructs}
 use Rattle.markdown_base.specs.declared.event.Name.TheVariants.{AttentionSequence}
 use Rattle.markdown_base.specs.declared.state.State.TheVariants.{Next, Retry}
@@ -10,20 +10,26 @@ use Rattle.markdown_tokenizer.specs.Configuration.{Configuration}
 use Rattle.markdown_tokenizer.specs.Sight.{Sight}
 use Rattle.mdconstructs_tables.specs.Rows.{enter, exit, consume, Rows, row, when, at_bytes, StateRows, state}
 use Rattle.mdconstructs_tables.specs.Numbers.{Price, by_left}
-use Rattle.mdinline_emphasis.specs.Runs.{is_marker}
+use Rattle.mdinline_emphasis.specs.declared.pairs.Marker.{Marker}
+use Rattle.mdinline_emphasis.specs.Emphasis.{is_tilde}
+use Rattle.mdinline_emphasis.specs.Runs.{is_marker, marker_from}
 use Rattle.mdinline_text_machine.specs.Bytes.{passes}
 use Rattle.mdinline_text_machine.specs.TextBytes.{TextByte, punctuation}
 use Rattle.mdinline_text_machine.specs.TextCosts.{text_cost}
 
--- a marker: `*` or `_`
+-- a marker: `*`, `_` or `~`
 abbrev pub is_delimiter : ℕ → Bool
 is_delimiter byte = is_marker byte
 
--- a byte begins a run: it is a marker, and attention is on
-abbrev pub begins_run : Constructs → ℕ → Bool
-begins_run on byte = on.attention && is_delimiter byte
+-- runs of a marker are on: strikethrough for tildes, else attention
+abbrev pub marker_is_on : Marker → Constructs → Bool
+marker_is_on marker on = cond (is_tilde marker) on.gfm_strikethrough on.attention
 
--- the class of both
+-- a byte begins a run: it is a marker, and runs of it are on
+abbrev pub begins_run : Constructs → ℕ → Bool
+begins_run on byte = is_delimiter byte && marker_is_on (marker_from (Some byte)) on
+
+-- the class of all three
 abbrev pub is_punctuation_class : TextByte → Bool
 is_punctuation_class punctuation = true
 is_punctuation_class _ = false

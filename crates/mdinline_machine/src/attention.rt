@@ -1,4 +1,4 @@
-//! Delimiter runs: one or more bytes `*`, or one or more bytes `_` (CommonMark, "Emphasis and strong emphasis").
+//! Delimiter runs: one or more bytes `*`, `_` or `~` (CommonMark, "Emphasis and strong emphasis"; GFM, "Strikethrough").
 
 ghost use Rattle.std.specs.Prelude.{◌≡◌, IfOk};
 ghost use Rattle.markdown_tokenizer.specs.Sight.{sight_of};
@@ -46,11 +46,16 @@ pub(crate) fn attention_inside<'a, M: MachineTypes>(
     }
 }
 
-/// Whether a run begins: attention is on, and `*` or `_` waits.
+/// Whether a run begins: attention is on, and `*` or `_` waits; or strikethrough is on, and `~` waits.
 pub(crate) fn run_begins<'a, M: MachineTypes>(t: &Tokenizer<'a, M>) -> bool
     ensures { result ≡ run_begins t.now.given (sight_of t.now) t.now.configuration }
 {
-    t.parse_state().options.constructs.attention && matches!(t.current(), Some(b'*' | b'_'))
+    let on = &t.parse_state().options.constructs;
+    match t.current() {
+        Some(b'*' | b'_') => on.attention,
+        Some(b'~') => on.gfm_strikethrough,
+        _ => false,
+    }
 }
 
 /// Whether the run goes on: the byte before waits once more.

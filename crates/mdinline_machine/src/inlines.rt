@@ -380,7 +380,7 @@ fn inline_before<'a>(t: &mut Tokenizer<'a, Inlines>) -> Result<State, AllocError
             Ok(State::Retry(Name::CharacterReferenceStart))
         }
         Some(b' ' | b'\t') => note_white(t, names::TextSpace, names::TextWhite),
-        Some(b'*' | b'_') => {
+        Some(b'*' | b'_' | b'~') => {
             if run_begins(t) {
                 return Ok(State::Retry(Name::AttentionStart));
             }
@@ -475,7 +475,7 @@ fn inline_data<'a>(t: &mut Tokenizer<'a, Inlines>) -> Result<State, AllocError>
             Ok(State::Retry(Name::TextBefore))
         }
         Some(b' ' | b'\t') => note_white(t, names::DataSpace, names::DataWhite),
-        Some(b'*' | b'_' | b'[' | b'!' | b']') => {
+        Some(b'*' | b'_' | b'~' | b'[' | b'!' | b']') => {
             if brackets::mark_begins(t) {
                 t.exit(event::Name::Data)?;
                 return Ok(State::Retry(Name::TextBefore));
@@ -657,7 +657,7 @@ fn data_goes_on<'a>(t: &mut Tokenizer<'a, Inlines>, byte: u8) -> Result<State, A
 {
     match byte {
         b'`' | b'<' | b'\\' | b'&' => Ok(State::Retry(Name::DataInside)),
-        b'*' | b'_' | b'[' | b'!' | b']' => {
+        b'*' | b'_' | b'~' | b'[' | b'!' | b']' => {
             if brackets::mark_begins(t) {
                 return Ok(State::Retry(Name::DataInside));
             }

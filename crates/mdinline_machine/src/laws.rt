@@ -6,7 +6,7 @@ ghost use Rattle.markdown_tokenizer.specs.Alike.{LooksNoFurther};
 ghost use Rattle.mdconstructs_tables.specs.Refusals.{RulesRefuseNothing};
 ghost use Rattle.mdconstructs_machines.specs.Costs.{StartsAmong};
 ghost use Rattle.mdinline_machine.specs.InlineRules.{inlines_rules};
-ghost use Rattle.mdinline_machine.specs.LawStatements.{AreTriedAtListed, BracketsAreListed, ConstructsAreListed, DataEndsAtListed, HaveTheirClasses, MakesLinks, ReadsChainsAsInlineText, ReadsChainsAsStrings, ReadsInlineText, ReadsStrings, RunsAreListed, RunsWithin, StaysReadyAfterInlineText, StaysReadyAfterStrings};
+ghost use Rattle.mdinline_machine.specs.LawStatements.{AreTriedAtListed, BracketsAreListed, ConstructsAreListed, DataEndsAtListed, HaveTheirClasses, MakesLinks, ReadsChainsAsInlineText, ReadsChainsAsStrings, ReadsInlineText, ReadsStrings, RunsAreListed, RunsWithin, StaysReadyAfterInlineText, StaysReadyAfterStrings, TildesAreData};
 
 /// The machine has two starts, one for texts and one for strings. This is how many calls it takes at most from each, on n virtual bytes.
 pub fn cost_at_the_start()
@@ -78,7 +78,7 @@ pub fn inline_text_looks_no_further()
 
 /// Which bytes begin something in inline text is said by one list, `beginnings`: it has the option and the class of each, and by it go the
 /// constructs, the bytes at which the machine tries them, delimiter runs, brackets, and where data ends. So does the set of bytes that data
-/// reads over (`is_in_data`).
+/// reads over (`is_in_data`). Without strikethrough a tilde is data, as in CommonMark.
 pub fn one_list_says_what_begins()
     ensures classes { HaveTheirClasses }
     ensures constructs { ConstructsAreListed }
@@ -86,4 +86,5 @@ pub fn one_list_says_what_begins()
     ensures runs { RunsAreListed }
     ensures brackets { BracketsAreListed }
     ensures data { DataEndsAtListed }
+    ensures tildes { TildesAreData }
 {}

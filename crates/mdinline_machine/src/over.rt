@@ -17,6 +17,7 @@ static IN_DATA: ByteSet = [
     true, true, true, true, true, true, true, true, true, true, true, true, true, true, true, true,
     true, false, false, false, true, false, false, true, true, true, true, true, true, true, true,
     true, true, true, true, true, true, true, true, true, true, true, true, true, true, true, true,
+    true, true, true, true, true, false, true, true, true, true, true, true, true, true, true,
     true, true, true, true, true, true, true, true, true, true, true, true, true, true, true, true,
     true, true, true, true, true, true, true, true, true, true, true, true, true, true, true, true,
     true, true, true, true, true, true, true, true, true, true, true, true, true, true, true, true,
@@ -24,8 +25,7 @@ static IN_DATA: ByteSet = [
     true, true, true, true, true, true, true, true, true, true, true, true, true, true, true, true,
     true, true, true, true, true, true, true, true, true, true, true, true, true, true, true, true,
     true, true, true, true, true, true, true, true, true, true, true, true, true, true, true, true,
-    true, true, true, true, true, true, true, true, true, true, true, true, true, true, true, true,
-    true, true, true, true, true, true, true,
+    true, true, true, true, true, true, true, true,
 ];
 
 /// The bytes with which data of inline text goes on, whatever the options are. A state that reads them stays in data.

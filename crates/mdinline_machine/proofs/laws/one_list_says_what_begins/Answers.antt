@@ -1,5 +1,5 @@
 use Rattle.std.proofs.Common.{refl}
-use Rattle.mdinline_machine.proofs.ListedBytes.{brackets-listed, data-listed, runs-listed, tried-listed}
+use Rattle.mdinline_machine.proofs.ListedBytes.{brackets-listed, data-listed, runs-listed, tildes-are-data, tried-listed}
 use Rattle.mdinline_machine.proofs.laws.one_list_says_what_begins.Goals as goal
 
 pub returns-clause-classes : goal.returns-clause-classes
@@ -19,3 +19,6 @@ returns-clause-brackets c = brackets-listed
 
 pub returns-clause-data : goal.returns-clause-data
 returns-clause-data c = data-listed
+
+pub returns-clause-tildes : goal.returns-clause-tildes
+returns-clause-tildes c = tildes-are-data
