@@ -1,4 +1,4 @@
-//! Delimiter runs beside characters of each class, and pairs of runs, worked by hand from CommonMark, "Emphasis and strong emphasis".
+//! Delimiter runs beside characters of each class, and pairs of runs, worked by hand from CommonMark, "Emphasis and strong emphasis", and GFM, "Strikethrough".
 
 use crate::shown::assert_shown;
 use markdown::event::{Event, Kind, Name};
@@ -10,7 +10,7 @@ use std::alloc::{AllocError, Global};
 /// A run: its marker, its length, and whether it can open and whether it can close.
 type Run = (Marker, usize, bool, bool);
 
-/// Runs, and their pairs: of each run the pairs that it closes (`e` or `s`), how many markers are left, and the pairs that it opens, the outer
+/// Runs, and their pairs: of each run the pairs that it closes (`e` or `s`, of tildes `t` or `T`), how many markers are left, and the pairs that it opens, the outer
 /// ones first.
 const ROWS: &[(&[Run], &str)] = &[
     (
@@ -59,6 +59,35 @@ const ROWS: &[(&[Run], &str)] = &[
         ],
         "0e 1 e0 1 ",
     ),
+    (
+        &[
+            (Marker::Tilde, 1, true, false),
+            (Marker::Tilde, 1, false, true),
+        ],
+        "0t t0 ",
+    ),
+    (
+        &[
+            (Marker::Tilde, 2, true, false),
+            (Marker::Tilde, 1, true, true),
+            (Marker::Tilde, 2, false, true),
+        ],
+        "0T 1 T0 ",
+    ),
+    (
+        &[
+            (Marker::Tilde, 2, true, false),
+            (Marker::Tilde, 1, false, true),
+        ],
+        "2 1 ",
+    ),
+    (
+        &[
+            (Marker::Tilde, 1, true, true),
+            (Marker::Tilde, 2, true, true),
+        ],
+        "1 2 ",
+    ),
 ];
 
 /// The runs of a row, in no pair yet.
@@ -90,6 +119,8 @@ fn push_pairs(text: &mut String, pairs: &[Style], last_first: bool) -> Result<()
         };
         let letter = match pairs.get(at) {
             Some(Style::Strong) => 's',
+            Some(Style::Struck) => 't',
+            Some(Style::StruckTwice) => 'T',
             _ => 'e',
         };
         text.push(letter)?;
@@ -150,6 +181,8 @@ const BESIDE: &[(&[u8], u8, &[u8], &str)] = &[
     (b"\xED\xA0\x80", b'*', b"a", "oc"),
     (b"a", b'*', b"\xC0\xA0", "oc"),
     (b".", b'*', b"a", "o"),
+    (b".", b'~', b"a", "o"),
+    (b"a", b'~', b"a", "oc"),
     (b"a", b'*', b" ", "c"),
 ];
 
