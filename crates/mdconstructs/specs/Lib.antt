@@ -84,6 +84,7 @@ pub use Rattle.mdinline_emphasis.specs.Places as RunPlaces
 pub use Rattle.mdinline_emphasis.specs.RunEdits
 pub use Rattle.mdinline_emphasis.specs.Runs as DelimiterRuns
 pub use Rattle.mdinline_emphasis.specs.Searches
+pub use Rattle.mdinline_emphasis.specs.Struck
 pub use Rattle.mdinline_emphasis.specs.Unicode
 pub use Rattle.mdinline_characters.specs.CharacterReferences
 pub use Rattle.mdinline_characters.specs.References

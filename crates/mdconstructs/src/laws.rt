@@ -109,6 +109,7 @@ pub use mdinline_emphasis::laws::edits_make_emphasis;
 pub use mdinline_emphasis::laws::emphasis_can_be_made;
 pub use mdinline_emphasis::laws::emphasis_is_balanced;
 pub use mdinline_emphasis::laws::neighbours_of_pairs;
+pub use mdinline_emphasis::laws::tildes_are_whole;
 pub use mdinline_link_strings::laws::data_is_read_as_string;
 pub use mdinline_link_strings::laws::plain_strings_stay;
 pub use mdinline_link_strings::laws::strings_keep_innermost_spans;
