@@ -1,18 +1,23 @@
 -- Documents have names of the constructs that are on: so do their containers and definitions, and what is put in place of chunks and strings.
 use Rattle.std.proofs.Common.{◌≡◌, ℕ, List, [], ◌∷◌, ◌++◌, Bool, true, false, Some, inl, inr, sym, ◌∙◌, subst}
-use Rattle.std.proofs.lemmas.Bool.{false_from_ne_true, false≢true, or_cases, or_left, or_right}
-use Rattle.std.proofs.lemmas.List.Elements.{All-from_recursion, All-weaker}
-use Rattle.std.specs.List.{flat_map}
-use Rattle.std.specs.Prelude.{All}
+use Rattle.std.proofs.lemmas.Bool.{cond_both, false_from_ne_true, false≢true, or_cases, or_left, or_right}
+use Rattle.std.proofs.lemmas.List.Elements.{All-contains, All-contains_itself, All-from_recursion, All-weaker, recursion_from_All}
+use Rattle.std.specs.List.{AllByRecursion, filter, flat_map}
+use Rattle.std.specs.Prelude.{All, Contains}
+use Rattle.markdown_base.proofs.Common.{every-append, every-filter, every-map}
 use Rattle.markdown_base.specs.declared.configuration.Constructs.{Constructs}
 use Rattle.markdown_base.specs.declared.event.Content.TheVariants.{Content, String, Text}
 use Rattle.markdown_base.specs.declared.event.Event.{Event}
 use Rattle.markdown_base.specs.declared.event.Name.{Name}
 use Rattle.markdown_base.specs.Events.{same_name}
+use Rattle.markdown_base.specs.Places.{denotes_same, in_range}
 use Rattle.markdown_base.specs.Virtual.{Seat, virtual}
 use Rattle.markdown_edits.proofs.Balanced.{same_name-true}
-use Rattle.markdown_tokenizer.specs.Text.{Given, Text as TextOf}
-use Rattle.markdown_children.specs.Reads.{text_from}
+use Rattle.markdown_tokenizer.specs.Text.{Given, Piece, Text as TextOf, empty_text, followed_by, followed_by_all, passed, pushed}
+use Rattle.markdown_children.specs.Chains.{chain_of}
+use Rattle.markdown_children.specs.Children.{first_chunk}
+use Rattle.markdown_children.specs.Reads.{pieces_of, text_from}
+use Rattle.markdown_children.specs.Ready.{place_at}
 use Rattle.mdinline_labels.specs.Defined.{is_same}
 use Rattle.mdinline_text_machine.specs.ChainTexts.{chain_text}
 use Rattle.mdblock_leaf_blocks.specs.LeafEvents.{flow_events}
@@ -26,12 +31,13 @@ use Rattle.mdinline_machine.specs.LawStatements.{with_inlines}
 use Rattle.mdinline_machine.specs.StringEvents.{string_events}
 use Rattle.mdconstructs_machines.specs.LineEvents.{lines_in}
 use Rattle.mdinline_link_strings.specs.StringItems.{string_seat_events}
+use Rattle.mddocument.proofs.FlowTexts.InlineSteps.{Steps, steps-virtual}
 use Rattle.mddocument.specs.DocumentEvents.{document_events, document_texts, is_defined_in}
 use Rattle.mddocument_laws.specs.Names.{may_be_named}
-use Rattle.mddocument_laws.specs.NamesOff.{AreDefinedIfOn, DocumentsAreNamed, InlinesAreNamed, LeafBlocksAreNamed, OffIsLeftOut, SkeletonsAreNamed, StringsAreNamed}
+use Rattle.mddocument_laws.specs.NamesOff.{AreDefinedIfOn, AreOfDocument, DocumentsAreNamed, InlinesAreNamed, LeafBlocksAreNamed, OffIsLeftOut, SkeletonsAreNamed, StringsAreNamed}
 use Rattle.mddocument_laws.proofs.ChildNames.{children-named, with-strings-named}
 use Rattle.mddocument_laws.proofs.FlowNames.{flow-named}
-use Rattle.mddocument_laws.proofs.ItemNames.{read-outer, strings-named}
+use Rattle.mddocument_laws.proofs.ItemNames.{read-outer, read-runs, strings-named}
 use Rattle.mddocument_laws.proofs.LinkNames.{links-named}
 use Rattle.mddocument_laws.proofs.Inside.{StandsAround, StandsInside, around-inside, inside-may}
 use Rattle.mddocument_laws.proofs.Named.{Named, weaker}
@@ -58,8 +64,17 @@ skeleton-around on bytes seats = weaker (bare-around on) (skeleton on bytes seat
 pub skeleton-inside : (on : Constructs) (bytes : List ℕ) (seats : List Seat) → Named (StandsInside on) (skeleton on bytes seats)
 skeleton-inside on bytes seats = weaker (around-inside on) (skeleton on bytes seats) (skeleton-around on bytes seats)
 
-pub inline-inside : (labels : List ℕ → Bool) (g : Given) (text : TextOf) → AreDefinedIfOn labels g.options.constructs → Named (StandsInside g.options.constructs) (inline_events labels g text)
-inline-inside labels g text h = links-named g.options.constructs g.bytes _ (read-outer g.options.constructs labels g.bytes h text.seats)
+-- markers among virtual bytes of a document are its bytes
+of-document : (g : Given) (seats : List Seat) → AreOfDocument g seats → AllByRecursion (Steps g.bytes) seats
+of-document g seats h =
+    let all = virtual g.tab g.bytes in
+    let steps = All-from_recursion (Steps g.bytes) all (steps-virtual g.bytes g.tab) in
+    every-map (Contains all) (Steps g.bytes) (λ s in_it. All-contains (Steps g.bytes) all s steps in_it) seats (recursion_from_All (Contains all) seats h)
+
+pub inline-inside : (labels : List ℕ → Bool) (g : Given) (text : TextOf) → AreDefinedIfOn labels g.options.constructs → AreOfDocument g text.seats → Named (StandsInside g.options.constructs) (inline_events labels g text)
+inline-inside labels g text h of =
+    let on = g.options.constructs in
+    links-named on g.bytes _ (read-outer on labels g.bytes h text.seats) (read-runs on labels g.bytes h text.seats (of-document g text.seats of))
 
 string-named : (on : Constructs) (bytes : List ℕ) (seats : List Seat) → Named (May on) (string_seat_events on bytes seats)
 string-named on bytes seats = weaker (inside-may on) (string_seat_events on bytes seats) (string-inside on bytes seats)
@@ -67,8 +82,8 @@ string-named on bytes seats = weaker (inside-may on) (string_seat_events on byte
 bare-named : (on : Constructs) (bytes : List ℕ) (seats : List Seat) → Named (May on) (skeleton on bytes seats)
 bare-named on bytes seats = weaker (inside-may on) (skeleton on bytes seats) (skeleton-inside on bytes seats)
 
-inline-named : (labels : List ℕ → Bool) (g : Given) (text : TextOf) → AreDefinedIfOn labels g.options.constructs → Named (May g.options.constructs) (inline_events labels g text)
-inline-named labels g text h = weaker (inside-may g.options.constructs) (inline_events labels g text) (inline-inside labels g text h)
+inline-named : (labels : List ℕ → Bool) (g : Given) (text : TextOf) → AreDefinedIfOn labels g.options.constructs → AreOfDocument g text.seats → Named (May g.options.constructs) (inline_events labels g text)
+inline-named labels g text h of = weaker (inside-may g.options.constructs) (inline_events labels g text) (inline-inside labels g text h of)
 
 pub strings-are-named : StringsAreNamed
 strings-are-named on bytes seats = all-named on _ (string-named on bytes seats)
@@ -77,7 +92,7 @@ pub skeletons-named : SkeletonsAreNamed
 skeletons-named on bytes seats = all-named on _ (bare-named on bytes seats)
 
 pub inlines-named : InlinesAreNamed
-inlines-named labels g text h = all-named g.options.constructs _ (inline-named labels g text h)
+inlines-named labels g text h of = all-named g.options.constructs _ (inline-named labels g text h of)
 
 -- ---- labels of a document are defined only where definitions are on
 module _ (on : Constructs) (label : List ℕ) where
@@ -102,6 +117,26 @@ defined-if-on g label e =
     let seats = virtual g.tab g.bytes in
     of-sections on label (sections_in_seats on seats) (sections-on on (rows on (lines_in seats)) (rows-on on (lines_in seats))) e
 
+-- ---- the virtual bytes of chains of chunks are some of the document's
+module _ (g : Given) where
+  abbrev In : Seat → Type 0
+  In = Contains (virtual g.tab g.bytes)
+
+  pieces-in : (pieces : List Piece) (text : TextOf) → AllByRecursion In text.seats → AllByRecursion In (followed_by_all g text pieces).seats
+  pieces-in [] text h = h
+  pieces-in (pushed from to ∷ rest) text h =
+      let all = virtual g.tab g.bytes in
+      let whole = recursion_from_All In all (All-contains_itself all) in
+      pieces-in rest (followed_by g text (pushed from to)) (every-append In text.seats (filter (in_range from to) all) h (every-filter In (in_range from to) all whole))
+  pieces-in (passed p ∷ rest) text h =
+      pieces-in rest (followed_by g text (passed p)) (cond_both (denotes_same g.tab g.bytes p text.end) text (record text { end = p }) (λ (t : TextOf). AllByRecursion In t.seats) (λ e. h) (λ e. h))
+
+  pub chain-in : (events : List Event) (c : ℕ) → AreOfDocument g (chain_text g events c).seats
+  chain-in events c =
+      let ks = chain_of events c in
+      let text = empty_text (place_at events (first_chunk ks)) in
+      All-from_recursion In (chain_text g events c).seats (pieces-in (pieces_of events ks) text tt)
+
 -- ---- documents
 blocks-named : (g : Given) → Named (May g.options.constructs) (document_blocks g)
 blocks-named g =
@@ -115,7 +150,7 @@ texts-named g =
     let blocks = document_blocks g in
     let inlines = with_inlines (is_defined_in g) g blocks in
     children-named (May on) (Some String) inlines (λ c. string_events g (chain_text g inlines c))
-    (children-named (May on) (Some Text) blocks (λ c. inline_events (is_defined_in g) g (chain_text g blocks c)) (blocks-named g) (λ c. inline-named (is_defined_in g) g (chain_text g blocks c) (defined-if-on g)))
+    (children-named (May on) (Some Text) blocks (λ c. inline_events (is_defined_in g) g (chain_text g blocks c)) (blocks-named g) (λ c. inline-named (is_defined_in g) g (chain_text g blocks c) (defined-if-on g) (chain-in g blocks c)))
     (λ c. string-named on g.bytes (chain_text g inlines c).seats)
 
 document-named : (g : Given) → Named (May g.options.constructs) (document_events g)

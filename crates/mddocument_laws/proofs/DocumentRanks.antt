@@ -40,7 +40,7 @@ use Rattle.mddocument.specs.DocumentEvents.{document_events, document_texts, is_
 use Rattle.mddocument_laws.specs.Ranks.{EachHeadingTellsItsRank, HasRank, HeadingsHaveRanks, HeadingsTellTheirRanks, enters_heading, leaf_blocks_of, rank_at, rank_of, ranks_in}
 use Rattle.mddocument_laws.proofs.ChildEvents.{children-are}
 use Rattle.mddocument_laws.proofs.Chosen.{bare, chosen-behind, chosen-flat, chosen-of-children}
-use Rattle.mddocument_laws.proofs.DocumentNames.{defined-if-on, inline-inside, skeleton-inside, string-inside}
+use Rattle.mddocument_laws.proofs.DocumentNames.{chain-in, defined-if-on, inline-inside, skeleton-inside, string-inside}
 use Rattle.mddocument_laws.proofs.FlowHeads.{flow-plain, flow-ranks}
 use Rattle.mddocument_laws.proofs.HeadChildren.{IsOtherIfLinked, heads-kept, other-linked, other-moved}
 use Rattle.mddocument_laws.proofs.Heads.{AreOther, heads, ranks-heads}
@@ -109,7 +109,7 @@ module _ (g : Given) (is : IsDocument g) where
   sk-other = other-names on sk (skeleton-inside on g.bytes (virtual g.tab g.bytes))
 
   inline-other : (c : ℕ) → AreOther (inline_events (is_defined_in g) g (chain_text g blocks c))
-  inline-other c = other-names on (inline_events (is_defined_in g) g (chain_text g blocks c)) (inline-inside (is_defined_in g) g (chain_text g blocks c) (defined-if-on g))
+  inline-other c = other-names on (inline_events (is_defined_in g) g (chain_text g blocks c)) (inline-inside (is_defined_in g) g (chain_text g blocks c) (defined-if-on g) (chain-in g blocks c))
 
   string-other : (c : ℕ) → AreOther (string_events g (chain_text g inlines c))
   string-other c = other-names on (string_events g (chain_text g inlines c)) (string-inside on g.bytes (chain_text g inlines c).seats)

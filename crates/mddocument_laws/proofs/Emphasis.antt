@@ -11,3 +11,4 @@ pub mod PairOrder
 pub mod PartSpans
 pub mod RunSpans
 pub mod RunsApart
+pub mod Tildes

@@ -1,12 +1,15 @@
 -- Lines that begin with two things, and documents with a construct on and off, by computation.
 use Rattle.std.proofs.Common.{◌≡◌, ℕ, List, ◌∷◌, ◌++◌, Bool, true, false, refl}
+use lib.Utf8.{encode}
 use Rattle.std.specs.List.{list_any}
 use Rattle.std.specs.Prelude.{codes}
+use Rattle.std.specs.Str.{chars, is_utf8}
 use Rattle.markdown_base.specs.declared.configuration.Constructs.{Constructs}
 use Rattle.markdown_base.specs.declared.event.Name.{Name}
 use Rattle.markdown_base.specs.declared.event.Name.TheVariants as name
 use Rattle.markdown_base.specs.Events.{same_name}
 use Rattle.markdown_base.specs.Presets.{default_constructs, default_parse_options}
+use Rattle.mdinline_emphasis.specs.Unicode.{punctuation, white_space}
 use Rattle.mdblock_leaf_blocks.specs.HtmlLines.{any_tag, begins, block_tag, raw}
 use Rattle.mddocument.specs.DocumentEvents.{document_events}
 use Rattle.mddocument_laws.specs.LineStarts.{dashes, line_break, list_item, starts}
@@ -84,3 +87,11 @@ definition-off = refl
 
 reference-off : has (record on { definition = false }) name.Reference (codes "[a][]" ++ 10 ∷ 10 ∷ codes "[a]: b") ≡ false
 reference-off = refl
+
+-- a tilde is text where strikethrough is off; and where it is on, emphasis may be off
+strikethrough-off : has on name.GfmStrikethrough (codes "~a~") ≡ false
+strikethrough-off = refl
+
+strikethrough-alone : has (record on { attention = false; gfm_strikethrough = true }) name.GfmStrikethrough (codes "~a~") ≡ true
+unfolding is_utf8 chars encode white_space punctuation
+strikethrough-alone = refl

@@ -1,9 +1,10 @@
 -- The events of the items of inline text, and of strings, have names of the constructs that are on.
-use Rattle.std.proofs.Common.{◌≡◌, ℕ, zero, suc, ◌+◌, ◌-◌, List, [], ◌∷◌, ◌++◌, Bool, true, cond, inl, not, Some, None, Option, refl, take, drop, length, map, inr}
+use Rattle.std.proofs.Common.{◌≡◌, ℕ, zero, suc, ◌+◌, ◌-◌, List, [], ◌∷◌, ◌++◌, Bool, true, cond, inl, not, Some, None, Option, refl, take, drop, length, map, inr, subst, sym}
 use Rattle.std.proofs.lemmas.Bool.{and_from, and_parts, cond_both, false≢true, or_left, or_right}
 use Rattle.std.specs.List.{AllByRecursion, between, flat_map, position_or_len, prefix_len}
 use Rattle.std.specs.Option.{is_some, option_and_then, option_or}
 use Rattle.std.specs.Prelude.{◌&&◌, ◌||◌, option_map, slice_get}
+use Rattle.markdown_base.proofs.Common.{every-append, every-drop}
 use Rattle.markdown_base.specs.declared.configuration.Constructs.{Constructs}
 use Rattle.markdown_base.specs.declared.event.Event.{Event}
 use Rattle.markdown_base.specs.declared.event.Name.{Name}
@@ -37,8 +38,10 @@ use Rattle.mdinline_machine.specs.Brackets.{Bracket, Memory, after_item, are_bra
 use Rattle.mdinline_machine.specs.InlineEvents.{bracket_or_part, data_length, data_run, delimiter_run, inline_grammars, inline_item_at, inline_items, line_break, run_length, run_or_part}
 use Rattle.mdinline_machine.specs.RunRows.{begins_run}
 use Rattle.mdinline_link_strings.specs.StringItems.{is_string_special, string_data, string_grammars, string_item_at, string_items, string_part, string_seat_events}
+use Rattle.mddocument.proofs.FlowTexts.InlineSteps.{Steps}
 use Rattle.mddocument_laws.specs.Names.{has_labels}
 use Rattle.mddocument_laws.proofs.Named.{and as named-and, leafed, spanned}
+use Rattle.mddocument_laws.proofs.RunNames.{MayRun, named-may, others-may, run-may}
 use Rattle.mddocument_laws.proofs.SpanNames.{Inner, May, Outer, outer-both, outer-none, outer-span}
 use Rattle.mddocument_laws.proofs.WholeSpans.{around-whole, both-whole, none-whole}
 use Rattle.mddocument_laws.proofs.SpanNames as spans
@@ -356,34 +359,39 @@ module _ (on : Constructs) where
   passes-first b test None h = absurd (cc)
   passes-first b test (Some byte) h = (and_parts b (test byte) h).0
 
-  -- ---- items of inline text: those, and brackets, which have such names only if ends of labels are on
-  record IsOuter (f : Found) : Type 0 where
+  -- ---- items of inline text: those, and brackets, which have such names only if ends of labels are on; and runs of the markers that are on
+  record IsOuter (text : List ℕ) (f : Found) : Type 0 where
     opens : MayOpen f.mark
     outer : (bytes : List ℕ) (seats : List Seat) → Outer on (f.events bytes seats)
+    runs : (bytes : List ℕ) (seats : List Seat) → bytes_of seats ≡ text → AllByRecursion (Steps bytes) seats → AllByRecursion (MayRun on bytes) (f.events bytes (take f.size seats))
 
-  abbrev IfOuter : Option Found → Type 0
-  IfOuter None = Unit {0}
-  IfOuter (Some f) = IsOuter f
+  abbrev IfOuter : List ℕ → Option Found → Type 0
+  IfOuter text None = Unit {0}
+  IfOuter text (Some f) = IsOuter text f
 
-  loosened : (f : Found) → IsItem f → IsOuter f
-  loosened f h = record { opens = h.opens; outer = λ bytes seats. (h.names bytes seats).outer }
+  loosened : (text : List ℕ) (f : Found) → IsItem f → IsOuter text f
+  loosened text f h = record {
+    opens = h.opens;
+    outer = λ bytes seats. (h.names bytes seats).outer;
+    runs = λ bytes seats same steps. let l = take f.size seats in named-may on bytes (f.events bytes l) (h.names bytes l).named;
+  }
 
-  if-loosened : (o : Option Found) → IfItem o → IfOuter o
-  if-loosened None h = tt
-  if-loosened (Some f) h = loosened f h
+  if-loosened : (text : List ℕ) (o : Option Found) → IfItem o → IfOuter text o
+  if-loosened text None h = tt
+  if-loosened text (Some f) h = loosened text f h
 
-  or-outer : (o : Option Found) (other : Found) → IfOuter o → IsOuter other → IsOuter (or_else o other)
-  or-outer None other h k = k
-  or-outer (Some f) other h k = h
+  or-outer : (text : List ℕ) (o : Option Found) (other : Found) → IfOuter text o → IsOuter text other → IsOuter text (or_else o other)
+  or-outer text None other h k = k
+  or-outer text (Some f) other h k = h
 
-  first-outer : (grammars : List (Grammar Found)) (text : List ℕ) (other : Found) → AllByRecursion Fits grammars → IsOuter other → IsOuter (first_there grammars on text other)
+  first-outer : (grammars : List (Grammar Found)) (text : List ℕ) (other : Found) → AllByRecursion Fits grammars → IsOuter text other → IsOuter text (first_there grammars on text other)
   first-outer [] text other h k = k
   first-outer (grammar ∷ grammars) text other h k =
-      or-outer (if_on (grammar.on on) (grammar.front text)) (first_there grammars on text other) (cond_both (grammar.on on) (grammar.front text) None IfOuter (λ e. if-loosened (grammar.front text) (h.0 e text)) (λ e. tt))
-      (first-outer grammars text other h.1 k)
+      or-outer text (if_on (grammar.on on) (grammar.front text)) (first_there grammars on text other)
+      (cond_both (grammar.on on) (grammar.front text) None (IfOuter text) (λ e. if-loosened text (grammar.front text) (h.0 e text)) (λ e. tt)) (first-outer grammars text other h.1 k)
 
-  link-item : on.label_start_link ≡ true → IsOuter link_bracket
-  link-item h = record { opens = or_left on.label_start_link on.label_start_image h; outer = events }
+  link-item : (text : List ℕ) → on.label_start_link ≡ true → IsOuter text link_bracket
+  link-item text h = record { opens = or_left on.label_start_link on.label_start_image h; outer = events; runs = λ bytes seats same steps. no-runs bytes (take 1 seats) }
     where
       link : on.label_end ≡ true → May on name.LabelLink
       link e = and_from on.label_end on.label_start_link e h
@@ -391,15 +399,19 @@ module _ (on : Constructs) where
       label : on.label_end ≡ true → May on name.LabelMarker
       label e = and_from on.label_end (on.label_start_link || on.label_start_image) e (or_left on.label_start_link on.label_start_image h)
 
+      no-runs : (bytes : List ℕ) (seats : List Seat) → AllByRecursion (MayRun on bytes) (link_bracket.events bytes seats)
+      no-runs bytes [] = tt
+      no-runs bytes (s ∷ ss) = others-may on bytes (link_bracket.events bytes (s ∷ ss)) (refl, (refl, (refl, (refl, tt))))
+
       events : (bytes : List ℕ) (seats : List Seat) → Outer on (link_bracket.events bytes seats)
       events bytes [] = outer-none on
       events bytes (s ∷ ss) =
           let seats = s ∷ ss in
-          outer-span on bytes name.LabelLink s ss (leaf bytes name.LabelMarker seats) (around-whole bytes name.LabelMarker s ss [] none-whole) ((λ e. absurd (cc)), ((λ e. absurd (cc)), tt)) (refl, (refl, tt))
-          (record { named = λ b e. spanned bytes name.LabelLink seats (link e) (leafed bytes name.LabelMarker seats (label e)); either = inl refl }) (λ e. absurd (cc)) refl
+          outer-span on bytes name.LabelLink s ss (leaf bytes name.LabelMarker seats) (around-whole bytes name.LabelMarker s ss [] none-whole) (refl, (refl, tt))
+          (record { named = λ b e. spanned bytes name.LabelLink seats (link e) (leafed bytes name.LabelMarker seats (label e)); either = inl refl }) refl
 
-  image-item : on.label_start_image ≡ true → IsOuter image_bracket
-  image-item h = record { opens = or_right on.label_start_link on.label_start_image h; outer = events }
+  image-item : (text : List ℕ) → on.label_start_image ≡ true → IsOuter text image_bracket
+  image-item text h = record { opens = or_right on.label_start_link on.label_start_image h; outer = events; runs = λ bytes seats same steps. no-runs bytes (take 2 seats) }
     where
       image : on.label_end ≡ true → May on name.LabelImage
       image e = and_from on.label_end on.label_start_image e h
@@ -407,69 +419,107 @@ module _ (on : Constructs) where
       label : on.label_end ≡ true → May on name.LabelMarker
       label e = and_from on.label_end (on.label_start_link || on.label_start_image) e (or_right on.label_start_link on.label_start_image h)
 
+      no-runs : (bytes : List ℕ) (seats : List Seat) → AllByRecursion (MayRun on bytes) (image_bracket.events bytes seats)
+      no-runs bytes [] = tt
+      no-runs bytes (s ∷ []) = others-may on bytes (image_bracket.events bytes (s ∷ [])) (refl, (refl, (refl, (refl, tt))))
+      no-runs bytes (s ∷ r ∷ rs) = others-may on bytes (image_bracket.events bytes (s ∷ r ∷ rs)) (refl, (refl, (refl, (refl, (refl, (refl, tt))))))
+
       events : (bytes : List ℕ) (seats : List Seat) → Outer on (image_bracket.events bytes seats)
       events bytes [] = outer-none on
       events bytes (s ∷ []) =
-          outer-span on bytes name.LabelImage s [] (leaf bytes name.LabelImageMarker (s ∷ [])) (around-whole bytes name.LabelImageMarker s [] [] none-whole) ((λ e. absurd (cc)), ((λ e. absurd (cc)), tt)) (refl, (refl, tt))
-          (record { named = λ b e. spanned bytes name.LabelImage (s ∷ []) (image e) (leafed bytes name.LabelImageMarker (s ∷ []) (image e)); either = inl refl }) (λ e. absurd (cc)) refl
+          outer-span on bytes name.LabelImage s [] (leaf bytes name.LabelImageMarker (s ∷ [])) (around-whole bytes name.LabelImageMarker s [] [] none-whole) (refl, (refl, tt))
+          (record { named = λ b e. spanned bytes name.LabelImage (s ∷ []) (image e) (leafed bytes name.LabelImageMarker (s ∷ []) (image e)); either = inl refl }) refl
       events bytes (s ∷ r ∷ rs) =
           let first = leaf bytes name.LabelImageMarker (s ∷ []) in
           let second = leaf bytes name.LabelMarker (r ∷ rs) in
           outer-span on bytes name.LabelImage s (r ∷ rs) (first ++ second) (both-whole first second (around-whole bytes name.LabelImageMarker s [] [] none-whole) (around-whole bytes name.LabelMarker r rs [] none-whole))
-          ((λ e. absurd (cc)), ((λ e. absurd (cc)), ((λ e. absurd (cc)), ((λ e. absurd (cc)), tt)))) (refl, (refl, (refl, (refl, tt))))
+          (refl, (refl, (refl, (refl, tt))))
           (record {
             named = λ b e. spanned bytes name.LabelImage (s ∷ r ∷ rs) (image e) (named-and (leafed bytes name.LabelImageMarker (s ∷ []) (image e)) (leafed bytes name.LabelMarker (r ∷ rs) (label e)));
             either = inl refl;
-          }) (λ e. absurd (cc)) refl
+          }) refl
 
   module _ (defined : List ℕ → Bool) (bytes : List ℕ) (defs : (label : List ℕ) → defined label ≡ true → on.definition ≡ true) where
-    end-fits : (bs : List Bracket) (m : Memory) (behind : List ℕ) → MayWait bs → on.label_end ≡ true → IfOuter (end_at defined bytes bs m behind)
-    end-fits [] m behind h e = tt
-    end-fits (b ∷ bs) m behind h e =
-        loosened (end_of_last defined bytes b m behind) (ends-fit (and_from on.label_end (on.label_start_link || on.label_start_image) e h) defined bytes defs b m behind)
+    end-fits : (text : List ℕ) (bs : List Bracket) (m : Memory) (behind : List ℕ) → MayWait bs → on.label_end ≡ true → IfOuter text (end_at defined bytes bs m behind)
+    end-fits text [] m behind h e = tt
+    end-fits text (b ∷ bs) m behind h e =
+        loosened text (end_of_last defined bytes b m behind) (ends-fit (and_from on.label_end (on.label_start_link || on.label_start_image) e h) defined bytes defs b m behind)
 
-    brackets-fit : (m : Memory) (text : List ℕ) → MayWait m.waiting → IfOuter (bracket_at on defined bytes m text)
+    brackets-fit : (m : Memory) (text : List ℕ) → MayWait m.waiting → IfOuter text (bracket_at on defined bytes m text)
     brackets-fit m text h =
-        cond_both (has_byte_at text 0 (begins_link on)) (Some link_bracket) _ IfOuter (λ e. link-item (passes-first on.label_start_link _ (slice_get text 0) e)) (λ e0.
-        cond_both (is_image_bracket on text) (Some image_bracket) _ IfOuter (λ e. image-item (passes-first on.label_start_image _ (slice_get text 0) (and_parts _ _ e).0)) (λ e1.
-        cond_both (has_byte_at text 0 (begins_end on)) (end_at defined bytes m.waiting m (drop 1 text)) None IfOuter (λ e. end-fits m.waiting m (drop 1 text) h (passes-first on.label_end _ (slice_get text 0) e)) (λ e2. tt)))
+        cond_both (has_byte_at text 0 (begins_link on)) (Some link_bracket) _ (IfOuter text) (λ e. link-item text (passes-first on.label_start_link _ (slice_get text 0) e)) (λ e0.
+        cond_both (is_image_bracket on text) (Some image_bracket) _ (IfOuter text) (λ e. image-item text (passes-first on.label_start_image _ (slice_get text 0) (and_parts _ _ e).0)) (λ e1.
+        cond_both (has_byte_at text 0 (begins_end on)) (end_at defined bytes m.waiting m (drop 1 text)) None (IfOuter text) (λ e. end-fits text m.waiting m (drop 1 text) h (passes-first on.label_end _ (slice_get text 0) e)) (λ e2. tt)))
 
     -- a delimiter run is a run
-    run-outer : (n : ℕ) → on.attention ≡ true → IsOuter (delimiter_run n)
-    run-outer n h = record { opens = tt; outer = λ given seats. sequence given seats }
+    run-outer : (text : List ℕ) (n : ℕ) → has_byte_at text 0 (begins_run on) ≡ true → IsOuter text (delimiter_run n)
+    run-outer text n begins = record { opens = tt; outer = λ given seats. sequence given seats; runs = λ given seats same steps. taken n given seats (subst (λ t. has_byte_at t 0 (begins_run on) ≡ true) (sym same) begins) steps }
       where
         sequence : (given : List ℕ) (seats : List Seat) → Outer on (leaf given name.AttentionSequence seats)
         sequence given [] = outer-none on
-        sequence given (s ∷ ss) = outer-span on given name.AttentionSequence s ss [] none-whole tt tt (record { named = λ b e. absurd (false≢true b); either = inr (inl refl) }) (λ e. h) refl
+        sequence given (s ∷ ss) = outer-span on given name.AttentionSequence s ss [] none-whole tt (record { named = λ b e. absurd (false≢true b); either = inr (inl refl) }) refl
 
-    run-item : (text : List ℕ) → IsOuter (run_or_part on text)
+        taken : (k : ℕ) (given : List ℕ) (seats : List Seat) → has_byte_at (bytes_of seats) 0 (begins_run on) ≡ true → AllByRecursion (Steps given) seats
+            → AllByRecursion (MayRun on given) (leaf given name.AttentionSequence (take k seats))
+        taken k given [] first steps = absurd (false≢true first)
+        taken zero given (s ∷ ss) first steps = tt
+        taken (suc k) given (s ∷ ss) first steps = run-may on given s (take k ss) first steps.0
+
+    run-item : (text : List ℕ) → IsOuter text (run_or_part on text)
     run-item text =
-        cond_both (has_byte_at text 0 (begins_run on)) (delimiter_run (run_length text)) _ IsOuter (λ e. run-outer (run_length text) (passes-first on.attention _ (slice_get text 0) e)) (λ e0.
-        cond_both (has_byte_at text 0 is_line_feed) (line_break (prefix_len is_white (drop 1 text))) (data_run (data_length on text)) IsOuter
-        (λ e. loosened (line_break (prefix_len is_white (drop 1 text))) (record { opens = tt; names = λ given seats. search (together, leafs) }))
-        (λ e. loosened (data_run (data_length on text)) (record { opens = tt; names = λ given seats. leafs given name.Data seats refl })))
+        cond_both (has_byte_at text 0 (begins_run on)) (delimiter_run (run_length text)) _ (IsOuter text) (λ e. run-outer text (run_length text) e) (λ e0.
+        cond_both (has_byte_at text 0 is_line_feed) (line_break (prefix_len is_white (drop 1 text))) (data_run (data_length on text)) (IsOuter text)
+        (λ e. loosened text (line_break (prefix_len is_white (drop 1 text))) (record { opens = tt; names = λ given seats. search (together, leafs) }))
+        (λ e. loosened text (data_run (data_length on text)) (record { opens = tt; names = λ given seats. leafs given name.Data seats refl })))
 
-    inline-item : (m : Memory) (text : List ℕ) → MayWait m.waiting → IsOuter (inline_item_at on defined bytes m text)
+    inline-item : (m : Memory) (text : List ℕ) → MayWait m.waiting → IsOuter text (inline_item_at on defined bytes m text)
     inline-item m text h =
         first-outer inline_grammars text (bracket_or_part on defined bytes m text) inlines-fit
-        (or-outer (bracket_at on defined bytes m text) (run_or_part on text) (brackets-fit m text h) (run-item text))
+        (or-outer text (bracket_at on defined bytes m text) (run_or_part on text) (brackets-fit m text h) (run-item text))
 
-    cut-inlines : (bound : ℕ) (m : Memory) (seats : List Seat) → MayWait m.waiting
-        → AllByRecursion (λ (p : Found × List Seat). IsOuter p.0) (cut_remembering (after_item bytes) (inline_item_at on defined bytes) item_length bound m seats)
-    cut-inlines zero m seats h = tt
-    cut-inlines (suc bound) m [] h = tt
-    cut-inlines (suc bound) m (s ∷ ss) h =
+    waits-next : (m : Memory) (s : Seat) (ss : List Seat) → MayWait m.waiting → MayWait (after_item bytes m (inline_item_at on defined bytes m (bytes_of (s ∷ ss)))).waiting
+    waits-next m s ss h =
         let f = inline_item_at on defined bytes m (bytes_of (s ∷ ss)) in
-        let is = inline-item m (bytes_of (s ∷ ss)) h in
-        (is, cut-inlines bound (after_item bytes m f) (drop f.size (s ∷ ss)) (waits-behind f.mark (length (m.events ++ f.events bytes (take f.size m.ahead))) m.waiting is.opens h))
+        waits-behind f.mark (length (m.events ++ f.events bytes (take f.size m.ahead))) m.waiting (inline-item m (bytes_of (s ∷ ss)) h).opens h
 
-    all-outer : (items : List (Found × List Seat)) → AllByRecursion (λ (p : Found × List Seat). IsOuter p.0) items → Outer on (flat_map (item_events bytes) items)
-    all-outer [] h = outer-none on
-    all-outer ((f, seats) ∷ items) h = outer-both on (f.events bytes seats) (flat_map (item_events bytes) items) (h.0.outer bytes seats) (all-outer items h.1)
+    -- what is cut from the front
+    abbrev cut_from : ℕ → Memory → List Seat → List Event
+    cut_from bound m seats = flat_map (item_events bytes) (cut_remembering (after_item bytes) (inline_item_at on defined bytes) item_length bound m seats)
 
-    -- The events that are read of inline text are whole spans, with such names
-    pub read-outer : (seats : List Seat) → Outer on (flat_map (item_events bytes) (inline_items on defined bytes seats))
-    read-outer seats =
-        let n = prefix_len is_white (bytes_of seats) in
-        all-outer (inline_items on defined bytes seats)
-        (loosened (white_space n) (white-item n), cut-inlines (length seats) (after_item bytes (nothing_read seats) (white_space n)) (drop n seats) tt)
+    cut-outer : (bound : ℕ) (m : Memory) (seats : List Seat) → MayWait m.waiting → Outer on (cut_from bound m seats)
+    cut-outer zero m seats h = outer-none on
+    cut-outer (suc bound) m [] h = outer-none on
+    cut-outer (suc bound) m (s ∷ ss) h =
+        let f = inline_item_at on defined bytes m (bytes_of (s ∷ ss)) in
+        outer-both on (f.events bytes (take f.size (s ∷ ss))) (cut_from bound (after_item bytes m f) (drop f.size (s ∷ ss))) ((inline-item m (bytes_of (s ∷ ss)) h).outer bytes (take f.size (s ∷ ss)))
+        (cut-outer bound (after_item bytes m f) (drop f.size (s ∷ ss)) (waits-next m s ss h))
+
+    cut-runs : (bound : ℕ) (m : Memory) (seats : List Seat) → MayWait m.waiting → AllByRecursion (Steps bytes) seats → AllByRecursion (MayRun on bytes) (cut_from bound m seats)
+    cut-runs zero m seats h steps = tt
+    cut-runs (suc bound) m [] h steps = tt
+    cut-runs (suc bound) m (s ∷ ss) h steps =
+        let f = inline_item_at on defined bytes m (bytes_of (s ∷ ss)) in
+        every-append (MayRun on bytes) (f.events bytes (take f.size (s ∷ ss))) (cut_from bound (after_item bytes m f) (drop f.size (s ∷ ss))) ((inline-item m (bytes_of (s ∷ ss)) h).runs bytes (s ∷ ss) refl steps)
+        (cut-runs bound (after_item bytes m f) (drop f.size (s ∷ ss)) (waits-next m s ss h) (every-drop (Steps bytes) f.size (s ∷ ss) steps))
+
+    module _ (seats : List Seat) where
+      abbrev first_white : ℕ
+      first_white = prefix_len is_white (bytes_of seats)
+
+      abbrev behind_white : List Event
+      behind_white = cut_from (length seats) (after_item bytes (nothing_read seats) (white_space first_white)) (drop first_white seats)
+
+      whites-named : Inner on (leaf bytes name.SpaceOrTab (take first_white seats))
+      whites-named = leafs bytes name.SpaceOrTab (take first_white seats) refl
+
+      -- The events that are read of inline text are whole spans, with such names
+      pub read-outer : Outer on (flat_map (item_events bytes) (inline_items on defined bytes seats))
+      read-outer =
+          outer-both on (leaf bytes name.SpaceOrTab (take first_white seats)) behind_white whites-named.outer
+          (cut-outer (length seats) (after_item bytes (nothing_read seats) (white_space first_white)) (drop first_white seats) tt)
+
+      -- and those that enter delimiter runs stand at markers whose runs are on, if its markers are those of the document
+      pub read-runs : AllByRecursion (Steps bytes) seats → AllByRecursion (MayRun on bytes) (flat_map (item_events bytes) (inline_items on defined bytes seats))
+      read-runs steps =
+          every-append (MayRun on bytes) (leaf bytes name.SpaceOrTab (take first_white seats)) behind_white (named-may on bytes _ whites-named.named)
+          (cut-runs (length seats) (after_item bytes (nothing_read seats) (white_space first_white)) (drop first_white seats) tt (every-drop (Steps bytes) first_white seats steps))

@@ -9,6 +9,7 @@ pub mod LinkNames
 pub mod Named
 pub mod PlainNames
 pub mod RowNames
+pub mod RunNames
 pub mod SkeletonNames
 pub mod SpanNames
 -- walks: what holds of single marks holds of skeletons and leaf blocks

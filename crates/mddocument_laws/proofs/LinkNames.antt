@@ -1,5 +1,5 @@
 -- Links, images and emphasis have names of the constructs that are on: a link is made of a bracket and the end of a label, and emphasis of runs.
-use Rattle.std.proofs.Common.{◌≡◌, ℕ, zero, suc, ◌+◌, ◌==◌, ◌∙◌, List, [], ◌∷◌, ◌++◌, true, false, cond, inl, inr, Some, None, Option, append-nil, refl, sym, subst, length, ◌≤◌, arith, ap}
+use Rattle.std.proofs.Common.{◌≡◌, Bool, ℕ, zero, suc, ◌+◌, ◌==◌, ◌∙◌, List, [], ◌∷◌, ◌++◌, true, false, cond, inl, inr, Some, None, Option, append-nil, refl, sym, subst, length, ◌≤◌, arith, ap}
 use Rattle.std.proofs.lemmas.Bool.{and_parts, cond_both, false≢true, or_cases, or_left, or_right, cases_Bool}
 use Rattle.std.specs.List.{AllByRecursion}
 use Rattle.std.specs.Prelude.{◌&&◌, ◌||◌, slice_get}
@@ -11,17 +11,19 @@ use Rattle.markdown_base.specs.declared.event.Name.TheVariants.{AttentionSequenc
 use Rattle.markdown_base.specs.declared.event.Point.{Point}
 use Rattle.markdown_base.specs.Events.{is_enter, same_name}
 use Rattle.markdown_edits.proofs.Balanced.{same_name-true}
-use Rattle.mdinline_emphasis.specs.declared.pairs.Style.TheVariants.{Emphasis as OfEmphasis, Strong as OfStrong}
-use Rattle.mdinline_emphasis.specs.Emphasis.{Run}
-use Rattle.mdinline_emphasis.specs.Runs.{depth_after, index_of_event, is_sequence, run_at, runs_from, runs_in}
+use Rattle.mdinline_emphasis.specs.declared.pairs.Marker.{Marker}
+use Rattle.mdinline_emphasis.specs.declared.pairs.Marker.TheVariants.{Asterisk, Underscore, Tilde}
+use Rattle.mdinline_emphasis.specs.Emphasis.{Run, have_two, style_by, style_of}
+use Rattle.mdinline_emphasis.specs.Runs.{depth_after, index_of_event, is_sequence, marker_from, run_at, runs_from, runs_in}
 use Rattle.mdinline_links.specs.Linked.{Part, SoFar, Waiting, added, all_parts, around, as_data, emphasised_parts, ended, events, failed, is_bracket, is_named, is_run, is_tail, label_text, last_place, linked_from, made, opened, outermost_spans, part_of, run, runs_of_parts, spanning, spans_in, taken, text_before, text_behind, with_links}
 use Rattle.mddocument_laws.specs.Names.{has_labels}
-use Rattle.mddocument_laws.proofs.EmphasisEvents.{AreOfEmphasis, as-data-are, emphasis-are, spanning-are}
+use Rattle.mddocument_laws.proofs.EmphasisEvents.{IsOfStyle, IsRun, as-data-are, emphasis-are, spanning-are}
 use Rattle.mddocument_laws.proofs.Inside.{stands_inside}
 use Rattle.mddocument_laws.proofs.PlainNames.{plain-inside}
 use Rattle.mddocument_laws.proofs.Named.{Named, and, no-events, weaker}
 use Rattle.mddocument_laws.proofs.WholeSpans.{AreFound, runs_among}
-use Rattle.mddocument_laws.proofs.SpanNames.{IsFine, MayRun, Outer}
+use Rattle.mddocument_laws.proofs.RunNames.{IsMarkerOn, MayRun}
+use Rattle.mddocument_laws.proofs.SpanNames.{IsFine, Outer}
 
 module _ (on : Constructs) where
   abbrev May : Name → Type 0
@@ -73,33 +75,40 @@ module _ (on : Constructs) where
     | inr r ↦ other-named Reference span refl refl r h
   ]
 
-  -- ---- runs, of which there are some only if attention is on
-  abbrev pub IsRunOn : Run → Type 0
-  IsRunOn r = on.attention ≡ true
+  -- ---- runs, of markers that are on alone: they pair with runs of the same marker, and so make spans of constructs that are on
+  style-is : (m : Marker) (two : Bool) → IsMarkerOn on m → IsOfStyle May (style_by m two)
+  style-is Asterisk true h = (h, h, h)
+  style-is Asterisk false h = (h, h, h)
+  style-is Underscore true h = (h, h, h)
+  style-is Underscore false h = (h, h, h)
+  style-is Tilde true h = (h, h, h)
+  style-is Tilde false h = (h, h, h)
 
-  sequence-on : (e f : Event) → is_sequence e f ≡ true → MayRun on e → on.attention ≡ true
-  sequence-on e f h r = r (and_parts (is_enter e.kind) (same_name e.name AttentionSequence) (and_parts (is_enter e.kind && same_name e.name AttentionSequence) _ h).0).1
-
-  runs-on : (bytes : List ℕ) (i depth : ℕ) (before : Option ℕ) (es : List Event) → AllByRecursion (MayRun on) es → AllByRecursion IsRunOn (runs_from bytes i depth before es)
-  runs-on bytes i depth before [] h = tt
-  runs-on bytes i depth before (e ∷ []) h = tt
-  runs-on bytes i depth before (e ∷ f ∷ es) h =
-      cond_both (depth == 0 && is_sequence e f) (run_at bytes i e f before (index_of_event (slice_get es 0)) ∷ runs_from bytes (i + 2) depth (Some f.point.index) es)
-      (runs_from bytes (i + 1) (depth_after e.kind depth) (Some e.point.index) (f ∷ es)) (AllByRecursion IsRunOn)
-      (λ is. (sequence-on e f (and_parts (depth == 0) (is_sequence e f) is).1 h.0, runs-on bytes (i + 2) depth (Some f.point.index) es h.1.1))
-      (λ other. runs-on bytes (i + 1) (depth_after e.kind depth) (Some e.point.index) (f ∷ es) h.1)
+  pair-is : (o r : Run) → IsMarkerOn on o.marker → IsMarkerOn on r.marker → IsOfStyle May (style_of o r)
+  pair-is o r h k = style-is r.marker (have_two o r) k
 
   -- an event has such a name
   abbrev IsNamed : Event → Type 0
   IsNamed e = May e.name
 
-  of-emphasis : on.attention ≡ true → AreOfEmphasis May
-  of-emphasis h OfEmphasis = (h, h, h)
-  of-emphasis h OfStrong = (h, h, h)
+  abbrev IsRunOn : Run → Type 0
+  IsRunOn r = IsRun IsNamed May (λ e p. p) refl (IsMarkerOn on) pair-is r
+
+  sequence-on : (bytes : List ℕ) (e f : Event) → is_sequence e f ≡ true → MayRun on bytes e → IsMarkerOn on (marker_from (slice_get bytes e.point.index))
+  sequence-on bytes e f h r = r (and_parts (is_enter e.kind && same_name e.name AttentionSequence) _ h).0
+
+  runs-on : (bytes : List ℕ) (i depth : ℕ) (before : Option ℕ) (es : List Event) → AllByRecursion (MayRun on bytes) es → AllByRecursion IsRunOn (runs_from bytes i depth before es)
+  runs-on bytes i depth before [] h = tt
+  runs-on bytes i depth before (e ∷ []) h = tt
+  runs-on bytes i depth before (e ∷ f ∷ es) h =
+      cond_both (depth == 0 && is_sequence e f) (run_at bytes i e f before (index_of_event (slice_get es 0)) ∷ runs_from bytes (i + 2) depth (Some f.point.index) es)
+      (runs_from bytes (i + 1) (depth_after e.kind depth) (Some e.point.index) (f ∷ es)) (AllByRecursion IsRunOn)
+      (λ is. (record { on = sequence-on bytes e f (and_parts (depth == 0) (is_sequence e f) is).1 h.0; closed = tt; opened = tt }, runs-on bytes (i + 2) depth (Some f.point.index) es h.1.1))
+      (λ other. runs-on bytes (i + 1) (depth_after e.kind depth) (Some e.point.index) (f ∷ es) h.1)
 
   -- ---- parts
   abbrev IsPart : Part → Type 0
-  IsPart (run r) = on.attention ≡ true
+  IsPart (run r) = IsRunOn r
   IsPart (events es) = Are es
 
   abbrev AreParts : List Part → Type 0
@@ -122,19 +131,19 @@ module _ (on : Constructs) where
 
   parts-named : (ps : List Part) → AreParts ps → Are (emphasised_parts ps)
   parts-named ps h = record {
-    all = emphasis-are IsNamed May (λ e p. p) refl (on.attention ≡ true) of-emphasis (text_before [] ps) (runs_of_parts ps) (text_behind [] ps) (λ k. (before-named [] ps k no-events h).all) (runs-of ps h) (behind-named [] ps no-events h).all;
+    all = emphasis-are IsNamed May (λ e p. p) refl (IsMarkerOn on) pair-is (text_before [] ps) (runs_of_parts ps) (text_behind [] ps) (λ k. (before-named [] ps k no-events h).all) (runs-of ps h) (behind-named [] ps no-events h).all;
   }
 
   -- ---- links and images
   spanning-named : (n : Name) (start end : Point) (es : List Event) → May n → Are es → Are (spanning n start end es)
-  spanning-named n start end es p h = record { all = spanning-are IsNamed May (λ e q. q) refl (on.attention ≡ true) of-emphasis n start end es p h.all }
+  spanning-named n start end es p h = record { all = spanning-are IsNamed May (λ e q. q) refl n start end es p h.all }
 
   around-named : (n : Name) (es : List Event) → May n → Are es → Are (around n es)
   around-named n [] p h = no-events
   around-named n (e ∷ es) p h = spanning-named n e.point (last_place e.point es) (e ∷ es) p h
 
   data-of-it : (es : List Event) → Named May (as_data es)
-  data-of-it es = record { all = as-data-are IsNamed May (λ e q. q) refl (on.attention ≡ true) of-emphasis es }
+  data-of-it es = record { all = as-data-are IsNamed May (λ e q. q) refl es }
 
   label-text-named : (opener close : List Event) (ps : List Part) → has_labels on ≡ true → AreParts ps → Are (label_text opener close ps)
   label-text-named [] close ps l h = no-events
@@ -244,14 +253,14 @@ module _ (on : Constructs) where
       (λ e. is-linked (next ∷ spans) (taken span z) fs.1 (is-taken span (next ∷ spans) z fs.0 h))
 
   -- Whole spans with links, images and emphasis in place of brackets and runs have such names
-  pub links-named : (bytes : List ℕ) (es : List Event) → Outer on es → Are (with_links bytes es)
-  links-named bytes es h =
+  pub links-named : (bytes : List ℕ) (es : List Event) → Outer on es → AllByRecursion (MayRun on bytes) es → Are (with_links bytes es)
+  links-named bytes es h runs =
       let start : SoFar = record { waiting = []; behind = []; runs = runs_in bytes es } in
       let z = linked_from start (outermost_spans es) in
       let spans : AllByRecursion (IsFine on) (outermost_spans es) = subst (λ (l : List Event). AllByRecursion (IsFine on) (spans_in (length es) l)) (append-nil es) (h.fine [] none-fine (length es)) in
       let few : runs_among (outermost_spans es) ≤ length (runs_in bytes es) =
       subst (λ (l : List Event). runs_among (spans_in (length es) l) ≤ length (runs_from bytes 0 0 None l)) (append-nil es) (h.found [] none-found bytes 0 None (length es)) in
-      let is = is-linked (outermost_spans es) start spans (record { waits = tt; behind = tt; runs = runs-on bytes 0 0 None es h.runs; few = few }) in
+      let is = is-linked (outermost_spans es) start spans (record { waits = tt; behind = tt; runs = runs-on bytes 0 0 None es runs; few = few }) in
       parts-named (all_parts z.waiting z.behind) (all-parts z.waiting z.behind is.waits is.behind)
     where
       none-fine : (bound : ℕ) → AllByRecursion (IsFine on) (spans_in bound [])

@@ -47,6 +47,7 @@ without on = record on {
   character_reference = false;
   code_text = true;
   definition = true;
+  gfm_strikethrough = true;
   hard_break_escape = true;
   hard_break_trailing = true;
   html_text = true;

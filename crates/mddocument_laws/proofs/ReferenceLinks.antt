@@ -13,17 +13,17 @@ use Rattle.mdinline_links.proofs.Kept.{links-keep}
 use Rattle.mdinline_links.specs.Kept.{IsKept, is_made_of}
 use Rattle.mdinline_links.specs.Linked.{as_data, spanning, with_links}
 use Rattle.mddocument_laws.proofs.EmphasisEvents.{as-data-are, closings-are, data-are, openings-are}
-use Rattle.mddocument_laws.proofs.LinkEvents.{AnyRun, IsOther as IsOtherName, any-runs, other-made, other-of-emphasis}
+use Rattle.mddocument_laws.proofs.LinkEvents.{AnyRun, IsOther as IsOtherName, any-runs, other-made, other-styles}
 use Rattle.mddocument_laws.proofs.ReferenceSpans.{AreWhole, IsOther, others-whole, outside, spans-whole, whole-both}
 
 -- what makes emphasis is no reference
 closings-other : (p : Point) (ss : List Style) → AllByRecursion IsOther (closings p ss)
-closings-other p ss = closings-are IsOther IsOtherName (λ e o. o) refl (Unit {0}) (λ t. other-of-emphasis) p ss other-of-emphasis
+closings-other p ss = closings-are IsOther IsOtherName (λ e o. o) refl p ss (other-styles ss)
 
 rest-other : (p : Point) (left : ℕ) (ss : List Style) → AllByRecursion IsOther (data_of p left ++ openings (later left p) ss)
 rest-other p left ss =
-    every-append IsOther (data_of p left) (openings (later left p) ss) (data-are IsOther IsOtherName (λ e o. o) refl (Unit {0}) (λ t. other-of-emphasis) p left)
-    (openings-are IsOther IsOtherName (λ e o. o) refl (Unit {0}) (λ t. other-of-emphasis) (later left p) ss other-of-emphasis)
+    every-append IsOther (data_of p left) (openings (later left p) ss) (data-are IsOther IsOtherName (λ e o. o) refl p left)
+    (openings-are IsOther IsOtherName (λ e o. o) refl (later left p) ss (other-styles ss))
 
 module _ (Is : Event → List Event → Type 0) where
   abbrev Are : List Event → Type 0
@@ -48,7 +48,7 @@ module _ (Is : Event → List Event → Type 0) where
     nothing = refl;
     together = whole-both Is;
     span_around = λ n start end es made p q h. spanning-whole n start end es made h;
-    data_of_it = λ es h. others-whole Is (as_data es) (as-data-are IsOther IsOtherName (λ e o. o) refl (Unit {0}) (λ t. other-of-emphasis) es);
+    data_of_it = λ es h. others-whole Is (as_data es) (as-data-are IsOther IsOtherName (λ e o. o) refl es);
     emphasis = λ texts rs rest h fresh k. whole-both Is (events_of_runs texts (paired rs)) rest (runs-whole texts h (paired rs)) k;
   }
 

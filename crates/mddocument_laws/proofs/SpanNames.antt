@@ -1,6 +1,6 @@
 -- Lists of whole spans, one behind another: their names, and which of their outermost spans are brackets or runs.
 use Rattle.std.proofs.Common.{◌≡◌, ℕ, zero, suc, ◌⊎◌, List, [], ◌∷◌, ◌++◌, false, true, inr, append_assoc, sym, subst}
-use Rattle.std.proofs.lemmas.Bool.{false≢true}
+use Rattle.std.proofs.lemmas.Bool.{false_from_ne_true, false≢true}
 use Rattle.std.specs.List.{AllByRecursion, flat_map}
 use Rattle.markdown_base.proofs.Common.{every-append}
 use Rattle.markdown_base.specs.declared.configuration.Constructs.{Constructs}
@@ -29,10 +29,6 @@ module _ (on : Constructs) where
   abbrev pub AreFine : List Event → Type 0
   AreFine es = (bound : ℕ) → AllByRecursion IsFine (spans_in bound es)
 
-  -- runs are there only if attention is on
-  abbrev pub MayRun : Event → Type 0
-  MayRun e = same_name e.name AttentionSequence ≡ true → on.attention ≡ true
-
   -- no event is of emphasis yet
   abbrev pub IsPlain : Event → Type 0
   IsPlain e = is_emphasis e.name ≡ false
@@ -42,7 +38,6 @@ module _ (on : Constructs) where
     pub whole : IsWhole es
     pub fine : (rest : List Event) → AreFine rest → AreFine (es ++ rest)
     pub found : (rest : List Event) → AreFound rest → AreFound (es ++ rest)
-    pub runs : AllByRecursion MayRun es
     pub plain : AllByRecursion IsPlain es
 
   -- whole spans that have such names
@@ -51,18 +46,17 @@ module _ (on : Constructs) where
     pub outer : Outer es
 
   -- no span of such a name is a run
-  run-never : (n : Name) → May n → same_name n AttentionSequence ≡ true → on.attention ≡ true
-  run-never n h e = absurd (false≢true (subst May (same_name-true n AttentionSequence e) h))
+  pub no-run : (n : Name) → May n → same_name n AttentionSequence ≡ false
+  no-run n h = false_from_ne_true (same_name n AttentionSequence) (λ e. false≢true (subst May (same_name-true n AttentionSequence e) h))
 
   pub outer-none : Outer []
-  outer-none = record { whole = none-whole; fine = λ rest h. h; found = λ rest h. h; runs = tt; plain = tt }
+  outer-none = record { whole = none-whole; fine = λ rest h. h; found = λ rest h. h; plain = tt }
 
   pub outer-both : (xs ys : List Event) → Outer xs → Outer ys → Outer (xs ++ ys)
   outer-both xs ys h k = record {
     whole = both-whole xs ys h.whole k.whole;
     fine = λ rest f. subst AreFine (sym (append_assoc xs ys rest)) (h.fine (ys ++ rest) (k.fine rest f));
     found = λ rest f. subst AreFound (sym (append_assoc xs ys rest)) (h.found (ys ++ rest) (k.found rest f));
-    runs = every-append MayRun xs ys h.runs k.runs;
     plain = every-append IsPlain xs ys h.plain k.plain;
   }
 
@@ -72,13 +66,12 @@ module _ (on : Constructs) where
   fine-span bytes n s ss inside rest w is h (suc bound) =
       subst (λ (p : List Event × List Event). AllByRecursion IsFine (p.0 ∷ spans_in bound p.1)) (sym (first-span bytes n s ss inside w rest)) (is, h bound)
 
-  pub outer-span : (bytes : List ℕ) (n : Name) (s : Seat) (ss : List Seat) (inside : List Event) → IsWhole inside → AllByRecursion MayRun inside → AllByRecursion IsPlain inside → IsFine (span bytes n (s ∷ ss) inside)
-      → (same_name n AttentionSequence ≡ true → on.attention ≡ true) → is_emphasis n ≡ false → Outer (span bytes n (s ∷ ss) inside)
-  outer-span bytes n s ss inside w runs plain is r p = record {
+  pub outer-span : (bytes : List ℕ) (n : Name) (s : Seat) (ss : List Seat) (inside : List Event) → IsWhole inside → AllByRecursion IsPlain inside → IsFine (span bytes n (s ∷ ss) inside) → is_emphasis n ≡ false
+      → Outer (span bytes n (s ∷ ss) inside)
+  outer-span bytes n s ss inside w plain is p = record {
     whole = around-whole bytes n s ss inside w;
     fine = λ rest f. fine-span bytes n s ss inside rest w is f;
     found = λ rest f. found-more bytes n s ss inside rest w f;
-    runs = (r, every-append MayRun inside _ runs (r, tt));
     plain = (p, every-append IsPlain inside _ plain (p, tt));
   }
 
@@ -93,7 +86,7 @@ module _ (on : Constructs) where
   over bytes n [] inside p h = h
   over bytes n (s ∷ ss) inside p h =
       let named = spanned bytes n (s ∷ ss) p h.named in
-      record { named = named; outer = outer-span bytes n s ss inside h.outer.whole h.outer.runs h.outer.plain (record { named = λ b e. named; either = inr (inr named) }) (run-never n p) (plain-other on n p) }
+      record { named = named; outer = outer-span bytes n s ss inside h.outer.whole h.outer.plain (record { named = λ b e. named; either = inr (inr named) }) (plain-other on n p) }
 
   pub leafs : (bytes : List ℕ) (n : Name) (seats : List Seat) → May n → Inner (leaf bytes n seats)
   leafs bytes n seats p = over bytes n seats [] p nothing

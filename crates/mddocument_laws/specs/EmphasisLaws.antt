@@ -1,11 +1,13 @@
--- What is promised of emphasis: its spans, by the pairs of delimiter runs.
+-- What is promised of emphasis and strikethrough: their spans, by the pairs of delimiter runs.
 use Rattle.std.specs.Prelude.{◌≡◌, ℕ, ◌+◌, ◌<◌, ◌≤◌, ◌==◌, All, List, Some, false, flat_map, length, slice_get}
 use Rattle.std.specs.List.Sorted.{IsPermutation}
 use Rattle.markdown_base.specs.declared.event.Content.TheVariants.{Text as TextContent}
 use Rattle.markdown_base.specs.declared.event.Event.{Event}
+use Rattle.markdown_base.specs.declared.event.Name.TheVariants.{GfmStrikethrough}
 use Rattle.markdown_tokenizer.specs.Text.{Given, IsDocument}
 use Rattle.markdown_children.specs.Chains.{fitting_starts}
-use Rattle.mdinline_emphasis.specs.Emphasis.{Run, pairs}
+use Rattle.mdinline_emphasis.specs.declared.pairs.Marker.TheVariants.{Tilde}
+use Rattle.mdinline_emphasis.specs.Emphasis.{Pair, Run, markers_of, outer_name, pairs}
 use Rattle.mdinline_emphasis.specs.Runs.{runs_in}
 use Rattle.mdblock_definitions.specs.Blocks.{document_blocks}
 use Rattle.mdinline_machine.specs.InlineEvents.{inline_events, read_events}
@@ -19,6 +21,19 @@ use Rattle.mddocument_laws.specs.PairedApart.{runs_apart, spans_of_text}
 -- Pairs are of two runs each, and the opener comes first
 abbrev pub PairsAreOfRuns : Type 0
 PairsAreOfRuns = (rs : List Run) → All (λ p. (p.opener < p.closer) × (p.closer < length rs)) (pairs rs)
+
+-- A pair of two runs of tildes takes all that they have: as many of the one as of the other
+pub record IsOfTildes (rs : List Run) (p : Pair) : Type 0 where
+  pub opener : Run
+  pub closer : Run
+  pub opens : slice_get rs p.opener ≡ Some opener
+  pub closes : slice_get rs p.closer ≡ Some closer
+  pub tildes : (opener.marker ≡ Tilde) × (closer.marker ≡ Tilde)
+  pub all : (opener.left ≡ markers_of p.style) × (closer.left ≡ markers_of p.style)
+
+-- Each pair of the runs of a text that makes strikethrough is one of tildes: "any text wrapped in a matching pair of one or two tildes" (GFM 0.29, 6.5)
+abbrev pub StrikethroughIsOfTildes : Type 0
+StrikethroughIsOfTildes = (bytes : List ℕ) (es : List Event) → All (λ rs. All (λ p. outer_name p.style ≡ GfmStrikethrough → IsOfTildes rs p) (pairs rs)) (runs_apart bytes es)
 
 -- A run has the markers that its pairs take: so the sequences of a pair are bytes of its two runs, and no byte is in two of them
 abbrev pub RunsHaveMarkers : Type 0
@@ -35,7 +50,7 @@ pub record AreTakenApart (runs : List Run) (parts : List (List Run)) : Type 0 wh
 abbrev pub RunsAreApart : Type 0
 RunsAreApart = (bytes : List ℕ) (es : List Event) → AreTakenApart (runs_in bytes es) (runs_apart bytes es)
 
--- Links, images and emphasis have a span of emphasis for each pair of the runs of a text, and no other, if the text had none before
+-- Links, images and emphasis have a span of emphasis or strikethrough for each pair of the runs of a text, and no other, if the text had none before
 abbrev pub TextsHaveSpansOfPairs : Type 0
 TextsHaveSpansOfPairs = (bytes : List ℕ) (es : List Event) → All (λ e. is_emphasis e.name ≡ false) es → IsPermutation (emphasis_spans (with_links bytes es)) (spans_of_text bytes es)
 

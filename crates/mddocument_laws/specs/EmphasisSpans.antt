@@ -1,32 +1,27 @@
--- The spans of emphasis that a list of events has, and those that pairs of delimiter runs make (CommonMark 0.31, 6.2).
+-- The spans of emphasis and strikethrough that a list of events has, and those that pairs of delimiter runs make (CommonMark 0.31, 6.2; GFM 0.29, 6.5).
 use Rattle.std.specs.Prelude.{ℕ, ◌+◌, ◌-◌, ◌==◌, ◌||◌, Bool, cond, List, [], ◌∷◌, ◌++◌, drop, option_map, slice_get, unwrap_or}
 use Rattle.markdown_base.specs.declared.event.Event.{Event}
 use Rattle.markdown_base.specs.declared.event.Name.{Name}
-use Rattle.markdown_base.specs.declared.event.Name.TheVariants.{Emphasis, Strong}
+use Rattle.markdown_base.specs.declared.event.Name.TheVariants.{Emphasis, GfmStrikethrough, Strong}
 use Rattle.markdown_base.specs.declared.event.Point.{Point}
 use Rattle.markdown_base.specs.Events.{is_enter, same_name}
 use Rattle.markdown_base.specs.Virtual.{point}
-use Rattle.mdinline_emphasis.specs.declared.pairs.Style.{Style}
-use Rattle.mdinline_emphasis.specs.declared.pairs.Style.TheVariants.{Emphasis as OfEmphasis, Strong as OfStrong}
-use Rattle.mdinline_emphasis.specs.Emphasis.{Pair, Run, later, markers_of, markers_of_all, pairs, styles}
+use Rattle.mdinline_emphasis.specs.Emphasis.{Pair, Run, later, markers_of, markers_of_all, outer_name, pairs, styles}
 
--- A span of emphasis: where its opening sequence begins, where its closing sequence ends, and its style
+-- A span of emphasis: where its opening sequence begins, where its closing sequence ends, and its name. Emphasis, strong emphasis and strikethrough
+-- have a name each
 pub record EmphasisSpan : Type 0 where
   pub start : Point
   pub end : Point
-  pub style : Style
+  pub name : Name
 
 abbrev pub is_emphasis : Name → Bool
-is_emphasis name = same_name name Emphasis || same_name name Strong
-
--- its style, by its name
-abbrev pub style_named : Name → Style
-style_named name = cond (same_name name Strong) OfStrong OfEmphasis
+is_emphasis name = same_name name Emphasis || (same_name name Strong || same_name name GfmStrikethrough)
 
 -- the span that an exit ends: the last one that is open
 abbrev pub ended_span : List Point → Event → List EmphasisSpan
 ended_span [] e = []
-ended_span (start ∷ starts) e = record { start = start; end = e.point; style = style_named e.name } ∷ []
+ended_span (start ∷ starts) e = record { start = start; end = e.point; name = e.name } ∷ []
 
 -- the spans of emphasis that end among events, if open ones begin at these places, the last one first
 abbrev pub spans_behind : (starts : List Point) → List Event → List EmphasisSpan
@@ -53,7 +48,7 @@ abbrev pub span_of_pair : List Run → (before : List Pair) → Pair → Emphasi
 span_of_pair rs before p = record {
   start = place_in_run rs p.opener (λ r. r.left - (markers_given (λ q. q.opener == p.opener) before + markers_of p.style));
   end = place_in_run rs p.closer (λ r. markers_given (λ q. q.closer == p.closer) before + markers_of p.style);
-  style = p.style;
+  name = outer_name p.style;
 }
 
 abbrev pub spans_of_pairs : List Run → (before : List Pair) → List Pair → List EmphasisSpan

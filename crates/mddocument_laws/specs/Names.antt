@@ -1,8 +1,9 @@
--- Which names the spans of a document may have, by the constructs that are on (CommonMark 0.31): a construct that is off leaves no span.
+-- Which names the spans of a document may have, by the constructs that are on (CommonMark 0.31; GFM 0.29 for those of GFM): a construct that is off
+-- leaves no span.
 use Rattle.std.specs.Prelude.{◌&&◌, ◌||◌, Bool, false, true}
 use Rattle.markdown_base.specs.declared.configuration.Constructs.{Constructs}
 use Rattle.markdown_base.specs.declared.event.Name.{Name}
-use Rattle.markdown_base.specs.declared.event.Name.TheVariants.{Autolink, AutolinkEmail, AutolinkMarker, AutolinkProtocol, BlankLineEnding, BlockQuote, BlockQuoteMarker, BlockQuotePrefix, CharacterEscape, CharacterEscapeMarker, CharacterEscapeValue, CharacterReference, CharacterReferenceMarker, CharacterReferenceMarkerHexadecimal, CharacterReferenceMarkerNumeric, CharacterReferenceMarkerSemi, CharacterReferenceValue, CodeFenced, CodeFencedFence, CodeFencedFenceInfo, CodeFencedFenceMeta, CodeFencedFenceSequence, CodeFlowChunk, CodeIndented, CodeText, CodeTextData, CodeTextSequence, Data, Definition, DefinitionDestination, DefinitionDestinationLiteral, DefinitionDestinationLiteralMarker, DefinitionDestinationRaw, DefinitionDestinationString, DefinitionLabel, DefinitionLabelMarker, DefinitionLabelString, DefinitionMarker, DefinitionTitle, DefinitionTitleMarker, DefinitionTitleString, Emphasis, EmphasisSequence, EmphasisText, HardBreakEscape, HardBreakTrailing, HeadingAtx, HeadingAtxSequence, HeadingAtxText, HeadingSetext, HeadingSetextText, HeadingSetextUnderline, HeadingSetextUnderlineSequence, HtmlFlow, HtmlFlowData, HtmlText, HtmlTextData, Image, Label, LabelEnd, LabelImage, LabelImageMarker, LabelLink, LabelMarker, LabelText, LineEnding, Link, ListItem, ListItemMarker, ListItemPrefix, ListItemValue, ListOrdered, ListUnordered, Paragraph, Reference, ReferenceMarker, ReferenceString, Resource, ResourceDestination, ResourceDestinationLiteral, ResourceDestinationLiteralMarker, ResourceDestinationRaw, ResourceDestinationString, ResourceMarker, ResourceTitle, ResourceTitleMarker, ResourceTitleString, SpaceOrTab, Strong, StrongSequence, StrongText, ThematicBreak, ThematicBreakSequence}
+use Rattle.markdown_base.specs.declared.event.Name.TheVariants.{Autolink, AutolinkEmail, AutolinkMarker, AutolinkProtocol, BlankLineEnding, BlockQuote, BlockQuoteMarker, BlockQuotePrefix, CharacterEscape, CharacterEscapeMarker, CharacterEscapeValue, CharacterReference, CharacterReferenceMarker, CharacterReferenceMarkerHexadecimal, CharacterReferenceMarkerNumeric, CharacterReferenceMarkerSemi, CharacterReferenceValue, CodeFenced, CodeFencedFence, CodeFencedFenceInfo, CodeFencedFenceMeta, CodeFencedFenceSequence, CodeFlowChunk, CodeIndented, CodeText, CodeTextData, CodeTextSequence, Data, Definition, DefinitionDestination, DefinitionDestinationLiteral, DefinitionDestinationLiteralMarker, DefinitionDestinationRaw, DefinitionDestinationString, DefinitionLabel, DefinitionLabelMarker, DefinitionLabelString, DefinitionMarker, DefinitionTitle, DefinitionTitleMarker, DefinitionTitleString, Emphasis, EmphasisSequence, EmphasisText, GfmStrikethrough, GfmStrikethroughSequence, GfmStrikethroughText, HardBreakEscape, HardBreakTrailing, HeadingAtx, HeadingAtxSequence, HeadingAtxText, HeadingSetext, HeadingSetextText, HeadingSetextUnderline, HeadingSetextUnderlineSequence, HtmlFlow, HtmlFlowData, HtmlText, HtmlTextData, Image, Label, LabelEnd, LabelImage, LabelImageMarker, LabelLink, LabelMarker, LabelText, LineEnding, Link, ListItem, ListItemMarker, ListItemPrefix, ListItemValue, ListOrdered, ListUnordered, Paragraph, Reference, ReferenceMarker, ReferenceString, Resource, ResourceDestination, ResourceDestinationLiteral, ResourceDestinationLiteralMarker, ResourceDestinationRaw, ResourceDestinationString, ResourceMarker, ResourceTitle, ResourceTitleMarker, ResourceTitleString, SpaceOrTab, Strong, StrongSequence, StrongText, ThematicBreak, ThematicBreakSequence}
 
 -- links and images are on: a bracket that no end of a label follows is text, and so is a `]` that no bracket waits for
 abbrev pub has_links : Constructs → Bool
@@ -92,6 +93,10 @@ may_be_named on EmphasisText = on.attention
 may_be_named on Strong = on.attention
 may_be_named on StrongSequence = on.attention
 may_be_named on StrongText = on.attention
+-- Strikethrough (GFM, 6.5), whether emphasis is on or not
+may_be_named on GfmStrikethrough = on.gfm_strikethrough
+may_be_named on GfmStrikethroughSequence = on.gfm_strikethrough
+may_be_named on GfmStrikethroughText = on.gfm_strikethrough
 -- Links (6.3) and images (6.4); references only where definitions are on, as their labels are those of definitions
 may_be_named on LabelLink = has_links on
 may_be_named on Link = has_links on
@@ -126,5 +131,5 @@ may_be_named on HtmlTextData = on.html_text
 -- Hard breaks (6.7)
 may_be_named on HardBreakEscape = on.hard_break_escape
 may_be_named on HardBreakTrailing = on.hard_break_trailing
--- No span has another name: that of a construct which is no part of CommonMark, or of content that is read as something else
+-- No span has another name: that of a construct which no document is read with, or of content that is read as something else
 may_be_named on _ = false

@@ -1,10 +1,10 @@
 -- What is promised of names: a construct that is off leaves no span in a document, and what is left has names of the constructs that are on.
-use Rattle.std.specs.Prelude.{◌≡◌, ℕ, All, Bool, List, false, true}
+use Rattle.std.specs.Prelude.{◌≡◌, ℕ, All, Bool, Contains, List, false, true}
 use Rattle.markdown_base.specs.declared.configuration.Constructs.{Constructs}
 use Rattle.markdown_base.specs.declared.event.Event.{Event}
 use Rattle.markdown_base.specs.declared.event.Name.{Name}
 use Rattle.markdown_base.specs.Events.{same_name}
-use Rattle.markdown_base.specs.Virtual.{Seat}
+use Rattle.markdown_base.specs.Virtual.{Seat, virtual}
 use Rattle.markdown_tokenizer.specs.Text.{Given, Text}
 use Rattle.mdblock_leaf_blocks.specs.LeafEvents.{flow_events}
 use Rattle.mdblock_definitions.specs.Skeleton.{skeleton}
@@ -35,9 +35,14 @@ SkeletonsAreNamed = (on : Constructs) (bytes : List ℕ) (seats : List Seat) →
 abbrev pub AreDefinedIfOn : (defined : List ℕ → Bool) → Constructs → Type 0
 AreDefinedIfOn defined on = (label : List ℕ) → defined label ≡ true → on.definition ≡ true
 
--- and of inline text, by which labels are defined
+-- virtual bytes are some of the document's, as those of each text of it are
+abbrev pub AreOfDocument : Given → List Seat → Type 0
+AreOfDocument g seats = All (Contains (virtual g.tab g.bytes)) seats
+
+-- and of inline text of a document, by which labels are defined
 abbrev pub InlinesAreNamed : Type 0
-InlinesAreNamed = (defined : List ℕ → Bool) (g : Given) (text : Text) → AreDefinedIfOn defined g.options.constructs → AreNamed g.options.constructs (inline_events defined g text)
+InlinesAreNamed = (defined : List ℕ → Bool) (g : Given) (text : Text) → AreDefinedIfOn defined g.options.constructs → AreOfDocument g text.seats
+    → AreNamed g.options.constructs (inline_events defined g text)
 
 -- Of any bytes, with any constructs and tab stops, the events have names of the constructs that are on
 abbrev pub DocumentsAreNamed : Type 0

@@ -1,7 +1,7 @@
 //! Laws of whole documents. Each is a function that does nothing; its contract is the law.
 
 ghost use Rattle.mddocument_laws.specs.BlockPlaces.{BlocksStandInLines, LeafBlocksStandInTexts};
-ghost use Rattle.mddocument_laws.specs.EmphasisLaws.{DocumentsHaveSpansOfPairs, DocumentsHaveSpansOfTexts, PairsAreOfRuns, RunsAreApart, RunsHaveMarkers, TextsHaveSpansOfPairs};
+ghost use Rattle.mddocument_laws.specs.EmphasisLaws.{DocumentsHaveSpansOfPairs, DocumentsHaveSpansOfTexts, PairsAreOfRuns, RunsAreApart, RunsHaveMarkers, StrikethroughIsOfTildes, TextsHaveSpansOfPairs};
 ghost use Rattle.mddocument_laws.specs.LineStarts.{BlankStartsNothing, HtmlExcludes, KindsHaveNoOrder, StartsExclude};
 ghost use Rattle.mddocument_laws.specs.NamesOff.{DocumentsAreNamed, InlinesAreNamed, LeafBlocksAreNamed, OffIsLeftOut, SkeletonsAreNamed, StringsAreNamed};
 ghost use Rattle.mddocument_laws.specs.Ranks.{EachHeadingTellsItsRank, HeadingsHaveRanks, HeadingsTellTheirRanks};
@@ -67,12 +67,14 @@ pub fn leaf_blocks_stand_in_their_lines()
     ensures texts { LeafBlocksStandInTexts }
 {}
 
-/// Each span of emphasis and strong emphasis in the events of a document comes from a pair of delimiter runs of the text in which it stands: it begins
-/// with bytes of the one run, and ends with bytes of the other. And each pair of each text makes one such span. The texts have their spans one
-/// behind another. Which runs of a text pair among themselves is by its links and images, and what they pair to is by CommonMark's procedure.
+/// Each span of emphasis, strong emphasis and strikethrough in the events of a document comes from a pair of delimiter runs of the text in which it
+/// stands: it begins with bytes of the one run, and ends with bytes of the other. And each pair of each text makes one such span. The texts have their
+/// spans one behind another. Which runs of a text pair among themselves is by its links and images, and what they pair to is by CommonMark's
+/// procedure. A pair makes strikethrough only if both runs are of tildes, of one or of two, as many in both.
 pub fn emphasis_is_of_pairs()
     ensures runs { PairsAreOfRuns }
     ensures markers { RunsHaveMarkers }
+    ensures tildes { StrikethroughIsOfTildes }
     ensures texts { TextsHaveSpansOfPairs }
     ensures in_turn { DocumentsHaveSpansOfTexts }
     ensures documents { DocumentsHaveSpansOfPairs }

@@ -1,12 +1,9 @@
--- No event of leaf blocks is of emphasis: blocks do not depend on whether attention is on, and have names of the constructs that are.
-use Rattle.std.proofs.Common.{◌≡◌, ℕ, List, true, false, inl, inr, refl, sym, ap, ◌∙◌}
-use Rattle.std.proofs.lemmas.Bool.{false_from_ne_true, false≢true, or_cases}
+-- No event of leaf blocks is of emphasis: blocks do not depend on whether attention and strikethrough are on, and have names of the constructs that are.
+use Rattle.std.proofs.Common.{◌≡◌, ℕ, List, true, false, refl, sym, ◌∙◌}
+use Rattle.std.proofs.lemmas.Bool.{false_from_ne_true, false≢true}
 use Rattle.markdown_base.specs.declared.configuration.Constructs.{Constructs}
 use Rattle.markdown_base.specs.declared.event.Name.{Name}
-use Rattle.markdown_base.specs.declared.event.Name.TheVariants.{Emphasis, Strong}
-use Rattle.markdown_base.specs.Events.{same_name}
 use Rattle.markdown_base.specs.Virtual.{Seat}
-use Rattle.markdown_edits.proofs.Balanced.{same_name-true}
 use Rattle.mdconstructs_machines.specs.LineEvents.{lines_in}
 use Rattle.mdblock_leaf_blocks.specs.LeafBlocks.{LeafBlock, atx_heading, blank_line, break_line, fenced_code, html_block, indented_code, leaf_blocks, paragraph, setext_heading}
 use Rattle.mdblock_leaf_blocks.specs.LeafEvents.{flow_events, leaf_block_marks}
@@ -14,19 +11,14 @@ use Rattle.mddocument_laws.specs.EmphasisSpans.{is_emphasis}
 use Rattle.mddocument_laws.specs.Names.{may_be_named}
 use Rattle.mddocument_laws.proofs.FlowNames.{IsOn, block-names, blocks-are-on}
 use Rattle.mddocument_laws.proofs.Named.{Named, linked-named, marked-flat-by, weaker}
+use Rattle.mddocument_laws.proofs.PlainNames.{by-emphasis}
 
 module _ (on : Constructs) where
   abbrev without : Constructs
-  without = record on { attention = false }
+  without = record on { attention = false; gfm_strikethrough = false }
 
   plain-name : (n : Name) → may_be_named without n ≡ true → is_emphasis n ≡ false
-  plain-name n may = false_from_ne_true (is_emphasis n) (λ e. elim (or_cases (same_name n Emphasis) (same_name n Strong) e) [
-    | inl a ↦ no Emphasis refl (same_name-true n Emphasis a)
-    | inr b ↦ no Strong refl (same_name-true n Strong b)
-  ])
-    where
-      no : (m : Name) → may_be_named without m ≡ false → n ≡ m → ⊥
-      no m off same = false≢true (sym off ∙ ap (may_be_named without) (sym same) ∙ may)
+  plain-name n may = false_from_ne_true (is_emphasis n) (λ e. false≢true (sym (by-emphasis (λ m. may_be_named without m ≡ false) refl refl refl n e) ∙ may))
 
   still-on : (block : LeafBlock) → IsOn on block → IsOn without block
   still-on (blank_line line) h = h

@@ -1,15 +1,14 @@
 -- The spans of emphasis of a list are those of its events of emphasis alone; so lists of children have those of the children, in order.
-use Rattle.std.proofs.Common.{◌≡◌, ℕ, List, [], ◌∷◌, ◌++◌, Bool, true, false, cond, append-nil, drop, inl, inr, refl, sym, ap, ◌∙◌}
-use Rattle.std.proofs.lemmas.Bool.{false_from_ne_true, false≢true, or_cases}
+use Rattle.std.proofs.Common.{◌≡◌, ℕ, List, [], ◌∷◌, ◌++◌, Bool, true, false, cond, append-nil, drop, refl, sym, ap, ◌∙◌}
+use Rattle.std.proofs.lemmas.Bool.{false_from_ne_true, false≢true}
 use Rattle.std.specs.List.{flat_map}
 use Rattle.markdown_base.specs.declared.event.Event.{Event}
 use Rattle.markdown_base.specs.declared.event.Name.{Name}
-use Rattle.markdown_base.specs.declared.event.Name.TheVariants.{Emphasis, Strong}
 use Rattle.markdown_base.specs.declared.event.Point.{Point}
-use Rattle.markdown_base.specs.Events.{is_enter, is_void, same_name}
-use Rattle.markdown_edits.proofs.Balanced.{same_name-true}
+use Rattle.markdown_base.specs.Events.{is_enter, is_void}
 use Rattle.mddocument_laws.specs.EmphasisSpans.{emphasis_spans, ended_span, is_emphasis, spans_behind}
 use Rattle.mddocument_laws.proofs.Chosen.{bare, chosen}
+use Rattle.mddocument_laws.proofs.PlainNames.{by-emphasis}
 use Rattle.mddocument_laws.proofs.Emphasis.RunSpans.{IsClosed}
 
 -- the events of emphasis of a list
@@ -53,10 +52,4 @@ spans-of-all of_chain (c ∷ cs) h =
 
 -- no void span is one of emphasis
 pub void-plain : (n : Name) → is_void n ≡ true → is_emphasis n ≡ false
-void-plain n void = false_from_ne_true (is_emphasis n) (λ e. elim (or_cases (same_name n Emphasis) (same_name n Strong) e) [
-  | inl a ↦ no Emphasis refl (same_name-true n Emphasis a)
-  | inr b ↦ no Strong refl (same_name-true n Strong b)
-])
-  where
-    no : (m : Name) → is_void m ≡ false → n ≡ m → ⊥
-    no m not_void same = false≢true (sym not_void ∙ ap is_void (sym same) ∙ void)
+void-plain n void = false_from_ne_true (is_emphasis n) (λ e. false≢true (sym (by-emphasis (λ m. is_void m ≡ false) refl refl refl n e) ∙ void))

@@ -1,22 +1,29 @@
--- Examples of spans of emphasis, by the pairs of runs and among events, computed from the definitions.
+-- Examples of spans of emphasis and strikethrough, by the pairs of runs and among events, computed from the definitions.
 use Rattle.std.proofs.Common.{◌≡◌, ◌+◌, ℕ, List, [], ◌∷◌, Bool, true, false, refl}
 use Rattle.std.specs.Prelude.{◌%◌}
 use Rattle.markdown_base.specs.declared.event.Point.{Point}
 use Rattle.mdinline_emphasis.specs.declared.pairs.Style.{Style}
-use Rattle.mdinline_emphasis.specs.declared.pairs.Style.TheVariants.{Emphasis as OfEmphasis, Strong as OfStrong}
-use Rattle.mdinline_emphasis.specs.declared.pairs.Marker.TheVariants.{Asterisk}
-use Rattle.mdinline_emphasis.specs.Emphasis.{Run, emphasised}
+use Rattle.mdinline_emphasis.specs.declared.pairs.Style.TheVariants.{Emphasis as OfEmphasis, Strong as OfStrong, Struck, StruckTwice}
+use Rattle.mdinline_emphasis.specs.declared.pairs.Marker.{Marker}
+use Rattle.mdinline_emphasis.specs.declared.pairs.Marker.TheVariants.{Asterisk, Tilde}
+use Rattle.mdinline_emphasis.specs.Emphasis.{Run, emphasised, outer_name}
 use Rattle.mddocument_laws.specs.EmphasisSpans.{EmphasisSpan, emphasis_spans, spans_of_runs}
 
 abbrev at : ℕ → Point
 at i = record { line = 1; column = i + 1; index = i; vs = 0 }
 
--- a run of so many asterisks at a place
+-- a run of so many markers at a place, as of asterisks and of tildes
+abbrev run_of : Marker → (place many : ℕ) → (opens closes : Bool) → Run
+run_of marker place many opens closes = record { index = place; start = at place; marker = marker; rest = many % 3; opens = opens; closes = closes; closed = []; left = many; opened = [] }
+
 abbrev stars : (place many : ℕ) → (opens closes : Bool) → Run
-stars place many opens closes = record { index = place; start = at place; marker = Asterisk; rest = many % 3; opens = opens; closes = closes; closed = []; left = many; opened = [] }
+stars place many opens closes = run_of Asterisk place many opens closes
+
+abbrev tildes : (place many : ℕ) → (opens closes : Bool) → Run
+tildes place many opens closes = run_of Tilde place many opens closes
 
 abbrev over : (start end : ℕ) → Style → EmphasisSpan
-over start end style = record { start = at start; end = at end; style = style }
+over start end style = record { start = at start; end = at end; name = outer_name style }
 
 -- `***a***`: strong emphasis in emphasis
 abbrev threes : List Run
@@ -47,3 +54,30 @@ over-one-pair = refl
 
 over-one-made : emphasis_spans (emphasised (λ k. []) over-one []) ≡ over 4 7 OfEmphasis ∷ []
 over-one-made = refl
+
+-- `~a~ ~~b~~`: one tilde, and two
+abbrev struck : List Run
+struck = tildes 0 1 true false ∷ tildes 2 1 false true ∷ tildes 4 2 true false ∷ tildes 7 2 false true ∷ []
+
+struck-pair : spans_of_runs struck ≡ over 0 3 Struck ∷ over 4 9 StruckTwice ∷ []
+struck-pair = refl
+
+struck-made : emphasis_spans (emphasised (λ k. []) struck []) ≡ over 0 3 Struck ∷ over 4 9 StruckTwice ∷ []
+struck-made = refl
+
+-- `~~a ~b~~`: the run of another size is passed over, and is text
+abbrev other-size : List Run
+other-size = tildes 0 2 true false ∷ tildes 4 1 true false ∷ tildes 6 2 false true ∷ []
+
+other-size-pair : spans_of_runs other-size ≡ over 0 8 StruckTwice ∷ []
+other-size-pair = refl
+
+other-size-made : emphasis_spans (emphasised (λ k. []) other-size []) ≡ over 0 8 StruckTwice ∷ []
+other-size-made = refl
+
+-- `*a ~b* c~`: an asterisk closes first, so the tildes do not cross it
+abbrev crossing : List Run
+crossing = stars 0 1 true false ∷ tildes 3 1 true false ∷ stars 5 1 false true ∷ tildes 8 1 false true ∷ []
+
+crossing-pair : spans_of_runs crossing ≡ over 0 6 OfEmphasis ∷ []
+crossing-pair = refl

@@ -25,12 +25,21 @@ look-behind r (d ∷ stack) =
       | false ↦ (d ∷ more.0, ap (λ l. d ∷ l) more.1)
     ]
 
-abbrev pair_with : Delimiter → Delimiter → Pair
+-- and it matches
+look-fits : (r : Run) (stack : List Delimiter) (o : Delimiter) (below : List Delimiter) → look_back r stack ≡ o ∷ below → may_pair o.run r ≡ true
+look-fits r [] o below e = absurd (cc)
+look-fits r (d ∷ stack) o below e =
+    elim (may_pair d.run r) as (λ b. may_pair d.run r ≡ b → cond b (d ∷ stack) (look_back r stack) ≡ o ∷ below → may_pair o.run r ≡ true) [
+      | true ↦ λ fits same. let first : d ≡ o = cc in subst (λ (x : Delimiter). may_pair x.run r ≡ true) first fits
+      | false ↦ λ other same. look-fits r stack o below same
+    ] refl e
+
+abbrev pub pair_with : Delimiter → Delimiter → Pair
 pair_with o d = record { opener = o.number; closer = d.number; style = style_of o.run d.run }
 
 module _ (P : Delimiter → List Delimiter → Closed → Type 0)
     (done : (d : Delimiter) (stack : List Delimiter) → P d stack (on_stack d stack, []))
-    (more : (d o : Delimiter) (front below : List Delimiter) (rest : Closed) → 0 < d.run.left
+    (more : (d o : Delimiter) (front below : List Delimiter) (rest : Closed) → 0 < d.run.left → d.run.closes ≡ true → may_pair o.run d.run ≡ true
     → P (gave (style_of o.run d.run) d) (on_stack (gave (style_of o.run d.run) o) below) rest
     → P d (front ++ o ∷ below) (rest.0, pair_with o d ∷ rest.1)) where
   abbrev found : ℕ → Delimiter → List Delimiter → List Delimiter → Closed
@@ -46,15 +55,15 @@ module _ (P : Delimiter → List Delimiter → Closed → Type 0)
   by-pairs zero d stack = done d stack
   by-pairs (suc n) d stack =
       cond_both (closes_yet d.run) (found n d stack (look_back d.run stack)) (on_stack d stack, []) (P d stack)
-      (λ yet. by (by-pairs n) (look_back d.run stack) (some-left d.run.left (and_parts d.run.closes (nat_lt 0 d.run.left) yet).1) (look-behind d.run stack).0 (look-behind d.run stack).1)
+      (λ yet. let both = and_parts d.run.closes (nat_lt 0 d.run.left) yet in by (by-pairs n) (look_back d.run stack) refl (some-left d.run.left both.1) both.0 (look-behind d.run stack).0 (look-behind d.run stack).1)
       (λ no. done d stack)
     where
-      by : ((e : Delimiter) (xs : List Delimiter) → P e xs (close_pairs n e xs)) → (l : List Delimiter) → 0 < d.run.left → (front : List Delimiter) → stack ≡ front ++ l → P d stack (found n d stack l)
-      by go [] some front e = done d stack
-      by go (o ∷ below) some front e =
+      by : ((e : Delimiter) (xs : List Delimiter) → P e xs (close_pairs n e xs)) → (l : List Delimiter) → look_back d.run stack ≡ l → 0 < d.run.left → d.run.closes ≡ true → (front : List Delimiter) → stack ≡ front ++ l → P d stack (found n d stack l)
+      by go [] at some closes front e = done d stack
+      by go (o ∷ below) at some closes front e =
           let s = style_of o.run d.run in
           let rest = close_pairs n (gave s d) (on_stack (gave s o) below) in
-          subst (λ l. P d l (rest.0, pair_with o d ∷ rest.1)) (sym e) (more d o front below rest some (go (gave s d) (on_stack (gave s o) below)))
+          subst (λ l. P d l (rest.0, pair_with o d ∷ rest.1)) (sym e) (more d o front below rest some closes (look-fits d.run stack o below at) (go (gave s d) (on_stack (gave s o) below)))
 
 -- ---- which runs open and close
 abbrev pub AreBelow : ℕ → List Delimiter → Type 0
@@ -63,7 +72,7 @@ AreBelow n stack = AllByRecursion (λ (d : Delimiter). d.number < n) stack
 abbrev pub CloseAt : ℕ → List Pair → Type 0
 CloseAt n ps = AllByRecursion (λ (p : Pair). (p.opener < n) × (p.closer ≡ n)) ps
 
-every-on : (Q : Delimiter → Type 0) (d : Delimiter) (stack : List Delimiter) → Q d → AllByRecursion Q stack → AllByRecursion Q (on_stack d stack)
+pub every-on : (Q : Delimiter → Type 0) (d : Delimiter) (stack : List Delimiter) → Q d → AllByRecursion Q stack → AllByRecursion Q (on_stack d stack)
 every-on Q d stack q h = cond_both (opens_yet d.run) (d ∷ stack) stack (AllByRecursion Q) (λ e. (q, h)) (λ e. h)
 
 below-more : (n : ℕ) (stack : List Delimiter) → AreBelow n stack → AreBelow (n + 1) stack
@@ -75,7 +84,7 @@ pub closes-at : (k : ℕ) (d : Delimiter) (stack : List Delimiter) → AreBelow 
 closes-at k d stack = by-pairs
     (λ d stack r. AreBelow d.number stack → CloseAt d.number r.1 × AreBelow (d.number + 1) r.0)
     (λ d stack h. (tt, every-on (λ e. e.number < d.number + 1) d stack (omega arith) (below-more d.number stack h)))
-    (λ d o front below rest some ih h.
+    (λ d o front below rest some closes fits ih h.
     let behind = every-back (λ (e : Delimiter). e.number < d.number) front (o ∷ below) h in
     let s = style_of o.run d.run in
     let next = ih (every-on (λ e. e.number < d.number) (gave s o) below behind.0 behind.1) in
@@ -148,7 +157,7 @@ nests n k d stack = by-pairs
       free = λ h. (tt, every-on (λ (e : Delimiter). (e.number == n) ≡ false) d stack (grind (arith, nat_tests, less)) h);
       nested = λ rest h k. k;
     })
-    (λ d o front below rest some ih less under falling.
+    (λ d o front below rest some closes fits ih less under falling.
     let s = style_of o.run d.run in
     let behind = every-back (λ (e : Delimiter). e.number < d.number) front (o ∷ below) under in
     let falls = falling-behind front (o ∷ below) falling in
@@ -191,7 +200,7 @@ pub falling-still : (k : ℕ) (d : Delimiter) (stack : List Delimiter) → AreBe
 falling-still k d stack = by-pairs
     (λ d stack r. AreBelow d.number stack → AreFalling stack → AreFalling r.0)
     (λ d stack below falling. falling-on d stack (below-upto d.number stack below) falling)
-    (λ d o front below rest some ih under falling.
+    (λ d o front below rest some closes fits ih under falling.
     let s = style_of o.run d.run in
     let behind = every-back (λ (e : Delimiter). e.number < d.number) front (o ∷ below) under in
     let falls = falling-behind front (o ∷ below) falling in
@@ -240,7 +249,7 @@ takes k d stack = by-pairs
       have = markers-on d stack h;
       given = λ k. (let on = left-on k d stack in elim (d.number == k) as (λ b. left_of k (on_stack d stack) ≤ cond b d.run.left 0 + left_of k stack → 0 + left_of k (on_stack d stack) ≤ left_of k stack + cond b (d.run.left - 0) 0) [ true ↦ (λ on. omega (arith, on)) | false ↦ (λ on. omega (arith, on)) ] on);
     })
-    (λ d o front below rest some ih h.
+    (λ d o front below rest some closes fits ih h.
     let s = style_of o.run d.run in
     let behind = every-back (λ (e : Delimiter). 0 < e.run.left) front (o ∷ below) h in
     let first = pair-has o.run d.run o.run.left behind.0 (λ both. leb-true 2 o.run.left (and_parts (nat_le 2 o.run.left) (nat_le 2 d.run.left) both).0) in

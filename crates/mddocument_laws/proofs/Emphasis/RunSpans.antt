@@ -13,8 +13,8 @@ use Rattle.markdown_base.specs.declared.event.Point.{Point}
 use Rattle.markdown_base.specs.Events.{is_enter}
 use Rattle.markdown_base.specs.Virtual.{point}
 use Rattle.mdinline_emphasis.specs.declared.pairs.Style.{Style}
-use Rattle.mdinline_emphasis.specs.declared.pairs.Style.TheVariants.{Emphasis as OfEmphasis, Strong as OfStrong}
-use Rattle.mdinline_emphasis.specs.Emphasis.{Pair, Run, closings, data_of, later, markers_of, markers_of_all, openings, styles}
+use Rattle.mdinline_emphasis.specs.declared.pairs.Style.TheVariants.{Emphasis as OfEmphasis, Strong as OfStrong, Struck, StruckTwice}
+use Rattle.mdinline_emphasis.specs.Emphasis.{Pair, Run, closings, data_of, later, markers_of, markers_of_all, openings, outer_name, styles}
 use Rattle.mdinline_emphasis.specs.RunEdits.{in_place}
 use Rattle.mdinline_links.proofs.RunOrder.{later-later, later-none}
 use Rattle.mddocument_laws.specs.EmphasisSpans.{emphasis_spans, ended_span, is_emphasis, markers_given, place_in_run, span_of_pair, spans_behind, spans_of_pairs}
@@ -65,14 +65,18 @@ styles-all takes [] h = refl
 styles-all takes (p ∷ ps) h = ap (λ b. map (λ (q : Pair). q.style) (cond b (p ∷ filter takes ps) (filter takes ps))) h.0 ∙ ap (λ l. p.style ∷ l) (styles-all takes ps h.1)
 
 closing-step : (s : Style) (q x : Point) (starts : List Point) (ss : List Style) (rest : List Event)
-    → spans_behind (x ∷ starts) (closings q (s ∷ ss) ++ rest) ≡ record { start = x; end = later (markers_of s) q; style = s } ∷ spans_behind starts (closings (later (markers_of s) q) ss ++ rest)
+    → spans_behind (x ∷ starts) (closings q (s ∷ ss) ++ rest) ≡ record { start = x; end = later (markers_of s) q; name = outer_name s } ∷ spans_behind starts (closings (later (markers_of s) q) ss ++ rest)
 closing-step OfStrong q x starts ss rest = refl
 closing-step OfEmphasis q x starts ss rest = refl
+closing-step Struck q x starts ss rest = refl
+closing-step StruckTwice q x starts ss rest = refl
 
 opening-step : (s : Style) (q : Point) (starts : List Point) (ss : List Style) (rest : List Event)
     → spans_behind starts (openings q (s ∷ ss) ++ rest) ≡ spans_behind (q ∷ starts) (openings (later (markers_of s) q) ss ++ rest)
 opening-step OfStrong q starts ss rest = refl
 opening-step OfEmphasis q starts ss rest = refl
+opening-step Struck q starts ss rest = refl
+opening-step StruckTwice q starts ss rest = refl
 
 -- where the pairs begin that a run opens from a place on
 abbrev places_on : Point → List Style → List Point
@@ -196,9 +200,9 @@ module _ (all : List Run) where
         let given_next : markers_given (λ q. q.closer == n) next ≡ c + markers_of s = given-one (λ q. q.closer == n) before p true this ∙ ap (λ k. k + markers_of s) given in
         ap (λ b. spans_behind ((cond b (x ∷ []) [] ++ starts_of (λ q. nat_lt q.opener n) next ps) ++ more) (closings (later c r.start) (s ∷ ss) ++ rest)) lower
         ∙ closing-step s (later c r.start) x (starts_of (λ q. nat_lt q.opener n) next ps ++ more) ss rest
-        ∙ ap (λ q. record { start = x; end = q; style = s } ∷ spans_behind (starts_of (λ q. nat_lt q.opener n) next ps ++ more) (closings q ss ++ rest)) place
-        ∙ ap (λ l. record { start = x; end = later (c + markers_of s) r.start; style = s } ∷ l) (closings-close ps next (c + markers_of s) h.1 given_next more rest)
-        ∙ ap (λ q. record { start = x; end = q; style = s } ∷ (spans_of_pairs all next ps ++ spans_behind more rest)) end
+        ∙ ap (λ q. record { start = x; end = q; name = outer_name s } ∷ spans_behind (starts_of (λ q. nat_lt q.opener n) next ps ++ more) (closings q ss ++ rest)) place
+        ∙ ap (λ l. record { start = x; end = later (c + markers_of s) r.start; name = outer_name s } ∷ l) (closings-close ps next (c + markers_of s) h.1 given_next more rest)
+        ∙ ap (λ q. record { start = x; end = q; name = outer_name s } ∷ (spans_of_pairs all next ps ++ spans_behind more rest)) end
 
     pub starts-opened : (ps before : List Pair) (t : ℕ) → markers_given (λ q. q.opener == n) before ≡ t
         → starts_of (λ p. p.opener == n) before ps ≡ places_upto r.start (r.left - t) (styles (λ p. p.opener == n) ps)

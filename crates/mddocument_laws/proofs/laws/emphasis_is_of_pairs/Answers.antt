@@ -1,5 +1,6 @@
 use Rattle.mddocument_laws.proofs.Emphasis.DocumentSpans.{documents-have-pairs, documents-have-spans, texts-have-spans}
 use Rattle.mddocument_laws.proofs.Emphasis.Markers.{pairs-of-runs, runs-have-markers}
+use Rattle.mddocument_laws.proofs.Emphasis.Tildes.{strikethrough-of-tildes}
 use Rattle.mddocument_laws.proofs.laws.emphasis_is_of_pairs.Goals as goal
 
 pub returns-clause-runs : goal.returns-clause-runs
@@ -7,6 +8,9 @@ returns-clause-runs c = pairs-of-runs
 
 pub returns-clause-markers : goal.returns-clause-markers
 returns-clause-markers c = runs-have-markers
+
+pub returns-clause-tildes : goal.returns-clause-tildes
+returns-clause-tildes c = strikethrough-of-tildes
 
 pub returns-clause-texts : goal.returns-clause-texts
 returns-clause-texts c = texts-have-spans
