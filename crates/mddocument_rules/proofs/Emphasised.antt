@@ -13,7 +13,7 @@ use Rattle.markdown_edits.proofs.Balanced.{names_after_all-append, names_after_b
 use Rattle.markdown_edits.specs.OpenNames.{names_after_all}
 use Rattle.mdinline_emphasis.proofs.Balance.{leaves-balanced}
 use Rattle.mdinline_emphasis.specs.declared.pairs.Style.{Style}
-use Rattle.mdinline_emphasis.specs.declared.pairs.Style.TheVariants.{Emphasis as OfEmphasis, Strong as OfStrong}
+use Rattle.mdinline_emphasis.specs.declared.pairs.Style.TheVariants.{Emphasis as OfEmphasis, Strong as OfStrong, Struck, StruckTwice}
 use Rattle.mdinline_emphasis.specs.Emphasis.{Run, closings, data_of, emphasised, events_of_runs, inner_name, later, markers_of_all, openings, outer_name, paired}
 use Rattle.mddocument_rules.specs.Standing.{all_stand, is_in, may_stand, text_names}
 use Rattle.mddocument_rules.specs.TextLaws.{EmphasisStands, StandInTexts}
@@ -54,6 +54,8 @@ module _ (around : List Name) (is : is_in text_names around ≡ true) where
   in-text [] = is
   in-text (OfEmphasis ∷ st) = refl
   in-text (OfStrong ∷ st) = refl
+  in-text (Struck ∷ st) = refl
+  in-text (StruckTwice ∷ st) = refl
 
   -- what comes next closes all that is open; and it stands there
   abbrev Closes : List Style → List Event → Type 0
@@ -70,13 +72,27 @@ module _ (around : List Name) (is : is_in text_names around ≡ true) where
   closing-walks p (s ∷ ss) [] ys k e = absurd (cc)
   closing-walks p (OfEmphasis ∷ ss) (OfEmphasis ∷ st) ys k e = (tt, (refl, (tt, (tt, closing-walks (later 1 p) ss st ys k e))))
   closing-walks p (OfEmphasis ∷ ss) (OfStrong ∷ st) ys k e = absurd (cc)
+  closing-walks p (OfEmphasis ∷ ss) (Struck ∷ st) ys k e = absurd (cc)
+  closing-walks p (OfEmphasis ∷ ss) (StruckTwice ∷ st) ys k e = absurd (cc)
   closing-walks p (OfStrong ∷ ss) (OfEmphasis ∷ st) ys k e = absurd (cc)
   closing-walks p (OfStrong ∷ ss) (OfStrong ∷ st) ys k e = (tt, (refl, (tt, (tt, closing-walks (later 2 p) ss st ys k e))))
+  closing-walks p (OfStrong ∷ ss) (Struck ∷ st) ys k e = absurd (cc)
+  closing-walks p (OfStrong ∷ ss) (StruckTwice ∷ st) ys k e = absurd (cc)
+  closing-walks p (Struck ∷ ss) (OfEmphasis ∷ st) ys k e = absurd (cc)
+  closing-walks p (Struck ∷ ss) (OfStrong ∷ st) ys k e = absurd (cc)
+  closing-walks p (Struck ∷ ss) (Struck ∷ st) ys k e = (tt, (refl, (tt, (tt, closing-walks (later 1 p) ss st ys k e))))
+  closing-walks p (Struck ∷ ss) (StruckTwice ∷ st) ys k e = (tt, (refl, (tt, (tt, closing-walks (later 1 p) ss st ys k e))))
+  closing-walks p (StruckTwice ∷ ss) (OfEmphasis ∷ st) ys k e = absurd (cc)
+  closing-walks p (StruckTwice ∷ ss) (OfStrong ∷ st) ys k e = absurd (cc)
+  closing-walks p (StruckTwice ∷ ss) (Struck ∷ st) ys k e = (tt, (refl, (tt, (tt, closing-walks (later 2 p) ss st ys k e))))
+  closing-walks p (StruckTwice ∷ ss) (StruckTwice ∷ st) ys k e = (tt, (refl, (tt, (tt, closing-walks (later 2 p) ss st ys k e))))
 
   opening-walks : (p : Point) (ss st : List Style) (ys : List Event) → Next ys → Closes st (openings p ss ++ ys) → Goes st (openings p ss ++ ys)
   opening-walks p [] st ys k e = k st e
   opening-walks p (OfEmphasis ∷ ss) st ys k e = (in-text st, (refl, (tt, (refl, opening-walks (later 1 p) ss (OfEmphasis ∷ st) ys k e))))
   opening-walks p (OfStrong ∷ ss) st ys k e = (in-text st, (refl, (tt, (refl, opening-walks (later 2 p) ss (OfStrong ∷ st) ys k e))))
+  opening-walks p (Struck ∷ ss) st ys k e = (in-text st, (refl, (tt, (refl, opening-walks (later 1 p) ss (Struck ∷ st) ys k e))))
+  opening-walks p (StruckTwice ∷ ss) st ys k e = (in-text st, (refl, (tt, (refl, opening-walks (later 2 p) ss (StruckTwice ∷ st) ys k e))))
 
   data-walks : (p : Point) (n : ℕ) (st : List Style) (ys : List Event) → Next ys → Closes st (data_of p n ++ ys) → Goes st (data_of p n ++ ys)
   data-walks p zero st ys k e = k st e

@@ -40,6 +40,13 @@ heading-in-paragraph = refl
 item-in-quote : all_stand may_stand [] (in_span name.BlockQuote name.ListItem) ≡ false
 item-in-quote = refl
 
+-- strikethrough stands in a text, and not in a block quote itself
+strikethrough-in-paragraph : all_stand may_stand [] (in_span name.Paragraph name.GfmStrikethrough) ≡ true
+strikethrough-in-paragraph = refl
+
+strikethrough-in-quote : all_stand may_stand [] (in_span name.BlockQuote name.GfmStrikethrough) ≡ false
+strikethrough-in-quote = refl
+
 -- ---- documents
 abbrev given : List ℕ → Given
 given bytes = record { bytes = bytes; options = default_parse_options; tab = 4 }

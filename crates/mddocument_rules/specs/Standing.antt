@@ -1,4 +1,4 @@
--- What may stand in what, by the events of a document (CommonMark 0.31, 3.1, 5 and 6).
+-- What may stand in what, by the events of a document (CommonMark 0.31, 3.1, 5 and 6; GFM 0.29, 6.5).
 use Rattle.std.specs.Prelude.{◌&&◌, ◌||◌, not, Bool, true, false, cond, List, [], ◌∷◌, drop}
 use Rattle.markdown_base.specs.declared.event.Event.{Event}
 use Rattle.markdown_base.specs.declared.event.Name.{Name}
@@ -22,12 +22,12 @@ abbrev pub is_top : (around : List Name) → Bool
 is_top [] = true
 is_top (n ∷ around) = false
 
--- what is inline text alone (6); and the spans in which it stands
+-- what is inline text alone (6), with strikethrough (GFM, 6.5); and the spans in which it stands
 abbrev pub inline_names : List Name
-inline_names = name.Autolink ∷ name.CodeText ∷ name.Emphasis ∷ name.Strong ∷ name.Link ∷ name.Image ∷ name.HtmlText ∷ name.HardBreakEscape ∷ name.HardBreakTrailing ∷ []
+inline_names = name.Autolink ∷ name.CodeText ∷ name.Emphasis ∷ name.Strong ∷ name.GfmStrikethrough ∷ name.Link ∷ name.Image ∷ name.HtmlText ∷ name.HardBreakEscape ∷ name.HardBreakTrailing ∷ []
 
 abbrev pub text_names : List Name
-text_names = name.Paragraph ∷ name.HeadingAtxText ∷ name.HeadingSetextText ∷ name.EmphasisText ∷ name.StrongText ∷ name.LabelText ∷ []
+text_names = name.Paragraph ∷ name.HeadingAtxText ∷ name.HeadingSetextText ∷ name.EmphasisText ∷ name.StrongText ∷ name.GfmStrikethroughText ∷ name.LabelText ∷ []
 
 -- what stands between blocks, items and lines
 abbrev pub between_names : List Name
