@@ -13,7 +13,7 @@ use Rattle.markdown_base.specs.declared.util.char.Kind.TheVariants.{Whitespace}
 use Rattle.mdinline_emphasis.specs.Classes.{class_after, class_before}
 use Rattle.mdinline_emphasis.specs.declared.pairs.Style.{Style}
 use Rattle.mdinline_emphasis.specs.Emphasis.{Delimiter, Pair, Run, all_in_pairs, close_pairs, closes_yet, closings, data_of, emphasised, events_of_runs, gave, head_events, in_pairs, inner_name, later, look_back, markers_of, markers_of_all, may_pair, on_stack, openings, opens_yet, outer_name, paired, pairs, pairs_from, run_events, sequence_name, style_of, tail_events, unlinked_event}
-use Rattle.mdinline_emphasis.specs.Runs.{can_close, can_open, class_beside, depth_after, index_of_event, is_sequence, marker_from, run_at, runs_from, runs_in}
+use Rattle.mdinline_emphasis.specs.Runs.{can_close, can_open, class_beside, depth_after, index_of_event, is_sequence, marker_from, may_mark, run_at, runs_from, runs_in}
 use Rattle.mddocument_parts.proofs.MovedPlaces.{AreKnown, Moving, moved_event, moved_events}
 
 -- what two tests are of numbers that both are so much greater
@@ -60,8 +60,8 @@ module _ (m : Moving) where
         start = m.places.to e.point;
         marker = marker;
         rest = size d % 3;
-        opens = can_open marker (left d) (right d);
-        closes = can_close marker (left d) (right d);
+        opens = may_mark marker (size d) && can_open marker (left d) (right d);
+        closes = may_mark marker (size d) && can_close marker (left d) (right d);
         closed = [];
         left = size d;
         opened = [];
