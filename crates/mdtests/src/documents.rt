@@ -36,6 +36,116 @@ fn containers_have_leaf_blocks_in_them(rt: HostRuntime) -> Result<(), AllocError
     assert_shown(&rt, nested(rt.alloc(), b"- foo\n- bar\n+ baz"), want)
 }
 
+/// The events of a document with these constructs.
+fn nested_with(alloc: Global, bytes: &[u8], constructs: Constructs) -> Result<String, AllocError> {
+    if bytes.len() > limit_of(TabSize::default()) {
+        return String::from_str(alloc, "too long");
+    }
+    let options = options_with(constructs, TabSize::default());
+    let events = read_document(alloc, bytes, &options)?;
+    spans_of(alloc, bytes, events.as_slice())
+}
+
+/// Documents with strikethrough on, and their spans, worked by hand from GFM, 6.5: of one tilde and of two; runs of different lengths, of three, and
+/// behind an escape; beside letters and beside punctuation beyond ASCII; crossing stars, in them and around them; in a heading, in a link and around
+/// one, in code, and over the prefix of a quote.
+const STRUCK: &[(&[u8], &str)] = &[
+    (
+        b"~a~ ~~b~~",
+        "Paragraph[GfmStrikethrough[GfmStrikethroughSequence\"~\" GfmStrikethroughText[Data\"a\"] GfmStrikethroughSequence\"~\"] Data\" \" \
+        GfmStrikethrough[GfmStrikethroughSequence\"~~\" GfmStrikethroughText[Data\"b\"] GfmStrikethroughSequence\"~~\"]]",
+    ),
+    (b"~~a~", "Paragraph[Data\"~~\" Data\"a\" Data\"~\"]"),
+    (
+        b"~~a ~b~~",
+        "Paragraph[GfmStrikethrough[GfmStrikethroughSequence\"~~\" GfmStrikethroughText[Data\"a \" Data\"~\" Data\"b\"] GfmStrikethroughSequence\"~~\"]]",
+    ),
+    (
+        b"a ~~~b~~~",
+        "Paragraph[Data\"a \" Data\"~~~\" Data\"b\" Data\"~~~\"]",
+    ),
+    (
+        b"\\~a~",
+        "Paragraph[CharacterEscape[CharacterEscapeMarker\"\\\" CharacterEscapeValue\"~\"] Data\"a\" Data\"~\"]",
+    ),
+    (b"~ a~", "Paragraph[Data\"~\" Data\" a\" Data\"~\"]"),
+    (
+        b"a~b~c",
+        "Paragraph[Data\"a\" GfmStrikethrough[GfmStrikethroughSequence\"~\" GfmStrikethroughText[Data\"b\"] GfmStrikethroughSequence\"~\"] Data\"c\"]",
+    ),
+    (
+        b"a~\xE2\x80\x94b~",
+        "Paragraph[Data\"a\" Data\"~\" Data\"%E2%80%94b\" Data\"~\"]",
+    ),
+    (
+        b"*a ~b* c~",
+        "Paragraph[Emphasis[EmphasisSequence\"*\" EmphasisText[Data\"a \" Data\"~\" Data\"b\"] EmphasisSequence\"*\"] Data\" c\" Data\"~\"]",
+    ),
+    (
+        b"~a *b~ c*",
+        "Paragraph[GfmStrikethrough[GfmStrikethroughSequence\"~\" GfmStrikethroughText[Data\"a \" Data\"*\" Data\"b\"] GfmStrikethroughSequence\"~\"] \
+        Data\" c\" Data\"*\"]",
+    ),
+    (
+        b"*~a~*",
+        "Paragraph[Emphasis[EmphasisSequence\"*\" EmphasisText[GfmStrikethrough[GfmStrikethroughSequence\"~\" GfmStrikethroughText[Data\"a\"] \
+        GfmStrikethroughSequence\"~\"]] EmphasisSequence\"*\"]]",
+    ),
+    (
+        b"~*a*~",
+        "Paragraph[GfmStrikethrough[GfmStrikethroughSequence\"~\" GfmStrikethroughText[Emphasis[EmphasisSequence\"*\" EmphasisText[Data\"a\"] \
+        EmphasisSequence\"*\"]] GfmStrikethroughSequence\"~\"]]",
+    ),
+    (
+        b"# ~a~",
+        "HeadingAtx[HeadingAtxSequence\"#\" SpaceOrTab\" \" HeadingAtxText[GfmStrikethrough[GfmStrikethroughSequence\"~\" GfmStrikethroughText[Data\"a\"] \
+        GfmStrikethroughSequence\"~\"]]]",
+    ),
+    (
+        b"[~a~](b)",
+        "Paragraph[Link[Label[LabelLink[LabelMarker\"[\"] LabelText[GfmStrikethrough[GfmStrikethroughSequence\"~\" GfmStrikethroughText[Data\"a\"] \
+        GfmStrikethroughSequence\"~\"]] LabelEnd[LabelMarker\"]\"]] Resource[ResourceMarker\"(\" \
+        ResourceDestination[ResourceDestinationRaw[ResourceDestinationString[Data\"b\"]]] ResourceMarker\")\"]]]",
+    ),
+    (
+        b"~[a~](b)",
+        "Paragraph[Data\"~\" Link[Label[LabelLink[LabelMarker\"[\"] LabelText[Data\"a\" Data\"~\"] LabelEnd[LabelMarker\"]\"]] \
+        Resource[ResourceMarker\"(\" ResourceDestination[ResourceDestinationRaw[ResourceDestinationString[Data\"b\"]]] ResourceMarker\")\"]]]",
+    ),
+    (
+        b"~`a~`",
+        "Paragraph[Data\"~\" CodeText[CodeTextSequence\"`\" CodeTextData\"a~\" CodeTextSequence\"`\"]]",
+    ),
+    (
+        b"> ~a\n> b~",
+        "BlockQuote[BlockQuotePrefix[BlockQuoteMarker\">\" SpaceOrTab\" \"] Paragraph[GfmStrikethrough[GfmStrikethroughSequence\"~\" \
+        GfmStrikethroughText[Data\"a\" LineEnding\"%0A\" BlockQuotePrefix[BlockQuoteMarker\">\" SpaceOrTab\" \"] Data\"b\"] GfmStrikethroughSequence\"~\"]]]",
+    ),
+];
+
+/// Tildes are read by their option alone: without it they are data, and with it whether emphasis is on or not.
+#[test]
+fn tildes_strike_through_if_they_are_on(rt: HostRuntime) -> Result<(), AllocError> {
+    let alloc = rt.alloc();
+    let on = Constructs {
+        gfm_strikethrough: true,
+        ..Constructs::default()
+    };
+    for row in STRUCK {
+        assert_shown(&rt, nested_with(alloc, row.0, on), row.1)?;
+    }
+    let alone = Constructs {
+        attention: false,
+        ..on
+    };
+    let want =
+        "Paragraph[Data\"*a* \" GfmStrikethrough[GfmStrikethroughSequence\"~\" GfmStrikethroughText[Data\"b\"] GfmStrikethroughSequence\"~\"]]";
+    assert_shown(&rt, nested_with(alloc, b"*a* ~b~", alone), want)?;
+    let want =
+        "Paragraph[Emphasis[EmphasisSequence\"*\" EmphasisText[Data\"a\"] EmphasisSequence\"*\"] Data\" ~b~\"]";
+    assert_shown(&rt, nested(alloc, b"*a* ~b~"), want)
+}
+
 /// The events of a document without containers.
 fn leaf_blocks(alloc: Global, bytes: &[u8]) -> Result<String, AllocError>
     requires limit { IsWithinLimit 4 bytes.now }
