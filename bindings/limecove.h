@@ -37,7 +37,8 @@ extern "C" {
  * that changes. It stays if a function, a code, a construct, a machine or a name is added, with the next number.
  *
  * Since version 4 LIMECOVE_BLOCK_QUOTE and the bits after it are needed for what was on without bits: a sum that is written out, as the 16383
- * that LIMECOVE_ALL_CONSTRUCTS was, has it off. limecove_default_options() choose LIMECOVE_DOCUMENT. */
+ * that LIMECOVE_ALL_CONSTRUCTS was, has it off. limecove_default_options() choose LIMECOVE_DOCUMENT. LIMECOVE_ALL_CONSTRUCTS grows with each
+ * construct that is added; LIMECOVE_COMMONMARK stays. */
 #define LIMECOVE_VERSION 4
 
 /* An index in a record's link that there is not. */
@@ -82,7 +83,9 @@ enum limecove_construct {
     LIMECOVE_LABEL_START_IMAGE = 131072,  /* starts of image labels */
     LIMECOVE_LABEL_END = 262144,          /* ends of labels: without it there are no links and no images */
     LIMECOVE_DEFINITION = 524288,         /* link reference definitions */
-    LIMECOVE_ALL_CONSTRUCTS = 1048575
+    LIMECOVE_COMMONMARK = 1048575,        /* all of these: the constructs of CommonMark */
+    LIMECOVE_GFM_STRIKETHROUGH = 1048576, /* strikethrough of GFM, which is on only if it is asked for */
+    LIMECOVE_ALL_CONSTRUCTS = 2097151
 };
 
 /* What HTML may let through, as bits. If none is set, the HTML is safe, whatever the document is. */
@@ -513,7 +516,7 @@ LIMECOVE_INLINE struct limecove_text_options limecove_default_text_options(void)
     struct limecove_text_options options;
     options.size = sizeof options;
     options.tab_size = 4;
-    options.constructs = LIMECOVE_ALL_CONSTRUCTS;
+    options.constructs = LIMECOVE_COMMONMARK;
     return options;
 }
 
@@ -522,7 +525,7 @@ LIMECOVE_INLINE struct limecove_options limecove_default_options(void) {
     struct limecove_options options;
     options.size = sizeof options;
     options.tab_size = 4;
-    options.constructs = LIMECOVE_ALL_CONSTRUCTS;
+    options.constructs = LIMECOVE_COMMONMARK;
     options.cut = 0;
     options.machine = LIMECOVE_DOCUMENT;
     options.deep = 1;
@@ -534,7 +537,7 @@ LIMECOVE_INLINE struct limecove_html_options limecove_default_html_options(void)
     struct limecove_html_options options;
     options.size = sizeof options;
     options.tab_size = 4;
-    options.constructs = LIMECOVE_ALL_CONSTRUCTS;
+    options.constructs = LIMECOVE_COMMONMARK;
     options.allow = 0;
     return options;
 }

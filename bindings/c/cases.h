@@ -79,7 +79,7 @@ static inline struct limecove_options options_of(size_t way, struct limecove_tex
     if (way >= 9)
         options.machine = way == 9 ? LIMECOVE_PARAGRAPHS : way == 10 ? LIMECOVE_TEXT : way == 11 ? LIMECOVE_FLOW : LIMECOVE_DOCUMENT;
     if (options.machine == LIMECOVE_FLOW || options.machine == LIMECOVE_DOCUMENT)
-        options.constructs = LIMECOVE_ALL_CONSTRUCTS;
+        options.constructs = LIMECOVE_COMMONMARK;
     return options;
 }
 
@@ -108,7 +108,7 @@ static inline struct limecove_answer open_so(size_t way, const uint8_t *document
 static inline struct limecove_text_options random_text_options(void) {
     struct limecove_text_options text = limecove_default_text_options();
     text.tab_size = below(17);
-    text.constructs = LIMECOVE_ALL_CONSTRUCTS - below(8);
+    text.constructs = LIMECOVE_COMMONMARK - below(8);
     return text;
 }
 

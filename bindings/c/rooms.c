@@ -197,6 +197,7 @@ static void constructs_have_bits(void) {
         {"![a](b)", LIMECOVE_LABEL_START_IMAGE, LIMECOVE_NAME_IMAGE},
         {"[a](b)", LIMECOVE_LABEL_END, LIMECOVE_NAME_LINK},
         {"[a]: b", LIMECOVE_DEFINITION, LIMECOVE_NAME_DEFINITION},
+        {"~a~", LIMECOVE_GFM_STRIKETHROUGH, LIMECOVE_NAME_GFM_STRIKETHROUGH},
     };
     uint64_t bits = 0;
     for (size_t i = 0; i < sizeof each / sizeof *each; i++) {
@@ -205,6 +206,7 @@ static void constructs_have_bits(void) {
         bits += each[i].bit;
     }
     CHECK(bits == LIMECOVE_ALL_CONSTRUCTS);
+    CHECK(!has("~a~", LIMECOVE_COMMONMARK, LIMECOVE_NAME_GFM_STRIKETHROUGH));
 }
 
 /* Without quotes, lists and definitions, a document without links is read as its leaf blocks are. */

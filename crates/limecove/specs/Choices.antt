@@ -1,5 +1,5 @@
 -- The machine, tab size, cut and constructs that options choose, given as numbers.
-use Rattle.std.specs.Prelude.{ℕ, not, Bool, List, Option, Some, None, Result, cond, nat_eq, nat_lt, bit_and}
+use Rattle.std.specs.Prelude.{ℕ, not, true, Bool, List, Option, Some, None, Result, cond, nat_eq, nat_lt, bit_and}
 use Rattle.std.specs.declared.result.Result.TheVariants.{Ok, Err}
 use Rattle.std.specs.Option.{option_map_or}
 use Rattle.markdown.specs.declared.configuration.Constructs.{Constructs}
@@ -36,7 +36,7 @@ is_yes n = not (nat_eq n 0)
 
 -- a sum of bits has the bits of constructs alone
 abbrev pub are_constructs : ℕ → Bool
-are_constructs bits = nat_lt bits 1048576
+are_constructs bits = nat_lt bits 2097152
 
 -- why options choose nothing, as codes
 abbrev pub other_size : ℕ
@@ -105,6 +105,7 @@ constructs_of bits = record default_constructs {
   code_indented = has_bit bits 512;
   code_text = has_bit bits 1;
   definition = has_bit bits 524288;
+  gfm_strikethrough = has_bit bits 1048576;
   hard_break_escape = has_bit bits 32;
   hard_break_trailing = has_bit bits 64;
   heading_atx = has_bit bits 1024;
@@ -117,6 +118,10 @@ constructs_of bits = record default_constructs {
   list_item = has_bit bits 32768;
   thematic_break = has_bit bits 8192;
 }
+
+-- the constructs that have a bit: CommonMark's, and GFM's strikethrough
+abbrev pub constructs_with_bits : Constructs
+constructs_with_bits = record default_constructs { gfm_strikethrough = true }
 
 -- a document that is read as text with these constructs and this tab size
 abbrev pub text_document : (bits tab : ℕ) → List ℕ → Given

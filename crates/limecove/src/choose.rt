@@ -51,8 +51,12 @@ pub const LABEL_START_IMAGE: u64 = 131072;
 pub const LABEL_END: u64 = 262144;
 /// The bit of link reference definitions.
 pub const DEFINITION: u64 = 524288;
+/// The bits of CommonMark's constructs.
+pub const COMMONMARK: u64 = 1048575;
+/// The bit of strikethrough, which is GFM's.
+pub const GFM_STRIKETHROUGH: u64 = 1048576;
 /// The bits of all constructs.
-pub const ALL_CONSTRUCTS: u64 = 1048575;
+pub const ALL_CONSTRUCTS: u64 = 2097151;
 
 /// The bit of HTML in the document, which is kept as HTML. Without it, it is shown as text.
 pub const ALLOW_DANGEROUS_HTML: u64 = 1;
@@ -202,6 +206,7 @@ pub(crate) fn constructs_of(bits: u64) -> Constructs
         code_indented: bits & CODE_INDENTED != 0,
         code_text: bits & CODE_TEXT != 0,
         definition: bits & DEFINITION != 0,
+        gfm_strikethrough: bits & GFM_STRIKETHROUGH != 0,
         hard_break_escape: bits & HARD_BREAK_ESCAPE != 0,
         hard_break_trailing: bits & HARD_BREAK_TRAILING != 0,
         heading_atx: bits & HEADING_ATX != 0,

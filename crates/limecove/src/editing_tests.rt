@@ -1,6 +1,6 @@
 //! Calls of the functions for documents that can be edited, as a program in C makes them.
 
-use crate::choose::{ALL_CONSTRUCTS, TEXT_OPTIONS_SIZE, TextOptions};
+use crate::choose::{COMMONMARK, TEXT_OPTIONS_SIZE, TextOptions};
 use crate::code::{NO_SUCH_BYTES, NO_SUCH_RANGES, NOT_OPEN, OTHER_SIZE, READ, VERSION};
 use crate::document::Document;
 use crate::editing::{
@@ -30,7 +30,7 @@ const OLD: Record = Record {
 const ALL: TextOptions = TextOptions {
     size: TEXT_OPTIONS_SIZE,
     tab_size: 4,
-    constructs: ALL_CONSTRUCTS,
+    constructs: COMMONMARK,
 };
 
 /// What was in a change before a call.

@@ -2,7 +2,7 @@
 
 use crate::choose::{
     ALL_CONSTRUCTS, ALLOW_ALL, ALLOW_ANY_IMG_SRC, ALLOW_DANGEROUS_HTML, ALLOW_DANGEROUS_PROTOCOL,
-    ATTENTION, HTML_OPTIONS_SIZE, HtmlOptions,
+    ATTENTION, COMMONMARK, HTML_OPTIONS_SIZE, HtmlOptions,
 };
 use crate::code::{NO_SUCH_CONSTRUCT, NO_SUCH_PERMISSION, NO_SUCH_TAB_SIZE, OTHER_SIZE, READ};
 use crate::html::limecove_html;
@@ -15,7 +15,7 @@ use std::mem::size_of;
 const SAFE: HtmlOptions = HtmlOptions {
     size: 32,
     tab_size: 4,
-    constructs: ALL_CONSTRUCTS,
+    constructs: COMMONMARK,
     allow: 0,
 };
 
@@ -61,7 +61,7 @@ fn documents_are_html(rt: HostRuntime) {
 fn html_is_made_as_the_options_say(rt: HostRuntime) {
     let alloc = rt.alloc();
     let no_emphasis = HtmlOptions {
-        constructs: ALL_CONSTRUCTS & !ATTENTION,
+        constructs: COMMONMARK & !ATTENTION,
         ..SAFE
     };
     assert!(rt; makes(alloc, b"*a*", &no_emphasis, b"<p>*a*</p>\n"));

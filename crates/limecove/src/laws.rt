@@ -2,21 +2,22 @@
 
 ghost use Rattle.std.specs.Prelude.{◌≡◌};
 ghost use Rattle.markdown.specs.Presets.{default_constructs};
-ghost use Rattle.limecove.specs.Choices.{constructs_of};
+ghost use Rattle.limecove.specs.Choices.{constructs_of, constructs_with_bits};
 
 use crate::choose::{
     ALL_CONSTRUCTS, ALLOW_ALL, ALLOW_ANY_IMG_SRC, ALLOW_DANGEROUS_HTML, ALLOW_DANGEROUS_PROTOCOL,
     ATTENTION, AUTOLINK, BLOCK_QUOTE, CHARACTER_ESCAPE, CHARACTER_REFERENCE, CODE_FENCED,
-    CODE_INDENTED, CODE_TEXT, DEFINITION, HARD_BREAK_ESCAPE, HARD_BREAK_TRAILING, HEADING_ATX,
-    HEADING_SETEXT, HTML_FLOW, HTML_OPTIONS_SIZE, HTML_TEXT, LABEL_END, LABEL_START_IMAGE,
-    LABEL_START_LINK, LIST_ITEM, OPTIONS_SIZE, TEXT_OPTIONS_SIZE, THEMATIC_BREAK,
+    CODE_INDENTED, CODE_TEXT, COMMONMARK, DEFINITION, GFM_STRIKETHROUGH, HARD_BREAK_ESCAPE,
+    HARD_BREAK_TRAILING, HEADING_ATX, HEADING_SETEXT, HTML_FLOW, HTML_OPTIONS_SIZE, HTML_TEXT,
+    LABEL_END, LABEL_START_IMAGE, LABEL_START_LINK, LIST_ITEM, OPTIONS_SIZE, TEXT_OPTIONS_SIZE,
+    THEMATIC_BREAK,
 };
 use crate::code::{
     LINKS_NO_TEXT, NO_SUCH_BYTES, NO_SUCH_CONSTRUCT, NO_SUCH_MACHINE, NO_SUCH_PERMISSION,
     NO_SUCH_RANGES, NO_SUCH_TAB_SIZE, NOT_OPEN, OTHER_SIZE, OUT_OF_MEMORY, READ, TOO_LONG, VERSION,
 };
 
-/// The value of each number; and with all bits the constructs are CommonMark's.
+/// The value of each number; the bits of CommonMark's constructs have these on and no other, and all bits have strikethrough on too.
 pub fn numbers_are_stated()
     ensures version { VERSION ≡ 4 }
     ensures read { READ ≡ 0 }
@@ -35,8 +36,10 @@ pub fn numbers_are_stated()
     ensures flow_constructs { (CODE_FENCED ≡ 256) × (CODE_INDENTED ≡ 512) × (HEADING_ATX ≡ 1024) × (HEADING_SETEXT ≡ 2048) × (HTML_FLOW ≡ 4096) × (THEMATIC_BREAK ≡ 8192) }
     ensures container_constructs { (BLOCK_QUOTE ≡ 16384) × (LIST_ITEM ≡ 32768) }
     ensures label_constructs { (LABEL_START_LINK ≡ 65536) × (LABEL_START_IMAGE ≡ 131072) × (LABEL_END ≡ 262144) × (DEFINITION ≡ 524288) }
+    ensures gfm_constructs { GFM_STRIKETHROUGH ≡ 1048576 }
     ensures permissions { (ALLOW_DANGEROUS_HTML ≡ 1) × (ALLOW_DANGEROUS_PROTOCOL ≡ 2) × (ALLOW_ANY_IMG_SRC ≡ 4) × (ALLOW_ALL ≡ 7) }
-    ensures all_constructs { ALL_CONSTRUCTS ≡ 1048575 }
-    ensures commonmark { constructs_of ALL_CONSTRUCTS ≡ default_constructs }
+    ensures sums { (COMMONMARK ≡ 1048575) × (ALL_CONSTRUCTS ≡ 2097151) }
+    ensures commonmark { constructs_of COMMONMARK ≡ default_constructs }
+    ensures all_constructs { constructs_of ALL_CONSTRUCTS ≡ constructs_with_bits }
     ensures sizes { (TEXT_OPTIONS_SIZE ≡ 24) × (OPTIONS_SIZE ≡ 40) × (HTML_OPTIONS_SIZE ≡ 32) }
 {}

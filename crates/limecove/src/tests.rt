@@ -1,9 +1,9 @@
 //! Calls of the functions, as a program in C makes them.
 
 use crate::choose::{
-    ALL_CONSTRUCTS, AUTOLINK, BLOCK_QUOTE, CHARACTER_ESCAPE, DEFINITION, LABEL_END,
-    LABEL_START_IMAGE, LABEL_START_LINK, LIST_ITEM, OPTIONS_SIZE, Options, TEXT_OPTIONS_SIZE,
-    TextOptions,
+    ALL_CONSTRUCTS, AUTOLINK, BLOCK_QUOTE, CHARACTER_ESCAPE, DEFINITION, GFM_STRIKETHROUGH,
+    LABEL_END, LABEL_START_IMAGE, LABEL_START_LINK, LIST_ITEM, OPTIONS_SIZE, Options,
+    TEXT_OPTIONS_SIZE, TextOptions,
 };
 use crate::code::{
     LINKS_NO_TEXT, NO_SUCH_CONSTRUCT, NO_SUCH_MACHINE, NO_SUCH_RANGES, NO_SUCH_TAB_SIZE,
@@ -314,7 +314,7 @@ fn has(alloc: Global, document: &[u8], constructs: u64, name: Name) -> bool {
 fn constructs_have_bits(rt: HostRuntime) {
     let links = LABEL_START_LINK | LABEL_END;
     let images = LABEL_START_IMAGE | LABEL_END;
-    let constructs: [(&[u8], u64, u64, Name); 7] = [
+    let constructs: [(&[u8], u64, u64, Name); 8] = [
         (b"> a", BLOCK_QUOTE, BLOCK_QUOTE, Name::BlockQuote),
         (b"- a", LIST_ITEM, LIST_ITEM, Name::ListItem),
         (b"[a](b)", LABEL_START_LINK, links, Name::Link),
@@ -322,6 +322,12 @@ fn constructs_have_bits(rt: HostRuntime) {
         (b"![a](b)", LABEL_START_IMAGE, images, Name::Image),
         (b"![a](b)", LABEL_END, images, Name::Image),
         (b"[a]: b", DEFINITION, DEFINITION, Name::Definition),
+        (
+            b"~a~",
+            GFM_STRIKETHROUGH,
+            GFM_STRIKETHROUGH,
+            Name::GfmStrikethrough,
+        ),
     ];
     for (document, bit, needed, name) in &constructs {
         assert!(rt; has(rt.alloc(), document, ALL_CONSTRUCTS, *name));

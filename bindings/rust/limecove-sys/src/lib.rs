@@ -80,8 +80,13 @@ pub const LABEL_START_IMAGE: u64 = 131072;
 pub const LABEL_END: u64 = 262144;
 /// The bit of link reference definitions.
 pub const DEFINITION: u64 = 524288;
-/// The bits of all constructs. Up to version 3 they were 16383, and those from [`BLOCK_QUOTE`] on were on without bits.
-pub const ALL_CONSTRUCTS: u64 = 1048575;
+/// The bits of CommonMark's constructs: all of these.
+pub const COMMONMARK: u64 = 1048575;
+/// The bit of strikethrough of GFM.
+pub const GFM_STRIKETHROUGH: u64 = 1048576;
+/// The bits of all constructs. Up to version 3 they were 16383, and those from [`BLOCK_QUOTE`] on were on without bits. They grow with each construct
+/// that is added; [`COMMONMARK`] stays.
+pub const ALL_CONSTRUCTS: u64 = 2097151;
 
 /// The bit of HTML in the document, which is kept as HTML. Without it, it is shown as text.
 pub const ALLOW_DANGEROUS_HTML: u64 = 1;

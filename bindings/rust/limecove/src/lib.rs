@@ -107,7 +107,7 @@ impl Default for TextOptions {
     fn default() -> TextOptions {
         TextOptions {
             tab_size: TabSize::default(),
-            constructs: limecove_sys::ALL_CONSTRUCTS & !BLOCKS,
+            constructs: limecove_sys::COMMONMARK & !BLOCKS,
         }
     }
 }
@@ -153,6 +153,21 @@ impl TextOptions {
     #[must_use]
     pub const fn attention(self, is_on: bool) -> TextOptions {
         self.with(limecove_sys::ATTENTION, is_on)
+    }
+
+    /// The same, with or without strikethrough of GFM. The default is without.
+    ///
+    /// ```
+    /// use limecove::{tokenize, Name, Options, TextOptions};
+    ///
+    /// let options = Options::default().text(TextOptions::default().gfm_strikethrough(true));
+    /// let events = tokenize("~~a~~", &options)?;
+    /// assert!(events.iter().any(|event| event.name() == Name::GfmStrikethrough));
+    /// # Ok::<(), limecove::Error>(())
+    /// ```
+    #[must_use]
+    pub const fn gfm_strikethrough(self, is_on: bool) -> TextOptions {
+        self.with(limecove_sys::GFM_STRIKETHROUGH, is_on)
     }
 
     /// The same, with or without character references.

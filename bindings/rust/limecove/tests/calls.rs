@@ -201,6 +201,19 @@ fn constructs_of_whole_documents_can_be_off() {
     }
 }
 
+/// Strikethrough is on only if it is asked for.
+#[test]
+fn strikethrough_can_be_on() {
+    let found = |text: TextOptions| {
+        let events = tokenize("~a~ ~~b~~", &Options::default().text(text)).unwrap();
+        events.iter().filter(|event| event.name() == Name::GfmStrikethrough).count()
+    };
+    let on = TextOptions::default().gfm_strikethrough(true);
+    assert_eq!((found(TextOptions::default()), found(on)), (0, 4));
+    assert_eq!(found(on.gfm_strikethrough(false)), 0);
+    assert_eq!(found(on.attention(false)), 4);
+}
+
 /// The public machines are those that read Markdown, and each has its name.
 #[test]
 fn test_machines_are_not_in_the_list() {
