@@ -1,8 +1,7 @@
 -- The leaf blocks of the chains of a document's skeleton, where the skeleton is those of its parts: they are those of the parts.
-use Rattle.std.proofs.Common.{Bool, List, Option, Some, [], ap, arith, length, map, subst, sym, cond, false, true, ℕ, ◌++◌, ◌∙◌, ◌∷◌, ◌≡◌, ◌≤◌}
+use Rattle.std.proofs.Common.{List, Option, Some, [], ap, arith, length, map, subst, sym, false, true, ℕ, ◌++◌, ◌∙◌, ◌∷◌, ◌≡◌, ◌≤◌}
 use Rattle.std.specs.List.{AllByRecursion, flat_map}
-use Rattle.std.specs.Prelude.{filter}
-use Rattle.markdown_base.proofs.Common.{every-append}
+use Rattle.markdown_base.proofs.Common.{every-append, every-filter}
 use Rattle.markdown_base.specs.Virtual.{Seat, virtual}
 use Rattle.markdown_base.specs.declared.configuration.Constructs.{Constructs}
 use Rattle.markdown_base.specs.declared.configuration.ParseOptions.{ParseOptions}
@@ -34,17 +33,9 @@ use Rattle.mddocument_parts.specs.BothDocuments.{blocks_of, is_rest}
 use Rattle.mddocument_parts.specs.Moved.{line_endings, moved_event, moved_seat}
 
 -- ---- what holds of each virtual byte of a document holds of those of a text
-every-in : (P : Seat → Type 0) (f : Seat → Bool) (seats : List Seat) → AllByRecursion P seats → AllByRecursion P (filter f seats)
-every-in P f [] h = tt
-every-in P f (s ∷ seats) h = by (f s) (every-in P f seats h.1)
-  where
-    by : (b : Bool) → AllByRecursion P (filter f seats) → AllByRecursion P (cond b (s ∷ filter f seats) (filter f seats))
-    by true k = (h.0, k)
-    by false k = k
-
 every-chunk : (P : Seat → Type 0) (g : Given) (events : List Event) (ks : List ℕ) → AllByRecursion P (virtual g.tab g.bytes) → AllByRecursion P (flat_map (chunk_seats g events) ks)
 every-chunk P g events [] h = tt
-every-chunk P g events (k ∷ ks) h = every-append P (chunk_seats g events k) (flat_map (chunk_seats g events) ks) (every-in P _ (virtual g.tab g.bytes) h) (every-chunk P g events ks h)
+every-chunk P g events (k ∷ ks) h = every-append P (chunk_seats g events k) (flat_map (chunk_seats g events) ks) (every-filter P _ (virtual g.tab g.bytes) h) (every-chunk P g events ks h)
 
 pub every-text : (P : Seat → Type 0) (g : Given) (events : List Event) (c : ℕ) → AllByRecursion P (virtual g.tab g.bytes) → AllByRecursion P (text_from g events c).seats
 every-text P g events c h = subst (AllByRecursion P) (sym (seats-of g events (chain_of events c))) (every-chunk P g events (chain_of events c) h)

@@ -2,7 +2,7 @@
 use Rattle.std.proofs.Common.{Bool, List, [], ap, arith, cond, drop, false, length, length-append, refl, sym, take, true, ℕ, suc, ◌+◌, ◌++◌, ◌==◌, ◌&&◌, ◌||◌, not, ◌∙◌, ◌∷◌, ◌≡◌}
 use Rattle.std.proofs.Math.Bool.{and-false}
 use Rattle.std.proofs.lemmas.Bool.{eqb-true, not-true}
-use Rattle.std.proofs.lemmas.List.{length-map}
+use Rattle.std.proofs.lemmas.List.{length-map, nil_from_length}
 use Rattle.std.specs.Prelude.{is_some, map}
 use Rattle.markdown_base.proofs.Common.{and-right}
 use Rattle.markdown_base.proofs.Facts.Bools.{and-left, cond-same}
@@ -24,9 +24,7 @@ use Rattle.mddocument_parts.proofs.MovedRows.{begun_by, behind-moved, known-move
 -- ---- what a test says
 pub closed-is : (leaf : Leaf) → is_closed leaf ≡ true → leaf ≡ closed
 closed-is closed h = refl
-closed-is open_paragraph h = absurd (cc)
-closed-is (open_fence f) h = absurd (cc)
-closed-is (open_html kind) h = absurd (cc)
+closed-is leaf h = absurd (cc)
 
 near-not-blank : (on : Constructs) (t : List ℕ) → begins_near (line_kind on t) ≡ true → is_blank_line t ≡ false
 near-not-blank on t h = by (is_blank_line t) refl h
@@ -103,9 +101,7 @@ module _ (on : Constructs) (number : ℕ) (line : Line) where
       })
     where
       by : (x y : Bool) → (x && (y && false)) ≡ false
-      by true true = refl
-      by true false = refl
-      by false y = refl
+      by x y = grind arith
 
   -- the row of a line with which no container goes on, and which goes on with no list
   plain-new : (b : Before) → b.leaf ≡ closed → (without.row_of on b number line).went_on ≡ [] → joins_list b.stack (without.row_of on b number line).begun ≡ false
@@ -315,10 +311,6 @@ document-rests-forget on bytes before line behind next h =
     ∙ anew-moved on n bytes (known_behind on start 1 (line ∷ behind)) (suc (length (line ∷ behind))) (suc (length all)) next (omega (arith, count))
 
 -- ---- a line that goes on with a stretch
-no-stack : (cs : List Container) → length cs ≡ 0 → cs ≡ []
-no-stack [] e = refl
-no-stack (c ∷ cs) e = absurd (omega (arith, e))
-
 pub stretches-go-on-at-top : StretchesGoOnAtTop
 stretches-go-on-at-top on before line h stays =
     let start = known_at_start on in
@@ -339,4 +331,4 @@ stretches-go-on-at-top on before line h stays =
     ap has_none (ap (λ (r : Row). r.begun) begins.row ∙ sym (ap (λ (r : Row). r.begun) plain.row))
     ∙ ap has_none (ap (λ t. (row_text on start n [] t).begun) (sym (text-moved (length before) 0 line)) ∙ ap (λ (r : Row). r.begun) (row-moved (length before) on 0 start 1 n line (omega arith)))
     ∙ none-alike (map (moved_prefix (length before)) (row_of on start 1 line).begun) (row_of on start 1 line).begun (length-map (row_of on start 1 line).begun (moved_prefix (length before))) in
-    (no-stack k.before.stack (omega (arith, one, two, zero-long)), sym same ∙ none)
+    (nil_from_length k.before.stack (omega (arith, one, two, zero-long)), sym same ∙ none)

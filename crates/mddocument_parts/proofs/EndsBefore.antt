@@ -101,10 +101,7 @@ module _ (at : List ℕ) where
   lettered-line b n (x ∷ []) plain h = by (list_any (λ i. i == n) at) plain.0
     where
       never : (nine ten thirteen c : Bool) → (not nine && (not ten && not thirteen)) ≡ true → (ten || (thirteen && c)) ≡ true → ⊥
-      never true ten thirteen c e f = absurd (cc)
-      never false true thirteen c e f = absurd (cc)
-      never false false true c e f = absurd (cc)
-      never false false false c e f = absurd (cc)
+      never nine ten thirteen c e f = grind arith
 
       by : (c : Bool) → (c ≡ true → is_plain x ≡ true) → begins_line b (cond c letter x ∷ []) ≡ true
       by true k = absurd (never (x == 9) (x == 10) (x == 13) (not (begins_with_lf b)) (k refl) h)

@@ -90,13 +90,7 @@ module _ (a b : List ℕ) (h : begins_line b a ≡ true) where
 
     pub block-goes : (block : LeafBlock) → moved_block (line_endings a) (length a) block ≡ goes block
     block-goes (blank_line line) = refl
-    block-goes (break_line line) = refl
-    block-goes (atx_heading line) = refl
-    block-goes (paragraph lines) = refl
-    block-goes (setext_heading rank lines below) = refl
-    block-goes (indented_code lines) = refl
-    block-goes (fenced_code f is_closed lines) = refl
-    block-goes (html_block kind is_closed lines) = refl
+    block-goes block = refl
 
   module _ (on : Constructs) where
     -- virtual bytes inside the first bytes

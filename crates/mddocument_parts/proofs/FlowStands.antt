@@ -28,13 +28,11 @@ IsOther n = same_name n name.Data ≡ false
 
 other-block : (block : LeafBlock) → MayBlock IsOther block
 other-block (blank_line line) = tt
-other-block (break_line line) = (refl, refl)
 other-block (atx_heading line) = (refl, refl, refl)
 other-block (paragraph lines) = refl
 other-block (setext_heading rank lines underline) = (refl, refl, refl, refl)
-other-block (indented_code lines) = (refl, refl)
 other-block (fenced_code f is_closed lines) = record { code_fenced = refl; fence = refl; sequence = refl; info = refl; meta = refl; code = refl }
-other-block (html_block kind is_closed lines) = (refl, refl)
+other-block block = (refl, refl)
 
 module _ (At : Point → Type 0) (bytes : List ℕ) where
   abbrev Ends : Seat → Type 0

@@ -103,47 +103,47 @@ module _ (around : Row) where
 -- ---- at a seam
 module _ (Place : Bool → List Row → Type 0) (bytes : List ℕ) (x : List Row) (r : Row) (rs : List Row) (whole first second : List Section) (h : SectionSeam Place (at_top r) x r rs whole first second)
     (read : AllByRecursion IsRead x) (bare : BareBehind x) (full : r.is_blank ≡ false) (plain : IsPlainRow r) (columns : AllByRecursion ColumnsAre rs) (ahead : (more left : List Row) → rs ≡ more ++ left → AllStay more → AllByRecursion IsBare more)
-    (holds : is_held h.begin ≡ false) where
+    (holds : is_held h.it.begin ≡ false) where
   abbrev pub q : Row
-  q = h.begin.first
+  q = h.it.begin.first
 
   abbrev inner : List Row
-  inner = h.begin.more ++ firsts h.blanks
+  inner = h.it.begin.more ++ firsts h.it.blanks
 
   pub here : AllByRecursion IsRead (q ∷ inner)
   here = every-back IsRead h.above (q ∷ inner) (subst (AllByRecursion IsRead) h.rows_are read)
 
   pub all-plain : AllByRecursion IsPlainRow (q ∷ inner)
-  all-plain = plain-rows (q ∷ inner) (bare h.above q inner h.rows_are h.full h.stay) (every-map IsRead ColumnsAre (λ r k. k.columns) (q ∷ inner) here)
+  all-plain = plain-rows (q ∷ inner) (bare h.above q inner h.rows_are h.it.full h.it.stay) (every-map IsRead ColumnsAre (λ r k. k.columns) (q ∷ inner) here)
 
-  pub begin-plain : IsPlainPart h.begin
-  begin-plain = plain-part r h.begin h.begin_same all-plain.0 (every-front IsPlainRow h.begin.more (firsts h.blanks) all-plain.1)
+  pub begin-plain : IsPlainPart h.it.begin
+  begin-plain = plain-part r h.it.begin h.within.begin_same all-plain.0 (every-front IsPlainRow h.it.begin.more (firsts h.it.blanks) all-plain.1)
 
-  pub blanks-plain : AllByRecursion IsPlainPart h.blanks
-  blanks-plain = plain-blanks r h.blanks h.blanks_same h.are_blank (every-back IsPlainRow h.begin.more (firsts h.blanks) all-plain.1)
+  pub blanks-plain : AllByRecursion IsPlainPart h.it.blanks
+  blanks-plain = plain-blanks r h.it.blanks h.within.blanks_same h.it.are_blank (every-back IsPlainRow h.it.begin.more (firsts h.it.blanks) all-plain.1)
 
-  pub end-plain : IsPlainPart h.end
+  pub end-plain : IsPlainPart h.it.end
   end-plain =
-      plain-part r h.end h.end_same (subst IsPlainRow (sym h.end_is) plain)
-      (plain-rows h.end.more (ahead h.end.more h.end_rows.left h.end_rows.is h.end_stay) (every-front ColumnsAre h.end.more h.end_rows.left (subst (AllByRecursion ColumnsAre) h.end_rows.is columns)))
+      plain-part r h.it.end h.within.end_same (subst IsPlainRow (sym h.it.end_is) plain)
+      (plain-rows h.it.end.more (ahead h.it.end.more h.end_rows.left h.end_rows.is h.it.end_stay) (every-front ColumnsAre h.it.end.more h.end_rows.left (subst (AllByRecursion ColumnsAre) h.end_rows.is columns)))
 
-  pub end-full : h.end.first.is_blank ≡ false
-  end-full = ap (λ (r : Row). r.is_blank) h.end_is ∙ full
+  pub end-full : h.it.end.first.is_blank ≡ false
+  end-full = ap (λ (r : Row). r.is_blank) h.it.end_is ∙ full
 
   abbrev pub chunk-at-seam : ChunkSeam bytes (sections_marks bytes whole) (sections_marks bytes first) (sections_marks bytes second)
   chunk-at-seam =
-      let begin = h.begin in
-      let blanks = h.blanks in
-      let end = h.end in
+      let begin = h.it.begin in
+      let blanks = h.it.blanks in
+      let end = h.it.end in
       let both = joined_part begin blanks end in
       let front = sections_marks bytes h.front in
-      let w = part_white bytes h.is_behind begin in
-      let white = white_columns bytes h.is_behind q in
+      let w = part_white bytes h.within.is_behind begin in
+      let white = white_columns bytes h.within.is_behind q in
       let before = lines_of (q ∷ begin.more) in
       let between = lines_of (firsts blanks) in
       let behind = lines_of (end.first ∷ end.more) in
-      let after = after_marks bytes begin blanks end h.is_behind h.full end-full begin-plain end-plain blanks-plain h.are_blank h.front h.back in
-      let held = same-held bytes begin blanks end h.is_behind h.full end-full begin-plain end-plain blanks-plain h.are_blank in
+      let after = after_marks bytes begin blanks end h.within.is_behind h.it.full end-full begin-plain end-plain blanks-plain h.it.are_blank h.front h.back in
+      let held = same-held bytes begin blanks end h.within.is_behind h.it.full end-full begin-plain end-plain blanks-plain h.it.are_blank in
       let rows : lines_of (q ∷ both.more) ≡ (before ++ between) ++ behind =
       ap (λ l. q.line ∷ l) (map-append (λ (r : Row). r.line) (begin.more ++ firsts blanks) (end.first ∷ end.more) ∙ ap (λ l. l ++ behind) (map-append (λ (r : Row). r.line) begin.more (firsts blanks))) in
       record {
@@ -156,15 +156,15 @@ module _ (Place : Bool → List Row → Type 0) (bytes : List ℕ) (x : List Row
         is_held = is_held end;
         whole_is =
             ap (sections_marks bytes) h.whole_is
-            ∙ whole-marks bytes begin blanks end h.is_behind h.full end-full begin-plain end-plain blanks-plain h.are_blank h.front h.back
-            ∙ (λ i. front ++ (white-same bytes h.is_behind begin both refl all-plain.0 here.0.whole i ++ (stretch_chunk bytes (drop white (block_seats (held i) (rows i))) ++ after)))
+            ∙ whole-marks bytes begin blanks end h.within.is_behind h.it.full end-full begin-plain end-plain blanks-plain h.it.are_blank h.front h.back
+            ∙ (λ i. front ++ (white-same bytes h.within.is_behind begin both refl all-plain.0 here.0.whole i ++ (stretch_chunk bytes (drop white (block_seats (held i) (rows i))) ++ after)))
             ∙ sym (append_assoc front w (stretch_chunk bytes (drop white (block_seats (is_held end) ((before ++ between) ++ behind))) ++ after));
         first_is =
             ap (sections_marks bytes) h.first_is
-            ∙ first-marks bytes begin blanks end h.is_behind h.full end-full begin-plain end-plain blanks-plain h.are_blank h.front h.back
-            ∙ (λ i. front ++ (w ++ (stretch_chunk bytes (drop white (block_seats (holds i) before)) ++ (part-ending bytes begin h.full holds i ++ blanks-are bytes (firsts blanks) i))))
+            ∙ first-marks bytes begin blanks end h.within.is_behind h.it.full end-full begin-plain end-plain blanks-plain h.it.are_blank h.front h.back
+            ∙ (λ i. front ++ (w ++ (stretch_chunk bytes (drop white (block_seats (holds i) before)) ++ (part-ending bytes begin h.it.full holds i ++ blanks-are bytes (firsts blanks) i))))
             ∙ sym (append_assoc front w (stretch_chunk bytes (drop white (block_seats false before)) ++ marks_between bytes before between));
-        second_is = ap (sections_marks bytes) h.second_is ∙ second-marks bytes begin blanks end h.is_behind h.full end-full begin-plain end-plain blanks-plain h.are_blank h.front h.back;
+        second_is = ap (sections_marks bytes) h.second_is ∙ second-marks bytes begin blanks end h.within.is_behind h.it.full end-full begin-plain end-plain blanks-plain h.it.are_blank h.front h.back;
       }
 
 -- ---- in bytes
@@ -236,17 +236,17 @@ module _ (on : Constructs) (t : ℕ) (a b : List ℕ) (rest : begins_at_document
   seam-ahead more left is stay = ahead-bare on n (length a) (known_after on start first_row) 2 behind more left no-stack is stay
 
   module _ (h : SectionSeam (DocumentPlace on t a) (at_top seam_row) (document_rows on t a) seam_row seam_rows sections_of_both sections_before sections_behind) where
-    pub not-held : is_held h.begin ≡ false
+    pub not-held : is_held h.it.begin ≡ false
     not-held =
         let shut = and-left (is_closed (known_behind on start 1 one).before.leaf) _ at-rest in
-        let holds = last-holds-from on start 1 one h.above h.begin.first h.begin.more (firsts h.blanks) h.rows_are (omega arith) h.stay (lefts h.blanks h.are_blank) at-top.0 shut in
-        ap (λ b. not h.begin.first.is_blank && b) holds ∙ and-false (not h.begin.first.is_blank)
+        let holds = last-holds-from on start 1 one h.above h.it.begin.first h.it.begin.more (firsts h.it.blanks) h.rows_are (omega arith) h.it.stay (lefts h.it.blanks h.it.are_blank) at-top.0 shut in
+        ap (λ b. not h.it.begin.first.is_blank && b) holds ∙ and-false (not h.it.begin.first.is_blank)
 
     -- the first row of the stretch
-    pub first-plain : IsPlainRow h.begin.first
+    pub first-plain : IsPlainRow h.it.begin.first
     first-plain = (all-plain (DocumentPlace on t a) (a ++ b) (document_rows on t a) seam_row seam_rows sections_of_both sections_before sections_behind h all-rows-read bare-behind full-row plain-seam seam-columns seam-ahead not-held).0
 
-    pub first-read : IsRead h.begin.first
+    pub first-read : IsRead h.it.begin.first
     first-read = (here (DocumentPlace on t a) (a ++ b) (document_rows on t a) seam_row seam_rows sections_of_both sections_before sections_behind h all-rows-read bare-behind full-row plain-seam seam-columns seam-ahead not-held).0
 
     -- the marks of the document, and of its parts, by their sections

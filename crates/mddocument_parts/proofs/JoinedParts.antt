@@ -10,7 +10,7 @@ use Rattle.mdblock_containers.proofs.RestLemmas.{further_few}
 use Rattle.mdblock_containers.specs.Rows.{Row}
 use Rattle.mdblock_containers.specs.Skeleton.{Frame, Part, frames_at, further, parts_in, standing}
 use Rattle.mdblock_definitions.specs.Skeleton.{all_rows}
-use Rattle.mddocument_parts.specs.JoinedStretches.{AllStay, Begin, IsBlankPart, firsts, joined_part}
+use Rattle.mddocument_parts.specs.JoinedStretches.{AllStay, Begin, IsBlankPart, Stretch, firsts, joined_part}
 use Rattle.mddocument_parts.proofs.SectionRows.{AllLeft, Follows, FurtherApart, LeftIsBlank, cut_off, further-apart, further-cut, going, left-behind}
 
 further-stay : (rs : List Row) → AllStay (take (further rs) rs)
@@ -49,27 +49,19 @@ real-parts (suc b) (q ∷ rows) =
 module _ (F : Row → List Row → List Frame) (S : Row → List Row → List Container) where
   -- the last stretch of the first rows, and the first of the second, are one
   pub record Seam (x : List Row) (r : Row) (rs : List Row) (whole first second : List Part) : Type 0 where
+    pub it : Stretch r
     pub front : List Part
-    pub begin : Part
-    pub blanks : List Part
-    pub end : Part
     pub back : List Part
     pub above : List Row
     pub above_is : above ≡ flat_map all_rows front
     pub bound : ℕ
     pub goes : 1 ≤ further (r ∷ rs)
-    pub full : begin.first.is_blank ≡ false
-    pub rows_are : x ≡ above ++ (begin.first ∷ (begin.more ++ firsts blanks))
-    pub stay : AllStay (begin.more ++ firsts blanks)
-    pub are_blank : AllByRecursion IsBlankPart blanks
-    pub parts_are : parts_by F S bound (begin.first ∷ (begin.more ++ firsts blanks)) ≡ begin ∷ blanks
-    pub end_is : end.first ≡ r
-    pub end_rows : Begin end.more rs
-    pub end_stay : AllStay end.more
-    pub reach : further (begin.more ++ firsts blanks) ≡ length begin.more
-    pub whole_is : whole ≡ front ++ (joined_part begin blanks end ∷ back)
-    pub first_is : first ≡ front ++ (begin ∷ blanks)
-    pub second_is : second ≡ end ∷ back
+    pub rows_are : x ≡ above ++ (it.begin.first ∷ (it.begin.more ++ firsts it.blanks))
+    pub parts_are : parts_by F S bound (it.begin.first ∷ (it.begin.more ++ firsts it.blanks)) ≡ it.begin ∷ it.blanks
+    pub end_rows : Begin it.end.more rs
+    pub whole_is : whole ≡ front ++ (joined_part it.begin it.blanks it.end ∷ back)
+    pub first_is : first ≡ front ++ (it.begin ∷ it.blanks)
+    pub second_is : second ≡ it.end ∷ back
 
   pub data Joins (x : List Row) (r : Row) (rs : List Row) (whole first second : List Part) : Type 0 where
     apart : whole ≡ first ++ second → Joins x r rs whole first second
@@ -110,55 +102,23 @@ module _ (F : Row → List Row → List Frame) (S : Row → List Row → List Co
     joins-more p x w f s (apart e) = apart (ap (λ l. p ∷ l) e)
     joins-more p x w f s (seam h) =
         seam (record {
+          it = h.it;
           front = p ∷ h.front;
-          begin = h.begin;
-          blanks = h.blanks;
-          end = h.end;
           back = h.back;
           above = all_rows p ++ h.above;
           above_is = ap (λ l. all_rows p ++ l) h.above_is;
           bound = h.bound;
           goes = h.goes;
-          full = h.full;
-          rows_are = ap (λ l. all_rows p ++ l) h.rows_are ∙ sym (append_assoc (all_rows p) h.above (h.begin.first ∷ (h.begin.more ++ firsts h.blanks)));
-          stay = h.stay;
-          are_blank = h.are_blank;
+          rows_are = ap (λ l. all_rows p ++ l) h.rows_are ∙ sym (append_assoc (all_rows p) h.above (h.it.begin.first ∷ (h.it.begin.more ++ firsts h.it.blanks)));
           parts_are = h.parts_are;
-          end_is = h.end_is;
           end_rows = h.end_rows;
-          end_stay = h.end_stay;
-          reach = h.reach;
           whole_is = ap (λ l. p ∷ l) h.whole_is;
           first_is = ap (λ l. p ∷ l) h.first_is;
           second_is = h.second_is;
         })
 
     pub joins-as : (x x2 : List Row) (w w2 f f2 s s2 : List Part) → x ≡ x2 → w ≡ w2 → f ≡ f2 → s ≡ s2 → Joins x r rs w f s → Joins x2 r rs w2 f2 s2
-    joins-as x x2 w w2 f f2 s s2 ex ew ef es (apart e) = apart (sym ew ∙ e ∙ (λ i. ef i ++ es i))
-    joins-as x x2 w w2 f f2 s s2 ex ew ef es (seam h) =
-        seam (record {
-          front = h.front;
-          begin = h.begin;
-          blanks = h.blanks;
-          end = h.end;
-          back = h.back;
-          above = h.above;
-          above_is = h.above_is;
-          bound = h.bound;
-          goes = h.goes;
-          full = h.full;
-          rows_are = sym ex ∙ h.rows_are;
-          stay = h.stay;
-          are_blank = h.are_blank;
-          parts_are = h.parts_are;
-          end_is = h.end_is;
-          end_rows = h.end_rows;
-          end_stay = h.end_stay;
-          reach = h.reach;
-          whole_is = sym ew ∙ h.whole_is;
-          first_is = sym ef ∙ h.first_is;
-          second_is = sym es ∙ h.second_is;
-        })
+    joins-as x x2 w w2 f f2 s s2 ex ew ef es h = rw⁻¹ (ex, ew, ef, es) h
 
     module _ (f-same : (row : Row) (x : List Row) → F row (x ++ y) ≡ F row x) (s-same : (row : Row) (x : List Row) → S row (x ++ y) ≡ S row x) where
       pub parts-join : (c b b2 : ℕ) (x : List Row) → length (x ++ y) ≤ c → length x ≤ b → length y ≤ b2 → AllByRecursion LeftIsBlank x → Follows r rs → Joins x r rs (parts_by F S c (x ++ y)) (parts_by F S b x) (parts_by F S b2 y)
@@ -224,24 +184,16 @@ module _ (F : Row → List Row → List Frame) (S : Row → List Row → List Co
               let first : parts_by F S (suc b) (q ∷ x) ≡ begin ∷ blanks = (λ i. let n = cond (full i) 0 (further x) in (let p : Part = record { first = q; more = take n x; frames = F q x; stands = S q x } in p) ∷ parts_by F S b (drop n x)) in
               let second : parts_by F S (suc b2) y ≡ end ∷ back = (λ i. let n = cond (some i) 0 (further rs) in (let p : Part = record { first = r; more = take n rs; frames = F r rs; stands = S r rs } in p) ∷ parts_by F S b2 (drop n rs)) in
               seam (record {
+                it = record { begin = begin; blanks = blanks; end = end; full = full; stay = subst AllStay (sym halves) stay; reach = ap further halves ∙ sym (length-take-le n x (further_few x)); are_blank = left.1; end_is = refl; end_stay = further-stay rs };
                 front = [];
-                begin = begin;
-                blanks = blanks;
-                end = end;
                 back = back;
                 above = [];
                 above_is = refl;
                 bound = suc b;
                 goes = omega (arith, more);
-                full = full;
                 rows_are = ap (λ l. q ∷ l) (sym halves);
-                stay = subst AllStay (sym halves) stay;
-                are_blank = left.1;
                 parts_are = ap (λ l. parts_by F S (suc b) (q ∷ l)) halves ∙ first;
-                end_is = refl;
                 end_rows = record { left = drop k rs; is = sym (take-append-drop k rs) };
-                end_stay = further-stay rs;
-                reach = ap further halves ∙ sym (length-take-le n x (further_few x));
                 whole_is = whole;
                 first_is = first;
                 second_is = second;

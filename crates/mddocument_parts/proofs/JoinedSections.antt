@@ -45,118 +45,55 @@ module _ (Place : Bool → List Row → Type 0) (around : Part) (r : Row) (rs : 
   pub joins-front : (ss : List Section) (xs x : List Row) (w f s : List Section) → SectionsJoin Place around x r rs w f s → SectionsJoin Place around (xs ++ x) r rs (ss ++ w) (ss ++ f) s
   joins-front ss xs x w f s (sections_apart e) = sections_apart (ap (λ l. ss ++ l) e ∙ sym (append_assoc ss f s))
   joins-front ss xs x w f s (section_seam h) =
+      let it = h.it in
       section_seam (record {
+        it = it;
+        within = h.within;
         front = ss ++ h.front;
-        is_behind = h.is_behind;
-        begin = h.begin;
-        blanks = h.blanks;
-        end = h.end;
         back = h.back;
         above = xs ++ h.above;
-        going_on = h.going_on;
-        full = h.full;
-        rows_are = ap (λ l. xs ++ l) h.rows_are ∙ sym (append_assoc xs h.above (h.begin.first ∷ (h.begin.more ++ firsts h.blanks)));
-        stay = h.stay;
-        are_blank = h.are_blank;
-        begin_same = h.begin_same;
-        blanks_same = h.blanks_same;
-        end_same = h.end_same;
-        end_is = h.end_is;
+        rows_are = ap (λ l. xs ++ l) h.rows_are ∙ sym (append_assoc xs h.above (it.begin.first ∷ (it.begin.more ++ firsts it.blanks)));
         end_rows = h.end_rows;
-        end_stay = h.end_stay;
-        reach = h.reach;
-        whole_is = ap (λ l. ss ++ l) h.whole_is ∙ sym (append_assoc ss h.front (record { part = joined_part h.begin h.blanks h.end; inside = lines h.is_behind } ∷ h.back));
-        first_is = ap (λ l. ss ++ l) h.first_is ∙ sym (append_assoc ss h.front (record { part = h.begin; inside = lines h.is_behind } ∷ plain_sections h.blanks));
+        whole_is = ap (λ l. ss ++ l) h.whole_is ∙ sym (append_assoc ss h.front (record { part = joined_part it.begin it.blanks it.end; inside = lines h.within.is_behind } ∷ h.back));
+        first_is = ap (λ l. ss ++ l) h.first_is ∙ sym (append_assoc ss h.front (record { part = it.begin; inside = lines h.within.is_behind } ∷ plain_sections it.blanks));
         second_is = h.second_is;
-        place = h.place;
       })
 
   pub joins-back : (x : List Row) (w f s ss : List Section) → SectionsJoin Place around x r rs w f s → SectionsJoin Place around x r rs (w ++ ss) f (s ++ ss)
   joins-back x w f s ss (sections_apart e) = sections_apart (ap (λ l. l ++ ss) e ∙ append_assoc f s ss)
   joins-back x w f s ss (section_seam h) =
+      let it = h.it in
       section_seam (record {
+        it = it;
+        within = h.within;
         front = h.front;
-        is_behind = h.is_behind;
-        begin = h.begin;
-        blanks = h.blanks;
-        end = h.end;
         back = h.back ++ ss;
         above = h.above;
-        going_on = h.going_on;
-        full = h.full;
         rows_are = h.rows_are;
-        stay = h.stay;
-        are_blank = h.are_blank;
-        begin_same = h.begin_same;
-        blanks_same = h.blanks_same;
-        end_same = h.end_same;
-        end_is = h.end_is;
         end_rows = h.end_rows;
-        end_stay = h.end_stay;
-        reach = h.reach;
-        whole_is = ap (λ l. l ++ ss) h.whole_is ∙ append_assoc h.front (record { part = joined_part h.begin h.blanks h.end; inside = lines h.is_behind } ∷ h.back) ss;
+        whole_is = ap (λ l. l ++ ss) h.whole_is ∙ append_assoc h.front (record { part = joined_part it.begin it.blanks it.end; inside = lines h.within.is_behind } ∷ h.back) ss;
         first_is = h.first_is;
         second_is = ap (λ l. l ++ ss) h.second_is;
-        place = h.place;
       })
 
   pub joins-same : (x x2 : List Row) (w w2 f f2 s s2 : List Section) → x ≡ x2 → w ≡ w2 → f ≡ f2 → s ≡ s2 → SectionsJoin Place around x r rs w f s → SectionsJoin Place around x2 r rs w2 f2 s2
-  joins-same x x2 w w2 f f2 s s2 ex ew ef es (sections_apart e) = sections_apart (sym ew ∙ e ∙ (λ i. ef i ++ es i))
-  joins-same x x2 w w2 f f2 s s2 ex ew ef es (section_seam h) =
-      section_seam (record {
-        front = h.front;
-        is_behind = h.is_behind;
-        begin = h.begin;
-        blanks = h.blanks;
-        end = h.end;
-        back = h.back;
-        above = h.above;
-        going_on = h.going_on;
-        full = h.full;
-        rows_are = sym ex ∙ h.rows_are;
-        stay = h.stay;
-        are_blank = h.are_blank;
-        begin_same = h.begin_same;
-        blanks_same = h.blanks_same;
-        end_same = h.end_same;
-        end_is = h.end_is;
-        end_rows = h.end_rows;
-        end_stay = h.end_stay;
-        reach = h.reach;
-        whole_is = sym ew ∙ h.whole_is;
-        first_is = sym ef ∙ h.first_is;
-        second_is = sym es ∙ h.second_is;
-        place = h.place;
-      })
+  joins-same x x2 w w2 f f2 s s2 ex ew ef es h = rw⁻¹ (ex, ew, ef, es) h
 
 -- rows with more behind them
 pub joins-longer : (Place : Bool → List Row → Type 0) (around : Part) (r : Row) (z rs later : List Row) → rs ≡ z ++ later → (x : List Row) (w f s : List Section) → SectionsJoin Place around x r z w f s → SectionsJoin Place around x r rs w f s
 joins-longer Place around r z rs later e x w f s (sections_apart k) = sections_apart k
 joins-longer Place around r z rs later e x w f s (section_seam h) =
     section_seam (record {
+      it = h.it;
+      within = h.within;
       front = h.front;
-      is_behind = h.is_behind;
-      begin = h.begin;
-      blanks = h.blanks;
-      end = h.end;
       back = h.back;
       above = h.above;
-      going_on = h.going_on;
-      full = h.full;
       rows_are = h.rows_are;
-      stay = h.stay;
-      reach = h.reach;
-      are_blank = h.are_blank;
-      begin_same = h.begin_same;
-      blanks_same = h.blanks_same;
-      end_same = h.end_same;
-      end_is = h.end_is;
-      end_rows = record { left = h.end_rows.left ++ later; is = e ∙ ap (λ l. l ++ later) h.end_rows.is ∙ append_assoc h.end.more h.end_rows.left later };
-      end_stay = h.end_stay;
+      end_rows = record { left = h.end_rows.left ++ later; is = e ∙ ap (λ l. l ++ later) h.end_rows.is ∙ append_assoc h.it.end.more h.end_rows.left later };
       whole_is = h.whole_is;
       first_is = h.first_is;
       second_is = h.second_is;
-      place = h.place;
     })
 
 -- ---- parts in the spans of another
@@ -220,38 +157,25 @@ module _ (around : Part) where
         by (stays full k s) = k
 
     of-parts : (b : Bool) (x : List Row) (w f s : List Part) → AllByRecursion (IsSame around) f → AllByRecursion (IsSame around) s → (f ≡ [] → ⊥)
-        → ((h : Seam its_frames its_stands x r rs w f s) → Place (last_flag b h.front) (h.begin.first ∷ (h.begin.more ++ firsts h.blanks))) → Joins its_frames its_stands x r rs w f s
+        → ((h : Seam its_frames its_stands x r rs w f s) → Place (last_flag b h.front) (h.it.begin.first ∷ (h.it.begin.more ++ firsts h.it.blanks))) → Joins its_frames its_stands x r rs w f s
         → SectionsJoin Place around x r rs (sections_of b w) (sections_of b f) (sections_of false s)
     of-parts b x w [] s hf hs full place j = absurd (full refl)
     of-parts b x w (f ∷ fs) s hf hs full place (apart e) =
         sections_apart (ap (sections_of b) e ∙ flagged-append b f fs s ∙ ap (λ l. sections_of b (f ∷ fs) ++ l) (sym (plain-flag s)))
     of-parts b x w (f ∷ fs) s hf hs full place (seam h) =
-        let first = part-of h.front h.begin h.blanks (subst (AllByRecursion (IsSame around)) h.first_is hf) in
-        let last : AllByRecursion (IsSame around) (h.end ∷ h.back) = subst (AllByRecursion (IsSame around)) h.second_is hs in
+        let first = part-of h.front h.it.begin h.it.blanks (subst (AllByRecursion (IsSame around)) h.first_is hf) in
+        let last : AllByRecursion (IsSame around) (h.it.end ∷ h.back) = subst (AllByRecursion (IsSame around)) h.second_is hs in
         section_seam (record {
+          it = h.it;
+          within = record { is_behind = last_flag b h.front; going_on = some-behind h.goes; begin_same = first.0; blanks_same = first.1; end_same = last.0; place = place h };
           front = sections_of b h.front;
-          is_behind = last_flag b h.front;
-          begin = h.begin;
-          blanks = h.blanks;
-          end = h.end;
           back = plain_sections h.back;
           above = h.above;
-          going_on = some-behind h.goes;
-          full = h.full;
           rows_are = h.rows_are;
-          stay = h.stay;
-          are_blank = h.are_blank;
-          begin_same = first.0;
-          blanks_same = first.1;
-          end_same = last.0;
-          end_is = h.end_is;
           end_rows = h.end_rows;
-          end_stay = h.end_stay;
-          reach = h.reach;
-          whole_is = ap (sections_of b) h.whole_is ∙ flag-at b h.front (joined_part h.begin h.blanks h.end) h.back;
-          first_is = ap (sections_of b) h.first_is ∙ flag-at b h.front h.begin h.blanks;
+          whole_is = ap (sections_of b) h.whole_is ∙ flag-at b h.front (joined_part h.it.begin h.it.blanks h.it.end) h.back;
+          first_is = ap (sections_of b) h.first_is ∙ flag-at b h.front h.it.begin h.it.blanks;
           second_is = ap (sections_of false) h.second_is;
-          place = place h;
         })
 
   -- lines without definitions, and so many of lines behind them
@@ -270,7 +194,7 @@ module _ (around : Part) where
         refl (ap (sections_of flag) (sym (same-parts c (all ++ y)))) (ap (sections_of flag) (sym (same-parts (length all) all))) (ap (sections_of false) (sym (same-parts (length y) y)))
         (joins-longer Place around r z rs (drop m rs) (sym (take-append-drop m rs)) all (sections_of flag (its_parts c (all ++ y))) (sections_of flag (its_parts (length all) all)) (sections_of false (its_parts (length y) y))
         (of-parts Place r z behind flag all (its_parts c (all ++ y)) (its_parts (length all) all) (its_parts (length y) y) (all-same (length all) all) (all-same (length y) y) (some-parts (length all) q x (omega arith))
-        (λ h. place h.front h.begin h.blanks h.first_is (h.rows_are ∙ ap (λ l. l ++ (h.begin.first ∷ (h.begin.more ++ firsts h.blanks))) h.above_is) h.full h.stay)
+        (λ h. place h.front h.it.begin h.it.blanks h.first_is (h.rows_are ∙ ap (λ l. l ++ (h.it.begin.first ∷ (h.it.begin.more ++ firsts h.it.blanks))) h.above_is) h.it.full h.it.stay)
         (parts-join its_frames its_stands r z (λ row x. refl) (λ row x. refl) c (length all) (length y) all (omega arith) (omega arith) (omega arith) blank (follows r z behind))))
 
 -- ---- lines of a part, cut before and behind definitions

@@ -21,9 +21,6 @@ use Rattle.mddocument_parts.specs.JoinedStretches.{AllStay, IsBlankPart, IsSame,
 use Rattle.mddocument_parts.proofs.JoinedParts.{Joins, Seam, apart, joins-as, left-parts-by, lefts, parts-join, parts_by, seam, real-parts}
 use Rattle.mddocument_parts.proofs.JoinedSections.{Behind, all-same, follows, its_frames, its_parts, its_stands, joins-back, joins-front, joins-longer, joins-same, left, same-parts, sections-fuel, sections-join, sections-none, sections-plain, stays, Placing}
 use Rattle.mdblock_definitions.specs.Skeleton.{all_rows}
-use Rattle.mddocument_parts.specs.JoinedStretches.{AllStay, IsBlankPart, IsSame, SectionsJoin, any_place, at_top, firsts, joined_part, plain_section, plain_sections, section_seam, sections_apart}
-use Rattle.mddocument_parts.proofs.JoinedParts.{Joins, Seam, apart, joins-as, left-parts-by, lefts, lefts, parts-join, parts_by, real-parts, seam}
-use Rattle.mddocument_parts.proofs.JoinedSections.{Behind, Placing, all-same, follows, its_frames, its_parts, its_stands, joins-back, joins-front, joins-longer, joins-same, left, same-parts, sections-fuel, sections-join, sections-none, sections-plain, stays}
 use Rattle.mddocument_parts.proofs.SectionRows.{AllLeft, LeftIsBlank, joined, joined-first, joined-none, left-no-text}
 use Rattle.mddocument_parts.proofs.SectionsApart.{GoesOnWithNone, frames-apart, standing-apart}
 use Rattle.mddocument_parts.proofs.WithoutContainers.PlainParts.{IsAlone, parts-alone}
@@ -99,7 +96,7 @@ module _ (around : Part) where
 
         by : {w f s : List Section} → SectionsJoin any_place around (q ∷ x) p.first (firsts ps) w f s → w ≡ f ++ s
         by (sections_apart e) = e
-        by (section_seam t) = let both : true ≡ false = sym k.0.left ∙ t.going_on in absurd (cc)
+        by (section_seam t) = let both : true ≡ false = sym k.0.left ∙ t.within.going_on in absurd (cc)
 
 -- ---- rows that goes on with no container
 -- a row that goes on with a stretch, without containers
@@ -167,47 +164,47 @@ module _ (r : Row) (rs : List Row) (goes : GoesOn r) where
 
       at-seam : Seam frames_at standing x r rs (parts (x ++ y)) (parts x) (parts y) → Goal
       at-seam h =
-          let q = h.begin.first in
-          let inner = h.begin.more ++ firsts h.blanks in
+          let q = h.it.begin.first in
+          let inner = h.it.begin.more ++ firsts h.it.blanks in
           let all = q ∷ inner in
-          let bares = bare h.above q inner h.rows_are h.full h.stay in
-          let alone : AllByRecursion IsAlone (h.begin ∷ h.blanks) = subst (AllByRecursion IsAlone) (real-parts h.bound all ∙ h.parts_are) (parts-alone h.bound all bares) in
-          let same = alone-same (h.begin ∷ h.blanks) alone in
+          let bares = bare h.above q inner h.rows_are h.it.full h.it.stay in
+          let alone : AllByRecursion IsAlone (h.it.begin ∷ h.it.blanks) = subst (AllByRecursion IsAlone) (real-parts h.bound all ∙ h.parts_are) (parts-alone h.bound all bares) in
+          let same = alone-same (h.it.begin ∷ h.it.blanks) alone in
           let few = every-back LeftIsBlank h.above all (subst (AllByRecursion LeftIsBlank) h.rows_are blank) in
-          let z = h.end.more in
-          let long = suc (length (joined_part h.begin h.blanks h.end).more) in
+          let z = h.it.end.more in
+          let long = suc (length (joined_part h.it.begin h.it.blanks h.it.end).more) in
           let front = flat_map (cut on) h.front in
           let back = flat_map (cut on) h.back in
-          let last = h.end.first ∷ z in
-          let begin-cut = sections_in on (suc (length h.begin.more)) false top (q ∷ h.begin.more) in
+          let last = h.it.end.first ∷ z in
+          let begin-cut = sections_in on (suc (length h.it.begin.more)) false top (q ∷ h.it.begin.more) in
           let end-cut = sections_in on (suc (length z)) false top last in
           let all-cut = sections_in on (length all) false top all in
           let whole-cut = sections_in on long false top (all ++ last) in
-          let end_frames : h.end.frames ≡ [] = ap first-frames (sym h.second_is) ∙ end-frames in
-          let end_stands : h.end.stands ≡ [] = ap first-stands (sym h.second_is) ∙ end-standing in
-          let end_full : h.end.first.is_blank ≡ false = ap (λ (q : Row). q.is_blank) h.end_is ∙ goes.full in
+          let end_frames : h.it.end.frames ≡ [] = ap first-frames (sym h.second_is) ∙ end-frames in
+          let end_stands : h.it.end.stands ≡ [] = ap first-stands (sym h.second_is) ∙ end-standing in
+          let end_full : h.it.end.first.is_blank ≡ false = ap (λ (q : Row). q.is_blank) h.it.end_is ∙ goes.full in
           let whole : sections on (x ++ y) ≡ front ++ (whole-cut ++ back) =
           ap (flat_map (cut on)) h.whole_is
-          ∙ flat_map-append (cut on) h.front (joined_part h.begin h.blanks h.end ∷ h.back)
-          ∙ ap (λ l. front ++ (l ++ back)) (cut-full (joined_part h.begin h.blanks h.end) h.full ∙ around-any on long false (joined_part h.begin h.blanks h.end) top (all ++ last) same.0.frames same.0.stands) in
+          ∙ flat_map-append (cut on) h.front (joined_part h.it.begin h.it.blanks h.it.end ∷ h.back)
+          ∙ ap (λ l. front ++ (l ++ back)) (cut-full (joined_part h.it.begin h.it.blanks h.it.end) h.it.full ∙ around-any on long false (joined_part h.it.begin h.it.blanks h.it.end) top (all ++ last) same.0.frames same.0.stands) in
           let first : sections on x ≡ front ++ all-cut =
           ap (flat_map (cut on)) h.first_is
-          ∙ flat_map-append (cut on) h.front (h.begin ∷ h.blanks)
-          ∙ (λ i. front ++ ((cut-full h.begin h.full ∙ around-any on (suc (length h.begin.more)) false h.begin top (q ∷ h.begin.more) same.0.frames same.0.stands) i ++ cut-blanks h.blanks h.are_blank i))
+          ∙ flat_map-append (cut on) h.front (h.it.begin ∷ h.it.blanks)
+          ∙ (λ i. front ++ ((cut-full h.it.begin h.it.full ∙ around-any on (suc (length h.it.begin.more)) false h.it.begin top (q ∷ h.it.begin.more) same.0.frames same.0.stands) i ++ cut-blanks h.it.blanks h.it.are_blank i))
           ∙ ap (λ l. front ++ l)
-          (sym (with-blanks top on (length all) (suc (length h.begin.more)) q h.begin.more h.blanks (omega arith) (omega arith) (every-front LeftIsBlank (q ∷ h.begin.more) (firsts h.blanks) few) (every-back LeftIsBlank (q ∷ h.begin.more) (firsts h.blanks) few) h.are_blank same.1)) in
+          (sym (with-blanks top on (length all) (suc (length h.it.begin.more)) q h.it.begin.more h.it.blanks (omega arith) (omega arith) (every-front LeftIsBlank (q ∷ h.it.begin.more) (firsts h.it.blanks) few) (every-back LeftIsBlank (q ∷ h.it.begin.more) (firsts h.it.blanks) few) h.it.are_blank same.1)) in
           let second : sections on y ≡ end-cut ++ back =
           ap (flat_map (cut on)) h.second_is
-          ∙ ap (λ l. l ++ back) (cut-full h.end end_full ∙ around-any on (suc (length z)) false h.end top last end_frames end_stands) in
-          let tail : Behind h.end.first z = subst (λ (q : Row). Behind q z) (sym h.end_is) (stays goes.full goes.left goes.stays_on) in
+          ∙ ap (λ l. l ++ back) (cut-full h.it.end end_full ∙ around-any on (suc (length z)) false h.it.end top last end_frames end_stands) in
+          let tail : Behind h.it.end.first z = subst (λ (q : Row). Behind q z) (sym h.it.end_is) (stays goes.full goes.left goes.stays_on) in
           let apart : joined false all last ≡ false =
-          ap (λ (q2 : Row). joined false all (q2 ∷ z)) h.end_is ∙ sym (joined-back false h.above q inner rs z) ∙ sym (ap (λ l. joined false l y) h.rows_are) ∙ ends in
+          ap (λ (q2 : Row). joined false all (q2 ∷ z)) h.it.end_is ∙ sym (joined-back false h.above q inner rs z) ∙ sym (ap (λ l. joined false l y) h.rows_are) ∙ ends in
           let size : long ≡ length (all ++ last) = refl in
-          let inside = sections-join on top Known Place placing h.end.first z tail long (length all) (suc (length z)) false all (omega arith) (omega arith) (omega arith) apart few (begun h.front h.begin h.blanks h.first_is (h.rows_are ∙ ap (λ l. l ++ all) h.above_is) h.full h.stay) in
+          let inside = sections-join on top Known Place placing h.it.end.first z tail long (length all) (suc (length z)) false all (omega arith) (omega arith) (omega arith) apart few (begun h.front h.it.begin h.it.blanks h.first_is (h.rows_are ∙ ap (λ l. l ++ all) h.above_is) h.it.full h.it.stay) in
           joins-same Place top r rs (h.above ++ all) x (front ++ (whole-cut ++ back)) (sections on (x ++ y)) (front ++ all-cut) (sections on x) (end-cut ++ back) (sections on y)
           (sym h.rows_are) (sym whole) (sym first) (sym second)
           (joins-front Place top r rs front h.above all (whole-cut ++ back) all-cut (end-cut ++ back)
-          (joins-back Place top r rs all whole-cut all-cut end-cut back (joins-longer Place top r z rs h.end_rows.left h.end_rows.is all whole-cut all-cut end-cut (subst (λ (q : Row). SectionsJoin Place top all q z whole-cut all-cut end-cut) h.end_is inside))))
+          (joins-back Place top r rs all whole-cut all-cut end-cut back (joins-longer Place top r z rs h.end_rows.left h.end_rows.is all whole-cut all-cut end-cut (subst (λ (q : Row). SectionsJoin Place top all q z whole-cut all-cut end-cut) h.it.end_is inside))))
 
       pub sections-of-joined : Goal
       sections-of-joined =

@@ -62,11 +62,7 @@ module _ (on : Constructs) where
     no-further : (k : LineKind) → begins_near k ≡ true → (f : ℕ) → cond (is_indented on k) (suc f) (cond (is_blank on k && nat_le 1 f) (suc f) 0) ≡ 0
     no-further blank h f = absurd (cc)
     no-further indented h f = absurd (cc)
-    no-further heading h f = refl
-    no-further (fence g) h f = refl
-    no-further (html kind) h f = refl
-    no-further thematic_break h f = refl
-    no-further text h f = refl
+    no-further k h f = refl
 
     further-same : begins_near (kind_of_line on l) ≡ true → (lines : List Line) → further_code on (lines ++ l ∷ behind) ≡ further_code on lines
     further-same near [] = no-further (kind_of_line on l) near (further_code on behind)

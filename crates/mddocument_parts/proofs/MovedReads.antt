@@ -31,16 +31,13 @@ shown-before bytes p n lt = by ((slice_index bytes p.index == 10) && follows_cr 
     by false = lt
 
 pub range-front : (a b : List ℕ) (i j : ℕ) → i ≤ length a → j ≤ length a → between i j (a ++ b) ≡ between i j a
-range-front a b i j le more =
-    let long = length-drop i a in
-    ap (take (j - i)) (drop-append-le i a b le) ∙ take-append-le (j - i) (drop i a) b (omega (arith, long, le, more))
+range-front a b i j le more = rw (drop-append-le i a b le) (take-append-le (j - i) (drop i a) b (omega (arith, length-drop i a)))
 
 pub range-behind : (a b : List ℕ) (i j : ℕ) → between (i + length a) (j + length a) (a ++ b) ≡ between i j b
 range-behind a b i j =
     let e : i + length a ≡ length a + i = omega arith in
     let size : (j + length a) - (i + length a) ≡ j - i = omega arith in
-    let rest = ap (λ n. drop n (a ++ b)) e ∙ drop-append-add a b i in
-    (λ d. take (size d) (rest d))
+    rw (size, e, drop-append-add a b i)
 
 same-seats : (seats : List Seat) → map (λ (s : Seat). let r : Seat = record { byte = s.byte; point = s.point; end = s.end } in r) seats ≡ seats
 same-seats seats = map-same _ (λ s. refl) seats

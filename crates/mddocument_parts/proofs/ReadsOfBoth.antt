@@ -1,5 +1,5 @@
 -- The chains of two lists, one behind the other, read: those of the first as they were, and those of the second moved.
-use Rattle.std.proofs.Common.{Bool, List, Option, [], ap, arith, cond, false, get_or, length, map, refl, subst, suc, sym, true, zero, ℕ, ◌++◌, ◌+◌, ◌<◌, ◌∙◌, ◌∷◌, ◌≡◌, ◌≤◌, ⊎_elim}
+use Rattle.std.proofs.Common.{Bool, List, Option, [], ap, arith, false, get_or, length, map, refl, subst, suc, sym, true, zero, ℕ, ◌++◌, ◌+◌, ◌<◌, ◌∙◌, ◌∷◌, ◌≡◌, ◌≤◌, ⊎_elim}
 use Rattle.std.proofs.lemmas.Bool.{and_parts}
 use Rattle.std.proofs.lemmas.Bool.Decides.{nat_tests}
 use Rattle.std.proofs.lemmas.List.{length-map, map-append}
@@ -15,6 +15,7 @@ use Rattle.markdown_base.specs.Events.{EndsBelow}
 use Rattle.markdown_base.specs.Places.{IsPointOf, in_range, stands_before}
 use Rattle.markdown_base.specs.Virtual.{Seat, begins_with_lf, in_tab, tab_width, virtual, virtual_from}
 use Rattle.markdown_edits.specs.Links.{previous_of}
+use Rattle.markdown_tokenizer.proofs.Positions.Order.{every-kept}
 use Rattle.markdown_tokenizer.specs.Text.{Given}
 use Rattle.markdown_children.proofs.ChainOrder.Following.{Fits, fits_next, whole-from}
 use Rattle.markdown_children.proofs.ChainOrder.Forward.{ends-inside}
@@ -137,14 +138,6 @@ module _ (t : ℕ) (a : List ℕ) (wanted : Option Content) (events : List Event
 
 -- ---- texts that stand before the end
 
-every-passed : {A : Type 0} (f : A → Bool) (P Q : A → Type 0) → ((x : A) → P x → f x ≡ true → Q x) → (xs : List A) → AllByRecursion P xs → AllByRecursion Q (filter f xs)
-every-passed f P Q h [] k = tt
-every-passed f P Q h (x ∷ xs) k = by (f x) refl (every-passed f P Q h xs k.1)
-  where
-    by : (b : Bool) → f x ≡ b → AllByRecursion Q (filter f xs) → AllByRecursion Q (cond b (x ∷ filter f xs) (filter f xs))
-    by true e r = (h x k.0 e, r)
-    by false e r = r
-
 -- the last of bytes that end a line is no tab
 last-tab : (b a : List ℕ) → begins_line b a ≡ true → (i : ℕ) → i < length a → get_or a i 0 ≡ 9 → i + 1 < length a
 last-tab b [] h i l e = absurd (omega arith)
@@ -161,7 +154,7 @@ module _ (t : ℕ) (some : 0 < t) (a b : List ℕ) (ends : begins_line b a ≡ t
   range-stands : (from to : Point) → IsPointOf t a to → to.index < length a → AllByRecursion (StandsBefore (length a)) (filter (in_range from to) (virtual t a))
   range-stands from to place inside =
       let in_tab = (place-inside t some a to place).1 in
-      every-passed (in_range from to) (IsNear (length a)) (StandsBefore (length a))
+      every-kept (IsNear (length a)) (StandsBefore (length a)) (in_range from to)
       (λ s n test. (
         n.0,
         end-number (length a) s.point.index s.point.vs s.end.index to.index to.vs n.0 n.1 (and_parts (not (stands_before s.point from)) (stands_before s.point to) test).1 inside

@@ -1,10 +1,8 @@
 -- At a rest leaf blocks are cut apart.
-use Rattle.mddocument_parts.proofs.Prelude.{◌≡◌, inl, inr, ℕ, zero, suc, ◌<◌, ◌≤◌, ◌&&◌, List, [], ◌∷◌, ◌++◌, Bool, true, false, not, length, drop, length-drop, refl, sym, ap, ◌∙◌, arith, drop-append-le, not-true, and-right, and-left, Constructs, Line, LeafBlock, blank_line, break_line, atx_heading, paragraph, setext_heading, indented_code, fenced_code, html_block, block_of_kind, leaf_blocks, RestsCutBlocks, RestsForget, WideRestsCutBlocks, begins_near, goes_on, is_open, kind_of_line, last_passes, cut}
+use Rattle.mddocument_parts.proofs.Prelude.{◌≡◌, inl, inr, ℕ, zero, suc, ◌≤◌, ◌&&◌, List, [], ◌∷◌, ◌++◌, Bool, true, false, not, length, drop, length-drop, refl, sym, ap, ◌∙◌, arith, drop-append-le, not-true, and-right, and-left, Constructs, Line, LeafBlock, blank_line, break_line, atx_heading, paragraph, setext_heading, indented_code, fenced_code, html_block, block_of_kind, leaf_blocks, RestsCutBlocks, RestsForget, WideRestsCutBlocks, begins_near, goes_on, is_open, kind_of_line, last_passes, cut}
+use Rattle.markdown_base.proofs.Facts.Lists.{begins-inside}
 use Rattle.mddocument_parts.proofs.Fuel.{enough}
 use Rattle.mddocument_parts.proofs.Longer.{StandsApart, front-same}
-
-more-there : (n : ℕ) (all : List Line) (next : Line) (behind : List Line) → drop n all ≡ next ∷ behind → n < length all
-more-there n all next behind e = let l = ap length e in omega (arith, l, length-drop n all)
 
 module _ (on : Constructs) where
   -- the front, and the blocks behind it
@@ -21,7 +19,7 @@ module _ (on : Constructs) where
     -- the front stands apart, and what comes behind it does
     by-rest : (c : LeafBlock × ℕ) (all rest : List Line) → drop c.1 all ≡ rest → last_passes on joins (c.0 ∷ leaf_blocks on rest) ≡ false → StandsApart on l c all × (last_passes on joins (leaf_blocks on rest) ≡ false)
     by-rest c all [] e h = (inr h, refl)
-    by-rest c all (next ∷ more) e h = (inl (more-there c.1 all next more e), h)
+    by-rest c all (next ∷ more) e h = (inl (begins-inside c.1 all next more e), h)
 
     apart : (bound : ℕ) (lines : List Line) → length lines ≤ bound → last_passes on joins (leaf_blocks on lines) ≡ false → leaf_blocks on (lines ++ l ∷ behind) ≡ leaf_blocks on lines ++ leaf_blocks on (l ∷ behind)
     apart bound [] long h = refl
@@ -43,14 +41,10 @@ module _ (on : Constructs) where
 
   -- a block that is not open goes on with no line
   closed : (block : LeafBlock) (line : Line) → is_open on block ≡ false → goes_on on block line ≡ false
-  closed (blank_line b) line h = refl
-  closed (break_line b) line h = refl
-  closed (atx_heading b) line h = refl
   closed (paragraph lines) line h = absurd (cc)
-  closed (setext_heading rank lines below) line h = refl
-  closed (indented_code lines) line h = refl
   closed (fenced_code f is_closed lines) line h = h
   closed (html_block kind is_closed lines) line h = h
+  closed block line h = refl
 
   last-closed : (line : Line) (blocks : List LeafBlock) → last_passes on (is_open on) blocks ≡ false → last_passes on (λ block. goes_on on block line) blocks ≡ false
   last-closed line [] h = refl

@@ -5,6 +5,7 @@ use Rattle.std.proofs.lemmas.Bool.{eqb-true}
 use Rattle.std.proofs.lemmas.List.{reverse-append}
 use Rattle.std.specs.List.{AllByRecursion, flat_map}
 use Rattle.std.specs.Prelude.{None, Option, Some, map, reverse}
+use Rattle.markdown_base.proofs.Common.{every-append, every-drop, every-take}
 use Rattle.markdown_base.specs.declared.configuration.Constructs.{Constructs}
 use Rattle.markdown_base.specs.Events.{same_name}
 use Rattle.mdblock_leaf_blocks.specs.LeafBlocks.{Line, text_of}
@@ -36,23 +37,9 @@ module _ (P : ℕ → Type 0) where
   abbrev pub RowIs : Row → Type 0
   RowIs row = AllIn row.went_on × AllIn row.begun
 
-  both : (A : Type 0) (Q : A → Type 0) (xs ys : List A) → AllByRecursion Q xs → AllByRecursion Q ys → AllByRecursion Q (xs ++ ys)
-  both A Q [] ys h k = k
-  both A Q (x ∷ xs) ys h k = (h.0, both A Q xs ys h.1 k)
-
-  front : (A : Type 0) (Q : A → Type 0) (n : ℕ) (xs : List A) → AllByRecursion Q xs → AllByRecursion Q (take n xs)
-  front A Q zero xs h = tt
-  front A Q (suc n) [] h = tt
-  front A Q (suc n) (x ∷ xs) h = (h.0, front A Q n xs h.1)
-
-  back : (A : Type 0) (Q : A → Type 0) (n : ℕ) (xs : List A) → AllByRecursion Q xs → AllByRecursion Q (drop n xs)
-  back A Q zero xs h = h
-  back A Q (suc n) [] h = tt
-  back A Q (suc n) (x ∷ xs) h = back A Q n xs h.1
-
   turned : (cs : List Container) → All cs → All (reverse cs)
   turned [] h = tt
-  turned (c ∷ cs) h = subst All (sym (reverse-append (c ∷ []) cs)) (both Container NumbersOf (reverse cs) (c ∷ []) (turned cs h.1) (h.0, tt))
+  turned (c ∷ cs) h = subst All (sym (reverse-append (c ∷ []) cs)) (every-append NumbersOf (reverse cs) (c ∷ []) (turned cs h.1) (h.0, tt))
 
   -- ---- rows
   goes : (cs : List Container) (number : ℕ) (t : List ℕ) → All cs → AllIn (going_on cs number t)
@@ -101,8 +88,8 @@ module _ (P : ℕ → Type 0) where
       let rest = drop (columns_of went) (text_of line) in
       let all = length went == b.depth in
       let begun = beginning on (length rest) number (all && is_paragraph b.leaf) rest in (
-        goes (take b.depth b.stack) number (text_of line) (front Container NumbersOf b.depth b.stack h),
-        either (all && is_raw b.leaf) (with_list (drop (length went) b.stack) begun) (listed (drop (length went) b.stack) begun (back Container NumbersOf (length went) b.stack h) (begin on (length rest) number (all && is_paragraph b.leaf) rest p)),
+        goes (take b.depth b.stack) number (text_of line) (every-take NumbersOf b.depth b.stack h),
+        either (all && is_raw b.leaf) (with_list (drop (length went) b.stack) begun) (listed (drop (length went) b.stack) begun (every-drop NumbersOf (length went) b.stack h) (begin on (length rest) number (all && is_paragraph b.leaf) rest p)),
       )
     where
       either : (c : Bool) (ps : List Prefix) → AllIn ps → AllIn (cond c [] ps)
@@ -118,7 +105,7 @@ module _ (P : ℕ → Type 0) where
       by : (left lazy : Bool) → All (let b : Before = cond left (record k.before { depth = length row.went_on; leaf = closed }) (cond lazy (record k.before { leaf = row.leaf }) (record { stack = containers_of row.went_on ++ containers_of row.begun; depth = length (containers_of row.went_on ++ containers_of row.begun); leaf = row.leaf })) in b).stack
       by true lazy = h
       by false true = h
-      by false false = both Container NumbersOf (containers_of row.went_on) (containers_of row.begun) (contained row.went_on r.0) (contained row.begun r.1)
+      by false false = every-append NumbersOf (containers_of row.went_on) (containers_of row.begun) (contained row.went_on r.0) (contained row.begun r.1)
 
   pub rows-are : (on : Constructs) (k : Known) (number : ℕ) (ls : List Line) → ((m : ℕ) → number ≤ m → m < number + length ls → P m) → All k.before.stack → AllByRecursion RowIs (rows_from on k number ls)
   rows-are on k number [] p h = tt
@@ -140,7 +127,7 @@ module _ (P : ℕ → Type 0) where
   standing-is : (row : Row) (behind : List Row) → RowIs row → All (standing row behind)
   standing-is row behind h =
       let all = containers_of row.went_on ++ containers_of row.begun in
-      let every = both Container NumbersOf (containers_of row.went_on) (containers_of row.begun) (contained row.went_on h.0) (contained row.begun h.1) in
+      let every = every-append NumbersOf (containers_of row.went_on) (containers_of row.begun) (contained row.went_on h.0) (contained row.begun h.1) in
       by row.is_blank all every (turned (left_in (going_on_at behind) row.number (reverse all)) (left-is (going_on_at behind) row.number (reverse all) (turned all every)))
     where
       by : (b : Bool) (all : List Container) → All all → All (reverse (left_in (going_on_at behind) row.number (reverse all))) → All (cond b (reverse (left_in (going_on_at behind) row.number (reverse all))) all)
@@ -175,7 +162,7 @@ module _ (P : ℕ → Type 0) where
   frames-are : (row : Row) (behind : List Row) → RowIs row → AllByRecursion RowIs behind → AllByRecursion FrameIs (frames_at row behind)
   frames-are row behind h k =
       let stands = standing row behind in
-      both Frame FrameIs (flat_map frames_of stands) (cond (row.is_left_blank && (length stands == going_on_at behind)) (list_at behind) []) (frames-of stands (standing-is row behind h)) (by (row.is_left_blank && (length stands == going_on_at behind)) (list-is behind k))
+      every-append FrameIs (flat_map frames_of stands) (cond (row.is_left_blank && (length stands == going_on_at behind)) (list_at behind) []) (frames-of stands (standing-is row behind h)) (by (row.is_left_blank && (length stands == going_on_at behind)) (list-is behind k))
     where
       by : (b : Bool) → AllByRecursion FrameIs (list_at behind) → AllByRecursion FrameIs (cond b (list_at behind) [])
       by true m = m
@@ -190,7 +177,7 @@ module _ (P : ℕ → Type 0) where
   parts-are : (bound : ℕ) (rows : List Row) → AllByRecursion RowIs rows → AllByRecursion PartIs (parts_in bound rows)
   parts-are zero rows h = tt
   parts-are (suc bound) [] h = tt
-  parts-are (suc bound) (row ∷ behind) h = let n = cond row.is_blank 0 (further behind) in (frames-are row behind h.0 h.1, parts-are bound (drop n behind) (back Row RowIs n behind h.1))
+  parts-are (suc bound) (row ∷ behind) h = let n = cond row.is_blank 0 (further behind) in (frames-are row behind h.0 h.1, parts-are bound (drop n behind) (every-drop RowIs n behind h.1))
 
   -- sections are in the spans of their part
   plain-in : (around : Part) → PartIs around → (ps : List Part) → AllByRecursion SectionIs (map (λ p. record { part = p; inside = lines false }) (map (in_same around) ps))
@@ -217,8 +204,8 @@ module _ (P : ℕ → Type 0) where
       let first = undefined b around (take n all) in
       let middle = defining ds around (take d behind) in
       let last = sections_in on bound true around (drop d behind) in
-      both Section SectionIs first (middle ++ last) (several-in around h (b && begins_text (take n all)) (parts (take n all)))
-      (both Section SectionIs middle last (defining-in ds around h (take d behind)) (cut-in on bound true around h (drop d behind)))
+      every-append SectionIs first (middle ++ last) (several-in around h (b && begins_text (take n all)) (parts (take n all)))
+      (every-append SectionIs middle last (defining-in ds around h (take d behind)) (cut-in on bound true around h (drop d behind)))
 
   cut-is : (on : Constructs) (part : Part) → PartIs part → AllByRecursion SectionIs (cut on part)
   cut-is on part h = by part.first.is_blank
@@ -229,7 +216,7 @@ module _ (P : ℕ → Type 0) where
 
   all-cut : (on : Constructs) (ps : List Part) → AllByRecursion PartIs ps → AllByRecursion SectionIs (flat_map (cut on) ps)
   all-cut on [] h = tt
-  all-cut on (p ∷ ps) h = both Section SectionIs (cut on p) (flat_map (cut on) ps) (cut-is on p h.0) (all-cut on ps h.1)
+  all-cut on (p ∷ ps) h = every-append SectionIs (cut on p) (flat_map (cut on) ps) (cut-is on p h.0) (all-cut on ps h.1)
 
   -- the spans of sections have such numbers, if the rows have
   pub sections-are : (on : Constructs) (rows : List Row) → AllByRecursion RowIs rows → AllByRecursion SectionIs (sections on rows)

@@ -193,17 +193,17 @@ module _ (left : LineIsLeft) (on : Constructs) (t : ℕ) (a b : List ℕ) (rest 
   there = sym (ap (first_at_document_rest on one) are) ∙ and-right (begins_line b a) (first_at_document_rest on one (lines_in (virtual t b))) rest
 
   -- the line at the rest is neither blank nor far
-  pub near-at-seam : begins_near (kind_of_line on h.end.first.line) ≡ true
+  pub near-at-seam : begins_near (kind_of_line on h.it.end.first.line) ≡ true
   near-at-seam =
-      ap (λ (r : Row). begins_near (kind_of_line on r.line)) h.end_is
+      ap (λ (r : Row). begins_near (kind_of_line on r.line)) h.it.end_is
       ∙ ap (λ t. begins_near (line_kind on t)) (text-moved (line_endings a) (length a) line)
       ∙ and-left (begins_near (kind_of_line on line)) _ (and-right (is_closed (known_at_end on one).before.leaf) _ there)
 
   -- The last stretch of the first part ends there
-  pub stretch-at-seam : (x : Line) → (h.is_behind ≡ false → x ≡ h.begin.first.line) → (h.is_behind ≡ true → BeginsLetter x) → (l : Line) → begins_near (kind_of_line on l) ≡ true → EndsBefore on (x ∷ lines_of h.begin.more) (lines_of (firsts h.blanks)) l
+  pub stretch-at-seam : (x : Line) → (h.within.is_behind ≡ false → x ≡ h.it.begin.first.line) → (h.within.is_behind ≡ true → BeginsLetter x) → (l : Line) → begins_near (kind_of_line on l) ≡ true → EndsBefore on (x ∷ lines_of h.it.begin.more) (lines_of (firsts h.it.blanks)) l
   stretch-at-seam x same lettered l near =
       let on_behind : goes_on_behind on one (line ∷ behind) ≡ true = sym (ap (goes_on_behind on one) are) ∙ goes in
       let end = stretches-go-on-at-top on one line there on_behind in
       let shut = and-left (is_closed (known_at_end on one).before.leaf) _ there in
-      let bare = bare-from on (known_at_start on) 1 one end.0 h.above h.begin.first (h.begin.more ++ firsts h.blanks) h.rows_are h.full h.stay in
-      ends-at on left (known_at_end on one) end.0 shut h.begin.first h.begin.more (firsts h.blanks) h.full bare h.stay (lefts h.blanks h.are_blank) h.reach h.place.1 h.is_behind x same lettered l near h.place
+      let bare = bare-from on (known_at_start on) 1 one end.0 h.above h.it.begin.first (h.it.begin.more ++ firsts h.it.blanks) h.rows_are h.it.full h.it.stay in
+      ends-at on left (known_at_end on one) end.0 shut h.it.begin.first h.it.begin.more (firsts h.it.blanks) h.it.full bare h.it.stay (lefts h.it.blanks h.it.are_blank) h.it.reach h.within.place.1 h.within.is_behind x same lettered l near h.within.place

@@ -1,7 +1,7 @@
 -- Parts of a stretch that goes on over a rest: it begins with text, its first line may have a letter in front, and what stands between both stretches has no chunk.
-use Rattle.std.proofs.Common.{Bool, List, None, Some, [], ap, arith, cond, drop, false, length, map, refl, sym, take, true, ℕ, suc, ◌==◌, ◌&&◌, ◌++◌, ◌+◌, ◌<◌, ◌∙◌, ◌∷◌, ◌≡◌, ◌||◌}
-use Rattle.std.proofs.Math.Bool.{or-true}
-use Rattle.std.proofs.lemmas.Bool.{eq-eqb, false≢true}
+use Rattle.std.proofs.lemmas.Bool.Decides.{nat_tests}
+use Rattle.std.proofs.Common.{Bool, List, None, Some, [], ap, arith, cond, drop, false, length, map, refl, sym, take, true, ℕ, suc, ◌==◌, ◌&&◌, ◌++◌, ◌+◌, ◌<◌, ◌∙◌, ◌∷◌, ◌≡◌}
+use Rattle.std.proofs.lemmas.Bool.{false≢true}
 use Rattle.std.proofs.lemmas.Grind.{flat_map-append}
 use Rattle.std.proofs.lemmas.List.{length-drop, map-append}
 use Rattle.std.proofs.lemmas.List.Folds.{list_any-append}
@@ -52,10 +52,7 @@ letter-first at s ss h =
     ap (λ x. text_of (x ∷ map (lettered_seat at) ss)) first
 
 has-one : (n : ℕ) (xs ys zs : List ℕ) → list_any (λ i. i == n) ((xs ++ (n ∷ ys)) ++ zs) ≡ true
-has-one n xs ys zs =
-    let test : ℕ → Bool = λ i. i == n in
-    let here : list_any test (n ∷ ys) ≡ true = ap (λ b. b || list_any test ys) (eq-eqb n n refl) in
-    list_any-append test (xs ++ (n ∷ ys)) zs ∙ ap (λ b. b || list_any test zs) (list_any-append test xs (n ∷ ys) ∙ ap (λ b. list_any test xs || b) here ∙ or-true (list_any test xs))
+has-one n xs ys zs = let test : ℕ → Bool = λ i. i == n in rw (list_any-append test (xs ++ (n ∷ ys)) zs, list_any-append test xs (n ∷ ys)) (grind (arith, nat_tests))
 
 -- directly behind definitions the letter stands where the text begins
 pub letter-in-front : (q : Row) (before behind at : List ℕ) → q.columns ≡ 0 → at ≡ (before ++ text_begin q) ++ behind → indent (rest_of q) < length q.line

@@ -131,10 +131,10 @@ module _ (on : Constructs) where
     pub seam-none : next.before.stack ≡ []
     seam-none = next-none start 1 line refl (none_is first_row.begun at-end.1)
 
-    pub seam-not-lazy : (Place : Bool → List Row → Type 0) (whole first second : List Section) (h : SectionSeam Place (at_top r) (rows on one) r rs whole first second) → AllByRecursion NotLazy (h.begin.first ∷ ((h.begin.more ++ firsts h.blanks) ++ (h.end.first ∷ h.end.more)))
+    pub seam-not-lazy : (Place : Bool → List Row → Type 0) (whole first second : List Section) (h : SectionSeam Place (at_top r) (rows on one) r rs whole first second) → AllByRecursion NotLazy (h.it.begin.first ∷ ((h.it.begin.more ++ firsts h.it.blanks) ++ (h.it.end.first ∷ h.it.end.more)))
     seam-not-lazy Place whole first second h =
-        let inner = h.begin.more ++ firsts h.blanks in
-        let above = behind-not-lazy start 1 one (omega arith) at-end.0 h.above h.begin.first inner h.rows_are h.full h.stay in
-        let end = subst NotLazy (sym h.end_is) (top-not-lazy start 1 line (omega arith) refl) in
-        let more = ahead-all m bytes NotLazy (λ k. Unit {0}) (λ k n line q. q) (λ k n line deep none q begun. top-not-lazy k n line deep none) next 2 behind h.end.more h.end_rows.left seam-deep seam-none tt h.end_rows.is h.end_stay in
-        (above.0, every-append NotLazy inner (h.end.first ∷ h.end.more) above.1 (end, more))
+        let inner = h.it.begin.more ++ firsts h.it.blanks in
+        let above = behind-not-lazy start 1 one (omega arith) at-end.0 h.above h.it.begin.first inner h.rows_are h.it.full h.it.stay in
+        let end = subst NotLazy (sym h.it.end_is) (top-not-lazy start 1 line (omega arith) refl) in
+        let more = ahead-all m bytes NotLazy (λ k. Unit {0}) (λ k n line q. q) (λ k n line deep none q begun. top-not-lazy k n line deep none) next 2 behind h.it.end.more h.end_rows.left seam-deep seam-none tt h.end_rows.is h.it.end_stay in
+        (above.0, every-append NotLazy inner (h.it.end.first ∷ h.it.end.more) above.1 (end, more))

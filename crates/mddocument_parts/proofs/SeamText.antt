@@ -123,11 +123,7 @@ module _ (on : Constructs) where
   opened-long : (kind : LineKind) (t : List ℕ) → ((f : Fence) → kind ≡ fence f → 3 ≤ f.size) → IsLong (opened_by on kind t)
   opened-long (fence f) t h = h f refl
   opened-long (html kind) t h = cond-long (ends kind t) closed (open_html kind) tt tt
-  opened-long blank t h = tt
-  opened-long indented t h = tt
-  opened-long heading t h = tt
-  opened-long thematic_break t h = tt
-  opened-long text t h = tt
+  opened-long kind t h = tt
 
   after-long : (leaf : Leaf) (t : List ℕ) → IsLong leaf → IsLong (leaf_after on leaf t)
   after-long closed t h = opened-long (line_kind on t) t (fence-long on t)
@@ -154,10 +150,8 @@ module _ (on : Constructs) where
       by false k false f = h
 
   held-no-text : (leaf : Leaf) → holds_ending leaf ≡ true → is_paragraph leaf ≡ false
-  held-no-text closed h = refl
   held-no-text open_paragraph h = absurd (cc)
-  held-no-text (open_fence f) h = refl
-  held-no-text (open_html kind) h = refl
+  held-no-text leaf h = refl
 
   module _ (k : Known) (n : ℕ) (line : Line) where
     abbrev row : Row
@@ -238,15 +232,15 @@ module _ (on : Constructs) (m bytes : ℕ) (one : List Line) (line : Line) (behi
 
   -- the last line of the second stretch
   pub seam-text : (Place : Bool → List Row → Type 0) (whole first second : List Section) → second ≡ map (moved_section m bytes) (sections on (rows on (line ∷ behind))) → (h : SectionSeam Place (at_top r) (rows on one) r rs whole first second)
-      → is_held h.end ≡ false → HasText (last_line (lines_of (h.end.first ∷ h.end.more)))
+      → is_held h.it.end ≡ false → HasText (last_line (lines_of (h.it.end.first ∷ h.it.end.more)))
   seam-text Place whole first second second_is h held =
       let at = goes-on on bytes one line behind there goes in
-      let end = h.end in
+      let end = h.it.end in
       let kept = subst FirstKept (sym second_is ∙ h.second_is) (moved-kept m bytes (sections on (rows on (line ∷ behind))) (sections-kept on first_row (rows_from on next 2 behind) at.left)) refl in
-      let full : end.first.is_blank ≡ false = ap (λ (q : Row). q.is_blank) h.end_is ∙ at.full in
+      let full : end.first.is_blank ≡ false = ap (λ (q : Row). q.is_blank) h.it.end_is ∙ at.full in
       let holds : holds_ending (last_of end.first end.more).leaf ≡ false = sym (ap (λ b. not b && holds_ending (last_of end.first end.more).leaf) full) ∙ held in
       let first_ends : Ends r = (λ left holds. moved-text m bytes line (λ e. let both : true ≡ false = sym (ap is_blank_line (empty-rest on start 1 line e)) ∙ at.full in absurd (cc))) in
       let more = ahead-all on m bytes Ends (λ k. IsLong k.before.leaf) (λ k n line long. next-long on k n line long)
       (λ k n line deep none long begun left holds. moved-text m bytes line (row-text on k n line deep none long begun left holds))
-      next 2 behind end.more h.end_rows.left (seam-deep on m bytes one line behind there goes) (seam-none on m bytes one line behind there goes) (next-long on start 1 line tt) h.end_rows.is h.end_stay in
-      subst HasText (sym (last-line-is end.first end.more)) (of-last Ends end.first end.more (subst Ends (sym h.end_is) first_ends) more kept holds)
+      next 2 behind end.more h.end_rows.left (seam-deep on m bytes one line behind there goes) (seam-none on m bytes one line behind there goes) (next-long on start 1 line tt) h.end_rows.is h.it.end_stay in
+      subst HasText (sym (last-line-is end.first end.more)) (of-last Ends end.first end.more (subst Ends (sym h.it.end_is) first_ends) more kept holds)

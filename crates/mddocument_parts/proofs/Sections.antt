@@ -28,13 +28,7 @@ first-line-tells on t a b c some ends begins =
 module _ (on : Constructs) (l n : ℕ) where
   open-moved : (block : LeafBlock) → is_open on (moved_block l n block) ≡ is_open on block
   open-moved (blank_line line) = refl
-  open-moved (break_line line) = refl
-  open-moved (atx_heading line) = refl
-  open-moved (paragraph lines) = refl
-  open-moved (setext_heading rank lines below) = refl
-  open-moved (indented_code lines) = refl
-  open-moved (fenced_code f is_closed lines) = refl
-  open-moved (html_block kind is_closed lines) = refl
+  open-moved block = refl
 
   last-moved : (blocks : List LeafBlock) → last_passes on (is_open on) (map (moved_block l n) blocks) ≡ last_passes on (is_open on) blocks
   last-moved [] = refl

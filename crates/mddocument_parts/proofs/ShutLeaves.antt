@@ -78,13 +78,10 @@ module _ (on : Constructs) where
     shut-front = by (line_kind on (text_of line)) refl (front on line lines full)
       where
         by : (kind : LineKind) → line_kind on (text_of line) ≡ kind → Front on (block_of_kind on kind line lines) all → IsShut (block_of_kind on kind line lines).1 → is_open on (block_of_kind on kind line lines).0 ≡ false
-        by blank e f h = refl
-        by indented e f h = refl
-        by heading e f h = refl
         by (fence g) e f h = sym f.open_is ∙ shut-held (block_of_kind on (fence g) line lines) f h
         by (html kind) e f h = shut-html kind e f h
-        by thematic_break e f h = refl
         by text e f h = shut-content e h
+        by kind e f h = refl
 
   -- ---- all blocks
   pub behind-both : (leaf : Leaf) (xs ys : List Line) → leaf_behind on leaf (xs ++ ys) ≡ leaf_behind on (leaf_behind on leaf xs) ys

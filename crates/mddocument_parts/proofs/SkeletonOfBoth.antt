@@ -1,6 +1,6 @@
 -- The skeleton of a document is that of its parts, where the second goes on with no stretch of lines.
-use Rattle.std.proofs.Common.{◌≡◌, ℕ, ◌+◌, ◌≤◌, ◌==◌, ◌∙◌, Bool, true, false, List, [], ◌∷◌, ◌++◌, nat_le, length, ap, arith, cond, refl, subst, sym, None, Option, Some, suc}
-use Rattle.std.proofs.lemmas.Bool.{eq-eqb, eqb-true, le-leb, leb-true}
+use Rattle.std.proofs.Common.{◌≡◌, ℕ, ◌+◌, ◌≤◌, ◌∙◌, true, false, List, [], ◌∷◌, ◌++◌, nat_le, length, ap, arith, cond, refl, subst, sym, None, Option, Some, suc}
+use Rattle.std.proofs.lemmas.Bool.{le-leb, leb-true}
 use Rattle.std.specs.List.{AllByRecursion}
 use Rattle.std.specs.Prelude.{map}
 use Rattle.markdown_base.proofs.Facts.Bools.{and-left}
@@ -18,6 +18,7 @@ use Rattle.mdblock_containers.proofs.WrittenLemmas.{chained_length}
 use Rattle.mdblock_definitions.specs.Rows.{rows}
 use Rattle.mdblock_definitions.specs.Sections.{Section, sections}
 use Rattle.mdblock_definitions.specs.Skeleton.{skeleton, sections_marks}
+use Rattle.mddocument_parts.proofs.MovedRuns.{same-test}
 use Rattle.mddocument_parts.specs.DocumentRests.{first_at_document_rest, first_stays, known_at_start, moved_container, moved_prefix, moved_row}
 use Rattle.mddocument_parts.specs.Moved.{begins_line, line_endings, moved_event, moved_point}
 use Rattle.mddocument_parts.specs.MovedSections.{SkeletonOfBoth, moved_section}
@@ -139,15 +140,6 @@ module _ (a b : List ℕ) (h : begins_line b a ≡ true) where
   abbrev pub moved_mark : Mark → Mark
   moved_mark q = (record q.0 { point = moved_point (line_endings a) (length a) q.0.point }, q.1)
 
-  same-number : (n i j : ℕ) → ((i + n) == (j + n)) ≡ (i == j)
-  same-number n i j = by (i == j) refl ((i + n) == (j + n)) refl
-    where
-      by : (c : Bool) → (i == j) ≡ c → (d : Bool) → ((i + n) == (j + n)) ≡ d → d ≡ c
-      by true f true g = refl
-      by false f false g = refl
-      by true f false g = let same : i + n ≡ j + n = omega (arith, eqb-true i j f) in let both : true ≡ false = sym (eq-eqb (i + n) (j + n) same) ∙ g in absurd (cc)
-      by false f true g = let same : i ≡ j = omega (arith, eqb-true (i + n) (j + n) g) in let both : true ≡ false = sym (eq-eqb i j same) ∙ f in absurd (cc)
-
   goes : Shift
   goes = record {
     places = record {
@@ -160,7 +152,7 @@ module _ (a b : List ℕ) (h : begins_line b a ≡ true) where
       shows = λ p k. shown-behind a b h (line_endings a) p;
     };
     number = λ n. n + line_endings a;
-    same = same-number (line_endings a);
+    same = λ i j. same-test i j (line_endings a);
   }
 
   container-goes : (c : Container) → moved_container (line_endings a) c ≡ mc goes c

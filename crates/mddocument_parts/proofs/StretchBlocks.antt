@@ -112,35 +112,35 @@ module _ (options : ParseOptions) (a b : List ℕ) (is : IsDocument (document op
 
     module _ (h : Seam) where
       abbrev q : Row
-      q = h.begin.first
+      q = h.it.begin.first
 
       abbrev more : List Line
-      more = lines_of h.begin.more
+      more = lines_of h.it.begin.more
 
       abbrev blanks : List Line
-      blanks = lines_of (firsts h.blanks)
+      blanks = lines_of (firsts h.it.blanks)
 
       abbrev end : Line
-      end = h.end.first.line
+      end = h.it.end.first.line
 
       abbrev further : List Line
-      further = lines_of h.end.more
+      further = lines_of h.it.end.more
 
       abbrev held : Bool
-      held = is_held h.end
+      held = is_held h.it.end
 
       abbrev n : ℕ
-      n = white_columns bytes h.is_behind q
+      n = white_columns bytes h.within.is_behind q
 
       -- the line of which leaf blocks are read first
       pub record IsFirst (x : Line) : Type 0 where
-        pub same : h.is_behind ≡ false → x ≡ q.line
-        pub letter_first : h.is_behind ≡ true → (others : List ℕ) × (text_of x ≡ letter ∷ others)
+        pub same : h.within.is_behind ≡ false → x ≡ q.line
+        pub letter_first : h.within.is_behind ≡ true → (others : List ℕ) × (text_of x ≡ letter ∷ others)
 
       module _ (ends : (x : Line) → IsFirst x → EndsBefore on (x ∷ more) blanks end) (text : held ≡ false → HasText (last_line (end ∷ further)))
-          (lazy : AllByRecursion IsNotLazy (q ∷ ((h.begin.more ++ firsts h.blanks) ++ (h.end.first ∷ h.end.more)))) where
+          (lazy : AllByRecursion IsNotLazy (q ∷ ((h.it.begin.more ++ firsts h.it.blanks) ++ (h.it.end.first ∷ h.it.end.more)))) where
         abbrev section : Section
-        section = record { part = joined_part h.begin h.blanks h.end; inside = lines h.is_behind }
+        section = record { part = joined_part h.it.begin h.it.blanks h.it.end; inside = lines h.within.is_behind }
 
         abbrev above : List Line
         above = lines_of (rows_of h.front)
@@ -152,7 +152,7 @@ module _ (options : ParseOptions) (a b : List ℕ) (is : IsDocument (document op
         around = lines-around on t bytes h.front h.back section h.whole_is
 
         document_lines : lines_in (virtual t bytes) ≡ above ++ ((((q.line ∷ more) ++ blanks) ++ (end ∷ further)) ++ left)
-        document_lines = around ∙ ap (λ l. above ++ (l ++ left)) (joined-lines h.begin h.blanks h.end)
+        document_lines = around ∙ ap (λ l. above ++ (l ++ left)) (joined-lines h.it.begin h.it.blanks h.it.end)
 
         -- the first line has text behind its white space
         read : IsRead q
@@ -166,13 +166,13 @@ module _ (options : ParseOptions) (a b : List ℕ) (is : IsDocument (document op
 
         few-text : indent (rest_of q) < length (line_text q.line)
         few-text =
-            let some = some-text (rest_of q) (sym read.blank ∙ h.full) in
+            let some = some-text (rest_of q) (sym read.blank ∙ h.it.full) in
             let size = ap (λ (l : List ℕ). length l) text_is in
             let same = length-map (line_text q.line) (λ (s : Seat). s.byte) in
             omega (arith, some, size, same)
 
         few : n < length (line_text q.line)
-        few = by h.is_behind
+        few = by h.within.is_behind
           where
             by : (c : Bool) → cond c (indent (rest_of q)) 0 < length (line_text q.line)
             by true = few-text
@@ -195,9 +195,9 @@ module _ (options : ParseOptions) (a b : List ℕ) (is : IsDocument (document op
 
         stay : Stay
         stay =
-            let apart : lines_of section.part.more ≡ (more ++ blanks) ++ (end ∷ further) = ap (drop 1) (joined-lines h.begin h.blanks h.end) in
+            let apart : lines_of section.part.more ≡ (more ++ blanks) ++ (end ∷ further) = ap (drop 1) (joined-lines h.it.begin h.it.blanks h.it.end) in
             let all : map (lettered at) ((more ++ blanks) ++ (end ∷ further)) ≡ (more ++ blanks) ++ (end ∷ further) =
-            (λ i. map (lettered (letters_at i)) (sym apart i)) ∙ others-stay on t some bytes h.front h.back section h.is_behind refl around lazy ∙ apart in
+            (λ i. map (lettered (letters_at i)) (sym apart i)) ∙ others-stay on t some bytes h.front h.back section h.within.is_behind refl around lazy ∙ apart in
             let both = stay-front (lettered at) (more ++ blanks) (end ∷ further) all in
             let front = stay-front (lettered at) more blanks both.0 in
             record { first = front.0; between = front.1; second = both.1 }
@@ -205,9 +205,9 @@ module _ (options : ParseOptions) (a b : List ℕ) (is : IsDocument (document op
         first-is : IsFirst (lettered at (drop n q.line))
         first-is = record {
           same = λ off.
-              (λ i. map (lettered_seat (letters_at i)) (drop (cond (off i) (indent (rest_of q)) 0) q.line)) ∙ first-stays on t some bytes h.front h.back section h.is_behind refl around lazy off;
+              (λ i. map (lettered_seat (letters_at i)) (drop (cond (off i) (indent (rest_of q)) 0) q.line)) ∙ first-stays on t some bytes h.front h.back section h.within.is_behind refl around lazy off;
           letter_first = λ yes.
-              let is = letters_at ∙ letters-are on t some bytes h.front h.back section h.is_behind refl around lazy ∙ ap (λ c. (flat_map (letters_of_section on) h.front ++ cond c (text_begin q) []) ++ flat_map (letters_of_section on) h.back) yes in
+              let is = letters_at ∙ letters-are on t some bytes h.front h.back section h.within.is_behind refl around lazy ∙ ap (λ c. (flat_map (letters_of_section on) h.front ++ cond c (text_begin q) []) ++ flat_map (letters_of_section on) h.back) yes in
               subst (λ c. (others : List ℕ) × (text_of (map (lettered_seat at) (drop (cond c (indent (rest_of q)) 0) q.line)) ≡ letter ∷ others)) (sym yes)
               (letter-in-front q (flat_map (letters_of_section on) h.front) (flat_map (letters_of_section on) h.back) at columns is (let few = few-text in let long = text-shorter q.line read.whole in omega (arith, few, long)));
         }
@@ -308,7 +308,7 @@ blocks-with-stretch options a b is rest goes = by (lines_in (virtual options.tab
         let first = sections on (document_rows on t a) in
         let second = map (moved_section n (length a)) (sections on (document_rows on t b)) in
         blocks-at-seam options a b is rest line behind e goes h
-        (λ x is. stretch-at-seam underline-is-left on t a b rest goes line behind e rs whole first second h x is.same is.letter_first h.end.first.line (near-at-seam underline-is-left on t a b rest goes line behind e rs whole first second h))
+        (λ x is. stretch-at-seam underline-is-left on t a b rest goes line behind e rs whole first second h x is.same is.letter_first h.it.end.first.line (near-at-seam underline-is-left on t a b rest goes line behind e rs whole first second h))
         (seam-text on n (length a) one line behind there on_behind Place whole first second (ap (λ l. map (moved_section n (length a)) (sections on (rows on l))) e) h)
         (seam-not-lazy on n (length a) one line behind there on_behind Place whole first second h)
 

@@ -1,5 +1,5 @@
 -- The texts of chains of two lists, one behind the other: those of the first are as they were, and those of the second are moved.
-use Rattle.std.proofs.Common.{Bool, List, [], ap, append-nil, arith, cond, false, length, map, refl, sym, true, ℕ, ◌++◌, ◌+◌, ◌<◌, ◌∙◌, ◌∷◌, ◌≡◌}
+use Rattle.std.proofs.Common.{Bool, List, [], ap, append-nil, arith, false, length, map, refl, sym, true, ℕ, ◌++◌, ◌+◌, ◌<◌, ◌∙◌, ◌∷◌, ◌≡◌}
 use Rattle.std.proofs.Math.Bool.{and-false}
 use Rattle.std.proofs.lemmas.Bool.Decides.{nat_tests}
 use Rattle.std.proofs.lemmas.List.{map-append}
@@ -33,11 +33,7 @@ pub record IsDocumentOfBoth (lines bytes : ℕ) (all one two : Given) : Type 0 w
 
 pub filter-mapped : {A B : Type 0} (f : B → Bool) (g : A → Bool) (h : A → B) → ((x : A) → f (h x) ≡ g x) → (xs : List A) → filter f (map h xs) ≡ map h (filter g xs)
 filter-mapped f g h e [] = refl
-filter-mapped {A} {B} f g h e (x ∷ xs) = let b = e x in let r = filter-mapped f g h e xs in (λ d. cond (b d) (h x ∷ r d) (r d)) ∙ by (g x)
-  where
-    by : (b : Bool) → cond b (h x ∷ map h (filter g xs)) (map h (filter g xs)) ≡ map h (cond b (x ∷ filter g xs) (filter g xs))
-    by true = refl
-    by false = refl
+filter-mapped f g h e (x ∷ xs) = let same = e x in let more = filter-mapped f g h e xs in grind arith
 
 later-number : (i j k m n : ℕ) → (nat_lt k m || ((k == m) && nat_lt 0 n)) ≡ false → (nat_lt (i + k) m || ((i + k == m) && nat_lt j n)) ≡ false
 later-number i j k m n h = grind (arith, nat_tests)

@@ -7,6 +7,7 @@ use Rattle.markdown_base.proofs.Common.{and-right}
 use Rattle.markdown_base.proofs.Facts.Bools.{and-left}
 use Rattle.markdown_base.specs.declared.configuration.Constructs.{Constructs}
 use Rattle.mdblock_leaf_blocks.specs.LeafBlocks.{Line}
+use Rattle.mdblock_containers.proofs.FrameFacts.{some_more}
 use Rattle.mdblock_containers.proofs.DocumentRows.{take_of_take}
 use Rattle.mdblock_containers.specs.Rows.{Row, has_none, is_paragraph, rest_of}
 use Rattle.mdinline_labels.specs.Definitions.{rest}
@@ -144,10 +145,6 @@ module _ (on : Constructs) where
       by true e h = e
       by false e h = absurd (omega (arith, h))
 
-  some-text : (xs ys : List ℕ) → has_none xs ≡ false → has_none (xs ++ ys) ≡ false
-  some-text [] ys h = absurd (cc)
-  some-text (x ∷ xs) ys h = refl
-
   -- behind the definitions with which it begins
   pub used-behind : (k : Known) (n : ℕ) (ls : List Line) → NotText k n ls → AllStay (drop 1 (rows_from on k n ls)) → 1 ≤ defined_in on (rows_from on k n ls)
       → let rows = rows_from on k n ls in Used (state_on on (defined_in on rows) k n ls).known (drop (defined_in on rows) rows)
@@ -185,7 +182,7 @@ module _ (on : Constructs) where
           ∙ ap (λ l. rest_of row ++ l) (sym (behind-cut d more few))
           ∙ sym (ap text_in (paragraph-more row more is_text)) in
           let full = not-blank-some (rest_of row) (open-not-blank on k n line is_text) in
-          let some-there : has_none (text_in (take (suc d) rows)) ≡ false = some-text (rest_of row) (behind_text (take d more)) full in
+          let some-there : has_none (text_in (take (suc d) rows)) ≡ false = some_more (rest_of row) (behind_text (take d more)) full in
           let long = lines-some (text_in (take (suc d) rows)) (some-long (text_in (take (suc d) rows)) some-there) in
           let count = tens-in row (take d more) in
           let taken = length-take d more in

@@ -57,31 +57,39 @@ at_top r = record { first = r; more = []; frames = []; stands = [] }
 abbrev pub any_place : Bool → List Row → Type 0
 any_place is_behind rows = Unit {0}
 
--- The last stretch of the first rows, and the first of the second, are one section of the whole. `Place` is said of the first stretch and the blank lines behind it
-pub record SectionSeam (Place : (is_behind : Bool) → List Row → Type 0) (around : Part) (x : List Row) (r : Row) (rs : List Row) (whole first second : List Section) : Type 0 where
-  pub front : List Section
-  pub is_behind : Bool
+-- A stretch, blank lines behind it, and a stretch that begins with this row and goes on with it
+pub record Stretch (r : Row) : Type 0 where
   pub begin : Part
   pub blanks : List Part
   pub end : Part
-  pub back : List Section
-  pub above : List Row
-  pub going_on : r.is_left_blank ≡ false
   pub full : begin.first.is_blank ≡ false
-  pub rows_are : x ≡ above ++ (begin.first ∷ (begin.more ++ firsts blanks))
   pub stay : AllStay (begin.more ++ firsts blanks)
   pub reach : further (begin.more ++ firsts blanks) ≡ length begin.more
   pub are_blank : AllByRecursion IsBlankPart blanks
-  pub begin_same : IsSame around begin
-  pub blanks_same : AllByRecursion (IsSame around) blanks
-  pub end_same : IsSame around end
   pub end_is : end.first ≡ r
-  pub end_rows : Begin end.more rs
   pub end_stay : AllStay end.more
-  pub whole_is : whole ≡ front ++ (record { part = joined_part begin blanks end; inside = lines is_behind } ∷ back)
-  pub first_is : first ≡ front ++ (record { part = begin; inside = lines is_behind } ∷ plain_sections blanks)
-  pub second_is : second ≡ plain_section end ∷ back
-  pub place : Place is_behind (begin.first ∷ (begin.more ++ firsts blanks))
+
+-- It stands in the spans of a part. `Place` is said of the first stretch and the blank lines behind it
+pub record Within (Place : (is_behind : Bool) → List Row → Type 0) (around : Part) (r : Row) (it : Stretch r) : Type 0 where
+  pub is_behind : Bool
+  pub going_on : r.is_left_blank ≡ false
+  pub begin_same : IsSame around it.begin
+  pub blanks_same : AllByRecursion (IsSame around) it.blanks
+  pub end_same : IsSame around it.end
+  pub place : Place is_behind (it.begin.first ∷ (it.begin.more ++ firsts it.blanks))
+
+-- The last stretch of the first rows, and the first of the second, are one section of the whole
+pub record SectionSeam (Place : (is_behind : Bool) → List Row → Type 0) (around : Part) (x : List Row) (r : Row) (rs : List Row) (whole first second : List Section) : Type 0 where
+  pub it : Stretch r
+  pub within : Within Place around r it
+  pub front : List Section
+  pub back : List Section
+  pub above : List Row
+  pub rows_are : x ≡ above ++ (it.begin.first ∷ (it.begin.more ++ firsts it.blanks))
+  pub end_rows : Begin it.end.more rs
+  pub whole_is : whole ≡ front ++ (record { part = joined_part it.begin it.blanks it.end; inside = lines within.is_behind } ∷ back)
+  pub first_is : first ≡ front ++ (record { part = it.begin; inside = lines within.is_behind } ∷ plain_sections it.blanks)
+  pub second_is : second ≡ plain_section it.end ∷ back
 
 -- Sections of rows behind others: those of both, but for such a section
 pub data SectionsJoin (Place : (is_behind : Bool) → List Row → Type 0) (around : Part) (x : List Row) (r : Row) (rs : List Row) (whole first second : List Section) : Type 0 where

@@ -392,12 +392,7 @@ module _ (on : Constructs) where
   -- HTML that ends with a line
   pub ends-none : (kind : HtmlKind) → ends kind [] ≡ true → ⊥
   ends-none raw h = absurd (cc)
-  ends-none comment h = absurd (cc)
-  ends-none instruction h = absurd (cc)
-  ends-none declaration h = absurd (cc)
-  ends-none cdata h = absurd (cc)
-  ends-none block_tag h = absurd (cc)
-  ends-none any_tag h = absurd (cc)
+  ends-none kind h = absurd (cc)
 
   shut-html : (kind : HtmlKind) (b : Bool) → waits_for_blank kind ≡ false → holds_ending (cond b closed (open_html kind)) ≡ not b
   shut-html kind true e = refl
@@ -482,12 +477,7 @@ module _ (on : Constructs) where
     where
       goes : (k : LineKind) → interrupts k ≡ false → IsOfText k
       goes blank h = absurd (cc)
-      goes indented h = tt
-      goes heading h = tt
-      goes (fence f) h = tt
-      goes (html kind) h = tt
-      goes thematic_break h = tt
-      goes text h = tt
+      goes k h = tt
 
   text-front : (line : Line) (lines : List Line) → is_blank_line (text_of line) ≡ false → line_kind on (text_of line) ≡ text → Front (content_at on (line ∷ lines)) (line ∷ lines)
   text-front line lines full kind = by-behind (drop p lines) refl

@@ -175,10 +175,8 @@ module _ (on : Constructs) where
   -- ---- each block
   pub same-front : (kind : LineKind) (x : Line) (xs : List Line) (y : Line) (ys : List Line) → text_of y ≡ text_of x → Agree ys xs → (block_of_kind on kind x xs).1 ≤ suc (length ys)
       → block_of_kind on kind y ys ≡ (with_lines (block_of_kind on kind x xs).0 (take (block_of_kind on kind x xs).1 (y ∷ ys)), (block_of_kind on kind x xs).1)
-  same-front blank x xs y ys e h few = refl
   same-front indented x xs y ys e h few = let s = further-agree ys xs h (omega (arith, few)) in (λ i. (indented_code (take (suc (s i)) (y ∷ ys)), suc (s i)))
-  same-front heading x xs y ys e h few = refl
   same-front (fence f) x xs y ys e h few = let s = through-agree (closes on f) ys xs h (omega (arith, few)) in (λ i. (fenced_code f (s.1 i) (take (suc (s.0 i)) (y ∷ ys)), suc (s.0 i)))
   same-front (html kind) x xs y ys e h few = html-agree kind (waits_for_blank kind) (y ∷ ys) (x ∷ xs) (e, h) few
-  same-front thematic_break x xs y ys e h few = refl
   same-front text x xs y ys e h few = content-agree x xs y ys h few
+  same-front kind x xs y ys e h few = refl

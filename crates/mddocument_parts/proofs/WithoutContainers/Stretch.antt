@@ -282,12 +282,8 @@ module _ (on : Constructs) where
 
     no-blank : (kind : LineKind) (line : Line) (lines : List Line) → is_blank on kind ≡ false → IsNoBlank (block_of_kind on kind line lines).0
     no-blank blank line lines h = absurd (cc)
-    no-blank indented line lines h = tt
-    no-blank heading line lines h = tt
-    no-blank (fence f) line lines h = tt
-    no-blank (html kind) line lines h = tt
-    no-blank thematic_break line lines h = tt
     no-blank text line lines h = let n = suc (lines_until (ends_text on) lines) in by-content (take n (line ∷ lines)) (drop n (line ∷ lines))
+    no-blank kind line lines h = tt
 
     full-kind : (line : Line) → is_blank_line (text_of line) ≡ false → (b : Bool) → is_blank on (line_kind on (text_of line)) ≡ b → is_blank on (line_kind on (text_of line)) ≡ false
     full-kind line h true e = let both : true ≡ false = sym (blank-is on (text_of line) e) ∙ h in absurd (cc)
