@@ -6,6 +6,7 @@ use Rattle.markdown_base.specs.declared.event.Event.{Event}
 use Rattle.mdblock_leaf_blocks.specs.LeafEvents.{Mark}
 use Rattle.mdblock_containers.specs.Skeleton.{chained_from, next_chunk}
 use Rattle.mddocument_parts.specs.Moved.{moved_index, moved_link}
+use Rattle.mddocument_parts.proofs.Choices.{cond-of}
 
 -- behind each chunk that is linked on comes one
 abbrev pub AreLinkedOn : List Mark → Type 0
@@ -70,16 +71,12 @@ chained-bare k i j p q ((v, None) ∷ ms) e f h =
     (λ d. here d ∷ rest d)
 chained-bare k i j p q ((v, Some chunk) ∷ ms) e f h =
     let next = next-moved k (suc i) (suc j) ms (omega (arith, e)) in
-    let before = ap (λ o. cond chunk.has_previous o None) f ∙ by chunk.has_previous p in
-    let behind = ap (λ o. cond chunk.has_next o None) next ∙ by chunk.has_next (next_chunk (suc i) ms) in
+    let before = ap (λ o. cond chunk.has_previous o None) f ∙ cond-of (moved_index k) chunk.has_previous p None in
+    let behind = ap (λ o. cond chunk.has_next o None) next ∙ cond-of (moved_index k) chunk.has_next (next_chunk (suc i) ms) None in
     let rest = chained-bare k (suc i) (suc j) (Some i) (Some j) ms (omega (arith, e)) (ap (λ n. Some n) e) h in
     (λ d. (let w : Event = record v { link = Some (record { previous = before d; next = behind d; content = chunk.content }) } in w) ∷ rest d)
-  where
-    by : (b : Bool) (o : Option ℕ) → cond b (moved_index k o) None ≡ moved_index k (cond b o None)
-    by true o = refl
-    by false o = refl
 
-no-link-bare : (ms : List Mark) → AllByRecursion HasNoLink ms → AreBare ms
+pub no-link-bare : (ms : List Mark) → AllByRecursion HasNoLink ms → AreBare ms
 no-link-bare [] h = tt
 no-link-bare ((e, None) ∷ ms) h = (h.0, no-link-bare ms h.1)
 no-link-bare ((e, Some chunk) ∷ ms) h = no-link-bare ms h.1

@@ -1,15 +1,16 @@
 -- Where a document's bytes end a line, data of its blocks stands before the end, and so do the virtual bytes of its texts and strings.
-use Rattle.std.proofs.Common.{◌≡◌, ℕ, ◌+◌, ◌<◌, ◌&&◌, not, inl, inr, Bool, false, true, List, [], ◌∷◌, length, map, Option, Some, sym, ◌∙◌, ap, subst, arith}
-use Rattle.std.proofs.lemmas.Bool.{and_parts, false≢true}
-use Rattle.std.proofs.lemmas.List.{append-nil, length-map}
+use Rattle.std.proofs.Common.{Bool, List, Option, Some, [], ap, arith, cond, false, inl, inr, length, ltb-false, map, not, refl, subst, suc, sym, true, ℕ, ◌&&◌, ◌+◌, ◌-◌, ◌<◌, ◌==◌, ◌||◌, ◌∙◌, ◌∷◌, ◌≡◌, ◌≤◌}
+use Rattle.std.proofs.lemmas.Bool.{and_parts, eqb-true, false≢true, or_parts}
+use Rattle.std.proofs.lemmas.List.{append-nil, get_or_past, length-map}
 use Rattle.std.proofs.lemmas.List.Elements.{recursion_from_All}
-use Rattle.std.specs.List.{AllByRecursion, range_with_len}
+use Rattle.std.specs.List.{AllByRecursion, list_any, range_with_len}
 use Rattle.std.specs.Option.{option_and_then, option_map}
-use Rattle.std.specs.Prelude.{All, slice_get, unwrap_or}
+use Rattle.std.specs.Prelude.{All, nat_lt, slice_get, slice_index, unwrap_or}
 use Rattle.markdown_base.proofs.Common.{every-get, every-map}
+use Rattle.markdown_base.proofs.Facts.Bools.{and-left}
 use Rattle.markdown_base.specs.Events.{is_enter, same_name}
-use Rattle.markdown_base.specs.Places.{IsPointOf, IsShown, shown}
-use Rattle.markdown_base.specs.Virtual.{point, virtual}
+use Rattle.markdown_base.specs.Places.{IsPointOf, IsShown, follows_cr, shown}
+use Rattle.markdown_base.specs.Virtual.{Seat, begins_with_lf, point, virtual}
 use Rattle.markdown_base.specs.declared.event.Content.{Content}
 use Rattle.markdown_base.specs.declared.event.Content.TheVariants as content
 use Rattle.markdown_base.specs.declared.event.Event.{Event}
@@ -17,6 +18,7 @@ use Rattle.markdown_base.specs.declared.event.Name.TheVariants.{Data}
 use Rattle.markdown_base.specs.declared.event.Point.{Point}
 use Rattle.markdown_edits.specs.Links.{content_of}
 use Rattle.markdown_edits.specs.Woven.{is_removed}
+use Rattle.markdown_tokenizer.proofs.Positions.Chains.{IsChain, whole-chain}
 use Rattle.markdown_tokenizer.specs.Plain.{HaveNoLinks}
 use Rattle.markdown_tokenizer.specs.Text.{Given, IsDocument, IsText, Text}
 use Rattle.markdown_children.proofs.ChainOrder.Following.{Fits, chunk, fits_next, follow_one_another, some_content, starts_fit}
@@ -24,17 +26,19 @@ use Rattle.markdown_children.specs.Chains.{begins, content_at, fits, fitting_sta
 use Rattle.markdown_children.specs.Children.{child_changes, with_children}
 use Rattle.markdown_children.specs.LawStatements.{IsWholeFrom, LeadOnFrom}
 use Rattle.markdown_children.specs.Ready.{IsReady, place_at}
-use Rattle.mddocument_parts.proofs.LetteredBoth.{lettered-many}
+use Rattle.mdconstructs_machines.specs.LineEvents.{is_line_ending, line_text, lines_in}
 use Rattle.mdinline_text_machine.proofs.Paragraphs.ChainEvents.{all-begin, is-text}
 use Rattle.mdinline_text_machine.specs.ReadChains.{chain_text}
-use Rattle.mdblock_leaf_blocks.proofs.Marks.Courses.{Course, course-every, text-course}
-use Rattle.mdblock_leaf_blocks.specs.ChunksJoin.{AcrossGap}
+use Rattle.mdinline_link_strings.specs.Strings.{is_data, seats_between}
 use Rattle.mdinline_machine.proofs.InlineChains.{inline-alone}
 use Rattle.mdinline_machine.proofs.StringRuns.{string-alone}
 use Rattle.mdinline_machine.specs.InlineChains.{with_inlines, with_strings as with_string_chunks}
 use Rattle.mdinline_machine.specs.InlineEvents.{inline_events}
 use Rattle.mdinline_machine.specs.StringEvents.{string_events}
-use Rattle.mdinline_link_strings.specs.Strings.{is_data, seats_between}
+use Rattle.mdblock_leaf_blocks.proofs.Marks.Courses.{Course, course-every, text-course}
+use Rattle.mdblock_leaf_blocks.specs.ChunksJoin.{AcrossGap}
+use Rattle.mdblock_leaf_blocks.specs.LeafBlocks.{Line}
+use Rattle.mdblock_containers.specs.Letters.{ArePlainFrom, is_plain, letter, lettered_from}
 use Rattle.mdblock_definitions.specs.Blocks.{document_blocks}
 use Rattle.mdblock_definitions.specs.Skeleton.{sections_in_seats, sections_marks}
 use Rattle.mddocument.proofs.FlowTexts.InlineSteps.{Steps, steps-virtual}
@@ -47,14 +51,102 @@ use Rattle.mddocument.proofs.InContainers.Ranges.{IsWithin, SeatIn, chain-seats-
 use Rattle.mddocument.proofs.InContainers.Removed.{removed-fits}
 use Rattle.mddocument.proofs.InContainers.Skeletons.{SkeletonLaws, skeleton-laws}
 use Rattle.mddocument.proofs.InContainers.TextsFormed.{content-ready as ready-for, strings-ready, texts-orderly}
+use Rattle.mddocument_parts.proofs.EventsLeft.{AtData, Each, StandsAt, all-left, each-all, exit-removed, none-stand, stands-moved, flow-stands, chained-left, skeleton-stands}
+use Rattle.mddocument_parts.proofs.LetteredBoth.{lettered-many}
+use Rattle.mddocument_parts.proofs.MovedReads.{shown-before}
+use Rattle.mddocument_parts.proofs.TextLines.{AreTextLines, AreTextSeats, inner-text, lines-of-texts, virtual-texts}
 use Rattle.mddocument_parts.specs.Moved.{begins_line}
 use Rattle.mddocument_parts.specs.ReadTexts.{StandsBefore}
-use Rattle.mddocument_parts.proofs.EndsBefore.{Before, IsInside, before-down, course-texts, document-lines, lettered-line, shown-inside, virtual-inside}
-use Rattle.mddocument_parts.proofs.EventsLeft.{AtData, Each, StandsAt, all-left, each-all, exit-removed, none-stand, stands-moved}
-use Rattle.mddocument_parts.proofs.FlowStands.{flow-stands}
-use Rattle.mddocument_parts.proofs.SkeletonStands.{chained-left, skeleton-stands}
-use Rattle.mddocument_parts.proofs.TextLines.{AreTextSeats}
 
+-- ==== Where bytes end a line, the virtual bytes of their texts stand before the end: but for a line ending at the end of a text.
+-- a place before so many bytes are over
+abbrev pub Before : ℕ → Point → Type 0
+Before n p = p.index < n
+
+pub upto-index : (p q : Point) → Upto p q → p.index ≤ q.index
+upto-index p q h = ltb-false q.index p.index (or_parts (nat_lt q.index p.index) ((q.index == p.index) && nat_lt q.vs p.vs) h).0
+
+pub before-down : (n : ℕ) (p q : Point) → Upto p q → Before n q → Before n p
+before-down n p q h k = let le = upto-index p q h in omega (arith, le, k)
+
+-- a place that is shown before the end is before the end
+pub shown-inside : (bytes : List ℕ) (p : Point) → Before (length bytes) (shown bytes p) → Before (length bytes) p
+shown-inside bytes p h = by ((slice_index bytes p.index == 10) && follows_cr bytes p.index) refl h
+  where
+    by : (c : Bool) → ((slice_index bytes p.index == 10) && follows_cr bytes p.index) ≡ c
+        → Before (length bytes) (cond c (record { line = p.line; column = p.column; index = p.index - 1; vs = p.vs }) p) → Before (length bytes) p
+    by true e k =
+        let ten : slice_index bytes p.index ≡ 10 = eqb-true (slice_index bytes p.index) 10 (and-left (slice_index bytes p.index == 10) (follows_cr bytes p.index) e) in
+        let past : length bytes ≤ p.index → slice_index bytes p.index ≡ 0 = λ l. get_or_past bytes p.index 0 l in
+        grind (arith, ten, past)
+    by false e k = k
+
+module _ (bytes : List ℕ) where
+  abbrev Ends : Seat → Type 0
+  Ends = EndsAt (Before (length bytes)) bytes
+
+  -- a virtual byte begins before the end, and ends before it if it is no line ending
+  abbrev pub IsInside : Seat → Type 0
+  IsInside s = Before (length bytes) (shown bytes s.point) × (is_line_ending s ≡ false → Before (length bytes) (shown bytes s.end))
+
+  show : (p : Point) → Before (length bytes) p → Before (length bytes) (shown bytes p)
+  show p h = shown-before bytes p (length bytes) h
+
+  pub stands-ends : (s : Seat) → StandsBefore (length bytes) s → Ends s
+  stands-ends s h = (show s.point h.0, show s.end h.1)
+
+  -- ---- a document
+  chain-inside : (t : ℕ) (p : Point) (seats : List Seat) → IsChain t bytes p seats → AllByRecursion (λ (s : Seat). Before (length bytes) s.point) seats
+  chain-inside t p [] c = tt
+  chain-inside t p (s ∷ ss) c = (c.1.inside, chain-inside t s.end ss c.2)
+
+  both-inside : (seats : List Seat) → AllByRecursion (λ (s : Seat). Before (length bytes) s.point) seats → AreTextSeats (StandsBefore (length bytes)) seats → AllByRecursion IsInside seats
+  both-inside [] a h = tt
+  both-inside (s ∷ []) a h = ((show s.point a.0, λ plain. show s.end (h plain).1), tt)
+  both-inside (s ∷ next ∷ ss) a h = ((show s.point a.0, λ plain. show s.end h.0.1), both-inside (next ∷ ss) a.1 h.1)
+
+  module _ (b : List ℕ) (ends : begins_line b bytes ≡ true) (t : ℕ) (wide : 0 < t) where
+    texts-inside : AreTextSeats (StandsBefore (length bytes)) (virtual t bytes)
+    texts-inside = virtual-texts t (length bytes) b bytes 1 1 0 ends (omega arith)
+
+    pub virtual-inside : AllByRecursion IsInside (virtual t bytes)
+    virtual-inside = both-inside (virtual t bytes) (chain-inside t (point 1 1 0 0) (virtual t bytes) (whole-chain t bytes wide)) texts-inside
+
+    lines-inside : (lines : List Line) → AreTextLines (StandsBefore (length bytes)) lines → AllByRecursion (λ (line : Line). AllByRecursion Ends (line_text line)) lines
+    lines-inside [] h = tt
+    lines-inside (line ∷ []) h = (every-map (StandsBefore (length bytes)) Ends stands-ends (line_text line) h, tt)
+    lines-inside (line ∷ next ∷ lines) h = (every-map (StandsBefore (length bytes)) Ends stands-ends (line_text line) (inner-text (StandsBefore (length bytes)) line h.0), lines-inside (next ∷ lines) h.1)
+
+    -- the texts of its lines
+    pub document-lines : AllByRecursion (λ (line : Line). AllByRecursion Ends (line_text line)) (lines_in (virtual t bytes))
+    document-lines = lines-inside (lines_in (virtual t bytes)) (lines-of-texts (StandsBefore (length bytes)) (virtual t bytes) texts-inside)
+
+  -- virtual bytes of it, one behind another
+  pub course-texts : (Meets : (from to : Point) → Type 0) (t : ℕ) (p : Point) (seats : List Seat) → Course Meets t bytes p seats → AllByRecursion IsInside seats → AreTextSeats Ends seats
+  course-texts Meets t p [] c h = tt
+  course-texts Meets t p (s ∷ []) c h = λ plain. (h.0.0, h.0.1 plain)
+  course-texts Meets t p (s ∷ r ∷ ss) c h =
+      let later = upto-index s.end (shown bytes r.point) c.2.1.later in
+      let there : Before (length bytes) (shown bytes r.point) = h.1.0.0 in
+      let end : Before (length bytes) (shown bytes s.end) = show s.end (omega (arith, later, there)) in
+      ((h.0.0, end), course-texts Meets t s.end (r ∷ ss) c.2 h.1)
+
+-- ---- with letters
+module _ (at : List ℕ) where
+  -- bytes that end a line do so
+  pub lettered-line : (b : List ℕ) (n : ℕ) (bytes : List ℕ) → ArePlainFrom n at bytes → begins_line b bytes ≡ true → begins_line b (lettered_from n at bytes) ≡ true
+  lettered-line b n [] plain h = refl
+  lettered-line b n (x ∷ []) plain h = by (list_any (λ i. i == n) at) plain.0
+    where
+      never : (nine ten thirteen c : Bool) → (not nine && (not ten && not thirteen)) ≡ true → (ten || (thirteen && c)) ≡ true → ⊥
+      never nine ten thirteen c e f = grind arith
+
+      by : (c : Bool) → (c ≡ true → is_plain x ≡ true) → begins_line b (cond c letter x ∷ []) ≡ true
+      by true k = absurd (never (x == 9) (x == 10) (x == 13) (not (begins_with_lf b)) (k refl) h)
+      by false k = h
+  lettered-line b n (x ∷ y ∷ bytes) plain h = lettered-line b (suc n) (y ∷ bytes) plain.1 h
+
+-- ==== Where a document's bytes end a line, data of its blocks stands before the end, and so do the virtual bytes of its texts and strings.
 -- ---- chains of data
 module _ (At : Point → Type 0) (down : (p q : Point) → Upto p q → At q → At p) where
   module _ (g : Given) (is : IsDocument g) (wanted : Content) (events : List Event) (ready : IsReady g.tab g.bytes (Some wanted) events) (stand : Each (StandsAt At) events) where

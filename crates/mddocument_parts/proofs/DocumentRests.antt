@@ -12,7 +12,7 @@ use Rattle.mdblock_leaf_blocks.specs.LineKinds.{blank, indented, is_blank_line, 
 use Rattle.mdblock_lines.specs.Containers.{Container, Prefix, item, quote}
 use Rattle.mdblock_containers.proofs.FrameFacts.{none_is}
 use Rattle.mdblock_containers.specs.Prefixes.{beginning, columns_of, containers_of, going_on, in_place_of, with_list}
-use Rattle.mdblock_containers.specs.Rows.{Before, Leaf, Row, closed, has_none, holds_ending, is_lazily, is_paragraph, is_raw, leaf_after, nothing_known, open_fence, open_html, open_paragraph, rest_of, row_with}
+use Rattle.mdblock_containers.specs.Rows.{Before, Leaf, Row, closed, has_none, holds_ending, is_lazily, is_paragraph, is_raw, leaf_after, nothing_known, open_paragraph, rest_of, row_with}
 use Rattle.mdblock_containers.specs.Rows as without
 use Rattle.mdblock_definitions.specs.Rows.{Known, is_behind_text, is_used_up, known_after, row_of, rows_from, text_after}
 use Rattle.mddocument_parts.specs.DocumentRests.{DocumentRestsForget, RowsOfBoth, StretchesGoOnAtTop, begins_anew, is_at_document_rest, is_closed, joins_list, known_at_start, known_behind, moved_container, moved_known, moved_prefix, moved_row}

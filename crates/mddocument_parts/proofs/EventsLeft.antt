@@ -1,32 +1,77 @@
--- Where chains are replaced by children, each event is one of the list that no chunk removes, or one of a child, but for the ends of its link.
-use Rattle.std.proofs.Common.{◌≡◌, ℕ, ◌+◌, ◌<◌, ◌≤◌, suc, inl, inr, false, true, Bool, List, [], ◌∷◌, Option, None, Some, refl, sym, ◌∙◌, ap, subst, arith}
-use Rattle.std.proofs.lemmas.Bool.{cases_order, eq-eqb, le-leb, lt-ltb, or_left, or_right}
+-- Where chains are replaced by children: which events and links are left, and where data stands.
+use Rattle.std.proofs.Common.{Bool, List, None, Option, Some, [], ap, arith, cond, false, inl, inr, length, map, refl, subst, suc, sym, true, zero, ℕ, ◌++◌, ◌+◌, ◌<◌, ◌==◌, ◌∙◌, ◌∷◌, ◌≡◌, ◌≤◌}
+use Rattle.std.proofs.lemmas.Bool.{cases_order, cond_both, eq-eqb, false≢true, le-leb, lt-ltb, or_left, or_right}
+use Rattle.std.proofs.lemmas.List.{length-map}
 use Rattle.std.proofs.lemmas.Option.{none-some, same_Some, slice_get-map, slice_get_within}
 use Rattle.std.specs.Cmp.Derive.{both_true}
-use Rattle.std.specs.List.{AllByRecursion}
+use Rattle.std.specs.List.{AllByRecursion, flat_map}
 use Rattle.std.specs.Option.{option_and_then, option_map}
-use Rattle.std.specs.Prelude.{◌&&◌, ◌||◌, is_some, nat_le, nat_lt, not, slice_get}
-use Rattle.markdown_base.proofs.Common.{every-get}
+use Rattle.std.specs.Prelude.{is_some, nat_le, nat_lt, not, slice_get, ◌&&◌, ◌||◌}
+use Rattle.markdown_base.proofs.Common.{every-append, every-get}
 use Rattle.markdown_base.specs.Events.{relinked, same_name}
+use Rattle.markdown_base.specs.Virtual.{Seat, virtual}
+use Rattle.markdown_base.specs.declared.configuration.Constructs.{Constructs}
 use Rattle.markdown_base.specs.declared.event.Content.{Content}
+use Rattle.markdown_base.specs.declared.event.Content.TheVariants as content
 use Rattle.markdown_base.specs.declared.event.Event.{Event}
+use Rattle.markdown_base.specs.declared.event.Kind.{Kind}
 use Rattle.markdown_base.specs.declared.event.Link.{Link}
+use Rattle.markdown_base.specs.declared.event.Name.{Name}
+use Rattle.markdown_base.specs.declared.event.Name.TheVariants as name
 use Rattle.markdown_base.specs.declared.event.Name.TheVariants.{Data}
 use Rattle.markdown_base.specs.declared.event.Point.{Point}
 use Rattle.markdown_edits.proofs.Edits.Survivors.{stays_unless_removed}
-use Rattle.markdown_edits.specs.Links.{content_of}
+use Rattle.markdown_edits.specs.Links.{content_at, content_of}
 use Rattle.markdown_edits.specs.Woven.{Change, Identity, Tagged, is_removed, is_same, of_addition, of_child, of_list, place_in, placed_end}
-use Rattle.markdown_children.specs.Chains.{content_at, fits, fitting_starts, some_fits}
-use Rattle.markdown_children.specs.Children.{child_changes, with_children}
-use Rattle.markdown_children.specs.Ready.{IsReady}
+use Rattle.markdown_tokenizer.proofs.Positions.Order.{every-all, every-back, every-front}
+use Rattle.markdown_tokenizer.specs.Plain.{HaveNoLinks}
+use Rattle.markdown_tokenizer.specs.Text.{Given, IsDocument, Text}
 use Rattle.markdown_children.proofs.ChainOrder.Following.{Fits, apart, by_option, by_test}
 use Rattle.markdown_children.proofs.ChainOrder.Spaced.{changes_are_apart}
 use Rattle.markdown_children.proofs.Parts.InShape.{IsSourced, all-once, all-sourced, child-all, child_of, source}
 use Rattle.markdown_children.proofs.Parts.Once.{once-place}
 use Rattle.markdown_children.proofs.Parts.Staying.{AtChunk, all-at, ts}
 use Rattle.markdown_children.proofs.Parts.Weaves.{content-kept}
-use Rattle.markdown_tokenizer.specs.Plain.{HaveNoLinks}
+use Rattle.markdown_children.specs.Chains.{content_at as chain_content_at, fits, fitting_starts, some_fits}
+use Rattle.markdown_children.specs.Children.{child_changes, with_children}
+use Rattle.markdown_children.specs.Ready.{IsReady}
+use Rattle.mdconstructs_machines.specs.LineEvents.{line_text, lines_in}
+use Rattle.mdconstructs_machines.specs.Spans.{event}
+use Rattle.mdinline_text_machine.specs.ReadChains.{chain_text}
+use Rattle.mdinline_link_strings.proofs.Kept.{strings_keep}
+use Rattle.mdinline_machine.proofs.InlineChains.{inline-alone}
+use Rattle.mdinline_machine.proofs.StringRuns.{string-alone}
+use Rattle.mdinline_machine.specs.InlineChains.{with_inlines, with_strings as with_string_chunks}
+use Rattle.mdinline_machine.specs.InlineEvents.{inline_events}
+use Rattle.mdinline_machine.specs.StringEvents.{string_events}
+use Rattle.mdblock_leaf_blocks.specs.BlockLines.{block_lines}
+use Rattle.mdblock_leaf_blocks.specs.LeafBlocks.{LeafBlock, Line, atx_heading, blank_line, fenced_code, leaf_blocks, paragraph, setext_heading}
+use Rattle.mdblock_leaf_blocks.specs.LeafEvents.{Chunk, Mark, chunk_span, flow_events, leaf_block_marks, leaf_marks, linked_from}
+use Rattle.mdblock_lines.specs.Containers.{Container, Item, Prefix, item, quote}
+use Rattle.mdblock_containers.proofs.FrameFacts.{Turn, all_entered, entered}
+use Rattle.mdblock_containers.proofs.SeatFacts.{document_lines}
+use Rattle.mdblock_containers.specs.Rows.{Row}
+use Rattle.mdblock_containers.specs.Skeleton.{Frame, Part, chained_from, list_name}
+use Rattle.mdblock_definitions.proofs.Covered.{rows_of}
+use Rattle.mdblock_definitions.proofs.SectionTurns.{AreCut, all-of-sections, document-cut}
+use Rattle.mdblock_definitions.specs.Blocks.{document_blocks}
+use Rattle.mdblock_definitions.specs.Rows.{rows}
+use Rattle.mdblock_definitions.specs.Sections.{Inside, Section, defined, lines as lines_inside, sections}
+use Rattle.mdblock_definitions.specs.Skeleton.{all_rows, sections_marks}
+use Rattle.mddocument.proofs.FlowTexts.Segments.{IsTextual}
+use Rattle.mddocument.proofs.InContainers.Places.{EndsAt, last-end}
+use Rattle.mddocument.proofs.InContainers.Removed.{removed-fits}
+use Rattle.mddocument.proofs.InContainers.Skeletons.{skeleton-laws}
+use Rattle.mddocument.proofs.InContainers.Texts.{blocks-textual}
+use Rattle.mddocument.proofs.InContainers.TextsFormed.{content-ready, strings-ready}
+use Rattle.mddocument.specs.DocumentEvents.{document_events, document_texts, is_defined_in}
+use Rattle.mddocument_laws.proofs.BlockWalk.{MayBlock, block-are}
+use Rattle.mddocument_laws.proofs.InnerTexts.{AnySeat, any-each}
+use Rattle.mddocument_laws.proofs.MarksWalk.{Walk, walk-of-marks}
+use Rattle.mddocument_laws.proofs.SkeletonWalk.{AreOfDefinition, InsideMay, MayHold, PrefixesMay, RowAt, SectionMay, sections-are}
+use Rattle.mddocument_parts.proofs.TextLines.{AreInner, AreTextLines, AreTextSeats, lines-of-texts, text-blocks}
 
+-- ==== Where chains are replaced by children, each event is one of the list that no chunk removes, or one of a child, but for the ends of its link.
 -- ---- what is said of each event of a list
 abbrev pub Each : (Event → Type 0) → List Event → Type 0
 Each P es = (k : ℕ) (e : Event) → slice_get es k ≡ Some e → P e
@@ -142,7 +187,255 @@ module _ (tab : ℕ) (bytes : List ℕ) (wanted : Option Content) (events : List
   linked-left gone Old New next old kids =
       all-left (IsOf New) (of-moved New)
       (λ n e at stays c is.
-      let here : content_at events n ≡ Some c = ap (option_and_then content_of) at ∙ is in
+      let here : chain_content_at events n ≡ Some c = ap (option_and_then content_of) at ∙ is in
       by_test (some_fits wanted (Some c))
       (λ fit. absurd (let no : true ≡ false = sym (gone n (ap (some_fits wanted) here ∙ fit)) ∙ stays in cc))
       (λ other. next c (old n e at c is) other)) kids
+
+-- ==== No links are left: of the links of a document's blocks those of texts go with inline text, and those of strings with their events.
+-- each chain of a content is read as events without links
+module _ (g : Given) (wanted : Content) (events : List Event) (ready : IsReady g.tab g.bytes (Some wanted) events) (reads : Text → List Event) (alone : (text : Text) → HaveNoLinks (reads text)) where
+  abbrev children : List (List Event)
+  children = map (λ c. reads (chain_text g events c)) (fitting_starts (Some wanted) events)
+
+  kids : (Of : Content → Type 0) (cs : List ℕ) → AllByRecursion (AllByRecursion (IsOf Of)) (map (λ c. reads (chain_text g events c)) cs)
+  kids Of [] = tt
+  kids Of (c ∷ cs) = (none-of Of (reads (chain_text g events c)) (alone (chain_text g events c)), kids Of cs)
+
+  many : length (fitting_starts (Some wanted) events) ≡ length children
+  many = sym (length-map (fitting_starts (Some wanted) events) (λ c. reads (chain_text g events c)))
+
+  read-left : (Old New : Content → Type 0) → ((c : Content) → Old c → some_fits (Some wanted) (Some c) ≡ false → New c) → Each (IsOf Old) events → Each (IsOf New) (with_children (Some wanted) events children)
+  read-left Old New next old =
+      linked-left g.tab g.bytes (Some wanted) events ready children (removed-fits g.tab g.bytes (Some wanted) events ready children many) Old New next old (kids New (fitting_starts (Some wanted) events))
+
+-- which contents are left
+abbrev IsString : Content → Type 0
+IsString c = c ≡ content.String
+
+behind-texts : (c : Content) → IsTextual c → some_fits (Some content.Text) (Some c) ≡ false → IsString c
+behind-texts c (inl text) other = absurd (let no : true ≡ false = ap (λ d. some_fits (Some content.Text) (Some d)) (sym text) ∙ other in cc)
+behind-texts c (inr string) other = string
+
+behind-strings : (c : Content) → IsString c → some_fits (Some content.String) (Some c) ≡ false → ⊥
+behind-strings c string other = let no : true ≡ false = ap (λ d. some_fits (Some content.String) (Some d)) (sym string) ∙ other in cc
+
+module _ (g : Given) (is : IsDocument g) where
+  blocks-are-textual : Each (IsOf IsTextual) (document_blocks g)
+  blocks-are-textual k e at c linked = blocks-textual skeleton-laws g is k c (ap (option_and_then content_of) at ∙ linked)
+
+  module _ (is_defined : List ℕ → Bool) where
+    inlines-are-strings : Each (IsOf IsString) (with_inlines is_defined g (document_blocks g))
+    inlines-are-strings =
+        let blocks = document_blocks g in
+        read-left g content.Text blocks (content-ready skeleton-laws g is content.Text) (inline_events is_defined g) (inline-alone is_defined g) IsTextual IsString behind-texts blocks-are-textual
+
+    -- Texts and strings are read, and no links are left
+    pub no-links-left : HaveNoLinks (with_string_chunks g (with_inlines is_defined g (document_blocks g)))
+    no-links-left =
+        let inlines = with_inlines is_defined g (document_blocks g) in
+        of-none (with_string_chunks g inlines)
+        (read-left g content.String inlines (strings-ready skeleton-laws g is is_defined) (string_events g) (string-alone g) IsString (λ c. ⊥) behind-strings inlines-are-strings)
+
+  pub texts-unlinked : HaveNoLinks (document_texts g)
+  texts-unlinked = no-links-left (is_defined_in g)
+
+  -- The events of a document have no links
+  pub events-unlinked : HaveNoLinks (document_events g)
+  events-unlinked = (strings_keep g.options.constructs g.tab g.bytes (document_texts g)).1 texts-unlinked
+
+-- ==== Where data of leaf blocks stands: chunks are data, and if the virtual bytes of texts stand at some places, so does data.
+abbrev IsOther : Name → Type 0
+IsOther n = same_name n name.Data ≡ false
+
+other-block : (block : LeafBlock) → MayBlock IsOther block
+other-block (blank_line line) = tt
+other-block (atx_heading line) = (refl, refl, refl)
+other-block (paragraph lines) = refl
+other-block (setext_heading rank lines underline) = (refl, refl, refl, refl)
+other-block (fenced_code f is_closed lines) = record { code_fenced = refl; fence = refl; sequence = refl; info = refl; meta = refl; code = refl }
+other-block block = (refl, refl)
+
+module _ (At : Point → Type 0) (bytes : List ℕ) where
+  -- a mark without a link, or of a chunk that is data, and where data may stand
+  abbrev IsPlaced : Mark → Type 0
+  IsPlaced (e, None) = (e.link ≡ None) × AtData At e
+  IsPlaced (e, Some chunk) = (e.name ≡ name.Data) × AtData At e
+
+  record ArePlaced (marks : List Mark) : Type 0 where
+    all : AllByRecursion IsPlaced marks
+
+  -- data stands where its virtual bytes do, and other spans anywhere
+  placed-walk : Walk bytes ArePlaced IsOther AnySeat
+  placed-walk =
+      walk-of-marks bytes ArePlaced IsOther (record { all = tt }) (λ xs ys h k. record { all = every-append IsPlaced xs ys h.all k.all })
+      (λ k n place other. record { all = ((refl, λ e. absurd (false≢true (sym other ∙ e))), tt) }) refl refl refl
+
+  placed-chunk : (c : Chunk) (seats : List Seat) → AllByRecursion AnySeat seats → AreInner (EndsAt At bytes) seats → ArePlaced (chunk_span bytes (Some c) name.Data seats [])
+  placed-chunk c [] q i = record { all = tt }
+  placed-chunk c (s ∷ ss) q i = record { all = ((refl, λ e. i.0.0), ((refl, λ e. last-end At bytes s ss i), tt)) }
+
+  -- ---- blocks
+  block-placed : (block : LeafBlock) → AreTextLines (EndsAt At bytes) (block_lines block) → ArePlaced (leaf_block_marks bytes block)
+  block-placed block i = block-are bytes ArePlaced IsOther AnySeat (EndsAt At bytes) placed-walk placed-chunk block (other-block block) (any-each (block_lines block)) i
+
+  blocks-placed : (blocks : List LeafBlock) → AllByRecursion (λ b. AreTextLines (EndsAt At bytes) (block_lines b)) blocks → ArePlaced (flat_map (leaf_block_marks bytes) blocks)
+  blocks-placed [] h = placed-walk.none
+  blocks-placed (b ∷ blocks) h = placed-walk.both _ _ (block-placed b h.0) (blocks-placed blocks h.1)
+
+  linked-stand : (i : ℕ) (marks : List Mark) → AllByRecursion IsPlaced marks → AllByRecursion (StandsAt At) (linked_from i marks)
+  linked-stand i [] h = tt
+  linked-stand i ((e, None) ∷ marks) h =
+      (record { named = λ c is. absurd (none-some c (sym (ap (option_map (λ (l : Link). l.content)) h.0.0) ∙ is)); at = h.0.1 }, linked-stand (i + 1) marks h.1)
+  linked-stand i ((e, Some chunk) ∷ marks) h = (record { named = λ c is. h.0.0; at = h.0.1 }, linked-stand (i + 1) marks h.1)
+
+  -- of virtual bytes of texts
+  pub flow-stands : (on : Constructs) (seats : List Seat) → AreTextSeats (EndsAt At bytes) seats → AllByRecursion (StandsAt At) (flow_events on bytes seats)
+  flow-stands on seats h =
+      let lines = lines_in seats in
+      let placed = blocks-placed (leaf_blocks on lines) (text-blocks (EndsAt At bytes) on lines (lines-of-texts (EndsAt At bytes) seats h)) in
+      linked-stand 0 (flat_map (leaf_block_marks bytes) (leaf_blocks on lines)) placed.all
+
+-- ==== Where data of a skeleton stands: that of definitions before the ending of its line; other data is chunks.
+-- ---- lists of marks, with what is put in place of chunks left out
+module _ (At : Point → Type 0) where
+  -- data that is no chunk stands at one of these places; a chunk is an enter and an exit
+  abbrev pub Stand : List Mark → Type 0
+  Stand [] = Unit {0}
+  Stand ((e, None) ∷ ms) = AtData At e × Stand ms
+  Stand ((e, Some chunk) ∷ []) = ⊥
+  Stand ((e, Some chunk) ∷ (f, None) ∷ ms) = Stand ms
+  Stand ((e, Some chunk) ∷ (f, Some other) ∷ ms) = ⊥
+
+  stand-both : (xs ys : List Mark) → Stand xs → Stand ys → Stand (xs ++ ys)
+  stand-both [] ys h k = k
+  stand-both ((e, None) ∷ xs) ys h k = (h.0, stand-both xs ys h.1 k)
+  stand-both ((e, Some chunk) ∷ []) ys h k = absurd h
+  stand-both ((e, Some chunk) ∷ (f, None) ∷ xs) ys h k = stand-both xs ys h k
+  stand-both ((e, Some chunk) ∷ (f, Some other) ∷ xs) ys h k = absurd h
+
+  -- in the list of their events, each event that is left is so: chunks are removed
+  module _ (events : List Event) (ws : List Change) (gone : (k : ℕ) (c : Content) → content_at events k ≡ Some c → (is_removed ws k ≡ true) × (is_removed ws (k + 1) ≡ true)) where
+    left-from : (i : ℕ) (previous : Option ℕ) (ms : List Mark) → Stand ms → ((k : ℕ) → slice_get events (i + k) ≡ slice_get (chained_from i previous ms) k)
+        → (k : ℕ) (e : Event) → slice_get (chained_from i previous ms) k ≡ Some e → is_removed ws (i + k) ≡ false → AtData At e
+    left-from i previous [] h at k e is stays = absurd (none-some e is)
+    left-from i previous ((x, None) ∷ ms) h at zero e is stays = subst (AtData At) (same_Some x e is) h.0
+    left-from i previous ((x, None) ∷ ms) h at (suc k) e is stays =
+        left-from (suc i) previous ms h.1 (λ j. let z : suc i + j ≡ i + suc j = omega arith in ap (slice_get events) z ∙ at (suc j)) k e is (let z : suc i + k ≡ i + suc k = omega arith in ap (is_removed ws) z ∙ stays)
+    left-from i previous ((x, Some chunk) ∷ []) h at k e is stays = absurd h
+    left-from i previous ((x, Some chunk) ∷ (f, None) ∷ ms) h at zero e is stays =
+        let both = gone (i + 0) chunk.content (ap (option_and_then content_of) (at 0)) in
+        absurd (false≢true (sym stays ∙ both.0))
+    left-from i previous ((x, Some chunk) ∷ (f, None) ∷ ms) h at (suc zero) e is stays =
+        let both = gone (i + 0) chunk.content (ap (option_and_then content_of) (at 0)) in
+        let z : i + 1 ≡ i + 0 + 1 = omega arith in
+        absurd (false≢true (sym stays ∙ ap (is_removed ws) z ∙ both.1))
+    left-from i previous ((x, Some chunk) ∷ (f, None) ∷ ms) h at (suc (suc k)) e is stays =
+        left-from (suc (suc i)) (Some i) ms h (λ j. let z : suc (suc i) + j ≡ i + suc (suc j) = omega arith in ap (slice_get events) z ∙ at (suc (suc j))) k e is
+        (let z : suc (suc i) + k ≡ i + suc (suc k) = omega arith in ap (is_removed ws) z ∙ stays)
+    left-from i previous ((x, Some chunk) ∷ (f, Some other) ∷ ms) h at k e is stays = absurd h
+
+  pub chained-left : (ms : List Mark) → Stand ms → let events = chained_from 0 None ms in
+      (ws : List Change) → ((k : ℕ) (c : Content) → content_at events k ≡ Some c → (is_removed ws k ≡ true) × (is_removed ws (k + 1) ≡ true))
+      → (k : ℕ) (e : Event) → slice_get events k ≡ Some e → is_removed ws k ≡ false → AtData At e
+  chained-left ms h ws gone k e is stays =
+      let events = chained_from 0 None ms in
+      left-from events ws gone 0 None ms h (λ j. let z : 0 + j ≡ j = omega arith in ap (slice_get events) z) k e is (let z : 0 + k ≡ k = omega arith in ap (is_removed ws) z ∙ stays)
+
+-- ---- spans of containers are no data
+abbrev AreOther : List Frame → Type 0
+AreOther fs = AllByRecursion (λ (f : Frame). IsOther f.name) fs
+
+list-other : (i : Item) → IsOther (list_name i)
+list-other i = cond_both (nat_le 1 i.digits) name.ListOrdered name.ListUnordered IsOther (λ e. refl) (λ e. refl)
+
+entered-other : (c : Container) → AreOther (entered c)
+entered-other (quote line) = (refl, tt)
+entered-other (item i) =
+    every-append (λ (f : Frame). IsOther f.name) (cond (i.list == i.line) (record { name = list_name i; line = i.list } ∷ []) []) (record { name = name.ListItem; line = i.line } ∷ [])
+    (cond_both (i.list == i.line) (record { name = list_name i; line = i.list } ∷ []) [] AreOther (λ e. (list-other i, tt)) (λ e. tt)) (refl, tt)
+
+all-other : (ps : List Prefix) → AreOther (all_entered ps)
+all-other [] = tt
+all-other (p ∷ ps) = every-append (λ (f : Frame). IsOther f.name) (entered p.container) (all_entered ps) (entered-other p.container) (all-other ps)
+
+turned-other : (fs gs : List Frame) (ps : List Prefix) → Turn fs gs ps → AreOther fs → AreOther gs
+turned-other fs gs ps turn h =
+    subst AreOther (sym turn.after_are)
+    (every-append (λ (f : Frame). IsOther f.name) turn.kept (all_entered ps) (every-front (λ (f : Frame). IsOther f.name) turn.kept turn.ended (subst AreOther turn.before_are h)) (all-other ps))
+
+-- each container's spans are other ones
+holds-other : (c : Container) → MayHold IsOther c
+holds-other (quote line) = (refl, refl, refl)
+holds-other (item i) = (list-other i, refl, refl, refl, refl)
+
+all-hold : (ps : List Prefix) → PrefixesMay IsOther ps
+all-hold ps = every-all (λ (p : Prefix). MayHold IsOther p.container) (λ p. holds-other p.container) ps
+
+of-definition : AreOfDefinition IsOther
+of-definition = record {
+  definition = refl;
+  label = refl;
+  label_marker = refl;
+  label_string = refl;
+  marker = refl;
+  destination = refl;
+  destination_literal = refl;
+  destination_literal_marker = refl;
+  destination_raw = refl;
+  destination_string = refl;
+  title = refl;
+  title_marker = refl;
+  title_string = refl;
+}
+
+module _ (At : Point → Type 0) (bytes : List ℕ) where
+  abbrev Ends : Seat → Type 0
+  Ends = EndsAt At bytes
+
+  record Are (marks : List Mark) : Type 0 where
+    all : Stand At marks
+
+  mark : (k : Kind) (n : Name) (place : Point) → IsOther n → Are ((event bytes k n place, None) ∷ [])
+  mark k n place other = record { all = ((λ e. absurd (false≢true (sym other ∙ e))), tt) }
+
+  walk : Walk bytes Are IsOther AnySeat
+  walk = walk-of-marks bytes Are IsOther (record { all = tt }) (λ xs ys h k. record { all = stand-both At xs ys h.all k.all }) mark refl refl refl
+
+  some-data : (seats : List Seat) → AllByRecursion Ends seats → Are (leaf_marks bytes name.Data seats)
+  some-data [] i = record { all = tt }
+  some-data (s ∷ ss) i = record { all = ((λ e. i.0.0), ((λ e. last-end At bytes s ss i), tt)) }
+
+  chunk : (c : Chunk) (seats : List Seat) → Are (chunk_span bytes (Some c) name.Data seats [])
+  chunk c [] = record { all = tt }
+  chunk c (s ∷ ss) = record { all = tt }
+
+  -- ---- sections
+  inside-may : (part : Part) (inside : Inside) → AllByRecursion (RowAt Ends) (all_rows part) → InsideMay IsOther Ends part inside
+  inside-may part (lines_inside is_behind) h = tt
+  inside-may part (defined ds) h = (of-definition, h)
+
+  section-may : (s : Section) → AreOther s.part.frames → AllByRecursion (RowAt Ends) (all_rows s.part) → SectionMay IsOther Ends s
+  section-may s fs h = record {
+    part = record { rows = every-all (λ (r : Row). PrefixesMay IsOther r.went_on) (λ r. all-hold r.went_on) (all_rows s.part); begun = all-hold s.part.first.begun; frames = fs };
+    inside = inside-may s.part s.inside h;
+  }
+
+  sections-may : (fs : List Frame) (ss : List Section) → AreOther fs → AreCut bytes fs ss → AllByRecursion (RowAt Ends) (rows_of ss) → AllByRecursion (SectionMay IsOther Ends) ss
+  sections-may fs [] other cut h = tt
+  sections-may fs (s ∷ more) other cut h =
+      let turned = turned-other fs s.part.frames s.part.first.begun cut.0 other in
+      (section-may s turned (every-front (RowAt Ends) (all_rows s.part) (rows_of more) h), sections-may s.part.frames more turned cut.2 (every-back (RowAt Ends) (all_rows s.part) (rows_of more) h))
+
+  rows-at : (rs : List Row) → AllByRecursion (λ (line : Line). AllByRecursion Ends (line_text line)) (map (λ (r : Row). r.line) rs) → AllByRecursion (RowAt Ends) rs
+  rows-at [] h = tt
+  rows-at (r ∷ rs) h = (h.0, rows-at rs h.1)
+
+  -- of a document whose lines' texts stand there
+  pub skeleton-stands : (on : Constructs) (t : ℕ) → let ls = lines_in (virtual t bytes) in
+      AllByRecursion (λ (line : Line). AllByRecursion Ends (line_text line)) ls → Stand At (sections_marks bytes (sections on (rows on ls)))
+  skeleton-stands on t h =
+      let ls = lines_in (virtual t bytes) in
+      let at = rows-at (rows_of (sections on (rows on ls))) (subst (AllByRecursion (λ (line : Line). AllByRecursion Ends (line_text line))) (sym (all-of-sections bytes on ls)) h) in
+      let ss = sections on (rows on ls) in
+      (sections-are bytes Are IsOther walk mark Ends some-data chunk ss (sections-may [] ss tt (document-cut bytes on ls (document_lines t bytes)) at)).all

@@ -20,8 +20,8 @@ use Rattle.mdblock_containers.proofs.FrameFacts.{shared_none}
 use Rattle.mdblock_definitions.specs.Sections.{Section, lines}
 use Rattle.mdblock_definitions.specs.Skeleton.{behind_marks, inside_marks, section_marks, sections_marks}
 use Rattle.mddocument_parts.specs.JoinedStretches.{IsBlankPart, firsts, joined_part, plain_section, plain_sections}
-use Rattle.mddocument_parts.proofs.MarksApart.{SharesNone, last_part, marks-apart}
-use Rattle.mddocument_parts.proofs.WithoutContainers.PlainRows.{IsBare}
+use Rattle.mddocument_parts.proofs.MarksOfBoth.{SharesNone, last_part, marks-apart}
+use Rattle.mddocument_parts.proofs.WithoutContainers.PlainParts.{IsBare}
 
 -- the lines of rows
 abbrev pub lines_of : List Row → List Line

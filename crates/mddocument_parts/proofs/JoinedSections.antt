@@ -1,41 +1,237 @@
--- Sections of rows behind others, of one part. Where the second go on with a stretch with which the first end, it is one section of the whole: in the parts it is
--- two, and blank lines between them.
-use Rattle.std.proofs.Common.{Bool, List, [], ap, append_assoc, arith, cond, drop, false, inl, inr, length, length-append, nat_le, refl, subst, sym, take, true, zero, ℕ, suc, ◌+◌, ◌++◌, ◌≤◌, ◌<◌, ◌&&◌, ◌∙◌, ◌∷◌, ◌≡◌}
-use Rattle.std.proofs.lemmas.List.{append-nil, drop-append-le, map-append, take-append-drop, take-append-le}
+-- Parts and sections of rows behind others: those of both, but for the last stretch of the first and the first of the second, where the second go on with it.
+use Rattle.std.proofs.Common.{Bool, List, [], ap, append_assoc, arith, cond, drop, false, inl, inr, length, length-append, length-drop, nat_le, refl, subst, suc, sym, take, true, zero, ℕ, ◌&&◌, ◌++◌, ◌+◌, ◌<◌, ◌||◌, ◌∙◌, ◌∷◌, ◌≡◌, ◌≤◌}
+use Rattle.std.proofs.Math.Seq.{drop-append-add, drop-length, take-append-add, take-length, drop-nil, take-nil}
+use Rattle.std.proofs.lemmas.List.{append-nil, drop-append-le, length-take-le, map-append, take-append-drop, take-append-le}
 use Rattle.std.proofs.lemmas.List.Sums.{prefix_len-le-length}
-use Rattle.std.proofs.Math.Seq.{drop-append-add, drop-length, take-append-add, take-length}
 use Rattle.std.specs.List.{AllByRecursion, flat_map}
 use Rattle.std.specs.Prelude.{map}
-use Rattle.markdown_base.specs.declared.configuration.Constructs.{Constructs}
 use Rattle.markdown_base.proofs.Common.{every-drop}
-use Rattle.mdblock_lines.specs.Containers.{Container}
-use Rattle.mdblock_containers.specs.Rows.{Row, is_paragraph}
-use Rattle.mdblock_containers.specs.Skeleton.{Frame, Part, further, parts, parts_in}
+use Rattle.markdown_base.specs.declared.configuration.Constructs.{Constructs}
 use Rattle.mdinline_labels.specs.Definitions.{definitions}
+use Rattle.mdblock_lines.specs.Containers.{Container}
+use Rattle.mdblock_containers.proofs.RestLemmas.{further_few}
+use Rattle.mdblock_containers.specs.Rows.{Row, is_paragraph}
+use Rattle.mdblock_containers.specs.Skeleton.{Frame, Part, frames_at, further, parts, parts_in, standing}
+use Rattle.mdblock_definitions.proofs.Covered.{fewer-left}
 use Rattle.mdblock_definitions.specs.Sections.{Section, before_defined, begins_text, defined_in, defining, in_same, lines, paragraph_of, sections_in, sections_of, text_in, undefined}
 use Rattle.mdblock_definitions.specs.Skeleton.{all_rows}
-use Rattle.mdblock_definitions.proofs.Covered.{fewer-left}
-use Rattle.mddocument_parts.specs.JoinedStretches.{IsSame, SectionsJoin, firsts, joined_part, plain_section, plain_sections, section_seam, sections_apart, AllStay}
-use Rattle.mddocument_parts.proofs.JoinedParts.{Joins, apart, parts-join, parts_by, seam, Seam}
-use Rattle.mddocument_parts.proofs.SectionRows.{AllLeft, Apart, Follows, LeftIsBlank, before-apart, cut_off, defined-apart, defined-within, going, joined, joined-behind, joined-drop, paragraph-apart, text-taken}
+use Rattle.mddocument_parts.proofs.SectionRows.{AllLeft, Apart, Follows, FurtherApart, LeftIsBlank, before-apart, cut_off, defined-apart, defined-within, further-apart, further-cut, going, joined, joined-behind, joined-drop, left-behind, paragraph-apart, text-taken}
+use Rattle.mddocument_parts.specs.JoinedStretches.{AllStay, Begin, IsBlankPart, IsSame, SectionsJoin, Stretch, firsts, joined_part, plain_section, plain_sections, section_seam, sections_apart}
 
+-- ==== Parts of rows behind others. Where the second go on with a stretch with which the first end, it is one part of the whole: in the parts it is two, and blank lines between them.
+further-stay : (rs : List Row) → AllStay (take (further rs) rs)
+further-stay [] = tt
+further-stay (r ∷ rs) = by r.is_left_blank refl r.stays refl (nat_le 1 (further rs)) (further-stay rs)
+  where
+    by : (left : Bool) → r.is_left_blank ≡ left → (stays : Bool) → r.stays ≡ stays → (some : Bool) → AllStay (take (further rs) rs) → AllStay (take (cond left (cond some (suc (further rs)) 0) (cond stays (suc (further rs)) 0)) (r ∷ rs))
+    by true e stays f true h = (ap (λ b. b || r.stays) e, h)
+    by true e stays f false h = tt
+    by false e true f some h = ((λ i. e i || f i), h)
+    by false e false f some h = tt
+
+module _ (F : Row → List Row → List Frame) (S : Row → List Row → List Container) where
+  -- parts, by what tells the spans in which a line stands, and its containers
+  abbrev pub parts_by : (bound : ℕ) → List Row → List Part
+  parts_by zero rows = []
+  parts_by (suc bound) [] = []
+  parts_by (suc bound) (row ∷ behind) =
+      let n = cond row.is_blank 0 (further behind) in
+      record { first = row; more = take n behind; frames = F row behind; stands = S row behind } ∷ parts_by bound (drop n behind)
+
+-- parts of one blank line
+pub lefts : (ps : List Part) → AllByRecursion IsBlankPart ps → AllLeft (firsts ps)
+lefts [] h = tt
+lefts (p ∷ ps) h = (h.0.left, lefts ps h.1)
+
+-- those of a document
+pub real-parts : (b : ℕ) (rows : List Row) → parts_in b rows ≡ parts_by frames_at standing b rows
+real-parts zero rows = refl
+real-parts (suc b) [] = refl
+real-parts (suc b) (q ∷ rows) =
+    let n = cond q.is_blank 0 (further rows) in
+    let p : Part = record { first = q; more = take n rows; frames = frames_at q rows; stands = standing q rows } in
+    ap (λ ps. p ∷ ps) (real-parts b (drop n rows))
+
+module _ (F : Row → List Row → List Frame) (S : Row → List Row → List Container) where
+  -- the last stretch of the first rows, and the first of the second, are one
+  pub record Seam (x : List Row) (r : Row) (rs : List Row) (whole first second : List Part) : Type 0 where
+    pub it : Stretch r
+    pub front : List Part
+    pub back : List Part
+    pub above : List Row
+    pub above_is : above ≡ flat_map all_rows front
+    pub bound : ℕ
+    pub goes : 1 ≤ further (r ∷ rs)
+    pub rows_are : x ≡ above ++ (it.begin.first ∷ (it.begin.more ++ firsts it.blanks))
+    pub parts_are : parts_by F S bound (it.begin.first ∷ (it.begin.more ++ firsts it.blanks)) ≡ it.begin ∷ it.blanks
+    pub end_rows : Begin it.end.more rs
+    pub whole_is : whole ≡ front ++ (joined_part it.begin it.blanks it.end ∷ back)
+    pub first_is : first ≡ front ++ (it.begin ∷ it.blanks)
+    pub second_is : second ≡ it.end ∷ back
+
+  pub data Joins (x : List Row) (r : Row) (rs : List Row) (whole first second : List Part) : Type 0 where
+    apart : whole ≡ first ++ second → Joins x r rs whole first second
+    seam : Seam x r rs whole first second → Joins x r rs whole first second
+
+  -- more bound changes nothing
+  pub parts-by-fuel : (b c : ℕ) (rows : List Row) → length rows ≤ b → length rows ≤ c → parts_by F S b rows ≡ parts_by F S c rows
+  parts-by-fuel zero zero rows l m = refl
+  parts-by-fuel zero (suc c) [] l m = refl
+  parts-by-fuel zero (suc c) (r ∷ rs) l m = absurd (omega (arith, l))
+  parts-by-fuel (suc b) zero [] l m = refl
+  parts-by-fuel (suc b) zero (r ∷ rs) l m = absurd (omega (arith, m))
+  parts-by-fuel (suc b) (suc c) [] l m = refl
+  parts-by-fuel (suc b) (suc c) (r ∷ rs) l m =
+      let n = cond r.is_blank 0 (further rs) in
+      let few = length-drop n rs in
+      let p : Part = record { first = r; more = take n rs; frames = F r rs; stands = S r rs } in
+      ap (λ ps. p ∷ ps) (parts-by-fuel b c (drop n rs) (omega (arith, l, few)) (omega (arith, m, few)))
+
+  -- rows that are left blank are parts of their own
+  pub left-parts-by : (b : ℕ) (y : List Row) → length y ≤ b → AllLeft y → AllByRecursion LeftIsBlank y → (firsts (parts_by F S b y) ≡ y) × AllByRecursion IsBlankPart (parts_by F S b y)
+  left-parts-by zero [] m l k = (refl, tt)
+  left-parts-by zero (r ∷ y) m l k = absurd (omega (arith, m))
+  left-parts-by (suc b) [] m l k = (refl, tt)
+  left-parts-by (suc b) (r ∷ y) m l k =
+      let full = (k.0 l.0).0 in
+      let rest = left-parts-by b y (omega (arith, m)) l.1 k.1 in
+      let none : drop (cond r.is_blank 0 (further y)) y ≡ y = ap (λ c. drop (cond c 0 (further y)) y) full in (
+        ap (λ z. r ∷ firsts (parts_by F S b z)) none ∙ ap (λ z. r ∷ z) rest.0,
+        (record { blank = full; left = l.0; alone = ap (λ c. take (cond c 0 (further y)) y) full }, subst (λ z. AllByRecursion IsBlankPart (parts_by F S b z)) (sym none) rest.1),
+      )
+
+  module _ (r : Row) (rs : List Row) where
+    abbrev y : List Row
+    y = r ∷ rs
+
+    joins-more : (p : Part) (x : List Row) (w f s : List Part) → Joins x r rs w f s → Joins (all_rows p ++ x) r rs (p ∷ w) (p ∷ f) s
+    joins-more p x w f s (apart e) = apart (ap (λ l. p ∷ l) e)
+    joins-more p x w f s (seam h) =
+        seam (record {
+          it = h.it;
+          front = p ∷ h.front;
+          back = h.back;
+          above = all_rows p ++ h.above;
+          above_is = ap (λ l. all_rows p ++ l) h.above_is;
+          bound = h.bound;
+          goes = h.goes;
+          rows_are = ap (λ l. all_rows p ++ l) h.rows_are ∙ sym (append_assoc (all_rows p) h.above (h.it.begin.first ∷ (h.it.begin.more ++ firsts h.it.blanks)));
+          parts_are = h.parts_are;
+          end_rows = h.end_rows;
+          whole_is = ap (λ l. p ∷ l) h.whole_is;
+          first_is = ap (λ l. p ∷ l) h.first_is;
+          second_is = h.second_is;
+        })
+
+    pub joins-as : (x x2 : List Row) (w w2 f f2 s s2 : List Part) → x ≡ x2 → w ≡ w2 → f ≡ f2 → s ≡ s2 → Joins x r rs w f s → Joins x2 r rs w2 f2 s2
+    joins-as x x2 w w2 f f2 s s2 ex ew ef es h = rw⁻¹ (ex, ew, ef, es) h
+
+    module _ (f-same : (row : Row) (x : List Row) → F row (x ++ y) ≡ F row x) (s-same : (row : Row) (x : List Row) → S row (x ++ y) ≡ S row x) where
+      pub parts-join : (c b b2 : ℕ) (x : List Row) → length (x ++ y) ≤ c → length x ≤ b → length y ≤ b2 → AllByRecursion LeftIsBlank x → Follows r rs → Joins x r rs (parts_by F S c (x ++ y)) (parts_by F S b x) (parts_by F S b2 y)
+      parts-join c b b2 [] l m m2 blank follows = apart (parts-by-fuel c b2 y l m2 ∙ ap (λ ps. ps ++ parts_by F S b2 y) (sym (none b)))
+        where
+          none : (b : ℕ) → parts_by F S b [] ≡ []
+          none zero = refl
+          none (suc b) = refl
+      parts-join zero b b2 (q ∷ x) l m m2 blank follows = absurd (omega (arith, l))
+      parts-join (suc c) zero b2 (q ∷ x) l m m2 blank follows = absurd (omega (arith, m))
+      parts-join (suc c) (suc b) zero (q ∷ x) l m m2 blank follows = absurd (omega (arith, m2))
+      parts-join (suc c) (suc b) (suc b2) (q ∷ x) l m m2 blank follows =
+          let size = length-append x y in
+          by (way follows) q.is_blank refl
+          (λ n within. let z = drop n x in
+          let size2 = length-append z y in
+          let few = length-drop n x in
+          parts-join c b (suc b2) z (omega (arith, l, size, size2, few)) (omega (arith, m, few)) m2 (every-drop LeftIsBlank n x blank.1) follows)
+        where
+          Goal : Type 0
+          Goal = Joins (q ∷ x) r rs (parts_by F S (suc c) (q ∷ (x ++ y))) (parts_by F S (suc b) (q ∷ x)) (parts_by F S (suc b2) y)
+
+          Later : Type 0
+          Later = (n : ℕ) → n ≤ length x → Joins (drop n x) r rs (parts_by F S c (drop n x ++ y)) (parts_by F S b (drop n x)) (parts_by F S (suc b2) y)
+
+          way : Follows r rs → FurtherApart x y
+          way (cut_off k) = inl (further-cut x y k, further_few x)
+          way (going full k) = further-apart x y (omega (arith, k))
+
+          -- the part of the first line does not go on to the second rows
+          near : (n : ℕ) → cond q.is_blank 0 (further (x ++ y)) ≡ n → cond q.is_blank 0 (further x) ≡ n → n ≤ length x → Later → Goal
+          near n f g within later =
+              let part : Part = record { first = q; more = take n x; frames = F q x; stands = S q x } in
+              let whole : parts_by F S (suc c) (q ∷ (x ++ y)) ≡ part ∷ parts_by F S c (drop n x ++ y) =
+              (λ i. (let p : Part = record { first = q; more = take (f i) (x ++ y); frames = f-same q x i; stands = s-same q x i } in p) ∷ parts_by F S c (drop (f i) (x ++ y)))
+              ∙ (λ i. (let p : Part = record { first = q; more = take-append-le n x y within i; frames = F q x; stands = S q x } in p) ∷ parts_by F S c (drop-append-le n x y within i)) in
+              let first : parts_by F S (suc b) (q ∷ x) ≡ part ∷ parts_by F S b (drop n x) = (λ i. (let p : Part = record { first = q; more = take (g i) x; frames = F q x; stands = S q x } in p) ∷ parts_by F S b (drop (g i) x)) in
+              joins-as ((q ∷ take n x) ++ drop n x) (q ∷ x) (part ∷ parts_by F S c (drop n x ++ y)) (parts_by F S (suc c) (q ∷ (x ++ y))) (part ∷ parts_by F S b (drop n x)) (parts_by F S (suc b) (q ∷ x)) (parts_by F S (suc b2) y) (parts_by F S (suc b2) y)
+              (ap (λ l. q ∷ l) (take-append-drop n x)) (sym whole) (sym first) refl
+              (joins-more part (drop n x) (parts_by F S c (drop n x ++ y)) (parts_by F S b (drop n x)) (parts_by F S (suc b2) y) (later n within))
+
+          -- it does
+          far : q.is_blank ≡ false → r.is_blank ≡ false → further (r ∷ rs) ≡ suc (further rs) → further (x ++ y) ≡ length x + further y → AllStay x → Goal
+          far full some more all stay =
+              let n = further x in
+              let k = further rs in
+              let z = drop n x in
+              let few : length z ≤ b = let size = length-drop n x in omega (arith, size, m) in
+              let left = left-parts-by b z few (left-behind x stay) (every-drop LeftIsBlank n x blank.1) in
+              let begin : Part = record { first = q; more = take n x; frames = F q x; stands = S q x } in
+              let blanks = parts_by F S b z in
+              let end : Part = record { first = r; more = take k rs; frames = F r rs; stands = S r rs } in
+              let back = parts_by F S b2 (drop k rs) in
+              let halves : take n x ++ firsts blanks ≡ x = ap (λ l. take n x ++ l) left.0 ∙ take-append-drop n x in
+              let reach : cond q.is_blank 0 (further (x ++ y)) ≡ length x + suc k = ap (λ b. cond b 0 (further (x ++ y))) full ∙ all ∙ ap (λ m. length x + m) more in
+              let size = length-append x y in
+              let last = length-drop k rs in
+              let fuel : parts_by F S c (drop k rs) ≡ back = parts-by-fuel c b2 (drop k rs) (omega (arith, l, size, last)) (omega (arith, m2, last)) in
+              let whole : parts_by F S (suc c) (q ∷ (x ++ y)) ≡ joined_part begin blanks end ∷ back =
+              (λ i. (let p : Part = record { first = q; more = take (reach i) (x ++ y); frames = f-same q x i; stands = s-same q x i } in p) ∷ parts_by F S c (drop (reach i) (x ++ y)))
+              ∙ (λ i. (let p : Part = record { first = q; more = take-append-add x y (suc k) i; frames = F q x; stands = S q x } in p) ∷ parts_by F S c (drop-append-add x y (suc k) i))
+              ∙ (λ i. (let p : Part = record { first = q; more = sym halves i ++ (r ∷ take k rs); frames = F q x; stands = S q x } in p) ∷ fuel i) in
+              let first : parts_by F S (suc b) (q ∷ x) ≡ begin ∷ blanks = (λ i. let n = cond (full i) 0 (further x) in (let p : Part = record { first = q; more = take n x; frames = F q x; stands = S q x } in p) ∷ parts_by F S b (drop n x)) in
+              let second : parts_by F S (suc b2) y ≡ end ∷ back = (λ i. let n = cond (some i) 0 (further rs) in (let p : Part = record { first = r; more = take n rs; frames = F r rs; stands = S r rs } in p) ∷ parts_by F S b2 (drop n rs)) in
+              seam (record {
+                it = record { begin = begin; blanks = blanks; end = end; full = full; stay = subst AllStay (sym halves) stay; reach = ap further halves ∙ sym (length-take-le n x (further_few x)); are_blank = left.1; end_is = refl; end_stay = further-stay rs };
+                front = [];
+                back = back;
+                above = [];
+                above_is = refl;
+                bound = suc b;
+                goes = omega (arith, more);
+                rows_are = ap (λ l. q ∷ l) (sym halves);
+                parts_are = ap (λ l. parts_by F S (suc b) (q ∷ l)) halves ∙ first;
+                end_rows = record { left = drop k rs; is = sym (take-append-drop k rs) };
+                whole_is = whole;
+                first_is = first;
+                second_is = second;
+              })
+
+          by : FurtherApart x y → (b3 : Bool) → q.is_blank ≡ b3 → Later → Goal
+          by k true f later = near 0 (ap (λ b. cond b 0 (further (x ++ y))) f) (ap (λ b. cond b 0 (further x)) f) (omega arith) later
+          by (inl k) false f later = near (further x) (ap (λ b. cond b 0 (further (x ++ y))) f ∙ k.0) (ap (λ b. cond b 0 (further x)) f) k.1 later
+          by (inr k) false f later = last follows
+            where
+              last : Follows r rs → Goal
+              last (cut_off g) = let some = k.1.1 in absurd (omega (arith, some, g))
+              last (going some more) = far f some more k.0 k.1.0
+
+-- ==== Sections of rows behind others, of one part. Where the second go on with a stretch with which the first end, it is one section of the whole: in the parts it is two, and blank lines between them.
 -- ---- rows that are left blank, or that go on with a stretch
 pub data Behind (r : Row) (rs : List Row) : Type 0 where
   left : AllLeft (r ∷ rs) → Behind r rs
   stays : r.is_blank ≡ false → r.is_left_blank ≡ false → r.stays ≡ true → Behind r rs
 
-pub left-further : (y : List Row) → AllLeft y → further y ≡ 0
+pub left-further : (ys : List Row) → AllLeft ys → further ys ≡ 0
 left-further [] h = refl
-left-further (r ∷ y) h = let none = left-further y h.1 in (λ i. cond (h.0 i) (cond (nat_le 1 (none i)) (suc (none i)) 0) (cond r.stays (suc (none i)) 0))
+left-further (r ∷ ys) h = let none = left-further ys h.1 in (λ i. cond (h.0 i) (cond (nat_le 1 (none i)) (suc (none i)) 0) (cond r.stays (suc (none i)) 0))
 
 pub follows : (r : Row) (rs : List Row) → Behind r rs → Follows r rs
 follows r rs (left h) = cut_off (left-further (r ∷ rs) h)
 follows r rs (stays full h s) = going full (λ i. cond (h i) (cond (nat_le 1 (further rs)) (suc (further rs)) 0) (cond (s i) (suc (further rs)) 0))
 
-front-left : (n : ℕ) (y : List Row) → AllLeft y → AllLeft (take n y)
-front-left zero y h = tt
+front-left : (n : ℕ) (ys : List Row) → AllLeft ys → AllLeft (take n ys)
+front-left zero ys h = tt
 front-left (suc n) [] h = tt
-front-left (suc n) (r ∷ y) h = (h.0, front-left n y h.1)
+front-left (suc n) (r ∷ ys) h = (h.0, front-left n ys h.1)
 
 front-behind : (n : ℕ) (r : Row) (rs : List Row) → Behind r rs → Behind r (take n rs)
 front-behind n r rs (left h) = left (front-left (suc n) (r ∷ rs) h)
@@ -186,16 +382,16 @@ module _ (around : Part) where
     undefined-join b q x (suc m) blank place =
         let z = take m rs in
         let all = q ∷ x in
-        let y = r ∷ z in
+        let ys = r ∷ z in
         let flag = b && is_paragraph q.leaf in
         let behind = front-behind m r rs tail in
-        let c = length (all ++ y) in
-        joins-same Place around r rs all all (sections_of flag (its_parts c (all ++ y))) (undefined b around (all ++ y)) (sections_of flag (its_parts (length all) all)) (undefined b around all) (sections_of false (its_parts (length y) y)) (undefined false around y)
-        refl (ap (sections_of flag) (sym (same-parts c (all ++ y)))) (ap (sections_of flag) (sym (same-parts (length all) all))) (ap (sections_of false) (sym (same-parts (length y) y)))
-        (joins-longer Place around r z rs (drop m rs) (sym (take-append-drop m rs)) all (sections_of flag (its_parts c (all ++ y))) (sections_of flag (its_parts (length all) all)) (sections_of false (its_parts (length y) y))
-        (of-parts Place r z behind flag all (its_parts c (all ++ y)) (its_parts (length all) all) (its_parts (length y) y) (all-same (length all) all) (all-same (length y) y) (some-parts (length all) q x (omega arith))
+        let c = length (all ++ ys) in
+        joins-same Place around r rs all all (sections_of flag (its_parts c (all ++ ys))) (undefined b around (all ++ ys)) (sections_of flag (its_parts (length all) all)) (undefined b around all) (sections_of false (its_parts (length ys) ys)) (undefined false around ys)
+        refl (ap (sections_of flag) (sym (same-parts c (all ++ ys)))) (ap (sections_of flag) (sym (same-parts (length all) all))) (ap (sections_of false) (sym (same-parts (length ys) ys)))
+        (joins-longer Place around r z rs (drop m rs) (sym (take-append-drop m rs)) all (sections_of flag (its_parts c (all ++ ys))) (sections_of flag (its_parts (length all) all)) (sections_of false (its_parts (length ys) ys))
+        (of-parts Place r z behind flag all (its_parts c (all ++ ys)) (its_parts (length all) all) (its_parts (length ys) ys) (all-same (length all) all) (all-same (length ys) ys) (some-parts (length all) q x (omega arith))
         (λ h. place h.front h.it.begin h.it.blanks h.first_is (h.rows_are ∙ ap (λ l. l ++ (h.it.begin.first ∷ (h.it.begin.more ++ firsts h.it.blanks))) h.above_is) h.it.full h.it.stay)
-        (parts-join its_frames its_stands r z (λ row x. refl) (λ row x. refl) c (length all) (length y) all (omega arith) (omega arith) (omega arith) blank (follows r z behind))))
+        (parts-join its_frames its_stands r z (λ row x. refl) (λ row x. refl) c (length all) (length ys) all (omega arith) (omega arith) (omega arith) blank (follows r z behind))))
 
 -- ---- lines of a part, cut before and behind definitions
 module _ (on : Constructs) (around : Part) where
@@ -226,24 +422,16 @@ module _ (on : Constructs) (around : Part) where
   sections-none (suc b) p = refl
 
   -- lines that do not begin with text: whether definitions come before them does not matter
-  sections-any : (bound : ℕ) (p : Bool) (y : List Row) → (p && begins_text y) ≡ false → sections_in on bound p around y ≡ sections_in on bound false around y
-  sections-any zero p y e = refl
+  sections-any : (bound : ℕ) (p : Bool) (ys : List Row) → (p && begins_text ys) ≡ false → sections_in on bound p around ys ≡ sections_in on bound false around ys
+  sections-any zero p ys e = refl
   sections-any (suc bound) p [] e = refl
-  sections-any (suc bound) p (r ∷ y) e =
-      let all = r ∷ y in
+  sections-any (suc bound) p (r ∷ ys) e =
+      let all = r ∷ ys in
       let n = before_defined on false all in
       ap (λ flag. sections_of flag (map (in_same around) (parts (take n all))) ++ from_cut bound (drop n all)) (text-taken p n all e)
 
-  no-take : (n : ℕ) → let no : List Row = [] in take n no ≡ no
-  no-take zero = refl
-  no-take (suc n) = refl
-
-  no-drop : (n : ℕ) → let no : List Row = [] in drop n no ≡ no
-  no-drop zero = refl
-  no-drop (suc n) = refl
-
   from-none : (b : ℕ) → from_cut b [] ≡ []
-  from-none b = let n = defined_in on [] in (λ i. defining (definitions (text_in (paragraph_of []))) around (no-take n i) ++ sections_in on b true around (no-drop n i)) ∙ sections-none b true
+  from-none b = let n = defined_in on [] in (λ i. defining (definitions (text_in (paragraph_of []))) around (take-nil n i) ++ sections_in on b true around (drop-nil n i)) ∙ sections-none b true
 
   -- lines in which no definitions begin
   pub sections-plain : (b : ℕ) (p : Bool) (q : Row) (x : List Row) → before_defined on false (q ∷ x) ≡ length (q ∷ x) → sections_in on (suc b) p around (q ∷ x) ≡ undefined p around (q ∷ x)
@@ -260,36 +448,36 @@ module _ (on : Constructs) (around : Part) where
     pub last : (p : Bool) (q : Row) (x : List Row) → Known p (q ∷ x) → before_defined on false (q ∷ x) ≡ length (q ∷ x) → Placed around Place p q x
 
   module _ (Known Place : Bool → List Row → Type 0) (placing : Placing Known Place) (r : Row) (rs : List Row) (tail : Behind r rs) where
-    abbrev y : List Row
-    y = r ∷ rs
+    abbrev ys : List Row
+    ys = r ∷ rs
 
     -- lines behind lines in which no definitions begin
-    sections-last : (c b b2 : ℕ) (p : Bool) (q : Row) (x : List Row) → length (q ∷ (x ++ y)) ≤ suc c → length y ≤ suc b2
-        → before_defined on false (q ∷ x) ≡ length (q ∷ x) → before_defined on false (q ∷ (x ++ y)) ≡ length (q ∷ x) + before_defined on false y → AllByRecursion LeftIsBlank (q ∷ x) → Known p (q ∷ x)
-        → SectionsJoin Place around (q ∷ x) r rs (sections_in on (suc c) p around (q ∷ (x ++ y))) (sections_in on (suc b) p around (q ∷ x)) (sections_in on (suc b2) false around y)
+    sections-last : (c b b2 : ℕ) (p : Bool) (q : Row) (x : List Row) → length (q ∷ (x ++ ys)) ≤ suc c → length ys ≤ suc b2
+        → before_defined on false (q ∷ x) ≡ length (q ∷ x) → before_defined on false (q ∷ (x ++ ys)) ≡ length (q ∷ x) + before_defined on false ys → AllByRecursion LeftIsBlank (q ∷ x) → Known p (q ∷ x)
+        → SectionsJoin Place around (q ∷ x) r rs (sections_in on (suc c) p around (q ∷ (x ++ ys))) (sections_in on (suc b) p around (q ∷ x)) (sections_in on (suc b2) false around ys)
     sections-last c b b2 p q x l m2 whole both blank known =
         let all = q ∷ x in
-        let n = before_defined on false y in
-        let behind = drop n y in
+        let n = before_defined on false ys in
+        let behind = drop n ys in
         let k = defined_in on behind in
         let left = drop k behind in
-        let size = length-append x y in
+        let size = length-append x ys in
         let back = fewer-left on r rs (length rs) (omega arith) in
         let few : length left ≤ c = omega (arith, l, size, back) in
         let fuel : from_cut c behind ≡ from_cut b2 behind = ap (λ l. defining (definitions (text_in (paragraph_of behind))) around (take k behind) ++ l) (sections-fuel c b2 true left few (fewer-left on r rs b2 m2)) in
-        let first : sections_in on (suc c) p around (all ++ y) ≡ undefined p around (all ++ take n y) ++ from_cut b2 behind =
-        ap (λ n. cut_at c p n (all ++ y)) both
-        ∙ (λ i. undefined p around (take-append-add all y n i) ++ from_cut c (drop-append-add all y n i))
-        ∙ ap (λ l. undefined p around (all ++ take n y) ++ l) fuel in
-        joins-same Place around r rs all all (undefined p around (all ++ take n y) ++ from_cut b2 behind) (sections_in on (suc c) p around (all ++ y)) (undefined p around all) (sections_in on (suc b) p around all)
-        (undefined false around (take n y) ++ from_cut b2 behind) (sections_in on (suc b2) false around y)
+        let first : sections_in on (suc c) p around (all ++ ys) ≡ undefined p around (all ++ take n ys) ++ from_cut b2 behind =
+        ap (λ n. cut_at c p n (all ++ ys)) both
+        ∙ (λ i. undefined p around (take-append-add all ys n i) ++ from_cut c (drop-append-add all ys n i))
+        ∙ ap (λ l. undefined p around (all ++ take n ys) ++ l) fuel in
+        joins-same Place around r rs all all (undefined p around (all ++ take n ys) ++ from_cut b2 behind) (sections_in on (suc c) p around (all ++ ys)) (undefined p around all) (sections_in on (suc b) p around all)
+        (undefined false around (take n ys) ++ from_cut b2 behind) (sections_in on (suc b2) false around ys)
         refl (sym first) (sym (sections-plain b p q x whole)) refl
-        (joins-back Place around r rs all (undefined p around (all ++ take n y)) (undefined p around all) (undefined false around (take n y)) (from_cut b2 behind) (undefined-join around Place r rs tail p q x n blank (placing.last p q x known whole)))
+        (joins-back Place around r rs all (undefined p around (all ++ take n ys)) (undefined p around all) (undefined false around (take n ys)) (from_cut b2 behind) (undefined-join around Place r rs tail p q x n blank (placing.last p q x known whole)))
 
     -- lines behind others, if no paragraph goes on from the first to the second
-    pub sections-join : (c b b2 : ℕ) (p : Bool) (x : List Row) → length (x ++ y) ≤ c → length x ≤ b → length y ≤ b2 → joined p x y ≡ false → AllByRecursion LeftIsBlank x → Known p x
-        → SectionsJoin Place around x r rs (sections_in on c p around (x ++ y)) (sections_in on b p around x) (sections_in on b2 false around y)
-    sections-join c b b2 p [] l m m2 e blank known = sections_apart (sections-any c p y e ∙ sections-fuel c b2 false y l m2 ∙ ap (λ l. l ++ sections_in on b2 false around y) (sym (sections-none b p)))
+    pub sections-join : (c b b2 : ℕ) (p : Bool) (x : List Row) → length (x ++ ys) ≤ c → length x ≤ b → length ys ≤ b2 → joined p x ys ≡ false → AllByRecursion LeftIsBlank x → Known p x
+        → SectionsJoin Place around x r rs (sections_in on c p around (x ++ ys)) (sections_in on b p around x) (sections_in on b2 false around ys)
+    sections-join c b b2 p [] l m m2 e blank known = sections_apart (sections-any c p ys e ∙ sections-fuel c b2 false ys l m2 ∙ ap (λ l. l ++ sections_in on b2 false around ys) (sym (sections-none b p)))
     sections-join zero b b2 p (q ∷ x) l m m2 e blank known = absurd (omega (arith, l))
     sections-join (suc c) zero b2 p (q ∷ x) l m m2 e blank known = absurd (omega (arith, m))
     sections-join (suc c) (suc b) zero p (q ∷ x) l m m2 e blank known = absurd (omega (arith, m2))
@@ -300,17 +488,17 @@ module _ (on : Constructs) (around : Part) where
         let k = defined_in on z in
         let left = drop k z in
         let back = fewer-left on q x b m in
-        let size = length-append x y in
-        let size2 = length-append left y in
+        let size = length-append x ys in
+        let size2 = length-append left ys in
         let back2 = fewer-left on q x (length x) (omega arith) in
-        by (before-apart on false all y e) (λ less h. sections-join c b (suc b2) true left (omega (arith, l, size, size2, back2)) back m2 h (every-drop LeftIsBlank k z (every-drop LeftIsBlank n all blank)) (placing.step p q x known less))
+        by (before-apart on false all ys e) (λ less h. sections-join c b (suc b2) true left (omega (arith, l, size, size2, back2)) back m2 h (every-drop LeftIsBlank k z (every-drop LeftIsBlank n all blank)) (placing.step p q x known less))
       where
         Goal : Type 0
-        Goal = SectionsJoin Place around (q ∷ x) r rs (sections_in on (suc c) p around (q ∷ (x ++ y))) (sections_in on (suc b) p around (q ∷ x)) (sections_in on (suc b2) false around y)
+        Goal = SectionsJoin Place around (q ∷ x) r rs (sections_in on (suc c) p around (q ∷ (x ++ ys))) (sections_in on (suc b) p around (q ∷ x)) (sections_in on (suc b2) false around ys)
 
-        by : Apart on false (q ∷ x) y
+        by : Apart on false (q ∷ x) ys
             → (let left = drop (defined_in on (drop (before_defined on false (q ∷ x)) (q ∷ x))) (drop (before_defined on false (q ∷ x)) (q ∷ x)) in
-            before_defined on false (q ∷ x) < suc (length x) → joined true left y ≡ false → SectionsJoin Place around left r rs (sections_in on c true around (left ++ y)) (sections_in on b true around left) (sections_in on (suc b2) false around y))
+            before_defined on false (q ∷ x) < suc (length x) → joined true left ys ≡ false → SectionsJoin Place around left r rs (sections_in on c true around (left ++ ys)) (sections_in on b true around left) (sections_in on (suc b2) false around ys))
             → Goal
         by (inr h) more = sections-last c b b2 p q x l m2 h.0 h.1 blank known
         by (inl h) more =
@@ -319,25 +507,25 @@ module _ (on : Constructs) (around : Part) where
             let z = drop n all in
             let k = defined_in on z in
             let left = drop k z in
-            let apart : joined true z y ≡ false = sym (joined-drop false true n all y h.0) ∙ e in
+            let apart : joined true z ys ≡ false = sym (joined-drop false true n all ys h.0) ∙ e in
             let within = defined-within on z in
             let size = prefix_len-le-length (λ (row : Row). is_paragraph row.leaf) z in
             let inside : k ≤ length z = omega (arith, within, size) in
             let few : n ≤ length all = let less = h.0 in omega (arith, less) in
             let front = undefined p around (take n all) in
             let mid = defining (definitions (text_in (paragraph_of z))) around (take k z) in
-            let text = paragraph-apart z y apart in
-            let many = defined-apart on z y apart in
-            let rest : from_cut c (z ++ y) ≡ mid ++ sections_in on c true around (left ++ y) =
-            (λ i. defining (definitions (text_in (text i))) around (take (many i) (z ++ y)) ++ sections_in on c true around (drop (many i) (z ++ y)))
-            ∙ (λ i. defining (definitions (text_in (paragraph_of z))) around (take-append-le k z y inside i) ++ sections_in on c true around (drop-append-le k z y inside i)) in
-            let whole : sections_in on (suc c) p around (all ++ y) ≡ front ++ (mid ++ sections_in on c true around (left ++ y)) =
-            ap (λ n. cut_at c p n (all ++ y)) h.1
-            ∙ (λ i. undefined p around (take-append-le n all y few i) ++ from_cut c (drop-append-le n all y few i))
+            let text = paragraph-apart z ys apart in
+            let many = defined-apart on z ys apart in
+            let rest : from_cut c (z ++ ys) ≡ mid ++ sections_in on c true around (left ++ ys) =
+            (λ i. defining (definitions (text_in (text i))) around (take (many i) (z ++ ys)) ++ sections_in on c true around (drop (many i) (z ++ ys)))
+            ∙ (λ i. defining (definitions (text_in (paragraph_of z))) around (take-append-le k z ys inside i) ++ sections_in on c true around (drop-append-le k z ys inside i)) in
+            let whole : sections_in on (suc c) p around (all ++ ys) ≡ front ++ (mid ++ sections_in on c true around (left ++ ys)) =
+            ap (λ n. cut_at c p n (all ++ ys)) h.1
+            ∙ (λ i. undefined p around (take-append-le n all ys few i) ++ from_cut c (drop-append-le n all ys few i))
             ∙ ap (λ l. front ++ l) rest in
             let rows : take n all ++ (take k z ++ left) ≡ all = ap (λ l. take n all ++ l) (take-append-drop k z) ∙ take-append-drop n all in
-            joins-same Place around r rs (take n all ++ (take k z ++ left)) all (front ++ (mid ++ sections_in on c true around (left ++ y))) (sections_in on (suc c) p around (all ++ y)) (front ++ (mid ++ sections_in on b true around left)) (sections_in on (suc b) p around all)
-            (sections_in on (suc b2) false around y) (sections_in on (suc b2) false around y)
+            joins-same Place around r rs (take n all ++ (take k z ++ left)) all (front ++ (mid ++ sections_in on c true around (left ++ ys))) (sections_in on (suc c) p around (all ++ ys)) (front ++ (mid ++ sections_in on b true around left)) (sections_in on (suc b) p around all)
+            (sections_in on (suc b2) false around ys) (sections_in on (suc b2) false around ys)
             rows (sym whole) refl refl
-            (joins-front Place around r rs front (take n all) (take k z ++ left) (mid ++ sections_in on c true around (left ++ y)) (mid ++ sections_in on b true around left) (sections_in on (suc b2) false around y)
-            (joins-front Place around r rs mid (take k z) left (sections_in on c true around (left ++ y)) (sections_in on b true around left) (sections_in on (suc b2) false around y) (more h.0 (sym (joined-behind k z y within) ∙ apart))))
+            (joins-front Place around r rs front (take n all) (take k z ++ left) (mid ++ sections_in on c true around (left ++ ys)) (mid ++ sections_in on b true around left) (sections_in on (suc b2) false around ys)
+            (joins-front Place around r rs mid (take k z) left (sections_in on c true around (left ++ ys)) (sections_in on b true around left) (sections_in on (suc b2) false around ys) (more h.0 (sym (joined-behind k z ys within) ∙ apart))))

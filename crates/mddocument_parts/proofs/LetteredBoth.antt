@@ -1,25 +1,185 @@
--- A document with letters at its lazy underlines, and the same of its parts: the letters of each part are its own.
-use Rattle.mddocument_parts.proofs.Prelude.{◌≡◌, ◌==◌, ◌&&◌, ◌||◌, ◌<◌, ◌≤◌, ℕ, zero, suc, ◌+◌, Bool, true, false, cond, not, List, [], ◌∷◌, ◌++◌, length, map, refl, subst, sym, ap, ◌∙◌, arith, AllByRecursion, flat_map, and-left, Constructs, Line, begins_line, line_endings, lines_in, Seat, begins_with_lf, in_tab, tab_width, virtual, virtual_from}
+-- A document with letters at its lazy underlines: its lines, and those of its parts.
+use Rattle.mddocument_parts.proofs.Prelude.{AllByRecursion, Bool, Constructs, Enter, Exit, Line, List, Name, None, Seat, [], all_of, and-left, ap, arith, begins_line, begins_with_lf, blank_line, body, cond, drop, end_after, ending_of, false, flat_map, in_tab, inl, inr, is_line_ending, joined, last_end, leaf_block_marks, leaf_blocks_marks, leaf_marks, length, line_endings, line_text, lines_in, map, map-append, not, refl, shown, subst, suc, sym, tab_width, true, virtual, virtual_from, zero, ℕ, ◌&&◌, ◌++◌, ◌+◌, ◌<◌, ◌==◌, ◌||◌, ◌∙◌, ◌∷◌, ◌≡◌, ◌≤◌}
 use Rattle.std.proofs.Math.Bool.{or-false}
 use Rattle.std.proofs.lemmas.Bool.Decides.{nat_tests}
 use Rattle.std.proofs.lemmas.List.Folds.{list_any-append}
 use Rattle.std.specs.List.{list_any}
-use Rattle.std.specs.Prelude.{drop, take, is_some}
-use Rattle.markdown_base.proofs.Common.{every-append, every-drop, every-take}
+use Rattle.std.specs.Prelude.{is_some, take}
+use Rattle.markdown_base.proofs.Common.{every-append, every-drop, every-take, every-map}
+use Rattle.markdown_base.specs.declared.event.Name.TheVariants as name
 use Rattle.markdown_tokenizer.proofs.Positions.Order.{every-back, every-front}
+use Rattle.mdblock_leaf_blocks.proofs.Lines.WholeLines.{IsWhole}
+use Rattle.mdblock_leaf_blocks.proofs.Marks.LeafSpans.{text-shorter}
+use Rattle.mdblock_leaf_blocks.specs.BlocksRead.{block_seats}
 use Rattle.mdblock_leaf_blocks.specs.LineKinds.{indent, underline_rank}
-use Rattle.mdblock_containers.specs.Letters.{ArePlainFrom, is_plain, lazy_underline, letter, lettered_from, with_letters}
+use Rattle.mdblock_containers.proofs.LetterPlaces.{places_kept}
+use Rattle.mdblock_containers.specs.Letters.{ArePlainFrom, is_plain, lazy_underline, letter, lettered_from, lettered_seat, with_letters}
 use Rattle.mdblock_containers.specs.Rows.{Row, rest_of}
-use Rattle.mdblock_definitions.specs.Rows.{Known, known_after, row_of, rows, rows_from}
 use Rattle.mdblock_definitions.proofs.Covered.{rows_of, sections-hold-lines}
 use Rattle.mdblock_definitions.proofs.PlainLetters.{letters-are-plain, open-not-blank}
+use Rattle.mdblock_definitions.specs.Rows.{Known, known_after, row_of, rows, rows_from}
 use Rattle.mdblock_definitions.specs.Sections.{Inside, Section, defined, lines, sections}
 use Rattle.mdblock_definitions.specs.Skeleton.{all_rows, letters, letters_of_section, text_begin}
 use Rattle.mddocument_parts.proofs.DocumentLabels.{letters-of-both}
 use Rattle.mddocument_parts.proofs.Events.{in-lines}
-use Rattle.mddocument_parts.proofs.Virtual.{step}
+use Rattle.mddocument_parts.proofs.Virtual.{step, IsNear, near}
 use Rattle.mddocument_parts.specs.DocumentRests.{begins_at_document_rest, first_at_document_rest, known_at_start}
+use Rattle.mddocument_parts.proofs.Choices.{cond-of}
 
+-- ==== Lines of a document with letters: they end where its lines do, and are shown at the same places.
+-- ---- line endings stay
+module _ (at : List ℕ) where
+  abbrev is_listed : ℕ → Bool
+  is_listed index = list_any (λ i. i == index) at
+
+  -- a virtual byte is a line ending as it was
+  abbrev pub Keeps : Seat → Type 0
+  Keeps s = is_line_ending (lettered_seat at s) ≡ is_line_ending s
+
+  keep-other : (b : ℕ) (c : Bool) → (b == 10) ≡ false → (cond c letter b == 10) ≡ (b == 10)
+  keep-other b true e = sym e
+  keep-other b false e = refl
+
+  keep-ending : (c : Bool) → (c ≡ true → ⊥) → (cond c letter 10 == 10) ≡ true
+  keep-ending true h = absurd (h refl)
+  keep-ending false h = refl
+
+  tab-keeps : (byte n line column index vs : ℕ) (ss : List Seat) → (byte == 10) ≡ false → AllByRecursion Keeps ss → AllByRecursion Keeps (in_tab byte n line column index vs ++ ss)
+  tab-keeps byte zero line column index vs ss e h = h
+  tab-keeps byte (suc zero) line column index vs ss e h = (keep-other byte (is_listed index) e, h)
+  tab-keeps byte (suc (suc n)) line column index vs ss e h = (keep-other byte (is_listed index) e, tab-keeps 32 (suc n) line (suc column) index (suc vs) ss refl h)
+
+  step-keeps : (t : ℕ) (is_lf is_cr lf_comes is_tab : Bool) (x line column index : ℕ) (rest : ℕ → ℕ → ℕ → List Seat) → (x == 10) ≡ is_lf → (x == 13) ≡ is_cr → (is_listed index ≡ true → is_plain x ≡ true)
+      → ((line column index : ℕ) → AllByRecursion Keeps (rest line column index)) → AllByRecursion Keeps (step is_lf is_cr lf_comes is_tab t x line column index rest)
+  step-keeps t true is_cr lf_comes is_tab x line column index rest lf cr plain h = (keep-ending (is_listed index) (λ e. ends-no (x == 9) (x == 13) (subst (λ b. (not (x == 9) && (not b && not (x == 13))) ≡ true) lf (plain e))), h (suc line) 1 (suc index))
+    where
+      ends-no : (t r : Bool) → (not t && (not true && not r)) ≡ true → ⊥
+      ends-no t r k = grind arith
+  step-keeps t false true true is_tab x line column index rest lf cr plain h = h line column (suc index)
+  step-keeps t false true false is_tab x line column index rest lf cr plain h = (keep-ending (is_listed index) (λ e. ends-no (x == 9) (x == 10) (subst (λ b. (not (x == 9) && (not (x == 10) && not b)) ≡ true) cr (plain e))), h (suc line) 1 (suc index))
+    where
+      ends-no : (t l : Bool) → (not t && (not l && not true)) ≡ true → ⊥
+      ends-no t l k = grind arith
+  step-keeps t false false lf_comes true x line column index rest lf cr plain h = tab-keeps 9 (tab_width t column) line column index 0 (rest line (column + tab_width t column) (suc index)) refl (h line (column + tab_width t column) (suc index))
+  step-keeps t false false lf_comes false x line column index rest lf cr plain h = (keep-other x (is_listed index) lf, h line (suc column) (suc index))
+
+  keeps-from : (t line column index : ℕ) (bytes : List ℕ) → ArePlainFrom index at bytes → AllByRecursion Keeps (virtual_from t line column index bytes)
+  keeps-from t line column index [] h = tt
+  keeps-from t line column index (x ∷ bytes) h =
+      step-keeps t (x == 10) (x == 13) (begins_with_lf bytes) (x == 9) x line column index (λ l c i. virtual_from t l c (suc index) bytes) refl refl h.0 (λ l c i. keeps-from t l c (suc index) bytes h.1)
+
+  pub seats-keep : (t : ℕ) (bytes : List ℕ) → ArePlainFrom 0 at bytes → AllByRecursion Keeps (virtual t bytes)
+  seats-keep t bytes plain = keeps-from t 1 1 0 bytes plain
+
+  pub document-keeps : (t : ℕ) (bytes : List ℕ) → ArePlainFrom 0 at bytes → AllByRecursion (AllByRecursion Keeps) (lines_in (virtual t bytes))
+  document-keeps t bytes plain = in-lines Keeps (virtual t bytes) (seats-keep t bytes plain)
+
+  -- ---- lines with letters
+  abbrev pub lettered : Line → Line
+  lettered line = map (lettered_seat at) line
+
+  abbrev pub all_lettered : List Line → List Line
+  all_lettered ls = map lettered ls
+
+  pub text-with-letters : (line : Line) → AllByRecursion Keeps line → line_text (lettered line) ≡ lettered (line_text line)
+  text-with-letters [] h = refl
+  text-with-letters (s ∷ ss) h =
+      (λ i. cond (not (h.0 i)) (lettered_seat at s ∷ text-with-letters ss h.1 i) (text-with-letters ss h.1 i)) ∙ cond-of lettered (not (is_line_ending s)) (s ∷ line_text ss) (line_text ss)
+
+  pub ending-with-letters : (line : Line) → AllByRecursion Keeps line → ending_of (lettered line) ≡ lettered (ending_of line)
+  ending-with-letters [] h = refl
+  ending-with-letters (s ∷ ss) h =
+      (λ i. cond (h.0 i) (lettered_seat at s ∷ ending-with-letters ss h.1 i) (ending-with-letters ss h.1 i)) ∙ cond-of lettered (is_line_ending s) (s ∷ ending_of ss) (ending_of ss)
+
+  body-with-letters : (ls : List Line) → AllByRecursion (AllByRecursion Keeps) ls → body (all_lettered ls) ≡ lettered (body ls)
+  body-with-letters [] h = refl
+  body-with-letters (line ∷ []) h = text-with-letters line h.0
+  body-with-letters (line ∷ next ∷ ls) h = ap (λ l. lettered line ++ l) (body-with-letters (next ∷ ls) h.1) ∙ sym (map-append (lettered_seat at) line (body (next ∷ ls)))
+
+  all-with-letters : (ls : List Line) → all_of (all_lettered ls) ≡ lettered (all_of ls)
+  all-with-letters [] = refl
+  all-with-letters (line ∷ ls) = ap (λ l. lettered line ++ l) (all-with-letters ls) ∙ sym (map-append (lettered_seat at) line (all_of ls))
+
+  pub block-with-letters : (is_held : Bool) (ls : List Line) → AllByRecursion (AllByRecursion Keeps) ls → block_seats is_held (all_lettered ls) ≡ lettered (block_seats is_held ls)
+  block-with-letters true ls h = all-with-letters ls
+  block-with-letters false ls h = body-with-letters ls h
+
+  joined-with-letters : (s : Seat) (ls : List Line) → joined (lettered_seat at s) (all_lettered ls) ≡ all_lettered (joined s ls)
+  joined-with-letters s [] = refl
+  joined-with-letters s (line ∷ ls) = refl
+
+  pub lines-with-letters : (seats : List Seat) → AllByRecursion Keeps seats → lines_in (lettered seats) ≡ all_lettered (lines_in seats)
+  lines-with-letters [] h = refl
+  lines-with-letters (s ∷ ss) h =
+      (λ i. cond (h.0 i) ((lettered_seat at s ∷ []) ∷ lines-with-letters ss h.1 i) (joined (lettered_seat at s) (lines-with-letters ss h.1 i))) ∙ by (is_line_ending s)
+    where
+      by : (b : Bool) → cond b ((lettered_seat at s ∷ []) ∷ all_lettered (lines_in ss)) (joined (lettered_seat at s) (all_lettered (lines_in ss))) ≡ all_lettered (cond b ((s ∷ []) ∷ lines_in ss) (joined s (lines_in ss)))
+      by true = refl
+      by false = joined-with-letters s (lines_in ss)
+
+  -- ---- marks of line endings and blank lines
+  module _ (t : ℕ) (bytes : List ℕ) (plain : ArePlainFrom 0 at bytes) where
+    abbrev new : List ℕ
+    new = with_letters at bytes
+
+    end-after-same : (s : Seat) (ss : List Seat) → end_after s.end (lettered ss) ≡ end_after s.end ss
+    end-after-same s [] = refl
+    end-after-same s (r ∷ ss) = end-after-same r ss
+
+    pub leaf-with-letters : (n : Name) (seats : List Seat) → leaf_marks new n (lettered seats) ≡ leaf_marks bytes n seats
+    leaf-with-letters n [] = refl
+    leaf-with-letters n (s ∷ ss) =
+        let shows = (places_kept t at bytes plain).shown_at in
+        let from = shows s.point in
+        let to = ap (shown new) (end-after-same s ss) ∙ shows (end_after s.end ss) in
+        (λ i. (record { kind = Enter; name = n; point = from i; link = None }, None) ∷ (record { kind = Exit; name = n; point = to i; link = None }, None) ∷ [])
+
+    pub last-with-letters : (ls : List Line) → AllByRecursion (AllByRecursion Keeps) ls → last_end new (all_lettered ls) ≡ last_end bytes ls
+    last-with-letters [] h = refl
+    last-with-letters (line ∷ []) h = ap (leaf_marks new name.LineEnding) (ending-with-letters line h.0) ∙ leaf-with-letters name.LineEnding (ending_of line)
+    last-with-letters (line ∷ next ∷ ls) h = last-with-letters (next ∷ ls) h.1
+
+    blank-with-letters : (line : Line) → AllByRecursion Keeps line → leaf_block_marks new (blank_line (lettered line)) ≡ leaf_block_marks bytes (blank_line line)
+    blank-with-letters line h =
+        let white = ap (leaf_marks new name.SpaceOrTab) (text-with-letters line h) ∙ leaf-with-letters name.SpaceOrTab (line_text line) in
+        let ending = ap (leaf_marks new name.BlankLineEnding) (ending-with-letters line h) ∙ leaf-with-letters name.BlankLineEnding (ending_of line) in
+        (λ i. white i ++ ending i)
+
+    pub blanks-with-letters : (ls : List Line) → AllByRecursion (AllByRecursion Keeps) ls → leaf_blocks_marks new (map blank_line (all_lettered ls)) ≡ leaf_blocks_marks bytes (map blank_line ls)
+    blanks-with-letters [] h = refl
+    blanks-with-letters (line ∷ ls) h = (λ i. blank-with-letters line h.0 i ++ blanks-with-letters ls h.1 i)
+
+-- ---- white space in front of a line taken away
+drop-more : (n : ℕ) (xs ys : List Seat) → n ≤ length xs → drop n (xs ++ ys) ≡ drop n xs ++ ys
+drop-more zero xs ys l = refl
+drop-more (suc n) [] ys l = absurd (omega (arith, l))
+drop-more (suc n) (x ∷ xs) ys l = drop-more n xs ys (omega (arith, l))
+
+-- a line's text, and its ending, behind so many virtual bytes of the text
+pub text-behind : (n : ℕ) (line : Line) → IsWhole line → n ≤ length (line_text line) → (line_text (drop n line) ≡ drop n (line_text line)) × (ending_of (drop n line) ≡ ending_of line)
+text-behind zero line w l = (refl, refl)
+text-behind (suc n) [] w l = (refl, refl)
+text-behind (suc n) (s ∷ ss) (inl w) l =
+    let text : line_text (s ∷ ss) ≡ s ∷ line_text ss = ap (λ b. cond (not b) (s ∷ line_text ss) (line_text ss)) w.0 in
+    let ending : ending_of (s ∷ ss) ≡ ending_of ss = ap (λ b. cond b (s ∷ ending_of ss) (ending_of ss)) w.0 in
+    let size = ap (λ (l : Line). length l) text in
+    let rest = text-behind n ss w.1 (omega (arith, l, size)) in
+    (rest.0 ∙ sym (ap (drop (suc n)) text), rest.1 ∙ sym ending)
+text-behind (suc n) (s ∷ ss) (inr w) l =
+    let text : line_text (s ∷ ss) ≡ [] = ap (λ b. cond (not b) (s ∷ line_text ss) (line_text ss)) w.0 ∙ ap line_text w.1 in
+    let size = ap (λ (l : Line). length l) text in
+    absurd (omega (arith, l, size))
+
+pub block-behind : (n : ℕ) (is_held : Bool) (line : Line) (ls : List Line) → IsWhole line → n ≤ length (line_text line) → drop n (block_seats is_held (line ∷ ls)) ≡ block_seats is_held (drop n line ∷ ls)
+block-behind n true line ls w l = let few = text-shorter line w in drop-more n line (all_of ls) (omega (arith, l, few))
+block-behind n false line [] w l = sym (text-behind n line w l).0
+block-behind n false line (next ∷ ls) w l = let few = text-shorter line w in drop-more n line (body (next ∷ ls)) (omega (arith, l, few))
+
+pub last-behind : (n : ℕ) (bytes : List ℕ) (line : Line) (ls : List Line) → IsWhole line → n ≤ length (line_text line) → last_end bytes (drop n line ∷ ls) ≡ last_end bytes (line ∷ ls)
+last-behind n bytes line [] w l = ap (leaf_marks bytes name.LineEnding) (text-behind n line w l).1
+last-behind n bytes line (next ∷ ls) w l = refl
+
+-- ==== A document with letters at its lazy underlines, and the same of its parts: the letters of each part are its own.
 -- ---- bytes with letters
 
 lettered-append : (n : ℕ) (at a b : List ℕ) → lettered_from n at (a ++ b) ≡ lettered_from n at a ++ lettered_from (n + length a) at b
@@ -76,19 +236,14 @@ module _ (at and : List ℕ) where
   plain-lf c true x e h = by (x == 9) (x == 10) (x == 13) (h refl)
     where
       by : (t l r : Bool) → (not t && (not l && not r)) ≡ true → false ≡ l
-      by true l r k = absurd (cc)
-      by false true r k = absurd (cc)
-      by false false r k = refl
+      by t l r k = grind arith
   plain-lf c false x e h = refl
 
   plain-cr : (b : Bool) (x : ℕ) → (b ≡ true → is_plain x ≡ true) → (cond b letter x == 13) ≡ (x == 13)
   plain-cr true x h = by (x == 9) (x == 10) (x == 13) (h refl)
     where
       by : (t l r : Bool) → (not t && (not l && not r)) ≡ true → false ≡ r
-      by true l r k = absurd (cc)
-      by false true r k = absurd (cc)
-      by false false true k = absurd (cc)
-      by false false false k = refl
+      by t l r k = grind arith
   plain-cr false x h = refl
 
   begins-lf : (m : ℕ) (b : List ℕ) → ArePlainFrom m and b → begins_with_lf (lettered_from m and b) ≡ begins_with_lf b
@@ -124,22 +279,8 @@ module _ (t most : ℕ) where
   abbrev pub BeginsBefore : Seat → Type 0
   BeginsBefore s = s.point.index < most
 
-  tab-before : (byte n line column index vs : ℕ) (ss : List Seat) → index < most → AllByRecursion BeginsBefore ss → AllByRecursion BeginsBefore (in_tab byte n line column index vs ++ ss)
-  tab-before byte zero line column index vs ss l h = h
-  tab-before byte (suc zero) line column index vs ss l h = (l, h)
-  tab-before byte (suc (suc n)) line column index vs ss l h = (l, tab-before 32 (suc n) line (suc column) index (suc vs) ss l h)
-
-  step-before : (is_lf is_cr lf_comes is_tab : Bool) (x k line column index : ℕ) (rest : ℕ → ℕ → ℕ → List Seat) → ((line column index : ℕ) → index + k ≤ most → AllByRecursion BeginsBefore (rest line column index)) → index + suc k ≤ most
-      → AllByRecursion BeginsBefore (step is_lf is_cr lf_comes is_tab t x line column index rest)
-  step-before true is_cr lf_comes is_tab x k line column index rest h l = (omega (arith, l), h (suc line) 1 (suc index) (omega (arith, l)))
-  step-before false true true is_tab x k line column index rest h l = h line column (suc index) (omega (arith, l))
-  step-before false true false is_tab x k line column index rest h l = (omega (arith, l), h (suc line) 1 (suc index) (omega (arith, l)))
-  step-before false false lf_comes true x k line column index rest h l = tab-before 9 (tab_width t column) line column index 0 (rest line (column + tab_width t column) (suc index)) (omega (arith, l)) (h line (column + tab_width t column) (suc index) (omega (arith, l)))
-  step-before false false lf_comes false x k line column index rest h l = (omega (arith, l), h line (suc column) (suc index) (omega (arith, l)))
-
   pub begin-before : (a : List ℕ) (line column index : ℕ) → index + length a ≤ most → AllByRecursion BeginsBefore (virtual_from t line column index a)
-  begin-before [] line column index l = tt
-  begin-before (x ∷ a) line column index l = step-before (x == 10) (x == 13) (begins_with_lf a) (x == 9) x (length a) line column index (λ line column index. virtual_from t line column index a) (begin-before a) l
+  begin-before a line column index l = every-map (IsNear most) BeginsBefore (λ s n. n.0) (virtual_from t line column index a) (near t most a line column index l)
 
 -- what holds of the indices of rows holds of those of letters
 module _ (P : ℕ → Type 0) where

@@ -1,5 +1,5 @@
 -- Where bytes begin a line.
-use Rattle.mddocument_parts.proofs.Prelude.{◌≡◌, ℕ, suc, ◌≤◌, ◌==◌, ◌&&◌, ◌||◌, List, [], ◌∷◌, ◌++◌, Bool, true, false, cond, not, length, refl, arith, lines_in, begins_line, line_endings, begins_with_lf, virtual}
+use Rattle.mddocument_parts.proofs.Prelude.{◌≡◌, ℕ, suc, ◌≤◌, ◌==◌, ◌&&◌, ◌||◌, List, [], ◌∷◌, ◌++◌, Bool, true, cond, not, length, refl, arith, lines_in, begins_line, line_endings, begins_with_lf, virtual}
 use Rattle.mddocument_parts.proofs.Virtual.{lines-are-counted}
 
 -- bytes that end a line have a line
@@ -7,16 +7,11 @@ some-endings : (c : List ℕ) (x : ℕ) (b : List ℕ) → begins_line c (x ∷ 
 some-endings c x [] h = by (x == 10) (x == 13) (begins_with_lf c) h
   where
     by : (is_lf is_cr lf_comes : Bool) → (is_lf || (is_cr && not lf_comes)) ≡ true → 1 ≤ cond is_lf 1 (cond is_cr 1 0)
-    by true is_cr lf_comes h = omega arith
-    by false true lf_comes h = omega arith
-    by false false lf_comes h = absurd (cc)
+    by is_lf is_cr lf_comes h = grind arith
 some-endings c x (y ∷ b) h = by (x == 10) (x == 13) (y == 10) (line_endings (y ∷ b)) (some-endings c y b h)
   where
     by : (is_lf is_cr lf_comes : Bool) (more : ℕ) → 1 ≤ more → 1 ≤ cond is_lf (suc more) (cond is_cr (cond lf_comes more (suc more)) more)
-    by true is_cr lf_comes more h = omega arith
-    by false true true more h = h
-    by false true false more h = omega arith
-    by false false lf_comes more h = h
+    by is_lf is_cr lf_comes more h = grind arith
 
 pub some-line : (t : ℕ) (b c : List ℕ) → 1 ≤ length b → begins_line c b ≡ true → 1 ≤ length (lines_in (virtual t b))
 some-line t [] c some h = absurd (omega (arith, some))

@@ -1,5 +1,6 @@
 -- Moved lines are cut into the same leaf blocks, moved.
-use Rattle.mddocument_parts.proofs.Prelude.{◌≡◌, ℕ, zero, suc, ◌+◌, ◌&&◌, ◌||◌, nat_le, nat_lt, List, [], ◌∷◌, Bool, true, false, cond, not, Option, Some, None, length, min, take, drop, refl, ap, ◌∙◌, is_some, map, drop-map, length-map, take-map, Constructs, HtmlKind, ends, waits_for_blank, Line, LeafBlock, paragraph, setext_heading, indented_code, fenced_code, html_block, block_of_kind, blocks_in, bytes_of, content_at, ends_text, interrupts, further_code, has_line, html_block_at, is_blank, is_indented, lines_through, lines_until, text_of, underlined, LineKind, blank, indented, heading, fence, html, thematic_break, text, closes, is_blank_line, line_kind, underline_rank, is_line_ending, line_text, BlocksMove, moved_block, moved_line, moved_lines, moved_seat, Seat}
+use Rattle.mddocument_parts.proofs.Prelude.{◌≡◌, ℕ, zero, suc, ◌+◌, ◌&&◌, ◌||◌, nat_le, nat_lt, List, [], ◌∷◌, Bool, cond, not, Option, Some, None, length, min, take, drop, refl, ap, ◌∙◌, is_some, map, drop-map, length-map, take-map, Constructs, HtmlKind, ends, waits_for_blank, Line, LeafBlock, paragraph, setext_heading, indented_code, fenced_code, html_block, block_of_kind, blocks_in, bytes_of, content_at, ends_text, interrupts, further_code, has_line, html_block_at, is_blank, is_indented, lines_through, lines_until, text_of, underlined, LineKind, blank, indented, heading, fence, html, thematic_break, text, closes, is_blank_line, line_kind, underline_rank, is_line_ending, line_text, BlocksMove, moved_block, moved_line, moved_lines, moved_seat, Seat}
+use Rattle.mddocument_parts.proofs.Choices.{filter-mapped}
 
 module _ (l n : ℕ) where
   abbrev ml : Line → Line
@@ -13,12 +14,7 @@ module _ (l n : ℕ) where
   bytes-moved (s ∷ ss) = ap (λ t. s.byte ∷ t) (bytes-moved ss)
 
   pub line-text-moved : (line : Line) → line_text (ml line) ≡ ml (line_text line)
-  line-text-moved [] = refl
-  line-text-moved (s ∷ ss) = by (not (is_line_ending s)) (line-text-moved ss)
-    where
-      by : (c : Bool) → line_text (ml ss) ≡ ml (line_text ss) → cond c (moved_seat l n s ∷ line_text (ml ss)) (line_text (ml ss)) ≡ ml (cond c (s ∷ line_text ss) (line_text ss))
-      by true e = ap (λ r. moved_seat l n s ∷ r) e
-      by false e = e
+  line-text-moved line = filter-mapped (λ (s : Seat). not (is_line_ending s)) (λ (s : Seat). not (is_line_ending s)) (moved_seat l n) (λ s. refl) line
 
   pub text-moved : (line : Line) → text_of (ml line) ≡ text_of line
   text-moved line = ap bytes_of (line-text-moved line) ∙ bytes-moved (line_text line)

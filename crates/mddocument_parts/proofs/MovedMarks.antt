@@ -1,8 +1,9 @@
 -- The marks of leaf blocks depend on the places of their virtual bytes alone, and on how these are shown: where places move, marks move.
-use Rattle.mddocument_parts.proofs.Prelude.{◌≡◌, ℕ, zero, suc, ◌+◌, ◌-◌, List, [], ◌∷◌, ◌++◌, Bool, true, false, cond, not, length, min, take, drop, refl, sym, ap, ◌∙◌, Option, None, map, AllByRecursion, flat_map, prefix_len, drop-map, length-map, map-append, take-map, Event, Kind, Enter, Exit, Link, Name, Point, Line, LeafBlock, blank_line, break_line, atx_heading, paragraph, setext_heading, indented_code, fenced_code, html_block, bytes_of, Chunk, Mark, block_around, block_span, body, break_marks, chunk_span, code_fenced_around, code_marks, fence_around, fenced_marks, heading_around, html_marks, last_end, leaf_blocks_marks, leaf_marks, line_end, lines_marks, sequence_marks, span_marks, string_chunk, text_chunk, text_marks, underline_marks, white, all_of, ending_of, is_line_ending, line_text, Fence, heading_text, indent, run, unindented, shown, block_lines, event, Seat, end_after, is_white}
-use Rattle.markdown_base.proofs.Common.{every-append, every-drop, every-take}
+use Rattle.mddocument_parts.proofs.Prelude.{◌≡◌, ℕ, zero, suc, ◌+◌, ◌-◌, List, [], ◌∷◌, ◌++◌, Bool, true, false, not, length, min, take, drop, refl, sym, ap, ◌∙◌, Option, None, map, AllByRecursion, flat_map, prefix_len, drop-map, length-map, map-append, take-map, Event, Kind, Enter, Exit, Link, Name, Point, Line, LeafBlock, blank_line, break_line, atx_heading, paragraph, setext_heading, indented_code, fenced_code, html_block, bytes_of, Chunk, Mark, block_around, block_span, body, break_marks, chunk_span, code_fenced_around, code_marks, fence_around, fenced_marks, heading_around, html_marks, last_end, leaf_blocks_marks, leaf_marks, line_end, lines_marks, sequence_marks, span_marks, string_chunk, text_chunk, text_marks, underline_marks, white, all_of, ending_of, is_line_ending, line_text, Fence, heading_text, indent, run, unindented, shown, block_lines, event, Seat, end_after, is_white}
+use Rattle.markdown_base.proofs.Common.{every-append, every-drop, every-take, every-filter}
 use Rattle.markdown_base.specs.declared.event.Name.TheVariants as name
 use Rattle.mddocument_parts.proofs.TextLines.{AnySeat, AreInner, AreTextLines, any-blocks, inner-body, inner-text, texts-front}
+use Rattle.mddocument_parts.proofs.Choices.{filter-mapped}
 
 -- Two documents; where a place of the first is in the second, and what a link comes to be; and which places are known, and are shown alike
 pub record Places : Type 0 where
@@ -68,20 +69,10 @@ module _ (B C : List ℕ) (f : Point → Point) (g : Option Link → Option Link
   ok-append s r h k = every-append IsSeatOk s r h k
 
   ok-text : (s : List Seat) → AreOk s → AreOk (line_text s)
-  ok-text [] h = tt
-  ok-text (x ∷ s) h = by (not (is_line_ending x)) (ok-text s h.1)
-    where
-      by : (c : Bool) → AreOk (line_text s) → AreOk (cond c (x ∷ line_text s) (line_text s))
-      by true k = (h.0, k)
-      by false k = k
+  ok-text s h = every-filter IsSeatOk (λ (x : Seat). not (is_line_ending x)) s h
 
   ok-ending : (s : List Seat) → AreOk s → AreOk (ending_of s)
-  ok-ending [] h = tt
-  ok-ending (x ∷ s) h = by (is_line_ending x) (ok-ending s h.1)
-    where
-      by : (c : Bool) → AreOk (ending_of s) → AreOk (cond c (x ∷ ending_of s) (ending_of s))
-      by true k = (h.0, k)
-      by false k = k
+  ok-ending s h = every-filter IsSeatOk is_line_ending s h
 
   -- ---- seats that are others, moved
   pub record Part (s r : List Seat) : Type 0 where
@@ -93,20 +84,10 @@ module _ (B C : List ℕ) (f : Point → Point) (g : Option Link → Option Link
   bytes-moved (x ∷ r) = ap (λ t. x.byte ∷ t) (bytes-moved r)
 
   text-moved : (line : Line) → line_text (ms line) ≡ ms (line_text line)
-  text-moved [] = refl
-  text-moved (s ∷ ss) = by (not (is_line_ending s)) (text-moved ss)
-    where
-      by : (c : Bool) → line_text (ms ss) ≡ ms (line_text ss) → cond c (fs s ∷ line_text (ms ss)) (line_text (ms ss)) ≡ ms (cond c (s ∷ line_text ss) (line_text ss))
-      by true e = ap (λ r. fs s ∷ r) e
-      by false e = e
+  text-moved line = filter-mapped (λ (s : Seat). not (is_line_ending s)) (λ (s : Seat). not (is_line_ending s)) fs (λ s. refl) line
 
   ending-moved : (line : Line) → ending_of (ms line) ≡ ms (ending_of line)
-  ending-moved [] = refl
-  ending-moved (s ∷ ss) = by (is_line_ending s) (ending-moved ss)
-    where
-      by : (c : Bool) → ending_of (ms ss) ≡ ms (ending_of ss) → cond c (fs s ∷ ending_of (ms ss)) (ending_of (ms ss)) ≡ ms (cond c (s ∷ ending_of ss) (ending_of ss))
-      by true e = ap (λ r. fs s ∷ r) e
-      by false e = e
+  ending-moved line = filter-mapped is_line_ending is_line_ending fs (λ s. refl) line
 
   pub whole : (r : List Seat) → AreOk r → Part (ms r) r
   whole r h = record { is = refl; ok = h }

@@ -1,10 +1,10 @@
 -- Rows of lines that are moved: the same rows, moved.
 use Rattle.std.proofs.Common.{Bool, List, None, Option, Some, [], ap, arith, cond, drop, false, length, min, nat_le, refl, sym, take, true, zero, ℕ, suc, ◌+◌, ◌++◌, ◌==◌, ◌&&◌, ◌||◌, not, ◌∙◌, ◌∷◌, ◌≡◌}
-use Rattle.std.proofs.lemmas.Bool.{eq-eqb, eqb-true}
 use Rattle.std.proofs.lemmas.List.{drop-map, length-map, map-append, take-map}
 use Rattle.std.proofs.lemmas.List.Sums.{sum_by-cons}
 use Rattle.std.specs.Option.{option_map}
 use Rattle.std.specs.Prelude.{is_some, map}
+use Rattle.std.proofs.lemmas.Bool.Decides.{nat_tests}
 use Rattle.markdown_base.specs.declared.configuration.Constructs.{Constructs}
 use Rattle.mdblock_leaf_blocks.specs.LeafBlocks.{Line, text_of}
 use Rattle.mdblock_leaf_blocks.specs.LineKinds.{begins_with, indent, is_blank_line, is_thematic_break, underline_rank, unindented}
@@ -16,6 +16,7 @@ use Rattle.mdblock_definitions.specs.Rows.{Known, is_behind_text, is_used_up, kn
 use Rattle.mddocument_parts.specs.DocumentRests.{RowsMove, known_behind, moved_before, moved_container, moved_known, moved_prefix, moved_row}
 use Rattle.mddocument_parts.specs.Moved.{moved_line, moved_lines}
 use Rattle.mddocument_parts.proofs.MovedBlocks.{text-moved}
+use Rattle.mddocument_parts.proofs.Choices.{cond-of}
 
 -- ---- lists of one length
 pub none-alike : {A B : Type 0} (xs : List A) (ys : List B) → length xs ≡ length ys → has_none xs ≡ has_none ys
@@ -43,13 +44,7 @@ module _ (l : ℕ) where
 
   -- ---- containers that go on
   same-number : (number n2 line : ℕ) → n2 ≡ number + l → (n2 == suc (line + l)) ≡ (number == suc line)
-  same-number number n2 line e = by (number == suc line) refl (n2 == suc (line + l)) refl
-    where
-      by : (b : Bool) → (number == suc line) ≡ b → (c : Bool) → (n2 == suc (line + l)) ≡ c → c ≡ b
-      by true f true g = refl
-      by false f false g = refl
-      by true f false g = let same : n2 ≡ suc (line + l) = omega (arith, e, eqb-true number (suc line) f) in let both : true ≡ false = sym (eq-eqb n2 (suc (line + l)) same) ∙ g in absurd (cc)
-      by false f true g = let same : number ≡ suc line = omega (arith, e, eqb-true n2 (suc (line + l)) g) in let both : true ≡ false = sym (eq-eqb number (suc line) same) ∙ f in absurd (cc)
+  same-number number n2 line e = grind (arith, nat_tests)
 
   goes-moved : (c : Container) (number n2 : ℕ) (t : List ℕ) → n2 ≡ number + l → goes_on (mc c) n2 t ≡ goes_on c number t
   goes-moved (quote line) number n2 t e = refl
@@ -167,11 +162,7 @@ module _ (l : ℕ) where
           let new = beginning on (length rest) number (all_go_on && is_paragraph b.leaf) rest in
           (λ i. cond (all_go_on && is_raw b.leaf) [] (with_list (drop-map mc many b.stack i) (beginning-moved (length rest) number n2 (all_go_on && is_paragraph b.leaf) rest e i)))
           ∙ ap (λ ps. cond (all_go_on && is_raw b.leaf) [] ps) (list-moved (drop many b.stack) new)
-          ∙ by (all_go_on && is_raw b.leaf) (with_list (drop many b.stack) new)
-        where
-          by : (c : Bool) (ps : List Prefix) → cond c [] (map mp ps) ≡ map mp (cond c [] ps)
-          by true ps = refl
-          by false ps = refl
+          ∙ cond-of (map mp) (all_go_on && is_raw b.leaf) [] (with_list (drop many b.stack) new)
 
       plain-moved : (b : Before) (number n2 : ℕ) (line : Line) → n2 ≡ number + l → without.row_of on (moved_before l b) n2 (ml line) ≡ mr (without.row_of on b number line)
       plain-moved b number n2 line e =

@@ -1,20 +1,21 @@
 -- Sections of rows that are moved: the same sections, moved.
-use Rattle.std.proofs.Common.{Bool, List, [], ap, arith, cond, drop, false, length, ltb-false, refl, sym, take, true, zero, ℕ, suc, ◌+◌, ◌++◌, ◌==◌, nat_le, nat_lt, not, ◌&&◌, ◌∙◌, ◌∷◌, ◌≡◌}
-use Rattle.std.proofs.lemmas.Bool.{ltb-true}
+use Rattle.std.proofs.Common.{Bool, List, [], ap, arith, cond, drop, false, length, refl, sym, take, true, zero, ℕ, suc, ◌+◌, ◌++◌, ◌==◌, nat_le, nat_lt, not, ◌&&◌, ◌∙◌, ◌∷◌, ◌≡◌}
 use Rattle.std.proofs.lemmas.List.{drop-map, length-map, map-append, reverse-append, take-map}
 use Rattle.std.specs.List.{flat_map, prefix_len}
 use Rattle.std.specs.Prelude.{map, reverse}
+use Rattle.std.proofs.lemmas.Bool.Decides.{nat_tests}
 use Rattle.markdown_base.specs.declared.configuration.Constructs.{Constructs}
+use Rattle.mdinline_labels.specs.declared.definitions.Definition.{Definition}
+use Rattle.mdinline_labels.specs.Definitions.{definitions}
 use Rattle.mdblock_lines.specs.Containers.{Container, Prefix, item, quote}
 use Rattle.mdblock_containers.specs.Prefixes.{containers_of}
 use Rattle.mdblock_containers.specs.Rows.{Row, is_paragraph}
 use Rattle.mdblock_containers.specs.Skeleton.{Frame, Part, frames_at, frames_of, further, going_on_at, left_in, list_at, list_begun, list_name, parts, parts_in, standing}
-use Rattle.mdinline_labels.specs.declared.definitions.Definition.{Definition}
-use Rattle.mdinline_labels.specs.Definitions.{definitions}
 use Rattle.mdblock_definitions.specs.Sections.{Section, before_defined, begins_text, cut, defined_in, defining, in_same, lines, lines_defined, paragraph_of, sections_in, sections_of, text_in, undefined}
 use Rattle.mddocument_parts.specs.DocumentRests.{moved_container, moved_prefix, moved_row}
 use Rattle.mddocument_parts.specs.MovedSections.{SectionsMove, moved_frame, moved_part, moved_section}
 use Rattle.mddocument_parts.proofs.MovedRows.{containers-moved, none-alike, rest-moved}
+use Rattle.mddocument_parts.proofs.Choices.{cond-of}
 
 reverse-mapped : {A B : Type 0} (f : A → B) (xs : List A) → reverse (map f xs) ≡ map f (reverse xs)
 reverse-mapped f [] = refl
@@ -24,10 +25,6 @@ reverse-mapped f (x ∷ xs) =
 flat-mapped : {A B C D : Type 0} (f : A → List B) (g : C → List D) (m : A → C) (n : B → D) → ((x : A) → g (m x) ≡ map n (f x)) → (xs : List A) → flat_map g (map m xs) ≡ map n (flat_map f xs)
 flat-mapped f g m n h [] = refl
 flat-mapped f g m n h (x ∷ xs) = (λ i. h x i ++ flat-mapped f g m n h xs i) ∙ sym (map-append n (f x) (flat_map f xs))
-
-cond-mapped : {A B : Type 0} (f : A → B) (b : Bool) (xs ys : List A) → cond b (map f xs) (map f ys) ≡ map f (cond b xs ys)
-cond-mapped f true xs ys = refl
-cond-mapped f false xs ys = refl
 
 module _ (l n : ℕ) where
   abbrev mr : Row → Row
@@ -43,20 +40,14 @@ module _ (l n : ℕ) where
   mf f = moved_frame l f
 
   less-moved : (a b : ℕ) → nat_lt (a + l) (b + l) ≡ nat_lt a b
-  less-moved a b = by (nat_lt a b) refl (nat_lt (a + l) (b + l)) refl
-    where
-      by : (x : Bool) → nat_lt a b ≡ x → (y : Bool) → nat_lt (a + l) (b + l) ≡ y → y ≡ x
-      by true e true f = refl
-      by false e false f = refl
-      by true e false f = let less = ltb-true a b e in let more = ltb-false (a + l) (b + l) f in absurd (omega (arith, less, more))
-      by false e true f = let less = ltb-true (a + l) (b + l) f in let more = ltb-false a b e in absurd (omega (arith, less, more))
+  less-moved a b = grind (arith, nat_tests)
 
   left-moved : (many number : ℕ) (cs : List Container) → left_in many (number + l) (map mc cs) ≡ map mc (left_in many number cs)
   left-moved many number [] = refl
   left-moved many number (quote line ∷ cs) = refl
   left-moved many number (item i ∷ cs) =
       (λ j. cond (nat_le many (length-map cs mc j) && less-moved i.line number j) (left-moved many number cs j) (mc (item i) ∷ map mc cs))
-      ∙ cond-mapped mc (nat_le many (length cs) && nat_lt i.line number) (left_in many number cs) (item i ∷ cs)
+      ∙ cond-of (map mc) (nat_le many (length cs) && nat_lt i.line number) (left_in many number cs) (item i ∷ cs)
 
   going-moved : (rows : List Row) → going_on_at (mrs rows) ≡ going_on_at rows
   going-moved [] = refl
@@ -70,11 +61,11 @@ module _ (l n : ℕ) where
       by (quote line) = refl
       by (item i) =
           let frame : Frame = record { name = list_name i; line = i.list } in
-          (λ j. cond (less-moved i.list i.line j) (mf frame ∷ []) []) ∙ cond-mapped mf (nat_lt i.list i.line) (frame ∷ []) []
+          (λ j. cond (less-moved i.list i.line j) (mf frame ∷ []) []) ∙ cond-of (map mf) (nat_lt i.list i.line) (frame ∷ []) []
 
   list-moved : (rows : List Row) → list_at (mrs rows) ≡ map mf (list_at rows)
   list-moved [] = refl
-  list-moved (row ∷ rows) = (λ i. cond row.is_left_blank (list-moved rows i) (begun-moved row.begun i)) ∙ cond-mapped mf row.is_left_blank (list_at rows) (list_begun row.begun)
+  list-moved (row ∷ rows) = (λ i. cond row.is_left_blank (list-moved rows i) (begun-moved row.begun i)) ∙ cond-of (map mf) row.is_left_blank (list_at rows) (list_begun row.begun)
 
   standing-moved : (row : Row) (behind : List Row) → standing (mr row) (mrs behind) ≡ map mc (standing row behind)
   standing-moved row behind =
@@ -86,7 +77,7 @@ module _ (l n : ℕ) where
       ap (λ cs. reverse (left_in many (row.number + l) cs)) (reverse-mapped mc all) ∙ ap reverse (left-moved many row.number (reverse all)) ∙ reverse-mapped mc (left_in many row.number (reverse all)) in
       (λ i. let all = whole i in cond row.is_blank (reverse (left_in (going-moved behind i) (row.number + l) (reverse all))) all)
       ∙ (λ i. cond row.is_blank (back i) (map mc all))
-      ∙ cond-mapped mc row.is_blank (reverse (left_in many row.number (reverse all))) all
+      ∙ cond-of (map mc) row.is_blank (reverse (left_in many row.number (reverse all))) all
 
   frames-of-moved : (c : Container) → frames_of (mc c) ≡ map mf (frames_of c)
   frames-of-moved (quote line) = refl
@@ -98,7 +89,7 @@ module _ (l n : ℕ) where
       let same = row.is_left_blank && (length stands == going_on_at behind) in
       (λ i. let stands = standing-moved row behind i in flat_map frames_of stands ++ cond (row.is_left_blank && (length stands == going-moved behind i)) (list-moved behind i) [])
       ∙ (λ i. flat-mapped frames_of frames_of mc mf frames-of-moved stands i ++ cond (row.is_left_blank && (length-map stands mc i == going_on_at behind)) (map mf (list_at behind)) [])
-      ∙ ap (λ fs. map mf (flat_map frames_of stands) ++ fs) (cond-mapped mf same (list_at behind) [])
+      ∙ ap (λ fs. map mf (flat_map frames_of stands) ++ fs) (cond-of (map mf) same (list_at behind) [])
       ∙ sym (map-append mf (flat_map frames_of stands) (cond same (list_at behind) []))
 
   further-moved : (rows : List Row) → further (mrs rows) ≡ further rows
@@ -199,7 +190,7 @@ module _ (l n : ℕ) where
         let one : List Section = record { part = part; inside = lines false } ∷ [] in
         (λ i. cond part.first.is_blank (mss one) (sections_in on (suc (length-map part.more (moved_row l n) i)) false (moved_part l n part) (mrs (part.first ∷ part.more))))
         ∙ (λ i. cond part.first.is_blank (mss one) (sections-in-moved (suc (length part.more)) false part (part.first ∷ part.more) i))
-        ∙ cond-mapped (moved_section l n) part.first.is_blank one (sections_in on (suc (length part.more)) false part (part.first ∷ part.more))
+        ∙ cond-of (map (moved_section l n)) part.first.is_blank one (sections_in on (suc (length part.more)) false part (part.first ∷ part.more))
 
 pub sections-move : SectionsMove
 sections-move on l n rows =

@@ -1,45 +1,60 @@
--- The last stretch of a document, if a line at a rest goes on with it: its lines, of which the first is read with the letter in front if it is text directly behind
--- definitions, end where no leaf block may go on.
-use Rattle.std.proofs.Common.{Bool, List, [], ap, arith, cond, drop, false, length, refl, subst, sym, true, ℕ, suc, ◌+◌, ◌++◌, ◌≤◌, ◌&&◌, ◌||◌, not, ◌∙◌, ◌∷◌, ◌≡◌}
-use Rattle.std.proofs.lemmas.Bool.{false≢true, false_from_ne_true}
+-- The last stretch of a document, if a line at a rest goes on with it: its lines, and the leaf block that is open behind them.
+use Rattle.std.proofs.Common.{Bool, List, None, Some, [], ap, arith, cond, drop, false, length, not, refl, subst, suc, sym, true, ℕ, ◌&&◌, ◌++◌, ◌+◌, ◌||◌, ◌∙◌, ◌∷◌, ◌≡◌, ◌≤◌}
+use Rattle.std.proofs.Math.Bool.{and-false}
+use Rattle.std.proofs.lemmas.Bool.{false_from_ne_true, false≢true}
 use Rattle.std.specs.List.{AllByRecursion}
 use Rattle.std.specs.Prelude.{is_some}
 use Rattle.markdown_base.proofs.Common.{and-right}
 use Rattle.markdown_base.proofs.Facts.Bools.{and-left}
-use Rattle.markdown_base.specs.declared.configuration.Constructs.{Constructs}
 use Rattle.markdown_base.specs.Virtual.{virtual}
+use Rattle.markdown_base.specs.declared.configuration.Constructs.{Constructs}
 use Rattle.mdconstructs_machines.specs.LineEvents.{lines_in}
+use Rattle.mdblock_leaf_blocks.specs.HtmlLines.{html_kind}
 use Rattle.mdblock_leaf_blocks.specs.LeafBlocks.{Line, interrupts, text_of}
-use Rattle.mdblock_leaf_blocks.specs.LineKinds.{is_blank_line, line_kind, underline_rank}
+use Rattle.mdblock_leaf_blocks.specs.LineKinds.{LineKind, fence, heading, html, indented, is_blank_line, line_kind, run, text as text_kind, thematic_break, underline_rank}
 use Rattle.mdblock_containers.specs.Letters.{letter}
 use Rattle.mdblock_containers.specs.Prefixes.{columns_of}
-use Rattle.mdblock_containers.specs.Rows.{Before, Leaf, Row, closed, has_none, holds_ending, is_paragraph, leaf_after, open_paragraph, opened_by, rest_of}
 use Rattle.mdblock_containers.specs.Rows as without
+use Rattle.mdblock_containers.specs.Rows.{Before, Leaf, Row, closed, has_none, holds_ending, is_paragraph, leaf_after, open_paragraph, opened_by, rest_of}
 use Rattle.mdblock_containers.specs.Skeleton.{further}
 use Rattle.mdblock_definitions.proofs.KnownLemmas.{paragraph-is}
 use Rattle.mdblock_definitions.specs.Rows.{Known, known_after, row_of, rows_from, underlines_nothing}
 use Rattle.mdblock_definitions.specs.Sections.{Section, before_defined, begins_text}
+use Rattle.mddocument_parts.proofs.DocumentRests.{stretches-go-on-at-top}
+use Rattle.mddocument_parts.proofs.JoinedDocument.{all-bare, bare-from, first-of, IsDeep, deep-next, leaf-next-is}
+use Rattle.mddocument_parts.proofs.JoinedMarks.{lines_of}
+use Rattle.mddocument_parts.proofs.JoinedSections.{lefts}
+use Rattle.mddocument_parts.proofs.MovedBlocks.{text-moved}
+use Rattle.mddocument_parts.proofs.NoUnderlines.{LineIsLeft, goes-on, EndsBefore}
+use Rattle.mddocument_parts.proofs.JoinedChunks.{DocumentPlace, Good, PlaceAt, anew, directly, known_at_end}
+use Rattle.mddocument_parts.proofs.SectionRows.{AllLeft}
+use Rattle.mddocument_parts.proofs.StretchStarts.{stretch-ends, stretch-ends-before, StartsClosed, State, rows_at, whole-next, Used}
+use Rattle.mddocument_parts.proofs.WithoutContainers.Leaves.{leaf_next}
+use Rattle.mddocument_parts.proofs.WithoutContainers.PlainParts.{IsBare, plain_before}
 use Rattle.mddocument_parts.specs.DocumentRests.{begins_at_document_rest, document_rows, first_at_document_rest, goes_on_behind, is_at_document_rest, is_closed, known_at_start, known_behind, moved_row}
 use Rattle.mddocument_parts.specs.JoinedStretches.{AllStay, SectionSeam, at_top, firsts}
 use Rattle.mddocument_parts.specs.Moved.{begins_line, line_endings}
 use Rattle.mddocument_parts.specs.Rests.{begins_near, kind_of_line}
-use Rattle.mddocument_parts.proofs.DocumentRests.{stretches-go-on-at-top}
-use Rattle.mddocument_parts.proofs.JoinedParts.{lefts}
-use Rattle.mddocument_parts.proofs.JoinedDocument.{all-bare, bare-from, first-of}
-use Rattle.mddocument_parts.proofs.JoinedKnown.{IsDeep, deep-next, leaf-next-is}
-use Rattle.mddocument_parts.proofs.JoinedMarks.{lines_of}
-use Rattle.mddocument_parts.proofs.LetterKinds.{letter-leaf}
-use Rattle.mddocument_parts.proofs.MovedBlocks.{text-moved}
-use Rattle.mddocument_parts.proofs.NoUnderlines.{LineIsLeft, goes-on}
-use Rattle.mddocument_parts.proofs.SeamPlaces.{DocumentPlace, Good, PlaceAt, anew, directly, known_at_end}
-use Rattle.mddocument_parts.proofs.SectionRows.{AllLeft}
-use Rattle.mddocument_parts.proofs.SplitBlocks.{EndsBefore}
-use Rattle.mddocument_parts.proofs.StretchEnds.{stretch-ends, stretch-ends-before}
-use Rattle.mddocument_parts.proofs.StretchStarts.{State, StartsClosed, rows_at, whole-next}
-use Rattle.mddocument_parts.proofs.UsedUp.{Used}
-use Rattle.mddocument_parts.proofs.WithoutContainers.Leaves.{leaf_next}
-use Rattle.mddocument_parts.proofs.WithoutContainers.PlainRows.{IsBare, plain_before}
 
+-- ==== A line that begins with the letter that stands for other bytes is text: it opens a paragraph.
+module _ (on : Constructs) where
+  pub letter-kind : (t : List ℕ) → line_kind on (letter ∷ t) ≡ text_kind
+  letter-kind t =
+      by on.code_indented on.heading_atx on.code_fenced on.html_flow on.thematic_break
+    where
+      by : (far atx fenced flow broken : Bool)
+          → cond (far && false) indented (cond (atx && false) heading (cond (fenced && false) (fence (record { byte = 96; size = run 96 (letter ∷ t); indent = 0 })) (cond (fenced && false) (fence (record { byte = 126; size = run 126 (letter ∷ t); indent = 0 })) (elim (cond flow (html_kind (letter ∷ t)) None) as (λ _. LineKind) [
+            | Some kind ↦ html kind
+            | None ↦ cond (broken && false) thematic_break text_kind
+          ])))) ≡ text_kind
+      by far atx fenced true broken = (λ i. cond (and-false far i) indented (cond (and-false atx i) heading (cond (and-false fenced i) (fence (record { byte = 96; size = run 96 (letter ∷ t); indent = 0 })) (cond (and-false fenced i) (fence (record { byte = 126; size = run 126 (letter ∷ t); indent = 0 })) (cond (and-false broken i) thematic_break text_kind)))))
+      by far atx fenced false broken = (λ i. cond (and-false far i) indented (cond (and-false atx i) heading (cond (and-false fenced i) (fence (record { byte = 96; size = run 96 (letter ∷ t); indent = 0 })) (cond (and-false fenced i) (fence (record { byte = 126; size = run 126 (letter ∷ t); indent = 0 })) (cond (and-false broken i) thematic_break text_kind)))))
+
+  -- and so does its line
+  pub letter-leaf : (line : Line) (t : List ℕ) → text_of line ≡ letter ∷ t → leaf_next on closed line ≡ open_paragraph
+  letter-leaf line t e = ap (λ t. cond (is_blank_line t && true) closed (leaf_after on closed t)) e ∙ ap (λ kind. opened_by on kind (letter ∷ t)) (letter-kind t)
+
+-- ==== The last stretch of a document, if a line at a rest goes on with it: its lines, of which the first is read with the letter in front if it is text directly behind definitions, end where no leaf block may go on.
 none-deep : {A : Type 0} (xs : List A) (n : ℕ) → n ≤ length xs → xs ≡ [] → n ≡ 0
 none-deep xs n h e = let size = ap (λ l. length l) e in omega (arith, h, size)
 

@@ -20,8 +20,8 @@ use Rattle.mdblock_containers.proofs.PartGoes.{lines_end_behind, lines_end_front
 use Rattle.mdblock_containers.proofs.SeatFacts.{LineIs, LinesEnd, SeatEnds, document_lines, lines_end}
 use Rattle.mdblock_containers.specs.Letters.{ArePlainFrom, lettered_seat, with_letters}
 use Rattle.mdblock_containers.specs.Rows.{has_none}
-use Rattle.mddocument_parts.proofs.LetteredLines.{Keeps, all_lettered, block-behind, block-with-letters, blanks-with-letters, document-keeps, last-behind, last-with-letters, lettered, lines-with-letters, seats-keep, text-behind, text-with-letters}
-use Rattle.mddocument_parts.proofs.SplitBlocks.{EndsBefore, marks_in, split-blocks}
+use Rattle.mddocument_parts.proofs.LetteredBoth.{Keeps, all_lettered, block-behind, block-with-letters, blanks-with-letters, document-keeps, last-behind, last-with-letters, lettered, lines-with-letters, seats-keep, text-behind, text-with-letters}
+use Rattle.mddocument_parts.proofs.NoUnderlines.{EndsBefore, marks_in, split-blocks}
 use Rattle.mddocument_parts.proofs.WithoutContainers.CutOff.{lines-whole}
 use Rattle.mddocument_parts.proofs.WithoutContainers.Leaves.{HasText, last_line}
 use Rattle.mddocument_parts.specs.JoinedStretches.{marks_between}

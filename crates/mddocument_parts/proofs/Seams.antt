@@ -100,35 +100,12 @@ again-three (Some c) b o = refl
 four-same : (f g : ℕ → Option ℕ) (n : ℕ) → 1 ≤ n → ((k : ℕ) → k ≤ n → f k ≡ g k) → ((k : ℕ) → n < k → f k ≡ None) → ((k : ℕ) → n < k → g k ≡ g n) → first_of f ≡ first_of g
 four-same f g zero some same none more = absurd (omega (arith, some))
 four-same f g (suc zero) some same none more =
-    let a = same 1 (omega arith) in
-    let b = none 2 (omega arith) in
-    let c = none 3 (omega arith) in
-    let d = none 4 (omega arith) in
-    let x = more 2 (omega arith) in
-    let y = more 3 (omega arith) in
-    let z = more 4 (omega arith) in
-    (λ i. four (a i) (b i) (c i) (d i)) ∙ again-one (g 1) ∙ sym (λ i. four (g 1) (x i) (y i) (z i))
+    rw (same 1 (omega arith), none 2 (omega arith), none 3 (omega arith), none 4 (omega arith), more 2 (omega arith), more 3 (omega arith), more 4 (omega arith)) (again-one (g 1))
 four-same f g (suc (suc zero)) some same none more =
-    let a = same 1 (omega arith) in
-    let b = same 2 (omega arith) in
-    let c = none 3 (omega arith) in
-    let d = none 4 (omega arith) in
-    let y = more 3 (omega arith) in
-    let z = more 4 (omega arith) in
-    (λ i. four (a i) (b i) (c i) (d i)) ∙ again-two (g 1) (g 2) ∙ sym (λ i. four (g 1) (g 2) (y i) (z i))
+    rw (same 1 (omega arith), same 2 (omega arith), none 3 (omega arith), none 4 (omega arith), more 3 (omega arith), more 4 (omega arith)) (again-two (g 1) (g 2))
 four-same f g (suc (suc (suc zero))) some same none more =
-    let a = same 1 (omega arith) in
-    let b = same 2 (omega arith) in
-    let c = same 3 (omega arith) in
-    let d = none 4 (omega arith) in
-    let z = more 4 (omega arith) in
-    (λ i. four (a i) (b i) (c i) (d i)) ∙ again-three (g 1) (g 2) (g 3) ∙ sym (λ i. four (g 1) (g 2) (g 3) (z i))
-four-same f g (suc (suc (suc (suc n)))) some same none more =
-    let a = same 1 (omega arith) in
-    let b = same 2 (omega arith) in
-    let c = same 3 (omega arith) in
-    let d = same 4 (omega arith) in
-    (λ i. four (a i) (b i) (c i) (d i))
+    rw (same 1 (omega arith), same 2 (omega arith), same 3 (omega arith), none 4 (omega arith), more 4 (omega arith)) (again-three (g 1) (g 2) (g 3))
+four-same f g (suc (suc (suc (suc n)))) some same none more = rw (same 1 (omega arith), same 2 (omega arith), same 3 (omega arith), same 4 (omega arith))
 
 first-same : (y b : List ℕ) → EndsLine y → first_char (y ++ b) ≡ first_char y
 first-same y [] ends = ap first_char (append-nil y)

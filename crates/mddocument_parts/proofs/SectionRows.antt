@@ -1,6 +1,6 @@
 -- What is said of the sections of rows, row by row: of rows behind others it is what is said of both, if no paragraph goes on from the first to the second.
 use Rattle.std.proofs.Math.Bool.{and-false}
-use Rattle.std.proofs.Math.Seq.{drop-append-add, drop-length, take-append-add, take-length}
+use Rattle.std.proofs.Math.Seq.{drop-append-add, drop-length, take-append-add, take-length, drop-nil, take-nil}
 use Rattle.std.proofs.lemmas.Bool.{le-leb}
 use Rattle.std.proofs.Common.{Bool, List, [], ap, append_assoc, arith, cond, drop, false, inl, inr, length, length-append, length-drop, length-take, refl, subst, sym, take, true, zero, ℕ, suc, ◌+◌, ◌++◌, ◌<◌, ◌≤◌, ◌⊎◌, nat_le, not, ◌&&◌, ◌||◌, ◌∙◌, ◌∷◌, ◌≡◌}
 use Rattle.std.proofs.lemmas.Grind.{flat_map-append}
@@ -10,11 +10,11 @@ use Rattle.std.specs.List.{AllByRecursion, flat_map, prefix_len}
 use Rattle.markdown_base.proofs.Common.{every-drop}
 use Rattle.markdown_base.proofs.Facts.Bools.{cond-same}
 use Rattle.markdown_base.specs.declared.configuration.Constructs.{Constructs}
+use Rattle.mdinline_labels.specs.declared.definitions.Definition.{Definition}
+use Rattle.mdinline_labels.specs.Definitions.{definitions}
 pub use Rattle.mdblock_containers.proofs.RestLemmas.{further_few as further-within}
 use Rattle.mdblock_containers.specs.Rows.{Row, is_paragraph}
 use Rattle.mdblock_containers.specs.Skeleton.{further}
-use Rattle.mdinline_labels.specs.declared.definitions.Definition.{Definition}
-use Rattle.mdinline_labels.specs.Definitions.{definitions}
 use Rattle.mdblock_definitions.specs.Sections.{before_defined, begins_text, defined_in, lines_defined, paragraph_of, text_in}
 use Rattle.mdblock_definitions.proofs.Covered.{fewer-left}
 use Rattle.mdblock_definitions.proofs.SectionLemmas.{few-lines}
@@ -167,17 +167,6 @@ module _ {A : Type 0} (on : Constructs) (h : Bool → Row → List A) (d : List 
       let k = defined_in on behind in
       ap (λ b. of_rows b (take n all) ++ (of_definitions (definitions (text_in (paragraph_of behind))) (take k behind) ++ of_lines bound true (drop k behind))) (text-taken b n all e)
 
-  abbrev no_rows : List Row
-  no_rows = []
-
-  no-take : (n : ℕ) → take n no_rows ≡ no_rows
-  no-take zero = refl
-  no-take (suc n) = refl
-
-  no-drop : (n : ℕ) → drop n no_rows ≡ no_rows
-  no-drop zero = refl
-  no-drop (suc n) = refl
-
   lines-none : (b : ℕ) (p : Bool) → of_lines b p [] ≡ []
   lines-none zero p = refl
   lines-none (suc b) p = refl
@@ -187,7 +176,7 @@ module _ {A : Type 0} (on : Constructs) (h : Bool → Row → List A) (d : List 
   from_defined bound behind = of_definitions (definitions (text_in (paragraph_of behind))) (take (defined_in on behind) behind) ++ of_lines bound true (drop (defined_in on behind) behind)
 
   from-none : (b : ℕ) → from_defined b [] ≡ []
-  from-none b = let n = defined_in on [] in (λ i. of_definitions (definitions (text_in (paragraph_of []))) (no-take n i) ++ of_lines b true (no-drop n i)) ∙ lines-none b true
+  from-none b = let n = defined_in on [] in (λ i. of_definitions (definitions (text_in (paragraph_of []))) (take-nil n i) ++ of_lines b true (drop-nil n i)) ∙ lines-none b true
 
   abbrev cut_at : (bound : ℕ) → Bool → (n : ℕ) → List Row → List A
   cut_at bound p n all = of_rows (p && begins_text (take n all)) (take n all) ++ from_defined bound (drop n all)

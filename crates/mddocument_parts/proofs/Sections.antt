@@ -1,5 +1,5 @@
 -- A document as sections, each of which is read by itself.
-use Rattle.mddocument_parts.proofs.Prelude.{◌≡◌, ℕ, ◌≤◌, ◌&&◌, Bool, List, [], ◌∷◌, ◌++◌, true, not, length, refl, sym, ap, ◌∙◌, arith, leb-true, nat_le, map, append-nil, and-right, and-left, Constructs, Event, Line, LeafBlock, blank_line, break_line, atx_heading, paragraph, setext_heading, indented_code, fenced_code, html_block, leaf_blocks, flow_events, lines_in, begins_at_rest, begins_line, first_at_rest, line_endings, moved_block, moved_event, moved_lines, begins_near, is_open, is_open_behind, kind_of_line, last_passes, FirstLineTells, RestsOfBoth, SectionsGiveEvents, are_sections, are_sections_by, document_of, events_of_sections, virtual}
+use Rattle.mddocument_parts.proofs.Prelude.{◌≡◌, ℕ, ◌≤◌, ◌&&◌, Bool, List, [], ◌∷◌, ◌++◌, true, not, length, refl, sym, ap, ◌∙◌, arith, leb-true, nat_le, map, append-nil, and-right, and-left, Constructs, Event, Line, LeafBlock, blank_line, leaf_blocks, flow_events, lines_in, begins_at_rest, begins_line, first_at_rest, line_endings, moved_block, moved_event, moved_lines, begins_near, is_open, is_open_behind, kind_of_line, last_passes, FirstLineTells, RestsOfBoth, SectionsGiveEvents, are_sections, are_sections_by, document_of, events_of_sections, virtual}
 use Rattle.mddocument_parts.proofs.Both.{blocks-of-both}
 use Rattle.mddocument_parts.proofs.Events.{events-of-both}
 use Rattle.mddocument.specs.FlowTexts.{flow_inlines}

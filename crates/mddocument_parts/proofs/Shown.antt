@@ -1,17 +1,12 @@
 -- Where places are shown in a document, and in its parts.
-use Rattle.mddocument_parts.proofs.Prelude.{◌≡◌, ℕ, zero, suc, ◌+◌, ◌-◌, ◌≤◌, ◌==◌, ◌&&◌, ◌||◌, List, [], ◌∷◌, ◌++◌, Bool, true, false, cond, not, length, refl, sym, ap, ◌∙◌, nat_lt, ltb-true, ltb-false, arith, slice_index, AllByRecursion, eqb-true, get_or-append-add, get_or_append_left, get_or_past, and-false, Point, begins_line, moved_point, follows_cr, shown, Seat, begins_with_lf, in_tab, point, tab_width, virtual_from}
-use Rattle.mddocument_parts.proofs.Virtual.{step}
+use Rattle.mddocument_parts.proofs.Prelude.{◌≡◌, ℕ, zero, suc, ◌+◌, ◌-◌, ◌≤◌, ◌==◌, ◌&&◌, ◌||◌, List, [], ◌∷◌, ◌++◌, Bool, true, false, cond, not, length, refl, sym, ap, ◌∙◌, nat_lt, ltb-true, ltb-false, arith, slice_index, AllByRecursion, get_or-append-add, get_or_append_left, get_or_past, and-false, Point, begins_line, moved_point, follows_cr, shown, Seat, point, virtual_from}
+use Rattle.std.proofs.lemmas.Bool.Decides.{nat_tests}
+use Rattle.mddocument_parts.proofs.Virtual.{IsNear, near}
+use Rattle.markdown_base.proofs.Common.{every-map}
 
 -- a CR LF is not torn
 not-both : (x y : ℕ) → ((x == 10) || ((x == 13) && not (y == 10))) ≡ true → ((y == 10) && (x == 13)) ≡ false
-not-both x y h = by (x == 10) refl (y == 10) (x == 13) refl h
-  where
-    by : (p : Bool) → (x == 10) ≡ p → (r q : Bool) → (x == 13) ≡ q → (p || (q && not r)) ≡ true → (r && q) ≡ false
-    by true e r true f h = absurd (let is = eqb-true x 10 e in let both : (10 == 13) ≡ true = ap (λ k. k == 13) (sym is) ∙ f in cc)
-    by true e r false f h = and-false r
-    by false e true true f h = absurd (cc)
-    by false e false true f h = refl
-    by false e r false f h = and-false r
+not-both x y h = grind (arith, nat_tests)
 
 not-torn : (b : List ℕ) (x : ℕ) (a : List ℕ) → begins_line b (x ∷ a) ≡ true → ((slice_index (x ∷ a ++ b) (suc (length a)) == 10) && (slice_index (x ∷ a ++ b) (length a) == 13)) ≡ false
 not-torn [] x [] h = refl
@@ -76,19 +71,5 @@ module _ (t most : ℕ) where
   abbrev pub IsWithin : Seat → Type 0
   IsWithin s = (s.point.index ≤ most) × (s.end.index ≤ most)
 
-  tab-within : (byte n line column index vs : ℕ) (ss : List Seat) → suc index ≤ most → AllByRecursion IsWithin ss → AllByRecursion IsWithin (in_tab byte n line column index vs ++ ss)
-  tab-within byte zero line column index vs ss l h = h
-  tab-within byte (suc zero) line column index vs ss l h = ((omega (arith, l), l), h)
-  tab-within byte (suc (suc n)) line column index vs ss l h = ((omega (arith, l), omega (arith, l)), tab-within 32 (suc n) line (suc column) index (suc vs) ss l h)
-
-  within-step : (is_lf is_cr lf_comes is_tab : Bool) (x k line column index : ℕ) (rest : ℕ → ℕ → ℕ → List Seat) → ((line column index : ℕ) → index + k ≤ most → AllByRecursion IsWithin (rest line column index)) → index + suc k ≤ most
-      → AllByRecursion IsWithin (step is_lf is_cr lf_comes is_tab t x line column index rest)
-  within-step true is_cr lf_comes is_tab x k line column index rest h l = ((omega (arith, l), omega (arith, l)), h (suc line) 1 (suc index) (omega (arith, l)))
-  within-step false true true is_tab x k line column index rest h l = h line column (suc index) (omega (arith, l))
-  within-step false true false is_tab x k line column index rest h l = ((omega (arith, l), omega (arith, l)), h (suc line) 1 (suc index) (omega (arith, l)))
-  within-step false false lf_comes true x k line column index rest h l = tab-within 9 (tab_width t column) line column index 0 (rest line (column + tab_width t column) (suc index)) (omega (arith, l)) (h line (column + tab_width t column) (suc index) (omega (arith, l)))
-  within-step false false lf_comes false x k line column index rest h l = ((omega (arith, l), omega (arith, l)), h line (suc column) (suc index) (omega (arith, l)))
-
   pub within : (a : List ℕ) (line column index : ℕ) → index + length a ≤ most → AllByRecursion IsWithin (virtual_from t line column index a)
-  within [] line column index l = tt
-  within (x ∷ a) line column index l = within-step (x == 10) (x == 13) (begins_with_lf a) (x == 9) x (length a) line column index (λ line column index. virtual_from t line column index a) (within a) l
+  within a line column index l = every-map (IsNear most) IsWithin (λ s n. (omega (arith, n.0), omega (arith, n.0, n.1))) (virtual_from t line column index a) (near t most a line column index l)

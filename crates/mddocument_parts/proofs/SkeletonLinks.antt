@@ -1,43 +1,98 @@
--- In the marks of a document's skeleton behind each chunk that is linked on comes one, and the first is not linked back.
-use Rattle.std.proofs.Common.{◌≡◌, ℕ, suc, ◌≤◌, not, cond, Bool, true, false, List, [], ◌∷◌, ◌++◌, drop, take, length, arith, refl, subst, sym, None, Some}
+-- Lines of a document's sections, and links of the chunks in their marks.
+use Rattle.std.proofs.Common.{Bool, List, None, Some, [], arith, cond, drop, false, length, not, refl, subst, suc, sym, take, true, ℕ, ◌++◌, ◌+◌, ◌-◌, ◌∷◌, ◌≡◌, ◌≤◌}
 use Rattle.std.proofs.lemmas.Bool.{false≢true}
 use Rattle.std.proofs.lemmas.List.{length-append, length-drop, length-map}
+use Rattle.std.proofs.lemmas.List.Filters.{length-filter_both}
+use Rattle.std.proofs.lemmas.List.Sums.{sum_by-cons}
 use Rattle.std.specs.List.{AllByRecursion, flat_map}
 use Rattle.std.specs.Prelude.{is_some, reverse}
 use Rattle.markdown_base.proofs.Common.{every-append}
+use Rattle.markdown_base.specs.Virtual.{Seat}
 use Rattle.markdown_base.specs.declared.configuration.Constructs.{Constructs}
 use Rattle.markdown_base.specs.declared.event.Content.TheVariants as content
 use Rattle.markdown_base.specs.declared.event.Kind.TheVariants.{Exit}
 use Rattle.markdown_base.specs.declared.event.Name.{Name}
 use Rattle.markdown_base.specs.declared.event.Name.TheVariants as name
 use Rattle.markdown_base.specs.declared.event.Point.{Point}
-use Rattle.markdown_base.specs.Virtual.{Seat}
 use Rattle.markdown_tokenizer.proofs.Positions.Order.{every-back, every-front}
-use Rattle.mdconstructs_machines.specs.LineEvents.{ending_of, line_text}
+use Rattle.mdconstructs_machines.specs.LineEvents.{ending_of, is_line_ending, line_text}
 use Rattle.mdconstructs_machines.specs.Spans.{event}
 use Rattle.mdblock_leaf_blocks.specs.LeafBlocks.{Line, text_of}
 use Rattle.mdblock_leaf_blocks.specs.LeafEvents.{Mark, chunk_span, leaf_marks, white}
 use Rattle.mdblock_leaf_blocks.specs.LineKinds.{indent, is_blank_line}
+use Rattle.mdblock_lines.specs.Containers.{Prefix}
+use Rattle.mdblock_containers.proofs.EndLemmas.{plain_begun}
+use Rattle.mdblock_containers.proofs.JoinLemmas.{join, join_is, plain_prefixes, plain_span}
+use Rattle.mdblock_containers.proofs.RestLemmas.{plain_map}
+use Rattle.mdblock_containers.proofs.RowFacts.{begun_sizes, columns_within}
 use Rattle.mdblock_containers.specs.Prefixes.{columns_of}
 use Rattle.mdblock_containers.specs.Rows.{Row, has_none, rest_of}
 use Rattle.mdblock_containers.specs.Skeleton.{Frame, Part, Piece, begun_all, chunks_of, end_of, ending_marks, exits, is_held, joined_pieces, last_line, next_chunk, parts, piece_of, pieces_of, prefixes_marks, shared}
 use Rattle.mdblock_containers.specs.Written.{NoChunk}
-use Rattle.mdblock_containers.proofs.EndLemmas.{plain_begun}
-use Rattle.mdblock_containers.proofs.JoinLemmas.{join, join_is, plain_prefixes, plain_span}
-use Rattle.mdblock_containers.proofs.RestLemmas.{plain_map}
-use Rattle.mdblock_definitions.specs.Rows.{Known, known_after, row_of, rows, rows_from}
-use Rattle.mdblock_definitions.specs.Sectioned.{AreSound, IsSound, TextIsFilled, TextsAreFilled}
-use Rattle.mdblock_definitions.specs.Definitions.{definitions_marks, places_in}
-use Rattle.mdblock_definitions.specs.Sections.{Inside, Section, cut, defined, lines, sections, sections_in}
-use Rattle.mdblock_definitions.specs.Skeleton.{all_rows, behind_marks, inside_marks, section_marks, sections_marks}
-use Rattle.mdblock_definitions.proofs.Covered.{lines-of-parts}
+use Rattle.mdblock_definitions.proofs.Covered.{lines-of-parts, sections-hold-lines}
 use Rattle.mdblock_definitions.proofs.PartTexts.{all-texts}
 use Rattle.mdblock_definitions.proofs.PlainDefinitions.{plain-definitions, plain-places}
 use Rattle.mdblock_definitions.proofs.SectionSound.{part-sections}
-use Rattle.mddocument_parts.specs.DocumentRests.{known_at_start}
+use Rattle.mdblock_definitions.specs.Definitions.{definitions_marks, places_in}
+use Rattle.mdblock_definitions.specs.Rows.{Known, known_after, row_of, rows, rows_from}
+use Rattle.mdblock_definitions.specs.Sectioned.{AreSound, IsSound, TextIsFilled, TextsAreFilled}
+use Rattle.mdblock_definitions.specs.Sections.{Inside, Section, cut, defined, lines, sections, sections_in}
+use Rattle.mdblock_definitions.specs.Skeleton.{all_rows, behind_marks, inside_marks, section_marks, sections_marks}
+use Rattle.mddocument.proofs.FlowTexts.Segments.{HasByte}
 use Rattle.mddocument_parts.proofs.Chained.{AreLinkedOn, BeginsApart}
-use Rattle.mddocument_parts.proofs.RowPlaces.{in-sections, text-few}
+use Rattle.mddocument_parts.proofs.MovedSkeleton.{AreOk, AreRowsOk, HaveRoom, IsRowOk, Shift}
+use Rattle.mddocument_parts.specs.DocumentRests.{known_at_start}
 
+-- ==== Sections of a document by its lines: their lines are lines of the document, with its places, and where a container begins in one a byte is left.
+-- ---- where a container begins
+
+some-byte : (seats : List Seat) → 1 ≤ length seats → HasByte seats
+some-byte [] h = omega (arith, h)
+some-byte (s ∷ seats) h = tt
+
+have-room : (ps : List Prefix) (seats : List Seat) → AllByRecursion (λ (p : Prefix). 1 ≤ p.size) ps → columns_of ps ≤ length seats → HaveRoom ps seats
+have-room [] seats h w = tt
+have-room (p ∷ ps) seats h w =
+    let some = h.0 in
+    let all : columns_of (p ∷ ps) ≡ p.size + columns_of ps = sum_by-cons (λ (q : Prefix). q.size) p ps in
+    let left = length-drop p.size seats in
+    (some-byte seats (omega (arith, some, all, w)), have-room ps (drop p.size seats) h.1 (omega (arith, all, w, left)))
+
+-- a line is no shorter than its text
+pub text-few : (line : Line) → length (text_of line) ≤ length line
+text-few line =
+    let size = length-map (line_text line) (λ (s : Seat). s.byte) in
+    let all = length-filter_both (λ (s : Seat). not (is_line_ending s)) is_line_ending twice line in
+    omega (arith, size, all)
+  where
+    twice : (s : Seat) → is_line_ending s ≡ not (not (is_line_ending s))
+    twice s = grind arith
+
+module _ (m : Shift) (on : Constructs) where
+  row-ok : (k : Known) (number : ℕ) (line : Line) → AreOk m line → HasByte line → IsRowOk m (row_of on k number line)
+  row-ok k number line h some =
+      let row = row_of on k number line in
+      let left : length (drop (columns_of row.went_on) line) ≡ length line - columns_of row.went_on = length-drop (columns_of row.went_on) line in
+      let few = text-few line in
+      let within = columns_within on k.before number line in
+      record { seats = h; some = some; room = have-room row.begun (drop (columns_of row.went_on) line) (begun_sizes on k.before number line) (omega (arith, left, few, within)) }
+
+  pub rows-ok : (k : Known) (number : ℕ) (ls : List Line) → AllByRecursion (AreOk m) ls → AllByRecursion HasByte ls → AreRowsOk m (rows_from on k number ls)
+  rows-ok k number [] h some = tt
+  rows-ok k number (line ∷ ls) h some = (row-ok k number line h.0 some.0, rows-ok (known_after on k (row_of on k number line)) (suc number) ls h.1 some.1)
+
+-- ---- what holds of each line of a document holds of each line of its sections
+module _ (P : Row → Type 0) where
+  of-rows : (ss : List Section) → AllByRecursion P (flat_map (λ s. all_rows s.part) ss) → AllByRecursion (λ (s : Section). P s.part.first × AllByRecursion P s.part.more) ss
+  of-rows [] h = tt
+  of-rows (s ∷ ss) h =
+      let rest = flat_map (λ s. all_rows s.part) ss in
+      (every-front P (all_rows s.part) rest h, of-rows ss (every-back P (all_rows s.part) rest h))
+
+  pub in-sections : (on : Constructs) (rows : List Row) → AllByRecursion P rows → AllByRecursion (λ (s : Section). P s.part.first × AllByRecursion P s.part.more) (sections on rows)
+  in-sections on rows h = of-rows (sections on rows) (subst (AllByRecursion P) (sym (sections-hold-lines on rows)) h)
+
+-- ==== In the marks of a document's skeleton behind each chunk that is linked on comes one, and the first is not linked back.
 -- chunks of marks are linked among themselves
 pub record StandAlone (ms : List Mark) : Type 0 where
   pub linked : AreLinkedOn ms

@@ -1,30 +1,46 @@
--- The first line of a part of a document: no leaf block is open before it, if it goes on with the lines before. So it opens what it opens alone.
-use Rattle.std.proofs.Common.{Bool, List, [], ap, append_assoc, arith, cond, drop, false, length, length-append, refl, sym, take, true, zero, ℕ, suc, ◌+◌, ◌++◌, ◌==◌, ◌&&◌, ◌||◌, nat_le, not, ◌∙◌, ◌∷◌, ◌≡◌}
+-- A stretch of lines of a document: where it begins, where it ends, and what is left of its text behind definitions.
+use Rattle.std.proofs.Common.{Bool, List, [], ap, append_assoc, arith, cond, drop, false, inl, inr, length, length-append, length-take, nat_le, not, refl, subst, suc, sym, take, true, zero, ℕ, ◌&&◌, ◌++◌, ◌+◌, ◌<◌, ◌==◌, ◌||◌, ◌∙◌, ◌∷◌, ◌≡◌, ◌≤◌}
 use Rattle.std.proofs.Math.Bool.{and-false}
-use Rattle.std.proofs.lemmas.List.{take-append-drop}
-use Rattle.std.specs.List.{flat_map}
+use Rattle.std.proofs.lemmas.Bool.{leb-true, not-true}
+use Rattle.std.proofs.lemmas.List.{length-map, map-append, take-append-drop}
+use Rattle.std.specs.List.{AllByRecursion, flat_map, prefix_len}
 use Rattle.std.specs.Prelude.{is_some}
 use Rattle.markdown_base.proofs.Common.{and-right}
 use Rattle.markdown_base.proofs.Facts.Bools.{and-left}
 use Rattle.markdown_base.specs.declared.configuration.Constructs.{Constructs}
+use Rattle.mdinline_labels.specs.Definitions.{rest as rest_behind}
 use Rattle.mdblock_leaf_blocks.specs.LeafBlocks.{Line, interrupts, text_of}
-use Rattle.mdblock_leaf_blocks.specs.LineKinds.{is_blank_line, is_far, kind_of_rest, line_kind, indent, underline_rank, unindented, blank, indented}
-use Rattle.mdblock_containers.specs.Prefixes.{columns_of, containers_of}
-use Rattle.mdblock_containers.specs.Rows.{Before, Leaf, Row, closed, has_none, holds_ending, is_paragraph, leaf_after, open_paragraph, opened_by, rest_of}
-use Rattle.mdblock_containers.specs.Rows as without
-use Rattle.mdblock_containers.specs.Skeleton.{Frame, Part, further}
-use Rattle.mdblock_definitions.specs.Rows.{Known, is_behind_text, is_used_up, known_after, row_of, rows_from, underlines_nothing}
+use Rattle.mdblock_leaf_blocks.specs.LineKinds.{blank, indent, indented, is_blank_line, is_far, kind_of_rest, line_kind, underline_rank, unindented}
 use Rattle.mdblock_lines.specs.Containers.{Container}
+use Rattle.mdblock_containers.proofs.DocumentRows.{take_of_take}
+use Rattle.mdblock_containers.proofs.FrameFacts.{some_more}
+use Rattle.mdblock_containers.specs.Prefixes.{columns_of, containers_of}
+use Rattle.mdblock_containers.specs.Rows as without
+use Rattle.mdblock_containers.specs.Rows.{Before, Row, closed, has_none, holds_ending, is_paragraph, leaf_after, open_paragraph, opened_by, rest_of}
+use Rattle.mdblock_containers.specs.Skeleton.{Frame, Part, further}
+use Rattle.mdblock_definitions.proofs.DefinedText.{all-lines, front-lines, lines-some, tens-both}
 use Rattle.mdblock_definitions.proofs.PlainLetters.{open-not-blank}
-use Rattle.mdblock_definitions.specs.Sections.{before_defined, defined_in}
+use Rattle.mdblock_definitions.proofs.SectionCosts.{defined-paragraph, defined-text, nothing-behind}
+use Rattle.mdblock_definitions.proofs.SectionLemmas.{few-lines, tens, tens-in}
+use Rattle.mdblock_definitions.proofs.SectionTurns.{not-blank-some}
+use Rattle.mdblock_definitions.proofs.Shorter.{definitions-shorter, left-begins}
+use Rattle.mdblock_definitions.specs.Rows.{Known, is_behind_text, is_used_up, known_after, row_of, rows_from, underlines_nothing}
+use Rattle.mdblock_definitions.specs.Sections.{before_defined, defined_in, lines_defined, lines_of as text_lines, paragraph_of, text_in}
 use Rattle.mdblock_definitions.specs.Skeleton.{all_rows}
-use Rattle.mddocument_parts.proofs.BothSections.{leaf-behind}
-use Rattle.mddocument_parts.proofs.JoinedParts.{parts_by}
-use Rattle.mddocument_parts.specs.DocumentRests.{known_behind}
-use Rattle.mddocument_parts.proofs.JoinedKnown.{IsDeep, deep-next}
+use Rattle.mddocument_parts.proofs.DocumentLabels.{leaf-behind, left-is-blank}
+use Rattle.mddocument_parts.proofs.JoinedDocument.{IsDeep, deep-next, last-holds-from}
+use Rattle.mddocument_parts.proofs.JoinedMarks.{lines_of}
+use Rattle.mddocument_parts.proofs.JoinedSections.{parts_by}
+use Rattle.mddocument_parts.proofs.NoUnderlines.{Inside, LineIsLeft, begins, behind_text, none-underlines, paragraph-more, some-long, EndsBefore, NoneUnderlines, are-plain, ends-before}
+use Rattle.mddocument_parts.proofs.SectionRows.{AllLeft, LeftIsBlank}
 use Rattle.mddocument_parts.proofs.WithoutContainers.Leaves.{leaf_next}
-use Rattle.mddocument_parts.proofs.WithoutContainers.PlainRows.{IsBare, plain_before}
+use Rattle.mddocument_parts.proofs.WithoutContainers.PlainParts.{IsBare, plain_before}
+use Rattle.mddocument_parts.proofs.WithoutContainers.SameTexts.{Agree, agree-self}
+use Rattle.mddocument_parts.specs.DocumentRests.{is_closed, known_behind}
+use Rattle.mddocument_parts.specs.JoinedStretches.{AllStay, may_stay}
+use Rattle.mddocument_parts.specs.Rests.{begins_near, kind_of_line}
 
+-- ==== The first line of a part of a document: no leaf block is open before it, if it goes on with the lines before. So it opens what it opens alone.
 -- behind a stretch no line goes on with it
 pub further-none : (rs : List Row) → further (drop (further rs) rs) ≡ 0
 further-none [] = refl
@@ -271,3 +287,319 @@ module _ (on : Constructs) where
             let next = known_after on k row in
             let rows = rows_from on next (suc n) ls in
             whole-on (cond row.is_blank 0 (further rows)) next (suc n) ls (ap (λ b. before_defined on b rows) (leaf-behind on (open-not-blank on) k n line) ∙ (whole-next b row rows h).1)
+
+-- ==== A stretch without containers that begins where a part does, and in which no definitions begin: it ends where no leaf block may go on, if a line goes on with it.
+module _ (on : Constructs) where
+  -- rows have the lines of which they are made
+  pub rows-lines : (k : Known) (n : ℕ) (ls : List Line) → lines_of (rows_from on k n ls) ≡ ls
+  rows-lines k n [] = refl
+  rows-lines k n (line ∷ ls) = ap (λ l. line ∷ l) (rows-lines (known_after on k (row_of on k n line)) (suc n) ls)
+
+  -- where definitions are off, no line is text for them
+  none-off : on.definition ≡ false → (k : Known) (n : ℕ) (ls : List Line) → NoneUnderlines on k n ls
+  none-off off k n [] = tt
+  none-off off k n (line ∷ ls) =
+      let plain = without.row_of on k.before n line in
+      (ap (λ b. b && (is_behind_text k.before plain && (is_some (underline_rank on (rest_of plain)) && is_used_up k.text))) off, none-off off (known_after on k (row_of on k n line)) (suc n) ls)
+
+  -- A stretch, by what is known behind its first line, and by a line of which leaf blocks are read in place of that
+  module _ (left : LineIsLeft) (k : Known) (n : ℕ) (line : Line) (ls : List Line) where
+    abbrev q : Row
+    q = row_of on k n line
+
+    abbrev next : Known
+    next = known_after on k q
+
+    abbrev behind : List Row
+    behind = rows_from on next (suc n) ls
+
+    pub stretch-ends : (x : Line) → next.before ≡ plain_before on q.leaf → is_blank_line (text_of x) ≡ false → leaf_next on closed x ≡ q.leaf → ((defines : on.definition ≡ true) → is_paragraph q.leaf ≡ true → Inside left on defines next behind)
+        → before_defined on (is_paragraph q.leaf) behind ≡ length behind → AllByRecursion IsBare behind → AllStay behind → IsDeep on k → (more bs : List Row) → behind ≡ more ++ bs → AllLeft bs → further behind ≡ length more
+        → (known_behind on k n (line ∷ ls)).before.stack ≡ [] → is_closed (known_behind on k n (line ∷ ls)).before.leaf ≡ true → (l : Line) → begins_near (kind_of_line on l) ≡ true → EndsBefore on (x ∷ lines_of more) (lines_of bs) l
+    stretch-ends x known full opens inside whole bare stay deep more bs are lefts reach stack shut l near =
+        let lines-are : lines_of more ++ lines_of bs ≡ ls = sym (map-append (λ (r : Row). r.line) more bs) ∙ ap lines_of (sym are) ∙ rows-lines next (suc n) ls in
+        ends-before on next (suc n) q ls more bs x (lines_of more) (lines_of bs) l
+        (are-plain on next (suc n) ls q.leaf known bare none) are (ap further (sym are) ∙ reach)
+        (last-holds-from on k n (line ∷ ls) [] q more bs (ap (λ rs. q ∷ rs) are) deep (subst AllStay are stay) lefts stack shut) shut
+        full opens (length-map more (λ (r : Row). r.line))
+        (ap (λ (x : List Line). length x) lines-are) (subst (λ xs. Agree xs ls) (sym lines-are) (agree-self ls)) near
+      where
+        leaf : next.before.leaf ≡ q.leaf
+        leaf = ap (λ (b : Before). b.leaf) known
+
+        none : NoneUnderlines on next (suc n) ls
+        none = by on.definition refl
+          where
+            by : (b : Bool) → on.definition ≡ b → NoneUnderlines on next (suc n) ls
+            by false off = none-off off next (suc n) ls
+            by true defines = none-underlines left on defines next (suc n) ls stay (λ e. inside defines (sym (ap is_paragraph leaf) ∙ e)) (ap (λ l. before_defined on (is_paragraph l) behind) leaf ∙ whole)
+
+    -- from the first line of a part on, where no definitions begin in the stretch
+    module _ (starts : StartsClosed on k n (line ∷ ls)) (full : q.is_blank ≡ false) where
+      kept : q.is_left_blank ≡ false
+      kept = ap (λ b. b && (has_none q.begun && not (q.stays && holds_ending k.before.leaf))) full
+
+      pub stretch-ends-before : before_defined on false (q ∷ behind) ≡ length (q ∷ behind) → AllByRecursion IsBare (q ∷ behind) → AllStay behind → IsDeep on k → (more bs : List Row) → behind ≡ more ++ bs → AllLeft bs → further behind ≡ length more
+          → (known_behind on k n (line ∷ ls)).before.stack ≡ [] → is_closed (known_behind on k n (line ∷ ls)).before.leaf ≡ true → (l : Line) → begins_near (kind_of_line on l) ≡ true → EndsBefore on (lines_of (q ∷ more)) (lines_of bs) l
+      stretch-ends-before whole bare stay deep more bs are lefts reach stack shut l near =
+          let columns : q.columns ≡ 0 = (λ i. columns_of (bare.0.0 i) + columns_of (bare.0.1 i)) in
+          let same : rest_of q ≡ text_of line = ap (λ c. drop c (text_of line)) columns in
+          let parts = by (nat_le 1 (defined_in on (q ∷ behind))) refl whole in
+          stretch-ends line (head-known on k n line starts kept bare.0) (ap is_blank_line (sym same) ∙ full) (head-leaf on k n line starts kept bare.0 full)
+          (λ defines e. begins left on defines k n line behind e (no-text on k n line starts kept) parts.0) parts.1 bare.1 stay deep more bs are lefts reach stack shut l near
+        where
+          by : (b : Bool) → nat_le 1 (defined_in on (q ∷ behind)) ≡ b → cond b 0 (suc (before_defined on (is_paragraph q.leaf) behind)) ≡ suc (length behind) → (nat_le 1 (defined_in on (q ∷ behind)) ≡ false) × (before_defined on (is_paragraph q.leaf) behind ≡ length behind)
+          by true e h = absurd (omega (arith, h))
+          by false e h = (e, omega (arith, h))
+
+-- ==== Directly behind the definitions of a paragraph: its text so far is that of the definitions, and nothing is left of it.
+-- ---- texts
+-- nothing is left of the lines of definitions
+lines-used : (rs : List Row) → 1 ≤ lines_defined (text_in rs) → rest_behind (text_in (take (lines_defined (text_in rs)) rs)) ≡ []
+lines-used rs h = by (rest_behind (text_in rs)) refl
+  where
+    by : (w : List ℕ) → rest_behind (text_in rs) ≡ w → rest_behind (text_in (take (lines_defined (text_in rs)) rs)) ≡ []
+    by [] e =
+        let none = ap text_lines e in
+        let all : lines_defined (text_in rs) ≡ text_lines (text_in rs) = omega (arith, none) in
+        ap (λ n. rest_behind (text_in (take n rs))) all ∙ ap (λ l. rest_behind (text_in l)) (all-lines rs (omega (arith, h, all))) ∙ e
+    by (b ∷ bs) e =
+        let text = text_in rs in
+        let size = ap (λ (l : List ℕ). length l) e in
+        let some : 0 < length (rest_behind text) = omega (arith, size) in
+        elim (left-begins (length text) text (omega arith) some) [
+          | inl own ↦ let same = ap text_lines own in absurd (omega (arith, h, same))
+          | inr left ↦
+              let w = rest_behind text in
+              let x = left.front in
+              let long = ap (λ (l : List ℕ). length l) left.is in
+              let parts = length-append x (10 ∷ w) in
+              let more : 0 < length text = omega (arith, long, parts) in
+              let one = lines-some text more in
+              let two = lines-some w some in
+              let three = ap tens left.is in
+              let four = tens-both x (10 ∷ w) in
+              let count : lines_defined text ≡ tens x + 1 = omega (arith, one, two, three, four) in
+              ap (λ n. rest_behind (text_in (take n rs))) count ∙ ap rest_behind (sym (front-lines rs x w left.is)) ∙ (definitions-shorter w some (length x) x (omega arith) (ap rest_behind (sym left.is))).1
+        ]
+
+abbrev is_open : Row → Bool
+is_open r = is_paragraph r.leaf
+
+-- lines of a paragraph, and those behind them
+behind-cut : (d : ℕ) (rs : List Row) → d ≤ prefix_len is_open rs → behind_text (paragraph_of rs) ≡ behind_text (take d rs) ++ behind_text (paragraph_of (drop d rs))
+behind-cut zero rs h = refl
+behind-cut (suc d) [] h = absurd (omega (arith, h))
+behind-cut (suc d) (r ∷ rs) h = by (behind-cut d rs) (is_open r) refl h
+  where
+    by : (d ≤ prefix_len is_open rs → behind_text (paragraph_of rs) ≡ behind_text (take d rs) ++ behind_text (paragraph_of (drop d rs))) → (b : Bool) → is_open r ≡ b → suc d ≤ cond b (1 + prefix_len is_open rs) 0 → behind_text (paragraph_of (r ∷ rs)) ≡ behind_text (take (suc d) (r ∷ rs)) ++ behind_text (paragraph_of (drop d rs))
+    by later false e k = absurd (omega (arith, k))
+    by later true e k =
+        ap behind_text (paragraph-more r rs e)
+        ∙ ap (λ l. 10 ∷ (rest_of r ++ l)) (later (omega (arith, k)))
+        ∙ ap (λ l. 10 ∷ l) (sym (append_assoc (rest_of r) (behind_text (take d rs)) (behind_text (paragraph_of (drop d rs)))))
+
+module _ (on : Constructs) where
+  -- Directly behind definitions: their text is used up, and the paragraph goes on behind it or ends
+  pub record Used (k : Known) (rows : List Row) : Type 0 where
+    pub defines : on.definition ≡ true
+    pub is_open : is_paragraph k.before.leaf ≡ true
+    pub used : is_used_up k.text ≡ true
+    pub text : has_none k.text ≡ false
+    pub few : lines_defined (k.text ++ behind_text (paragraph_of rows)) ≤ text_lines k.text
+    pub none : defined_in on rows ≡ 0
+
+  -- the text of an open paragraph, so many lines on
+  pub record Grown (m : ℕ) (k : Known) (n : ℕ) (ls : List Line) : Type 0 where
+    pub is_open : is_paragraph (state_on on m k n ls).known.before.leaf ≡ true
+    pub text : (state_on on m k n ls).known.text ≡ k.text ++ behind_text (take m (rows_from on k n ls))
+
+  none-more : (xs : List ℕ) → xs ≡ xs ++ []
+  none-more [] = refl
+  none-more (x ∷ xs) = ap (λ l. x ∷ l) (none-more xs)
+
+  -- a row that may be in a stretch, and is a paragraph's, stays
+  stays-open : (r : Row) → LeftIsBlank r → may_stay r ≡ true → is_paragraph r.leaf ≡ true → r.stays ≡ true
+  stays-open r empty stay text = by r.is_left_blank refl
+    where
+      by : (b : Bool) → r.is_left_blank ≡ b → r.stays ≡ true
+      by true e = let both : true ≡ false = sym text ∙ (empty e).1 in absurd (cc)
+      by false e = sym (ap (λ b. b || r.stays) e) ∙ stay
+
+  grown : (m : ℕ) (k : Known) (n : ℕ) (ls : List Line) → is_paragraph k.before.leaf ≡ true → AllStay (rows_from on k n ls) → m ≤ prefix_len is_open (rows_from on k n ls) → Grown m k n ls
+  grown zero k n ls e stay few = record { is_open = e; text = none-more k.text }
+  grown (suc m) k n [] e stay few = absurd (omega (arith, few))
+  grown (suc m) k n (line ∷ ls) e stay few = by (grown m (known_after on k (row_of on k n line)) (suc n) ls) (is_open (row_of on k n line)) refl few
+    where
+      row : Row
+      row = row_of on k n line
+
+      next : Known
+      next = known_after on k row
+
+      rows : List Row
+      rows = rows_from on next (suc n) ls
+
+      by : (is_paragraph next.before.leaf ≡ true → AllStay rows → m ≤ prefix_len is_open rows → Grown m next (suc n) ls) → (b : Bool) → is_open row ≡ b → suc m ≤ cond b (1 + prefix_len is_open rows) 0 → Grown (suc m) k n (line ∷ ls)
+      by later false f few = absurd (omega (arith, few))
+      by later true f few =
+          let stays = stays-open row (left-is-blank on (open-not-blank on) k n line) stay.0 f in
+          let text : next.text ≡ k.text ++ 10 ∷ rest_of row = (λ i. cond (f i) (cond (stays i && e i) (k.text ++ 10 ∷ rest_of row) (rest_of row)) []) in
+          let more = later (leaf-behind on (open-not-blank on) k n line ∙ f) stay.1 (omega (arith, few)) in
+          record {
+            is_open = more.is_open;
+            text = more.text ∙ ap (λ t. t ++ behind_text (take m rows)) text ∙ append_assoc k.text (10 ∷ rest_of row) (behind_text (take m rows));
+          }
+
+  -- a paragraph that begins with definitions begins in the first of lines
+  abbrev pub NotText : Known → (number : ℕ) → List Line → Type 0
+  NotText k n [] = Unit {0}
+  NotText k n (line ∷ ls) = is_behind_text k.before (row_of on k n line) ≡ false
+
+  used-text : (rows : List Row) → on.definition ≡ true → 1 ≤ defined_in on rows → rest_behind (text_in (take (defined_in on rows) rows)) ≡ []
+  used-text rows defines some =
+      let d = lines_defined (text_in (paragraph_of rows)) in
+      let same : defined_in on rows ≡ d = ap (λ b. cond b d 0) defines in
+      let size = few-lines (paragraph_of rows) in
+      let few : d ≤ length (paragraph_of rows) = omega (arith, size) in
+      ap (λ n. rest_behind (text_in (take n rows))) same
+      ∙ ap (λ l. rest_behind (text_in l)) (sym (take_of_take d (prefix_len is_open rows) rows few))
+      ∙ lines-used (paragraph_of rows) (omega (arith, some, same))
+
+  defines-some : (rows : List Row) → 1 ≤ defined_in on rows → on.definition ≡ true
+  defines-some rows h = by on.definition refl h
+    where
+      by : (b : Bool) → on.definition ≡ b → 1 ≤ cond b (lines_defined (text_in (paragraph_of rows))) 0 → on.definition ≡ true
+      by true e h = e
+      by false e h = absurd (omega (arith, h))
+
+  -- behind the definitions with which it begins
+  pub used-behind : (k : Known) (n : ℕ) (ls : List Line) → NotText k n ls → AllStay (drop 1 (rows_from on k n ls)) → 1 ≤ defined_in on (rows_from on k n ls)
+      → let rows = rows_from on k n ls in Used (state_on on (defined_in on rows) k n ls).known (drop (defined_in on rows) rows)
+  used-behind k n [] start stay some = absurd (let few = defined-paragraph on [] in omega (arith, some, few))
+  used-behind k n (line ∷ ls) start stay some = by (defined_in on rows) refl
+    where
+      row : Row
+      row = row_of on k n line
+
+      next : Known
+      next = known_after on k row
+
+      more : List Row
+      more = rows_from on next (suc n) ls
+
+      rows : List Row
+      rows = row ∷ more
+
+      is_text : is_paragraph row.leaf ≡ true
+      is_text = defined-text on row more some
+
+      by : (d : ℕ) → defined_in on rows ≡ d → Used (state_on on d k n (line ∷ ls)).known (drop d rows)
+      by zero e = absurd (omega (arith, some, e))
+      by (suc d) e =
+          let s = state_on on d next (suc n) ls in
+          let defines = defines-some rows some in
+          let within = defined-paragraph on rows in
+          let size : prefix_len is_open rows ≡ 1 + prefix_len is_open more = ap (λ b. cond b (1 + prefix_len is_open more) 0) is_text in
+          let few : d ≤ prefix_len is_open more = omega (arith, e, within, size) in
+          let g = grown d next (suc n) ls (leaf-behind on (open-not-blank on) k n line ∙ is_text) stay few in
+          let first : next.text ≡ rest_of row = (λ i. cond (is_text i) (cond (start i) (k.text ++ 10 ∷ rest_of row) (rest_of row)) []) in
+          let text : s.known.text ≡ text_in (take (suc d) rows) = g.text ∙ ap (λ t. t ++ behind_text (take d more)) first in
+          let whole : text_in (take (suc d) rows) ++ behind_text (paragraph_of (drop d more)) ≡ text_in (paragraph_of rows) =
+          append_assoc (rest_of row) (behind_text (take d more)) (behind_text (paragraph_of (drop d more)))
+          ∙ ap (λ l. rest_of row ++ l) (sym (behind-cut d more few))
+          ∙ sym (ap text_in (paragraph-more row more is_text)) in
+          let full = not-blank-some (rest_of row) (open-not-blank on k n line is_text) in
+          let some-there : has_none (text_in (take (suc d) rows)) ≡ false = some_more (rest_of row) (behind_text (take d more)) full in
+          let long = lines-some (text_in (take (suc d) rows)) (some-long (text_in (take (suc d) rows)) some-there) in
+          let count = tens-in row (take d more) in
+          let taken = length-take d more in
+          let there = prefix-few more in
+          let lines : text_lines (text_in (take (suc d) rows)) ≡ suc d = omega (arith, long, count, taken, few, there) in
+          let many : defined_in on rows ≡ lines_defined (text_in (paragraph_of rows)) = ap (λ b. cond b (lines_defined (text_in (paragraph_of rows))) 0) defines in
+          let here : lines_defined (text_in (take (suc d) rows) ++ behind_text (paragraph_of (drop d more))) ≡ suc d = ap lines_defined whole ∙ sym many ∙ e in
+          record {
+            defines = defines;
+            is_open = g.is_open;
+            used = ap is_used_up (text ∙ ap (λ m. text_in (take m rows)) (sym e)) ∙ ap (λ (l : List ℕ). has_none l) (used-text rows defines some);
+            text = ap (λ (l : List ℕ). has_none l) text ∙ some-there;
+            few = subst (λ t. lines_defined (t ++ behind_text (paragraph_of (drop d more))) ≤ text_lines t) (sym text) (omega (arith, lines, here));
+            none = ap (λ m. defined_in on (drop m rows)) (sym e) ∙ nothing-behind on rows some;
+          }
+        where
+          prefix-few : (rs : List Row) → prefix_len is_open rs ≤ length rs
+          prefix-few [] = omega arith
+          prefix-few (r ∷ rs) = by2 (is_open r) (prefix-few rs)
+            where
+              by2 : (b : Bool) → prefix_len is_open rs ≤ length rs → cond b (1 + prefix_len is_open rs) 0 ≤ suc (length rs)
+              by2 true h = omega (arith, h)
+              by2 false h = omega arith
+
+  -- ---- where definitions begin
+  -- behind so many lines
+  pub record Found (m : ℕ) (k : Known) (n : ℕ) (ls : List Line) : Type 0 where
+    pub some : 1 ≤ defined_in on (rows_at on (state_on on m k n ls))
+    pub begins : let s = state_on on m k n ls in NotText s.known s.number s.lines
+
+  not-text : (k : Known) (n : ℕ) (ls : List Line) → is_paragraph k.before.leaf ≡ false → NotText k n ls
+  not-text k n [] e = tt
+  not-text k n (line ∷ ls) e = let r = row_of on k n line in ap (λ b. r.stays && b) e ∙ and-false r.stays
+
+  pub found : (p : Bool) (k : Known) (n : ℕ) (ls : List Line) → is_paragraph k.before.leaf ≡ p → before_defined on p (rows_from on k n ls) < length (rows_from on k n ls) → Found (before_defined on p (rows_from on k n ls)) k n ls
+  found p k n [] e less = absurd (omega (arith, less))
+  found p k n (line ∷ ls) e less = by (found (is_paragraph (row_of on k n line).leaf) (known_after on k (row_of on k n line)) (suc n) ls (leaf-behind on (open-not-blank on) k n line)) (not p && nat_le 1 (defined_in on (row ∷ rows))) refl less
+    where
+      row : Row
+      row = row_of on k n line
+
+      next : Known
+      next = known_after on k row
+
+      rows : List Row
+      rows = rows_from on next (suc n) ls
+
+      by : (before_defined on (is_paragraph row.leaf) rows < length rows → Found (before_defined on (is_paragraph row.leaf) rows) next (suc n) ls) → (b : Bool) → (not p && nat_le 1 (defined_in on (row ∷ rows))) ≡ b → cond b 0 (suc (before_defined on (is_paragraph row.leaf) rows)) < suc (length rows) → Found (cond b 0 (suc (before_defined on (is_paragraph row.leaf) rows))) k n (line ∷ ls)
+      by later true f less =
+          let some = leb-true 1 (defined_in on (row ∷ rows)) (and-right (not p) (nat_le 1 (defined_in on (row ∷ rows))) f) in
+          record { some = some; begins = not-text k n (line ∷ ls) (e ∙ not-true p (and-left (not p) (nat_le 1 (defined_in on (row ∷ rows))) f)) }
+      by later false f less =
+          let more = later (omega (arith, less)) in
+          record { some = more.some; begins = more.begins }
+
+  -- from the first of lines on: where no leaf block is open, and where definitions were directly before
+  found-first : (k : Known) (n : ℕ) (line : Line) (ls : List Line) → (1 ≤ defined_in on (rows_from on k n (line ∷ ls)) → NotText k n (line ∷ ls)) → before_defined on false (rows_from on k n (line ∷ ls)) < length (rows_from on k n (line ∷ ls))
+      → Found (before_defined on false (rows_from on k n (line ∷ ls))) k n (line ∷ ls)
+  found-first k n line ls start less = by (nat_le 1 (defined_in on (row ∷ rows))) refl less
+    where
+      row : Row
+      row = row_of on k n line
+
+      next : Known
+      next = known_after on k row
+
+      rows : List Row
+      rows = rows_from on next (suc n) ls
+
+      by : (b : Bool) → nat_le 1 (defined_in on (row ∷ rows)) ≡ b → cond b 0 (suc (before_defined on (is_paragraph row.leaf) rows)) < suc (length rows) → Found (cond b 0 (suc (before_defined on (is_paragraph row.leaf) rows))) k n (line ∷ ls)
+      by true f less =
+          let some = leb-true 1 (defined_in on (row ∷ rows)) f in
+          record { some = some; begins = start some }
+      by false f less =
+          let more = found (is_paragraph row.leaf) next (suc n) ls (leaf-behind on (open-not-blank on) k n line) (omega (arith, less)) in
+          record { some = more.some; begins = more.begins }
+
+  pub found-closed : (k : Known) (n : ℕ) (line : Line) (ls : List Line) → StartsClosed on k n (line ∷ ls) → before_defined on false (rows_from on k n (line ∷ ls)) < length (rows_from on k n (line ∷ ls))
+      → Found (before_defined on false (rows_from on k n (line ∷ ls))) k n (line ∷ ls)
+  found-closed k n line ls starts less =
+      found-first k n line ls (λ some. no-text on k n line starts (kept (row_of on k n line) (left-is-blank on (open-not-blank on) k n line) (defined-text on (row_of on k n line) (rows_from on (known_after on k (row_of on k n line)) (suc n) ls) some))) less
+    where
+      kept : (r : Row) → LeftIsBlank r → is_paragraph r.leaf ≡ true → r.is_left_blank ≡ false
+      kept r empty text = by r.is_left_blank refl
+        where
+          by : (b : Bool) → r.is_left_blank ≡ b → b ≡ false
+          by true e = let both : true ≡ false = sym text ∙ (empty e).1 in absurd (cc)
+          by false e = refl
+
+  pub found-used : (k : Known) (n : ℕ) (line : Line) (ls : List Line) → Used k (rows_from on k n (line ∷ ls)) → before_defined on false (rows_from on k n (line ∷ ls)) < length (rows_from on k n (line ∷ ls))
+      → Found (before_defined on false (rows_from on k n (line ∷ ls))) k n (line ∷ ls)
+  found-used k n line ls used less = found-first k n line ls (λ some. let none = used.none in absurd (omega (arith, some, none))) less

@@ -1,5 +1,5 @@
 -- Virtual bytes, and lines, of bytes that begin a line behind others.
-use Rattle.mddocument_parts.proofs.Prelude.{◌≡◌, ℕ, zero, suc, ◌+◌, ◌==◌, ◌&&◌, ◌||◌, List, [], ◌∷◌, ◌++◌, Bool, true, false, cond, not, append_assoc, length, refl, sym, ap, ◌∙◌, arith, filter, map, map-append, is_line_ending, joined, lines_in, LinesAreCounted, LinesOfBoth, VirtualOfBoth, begins_line, line_endings, moved_lines, moved_point, moved_seat, Seat, begins_with_lf, end_in_tab, in_tab, line_feed, other_byte, point, tab_width, virtual, virtual_from}
+use Rattle.mddocument_parts.proofs.Prelude.{◌≡◌, ◌≤◌, ◌<◌, AllByRecursion, ℕ, zero, suc, ◌+◌, ◌==◌, ◌&&◌, ◌||◌, List, [], ◌∷◌, ◌++◌, Bool, true, false, cond, not, append_assoc, length, refl, sym, ap, ◌∙◌, arith, filter, map, map-append, is_line_ending, joined, lines_in, LinesAreCounted, LinesOfBoth, VirtualOfBoth, begins_line, line_endings, moved_lines, moved_point, moved_seat, Seat, begins_with_lf, end_in_tab, in_tab, line_feed, other_byte, point, tab_width, virtual, virtual_from}
 
 -- one byte's virtual bytes, and those of what comes behind it: whether the byte is an LF or a CR, an LF comes behind it, it is a tab
 abbrev pub step : (is_lf is_cr lf_comes is_tab : Bool) → (t x line column index : ℕ) → (ℕ → ℕ → ℕ → List Seat) → List Seat
@@ -222,3 +222,26 @@ lines-counted (s ∷ next ∷ ss) h = by (is_line_ending s) (lines-counted (next
 pub lines-are-counted : LinesAreCounted
 lines-are-counted t [] b h = refl
 lines-are-counted t (x ∷ a) b h = lines-counted (virtual t (x ∷ a)) (ended t b x a h 1 1 0) ∙ counted t (x ∷ a) 1 1 0
+
+-- ---- where virtual bytes stand
+-- a virtual byte of these bytes, which ends one byte further on at most
+abbrev pub IsNear : (most : ℕ) → Seat → Type 0
+IsNear most s = (s.point.index < most) × (s.end.index ≤ s.point.index + 1)
+
+module _ (t most : ℕ) where
+  tab-near : (byte n line column index vs : ℕ) (ss : List Seat) → index < most → AllByRecursion (IsNear most) ss → AllByRecursion (IsNear most) (in_tab byte n line column index vs ++ ss)
+  tab-near byte zero line column index vs ss l h = h
+  tab-near byte (suc zero) line column index vs ss l h = ((l, omega arith), h)
+  tab-near byte (suc (suc n)) line column index vs ss l h = ((l, omega arith), tab-near 32 (suc n) line (suc column) index (suc vs) ss l h)
+
+  near-step : (is_lf is_cr lf_comes is_tab : Bool) (x k line column index : ℕ) (rest : ℕ → ℕ → ℕ → List Seat) → ((line column index : ℕ) → index + k ≤ most → AllByRecursion (IsNear most) (rest line column index)) → index + suc k ≤ most
+      → AllByRecursion (IsNear most) (step is_lf is_cr lf_comes is_tab t x line column index rest)
+  near-step true is_cr lf_comes is_tab x k line column index rest h l = ((omega (arith, l), omega arith), h (suc line) 1 (suc index) (omega (arith, l)))
+  near-step false true true is_tab x k line column index rest h l = h line column (suc index) (omega (arith, l))
+  near-step false true false is_tab x k line column index rest h l = ((omega (arith, l), omega arith), h (suc line) 1 (suc index) (omega (arith, l)))
+  near-step false false lf_comes true x k line column index rest h l = tab-near 9 (tab_width t column) line column index 0 (rest line (column + tab_width t column) (suc index)) (omega (arith, l)) (h line (column + tab_width t column) (suc index) (omega (arith, l)))
+  near-step false false lf_comes false x k line column index rest h l = ((omega (arith, l), omega arith), h line (suc column) (suc index) (omega (arith, l)))
+
+  pub near : (a : List ℕ) (line column index : ℕ) → index + length a ≤ most → AllByRecursion (IsNear most) (virtual_from t line column index a)
+  near [] line column index l = tt
+  near (x ∷ a) line column index l = near-step (x == 10) (x == 13) (begins_with_lf a) (x == 9) x (length a) line column index (λ line column index. virtual_from t line column index a) (near a) l

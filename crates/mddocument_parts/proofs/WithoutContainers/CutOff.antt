@@ -13,11 +13,9 @@ use Rattle.mdblock_containers.proofs.SeatFacts.{LineIs, LinesEnd}
 use Rattle.mdblock_containers.specs.Rows.{Leaf, closed, has_none, holds_ending, leaf_after}
 use Rattle.mdblock_containers.specs.Skeleton.{parts_in}
 use Rattle.mddocument_parts.proofs.Rests.{leaf-step}
-use Rattle.mddocument_parts.proofs.WithoutContainers.Ends.{cut_last}
+use Rattle.mddocument_parts.proofs.WithoutContainers.Stretch.{cut_last, IsStretch, held_lines, stretch}
 use Rattle.mddocument_parts.proofs.WithoutContainers.Leaves.{HasText, is_left, kept, last_line, leaf_behind, leaf_next}
-use Rattle.mddocument_parts.proofs.WithoutContainers.PlainParts.{blank-marks, stretch-marks, whole_marks}
-use Rattle.mddocument_parts.proofs.WithoutContainers.PlainRows.{plain_rows}
-use Rattle.mddocument_parts.proofs.WithoutContainers.Stretch.{IsStretch, held_lines, stretch}
+use Rattle.mddocument_parts.proofs.WithoutContainers.PlainParts.{blank-marks, stretch-marks, whole_marks, plain_rows}
 
 -- ---- the lines of the virtual bytes of lines
 one-line : (line : Line) (rest : List Seat) → IsWhole line → has_none (ending_of line) ≡ false → lines_in (line ++ rest) ≡ line ∷ lines_in rest

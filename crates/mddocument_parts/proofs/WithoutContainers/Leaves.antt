@@ -5,10 +5,10 @@ use Rattle.std.proofs.lemmas.Bool.{le-leb}
 use Rattle.mdblock_leaf_blocks.proofs.Lines.LineCounts.{has-one-more, has-there, none-left, some-through, through-one-more, through-there}
 use Rattle.mdblock_leaf_blocks.proofs.Lines.TestedKinds.{underline-kind}
 use Rattle.mdblock_leaf_blocks.proofs.Marks.FullBlocks.{IsOfText, not-blank}
-use Rattle.mdblock_leaf_blocks.specs.HtmlLines.{html_kind, raw, comment, instruction, declaration, cdata, block_tag, any_tag}
+use Rattle.mdblock_leaf_blocks.specs.HtmlLines.{html_kind, raw, block_tag, any_tag}
 use Rattle.mdblock_leaf_blocks.specs.LineKinds.{is_atx_heading, is_fence_of, is_far, is_thematic_break, kind_of_rest, indent, run, unindented}
 use Rattle.mdblock_containers.specs.Rows.{Leaf, closed, open_paragraph, open_fence, open_html, holds_ending, leaf_after, opened_by}
-use Rattle.mddocument_parts.proofs.Longer.{blank_text}
+use Rattle.mddocument_parts.proofs.Rests.{blank_text}
 use Rattle.mddocument_parts.proofs.WithoutContainers.SameTexts.{by_rank}
 
 -- the last of lines

@@ -1,6 +1,7 @@
 -- Where block quotes and lists are off, no container begins.
 use Rattle.mddocument_parts.proofs.Prelude.{◌≡◌, ℕ, zero, suc, ◌&&◌, ◌||◌, ◌==◌, nat_le, List, [], ◌∷◌, Bool, true, false, cond, Option, None, Some, length, take, drop, refl, ap, ◌∙◌, Constructs, Line, is_blank_line, text_of, lines_in}
 use Rattle.std.specs.List.{list_all}
+use Rattle.markdown_base.proofs.Facts.Bools.{cond-same}
 use Rattle.mdblock_leaf_blocks.specs.LineKinds.{begins_with, indent, is_thematic_break, unindented}
 use Rattle.mdblock_lines.specs.Containers.{Container, Prefix, begins, item_at, may_begin_item, quote, quote_size}
 use Rattle.mdblock_containers.specs.Prefixes.{beginning, columns_of, going_on, with_list}
@@ -16,11 +17,7 @@ module _ (on : Constructs) (quotes : on.block_quote ≡ false) (items : on.list_
       (λ i. cond other None
       (cond (quotes i && begins_with 62 r) (Some (record { container = quote number; size = quote_size t }))
       (cond (items i && may_begin_item in_paragraph r) (Some (item_at number t)) None)))
-      ∙ by other
-    where
-      by : (b : Bool) → let none : Option Prefix = None in cond b none none ≡ none
-      by true = refl
-      by false = refl
+      ∙ cond-same other None
 
   off-beginning : (bound number : ℕ) (in_paragraph : Bool) (t : List ℕ) → beginning on bound number in_paragraph t ≡ []
   off-beginning zero number in_paragraph t = refl

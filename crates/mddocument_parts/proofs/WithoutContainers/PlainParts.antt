@@ -1,20 +1,119 @@
--- The parts of lines in which no container begins: blank lines, and one stretch at most; and the marks of their skeleton.
-use Rattle.mddocument_parts.proofs.Prelude.{◌≡◌, ℕ, zero, suc, ◌≤◌, ◌==◌, ◌&&◌, nat_le, List, [], ◌∷◌, ◌++◌, Bool, true, false, cond, not, length, take, drop, length-drop, refl, sym, ap, ◌∙◌, subst, arith, append_assoc, append-nil, map, AllByRecursion, flat_map, Constructs, Line, blank_line, Mark, alone, chunk_span, is_blank_line, last_end, leaf_block_marks, leaf_blocks_marks, leaf_marks, and-left, text_of, white, ending_of, line_text, Seat}
-use Rattle.std.specs.Prelude.{reverse}
+-- Rows and parts of lines in which no container begins, and the marks of their skeleton.
+use Rattle.mddocument_parts.proofs.Prelude.{AllByRecursion, Bool, Constructs, Line, List, Mark, Seat, [], alone, and-left, and-right, ap, append-nil, append_assoc, arith, blank_line, chunk_span, cond, drop, ending_of, false, flat_map, is_blank_line, last_end, leaf_block_marks, leaf_blocks_marks, leaf_marks, length, length-drop, line_text, map, nat_le, not, refl, subst, suc, sym, take, text_of, true, white, zero, ℕ, ◌&&◌, ◌++◌, ◌==◌, ◌∙◌, ◌∷◌, ◌≡◌, ◌≤◌}
 use Rattle.std.proofs.lemmas.Bool.{le-leb}
+use Rattle.std.specs.List.{list_all}
+use Rattle.std.specs.Prelude.{reverse}
+use Rattle.markdown_base.proofs.Common.{every-drop}
 use Rattle.markdown_base.specs.declared.event.Content.TheVariants as content
 use Rattle.markdown_base.specs.declared.event.Name.TheVariants as name
-use Rattle.markdown_base.proofs.Common.{every-drop}
+use Rattle.markdown_base.proofs.Facts.Bools.{cond-same}
 use Rattle.mdblock_leaf_blocks.specs.BlocksRead.{block_seats}
-use Rattle.mdblock_containers.proofs.JoinLemmas.{join, join_is}
 use Rattle.mdblock_lines.specs.Containers.{Container}
+use Rattle.mdblock_containers.proofs.FrameFacts.{none_is}
+use Rattle.mdblock_containers.proofs.JoinLemmas.{join, join_is}
+use Rattle.mdblock_containers.specs.Letters.{lazy_underline}
 use Rattle.mdblock_containers.specs.Prefixes.{columns_of, containers_of}
-use Rattle.mdblock_containers.specs.Rows.{Leaf, Row, has_none, holds_ending}
+use Rattle.mdblock_containers.specs.Rows.{Before, Leaf, Row, closed, has_none, holds_ending, known_after, leaf_after, row_of, row_with, rows, rows_from}
 use Rattle.mdblock_containers.specs.Skeleton.{Frame, Part, Piece, begun_all, behind_marks, chunks_of, end_of, ending_marks, exits, frames_at, frames_of, further, going_on_at, inside_of, is_held, joined_pieces, last_of, left_in, list_at, list_begun, part_marks, parts_in, parts_marks, piece_of, pieces_of, prefixes_marks, shared, standing}
-use Rattle.mddocument_parts.proofs.WithoutContainers.Leaves.{is_left, kept, leaf_behind, leaf_next}
 use Rattle.mddocument_parts.proofs.WithoutContainers.Leaves as leaves
-use Rattle.mddocument_parts.proofs.WithoutContainers.PlainRows.{IsBare, drop-plain, further-plain, last-is, last-leaf, number_on, plain-bare, plain_row, plain_rows, take-plain}
+use Rattle.mddocument_parts.proofs.WithoutContainers.Leaves.{is_left, kept, last_line, leaf_behind, leaf_next}
 
+-- ==== Rows of lines in which no container begins: none has a prefix, and each goes on with the stretch of lines before it.
+-- a row without prefixes
+abbrev pub IsBare : Row → Type 0
+IsBare row = (row.went_on ≡ []) × (row.begun ≡ [])
+
+module _ (on : Constructs) where
+  abbrev pub plain_row : Leaf → (number : ℕ) → Line → Row
+  plain_row leaf number line =
+      record {
+        number = number;
+        line = line;
+        went_on = [];
+        begun = [];
+        columns = 0;
+        is_blank = is_blank_line (text_of line);
+        is_lazy = false;
+        stays = true;
+        is_left_blank = is_left on leaf line;
+        leaf = leaf_next on leaf line;
+      }
+
+  abbrev pub plain_rows : Leaf → (number : ℕ) → List Line → List Row
+  plain_rows leaf number [] = []
+  plain_rows leaf number (line ∷ lines) = plain_row leaf number line ∷ plain_rows (leaf_next on leaf line) (suc number) lines
+
+  -- what is known before a line: no container is open
+  abbrev pub plain_before : Leaf → Before
+  plain_before leaf = record { stack = []; depth = 0; leaf = leaf }
+
+  pub row-plain : (leaf : Leaf) (number : ℕ) (line : Line) → has_none (row_of on (plain_before leaf) number line).begun ≡ true → row_of on (plain_before leaf) number line ≡ plain_row leaf number line
+  row-plain leaf number line h = ap (row_with on (plain_before leaf) number line []) (none_is (row_of on (plain_before leaf) number line).begun h)
+
+  pub known-plain : (leaf : Leaf) (number : ℕ) (line : Line) → known_after on (plain_before leaf) (plain_row leaf number line) ≡ plain_before (leaf_next on leaf line)
+  known-plain leaf number line = by (is_left on leaf line) (leaf_after on leaf (text_of line))
+    where
+      by : (b : Bool) (after : Leaf) → let kept : Before = record { stack = []; depth = 0; leaf = closed } in let new : Before = record { stack = []; depth = 0; leaf = cond b closed after } in
+          cond b kept new ≡ plain_before (cond b closed after)
+      by true after = refl
+      by false after = refl
+
+  rows-plain : (leaf : Leaf) (number : ℕ) (lines : List Line) → list_all (λ (row : Row). has_none row.begun) (rows_from on (plain_before leaf) number lines) ≡ true → rows_from on (plain_before leaf) number lines ≡ plain_rows leaf number lines
+  rows-plain leaf number [] h = refl
+  rows-plain leaf number (line ∷ lines) h =
+      let b = plain_before leaf in
+      let row = row_of on b number line in
+      let first = row-plain leaf number line (and-left (has_none row.begun) _ h) in
+      let next : known_after on b row ≡ plain_before (leaf_next on leaf line) = ap (known_after on b) first ∙ known-plain leaf number line in
+      let rest = subst (λ c. list_all (λ (row : Row). has_none row.begun) (rows_from on c (suc number) lines) ≡ true) next (and-right (has_none row.begun) _ h) in
+      (λ i. first i ∷ rows_from on (next i) (suc number) lines) ∙ ap (λ r. plain_row leaf number line ∷ r) (rows-plain (leaf_next on leaf line) (suc number) lines rest)
+
+  pub all-plain : (lines : List Line) → list_all (λ (row : Row). has_none row.begun) (rows on lines) ≡ true → rows on lines ≡ plain_rows closed 1 lines
+  all-plain lines h = rows-plain closed 1 lines h
+
+  pub plain-bare : (leaf : Leaf) (number : ℕ) (lines : List Line) → AllByRecursion IsBare (plain_rows leaf number lines)
+  plain-bare leaf number [] = tt
+  plain-bare leaf number (line ∷ lines) = ((refl, refl), plain-bare (leaf_next on leaf line) (suc number) lines)
+
+  -- none is lazy, so no letter is needed
+  pub plain-letters : (leaf : Leaf) (number : ℕ) (lines : List Line) → flat_map (lazy_underline on) (plain_rows leaf number lines) ≡ []
+  plain-letters leaf number [] = refl
+  plain-letters leaf number (line ∷ lines) = plain-letters (leaf_next on leaf line) (suc number) lines
+
+  pub plain-length : (leaf : Leaf) (number : ℕ) (lines : List Line) → length (plain_rows leaf number lines) ≡ length lines
+  plain-length leaf number [] = refl
+  plain-length leaf number (line ∷ lines) = ap suc (plain-length (leaf_next on leaf line) (suc number) lines)
+
+  -- how many of them stay in a stretch
+  pub further-plain : (leaf : Leaf) (number : ℕ) (lines : List Line) → further (plain_rows leaf number lines) ≡ kept on leaf lines
+  further-plain leaf number [] = refl
+  further-plain leaf number (line ∷ lines) = ap (λ n. cond (is_left on leaf line) (cond (nat_le 1 n) (suc n) 0) (suc n)) (further-plain (leaf_next on leaf line) (suc number) lines)
+
+  pub take-plain : (n : ℕ) (leaf : Leaf) (number : ℕ) (lines : List Line) → take n (plain_rows leaf number lines) ≡ plain_rows leaf number (take n lines)
+  take-plain zero leaf number lines = refl
+  take-plain (suc n) leaf number [] = refl
+  take-plain (suc n) leaf number (line ∷ lines) = ap (λ r. plain_row leaf number line ∷ r) (take-plain n (leaf_next on leaf line) (suc number) lines)
+
+  -- the number of a line so many lines on
+  abbrev pub number_on : (number n : ℕ) → ℕ
+  number_on number zero = number
+  number_on number (suc n) = number_on (suc number) n
+
+  pub drop-plain : (n : ℕ) (leaf : Leaf) (number : ℕ) (lines : List Line) → drop n (plain_rows leaf number lines) ≡ plain_rows (leaf_behind on leaf (take n lines)) (number_on number n) (drop n lines)
+  drop-plain zero leaf number lines = refl
+  drop-plain (suc n) leaf number [] = refl
+  drop-plain (suc n) leaf number (line ∷ lines) = drop-plain n (leaf_next on leaf line) (suc number) lines
+
+  -- the last of them
+  pub last-leaf : (leaf : Leaf) (number : ℕ) (line : Line) (lines : List Line) → (last_of (plain_row leaf number line) (plain_rows (leaf_next on leaf line) (suc number) lines)).leaf ≡ leaf_behind on leaf (line ∷ lines)
+  last-leaf leaf number line [] = refl
+  last-leaf leaf number line (next ∷ lines) = last-leaf (leaf_next on leaf line) (suc number) next lines
+
+  pub last-is : (leaf : Leaf) (number : ℕ) (line : Line) (lines : List Line) → (last_of (plain_row leaf number line) (plain_rows (leaf_next on leaf line) (suc number) lines)).line ≡ last_line (line ∷ lines)
+  last-is leaf number line [] = refl
+  last-is leaf number line (next ∷ lines) = last-is (leaf_next on leaf line) (suc number) next lines
+
+-- ==== The parts of lines in which no container begins: blank lines, and one stretch at most; and the marks of their skeleton.
 -- a part without spans and prefixes
 pub record IsAlone (part : Part) : Type 0 where
   pub frames : part.frames ≡ []
@@ -24,29 +123,17 @@ pub record IsAlone (part : Part) : Type 0 where
 no-standing : (row : Row) (behind : List Row) → IsBare row → standing row behind ≡ []
 no-standing row behind h =
     (λ i. let all = containers_of (h.0 i) ++ containers_of (h.1 i) in cond row.is_blank (reverse (left_in (going_on_at behind) row.number (reverse all))) all)
-    ∙ by row.is_blank
-  where
-    by : (b : Bool) → cond b (reverse (left_in (going_on_at behind) row.number (reverse []))) [] ≡ []
-    by true = refl
-    by false = refl
+    ∙ cond-same row.is_blank []
 
 no-list : (behind : List Row) → AllByRecursion IsBare behind → list_at behind ≡ []
 no-list [] h = refl
-no-list (row ∷ behind) h = (λ i. cond row.is_left_blank (no-list behind h.1 i) (list_begun (h.0.1 i))) ∙ by row.is_left_blank
-  where
-    by : (b : Bool) → let none : List Frame = [] in cond b none none ≡ none
-    by true = refl
-    by false = refl
+no-list (row ∷ behind) h = (λ i. cond row.is_left_blank (no-list behind h.1 i) (list_begun (h.0.1 i))) ∙ cond-same row.is_left_blank []
 
 no-frames : (row : Row) (behind : List Row) → IsBare row → AllByRecursion IsBare behind → frames_at row behind ≡ []
 no-frames row behind h k =
     let s = no-standing row behind h in
     let l = no-list behind k in
-    (λ i. flat_map frames_of (s i) ++ cond (row.is_left_blank && (length (s i) == going_on_at behind)) (l i) []) ∙ by (row.is_left_blank && (0 == going_on_at behind))
-  where
-    by : (b : Bool) → let none : List Frame = [] in cond b none none ≡ none
-    by true = refl
-    by false = refl
+    (λ i. flat_map frames_of (s i) ++ cond (row.is_left_blank && (length (s i) == going_on_at behind)) (l i) []) ∙ cond-same (row.is_left_blank && (0 == going_on_at behind)) []
 
 pub parts-alone : (bound : ℕ) (rows : List Row) → AllByRecursion IsBare rows → AllByRecursion IsAlone (parts_in bound rows)
 parts-alone zero rows h = tt

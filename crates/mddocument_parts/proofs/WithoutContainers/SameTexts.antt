@@ -1,5 +1,5 @@
 -- The leaf block at the front of lines is told by their texts: lines with the same texts, as many as it has at least, begin with the same block.
-use Rattle.mddocument_parts.proofs.Prelude.{◌≡◌, ℕ, zero, suc, ◌+◌, ◌≤◌, ◌&&◌, ◌||◌, nat_le, nat_lt, List, [], ◌∷◌, ◌++◌, Bool, true, false, cond, not, Option, Some, None, length, take, drop, length-take, length-drop, refl, sym, ap, ◌∙◌, subst, arith, lt-ltb, ltb-true, ltb-false, is_some, prefix_len-le-length, Constructs, HtmlKind, ends, waits_for_blank, Line, LeafBlock, blank_line, break_line, atx_heading, paragraph, setext_heading, indented_code, fenced_code, html_block, block_of_kind, content_at, ends_text, interrupts, further_code, has_line, is_blank, is_indented, lines_through, lines_until, text_of, underlined, LineKind, blank, indented, heading, fence, html, thematic_break, text, closes, is_blank_line, line_kind, underline_rank}
+use Rattle.mddocument_parts.proofs.Prelude.{◌≡◌, ℕ, zero, suc, ◌+◌, ◌≤◌, ◌&&◌, ◌||◌, nat_le, nat_lt, List, [], ◌∷◌, ◌++◌, Bool, true, false, cond, not, Option, Some, None, length, take, drop, length-take, length-drop, refl, sym, ap, ◌∙◌, subst, arith, lt-ltb, ltb-true, ltb-false, is_some, prefix_len-le-length, Constructs, HtmlKind, ends, waits_for_blank, Line, LeafBlock, blank_line, break_line, atx_heading, paragraph, setext_heading, indented_code, fenced_code, html_block, block_of_kind, content_at, ends_text, interrupts, further_code, has_line, is_blank, is_indented, lines_through, lines_until, text_of, underlined, LineKind, indented, fence, html, text, closes, is_blank_line, line_kind, underline_rank}
 use Rattle.std.proofs.Math.Seq.{take-append_seam}
 use Rattle.std.proofs.lemmas.Bool.{le-leb}
 use Rattle.std.proofs.lemmas.List.{take-append-drop}

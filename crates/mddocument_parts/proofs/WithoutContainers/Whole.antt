@@ -1,15 +1,16 @@
 -- A document in which no container begins is read as its leaf blocks are.
-use Rattle.mddocument_parts.proofs.Prelude.{◌≡◌, ℕ, suc, ◌+◌, ◌<◌, List, [], ◌∷◌, ◌++◌, true, false, length, refl, sym, ap, ◌∙◌, subst, arith, append-nil, filter, map, AllByRecursion, flat_map, Option, Some, None, Constructs, Event, Enter, Exit, Line, Mark, alone, chunk_span, event, flow_events, leaf_blocks, leaf_blocks_marks, linked_from, linked-append, linked-length, lines_in, Seat, end_after, virtual}
-use Rattle.std.specs.List.{list_all}
-use Rattle.std.specs.Prelude.{slice_get}
+use Rattle.mddocument_parts.proofs.Prelude.{AllByRecursion, Bool, Constructs, Enter, Event, Exit, Line, List, Mark, None, Option, Seat, Some, [], alone, and-left, and-right, ap, append-nil, arith, chunk_span, end_after, event, false, filter, flat_map, flow_events, leaf_blocks, leaf_blocks_marks, length, lines_in, linked-append, linked-length, linked_from, map, not-true, refl, subst, suc, sym, true, virtual, ℕ, ◌++◌, ◌+◌, ◌<◌, ◌∙◌, ◌∷◌, ◌≡◌}
 use Rattle.std.proofs.lemmas.Option.{none-some, slice_get_within}
+use Rattle.std.specs.List.{list_all}
+use Rattle.std.specs.Prelude.{not, slice_get, ◌||◌}
 use Rattle.markdown_base.proofs.Common.{every-append}
+use Rattle.markdown_base.specs.Events.{EndsBelow}
+use Rattle.markdown_base.specs.Places.{in_range}
+use Rattle.markdown_base.specs.declared.configuration.ParseOptions.{ParseOptions}
 use Rattle.markdown_base.specs.declared.event.Content.{Content}
 use Rattle.markdown_base.specs.declared.event.Content.TheVariants as content
 use Rattle.markdown_base.specs.declared.event.Name.TheVariants as name
-use Rattle.markdown_base.specs.Events.{EndsBelow}
-use Rattle.markdown_base.specs.Places.{in_range}
-use Rattle.markdown_edits.proofs.Edits.Passes.{woven-nil, olds}
+use Rattle.markdown_edits.proofs.Edits.Passes.{olds, woven-nil}
 use Rattle.markdown_edits.specs.Woven.{changed, placed}
 use Rattle.markdown_tokenizer.proofs.Positions.Chains.{IsChain}
 use Rattle.markdown_tokenizer.specs.Engine.{whole_text}
@@ -25,6 +26,10 @@ use Rattle.mdinline_text_machine.proofs.DeepSpans.Places.{chain-from, origin, pl
 use Rattle.mdinline_text_machine.proofs.Paragraphs.ChainEvents.{is-text}
 use Rattle.mdinline_text_machine.proofs.Paragraphs.ChunkPairs.{place-at-event}
 use Rattle.mdinline_text_machine.proofs.Texts.WholePlaces.{whole-is-text}
+use Rattle.mdinline_labels.specs.Labels.{normalised}
+use Rattle.mdinline_link_strings.specs.Strings.{with_strings}
+use Rattle.mdinline_machine.specs.InlineRules.{no_labels}
+use Rattle.mdinline_machine.specs.LawStatements.{with_inlines, with_strings as with_string_chunks}
 use Rattle.mdblock_leaf_blocks.proofs.Marks.ChunksJoin.{blocks-meet}
 use Rattle.mdblock_leaf_blocks.proofs.Marks.LeafSpans.{leaf-blocks-keep}
 use Rattle.mdblock_leaf_blocks.proofs.Marks.MarkSpans.{IsKeptBySpans, text-by-chunks}
@@ -35,30 +40,69 @@ use Rattle.mdblock_containers.proofs.SeatFacts.{document_lines, lines_end}
 use Rattle.mdblock_containers.proofs.SkeletonReady.{skeletons_are_ready}
 use Rattle.mdblock_containers.specs.Blocks.{document_blocks, document_skeleton, with_lazy_letters}
 use Rattle.mdblock_containers.specs.Letters.{lazy_underline, lazy_underlines, with_letters}
-use Rattle.mdblock_containers.specs.Rows.{Row, closed, has_none, rows}
-use Rattle.mdblock_containers.specs.Skeleton.{chained_from, parts_in, parts_marks}
+use Rattle.mdblock_containers.specs.Rows.{Row, closed, has_none, rest_of, rows}
 use Rattle.mdblock_containers.specs.Skeleton as skeletons
+use Rattle.mdblock_containers.specs.Skeleton.{chained_from, parts_in, parts_marks}
+use Rattle.mdblock_definitions.proofs.Without.{blocks-can-be-without, blocks-need-brackets, definitions-can-be-off, definitions-need-brackets}
 use Rattle.mdblock_definitions.specs.Blocks as defined
+use Rattle.mdblock_definitions.specs.Labelled.{is_one_of}
+use Rattle.mdblock_definitions.specs.Laws.{HasNoBracket, NothingIsDefined, begins_with_bracket}
+use Rattle.mdblock_definitions.specs.Skeleton.{written_labels}
 use Rattle.mddocument.proofs.FlowTexts.Chained.{IsAt, first-at, kept-at, kept-starts, next-at, starts_in}
 use Rattle.mddocument.proofs.FlowTexts.Chunks.{chain-is, chain-next, chain-starts}
 use Rattle.mddocument.proofs.FlowTexts.Segments.{HasByte, IsKept}
 use Rattle.mddocument.proofs.FlowTexts.Whole.{inlines-are-read}
 use Rattle.mddocument.proofs.InContainers.Merged.{IsBare}
 use Rattle.mddocument.specs.DocumentEvents.{document_events, document_texts, is_defined_in}
-use Rattle.mddocument.specs.Documents.{document}
+use Rattle.mddocument.specs.Documents.{document, virtual_bytes}
 use Rattle.mddocument.specs.FlowTexts.{flow_inlines}
-use Rattle.mdinline_machine.specs.InlineRules.{no_labels}
-use Rattle.mdinline_machine.specs.LawStatements.{with_inlines, with_strings as with_string_chunks}
-use Rattle.mdinline_link_strings.specs.Strings.{with_strings}
 use Rattle.mddocument_parts.proofs.Events.{full-lines, in-blocks}
 use Rattle.mddocument_parts.proofs.Links.{blocks-link-back}
-use Rattle.mddocument_parts.proofs.WithoutContainers.Defining.{no-label-defined, nothing-defined}
 use Rattle.mddocument_parts.proofs.WithoutContainers.CutOff.{IsCutOff, IsPlain, cut-off}
 use Rattle.mddocument_parts.proofs.WithoutContainers.OneChild.{IsFresh, linked-on, meet-below, moved_on, one-changed, placed-unlinked}
-use Rattle.mddocument_parts.proofs.WithoutContainers.PlainParts.{marks-alone, parts-alone, whole_marks}
-use Rattle.mddocument_parts.proofs.WithoutContainers.PlainRows.{all-plain, plain-bare, plain-length, plain-letters, plain_rows}
-use Rattle.mddocument_parts.specs.WithoutContainers.{DocumentsWithoutContainers}
+use Rattle.mddocument_parts.proofs.WithoutContainers.PlainParts.{marks-alone, parts-alone, whole_marks, all-plain, plain-bare, plain-length, plain-letters, plain_rows}
+use Rattle.mddocument_parts.specs.WithoutContainers.{DocumentsWithoutContainers, defines_nothing}
 
+-- ==== A document that defines nothing has the blocks of its containers alone, and no label is defined in it.
+every-bare : (all : List Row) → list_all (λ (row : Row). not (begins_with_bracket (rest_of row))) all ≡ true → AllByRecursion HasNoBracket all
+every-bare [] h = tt
+every-bare (row ∷ all) h =
+    let here = not (begins_with_bracket (rest_of row)) in
+    let more = list_all (λ (other : Row). not (begins_with_bracket (rest_of other))) all in
+    (not-true (begins_with_bracket (rest_of row)) (and-left here more h), every-bare all (and-right here more h))
+
+-- so its definitions are none, and their labels are none
+none-normalised : (labels : List (List ℕ)) → map normalised labels ≡ [] → labels ≡ []
+none-normalised [] h = refl
+none-normalised (label ∷ labels) h = absurd (cc)
+
+module _ (options : ParseOptions) (bytes : List ℕ) (nothing : defines_nothing options bytes ≡ true) where
+  abbrev g : Given
+  g = document options bytes
+
+  abbrev bare : Bool
+  bare = list_all (λ (row : Row). not (begins_with_bracket (rest_of row))) (rows options.constructs (lines_in (virtual_bytes options bytes)))
+
+  -- what holds where definitions are off, and where no line has a bracket in front, holds
+  by : (P : Type 0) → (options.constructs.definition ≡ false → P) → (AllByRecursion HasNoBracket (rows options.constructs (lines_in (virtual_bytes options bytes))) → P) → P
+  by P off none = cases options.constructs.definition refl nothing
+    where
+      cases : (b : Bool) → options.constructs.definition ≡ b → (not b || bare) ≡ true → P
+      cases false e h = off e
+      cases true e h = none (every-bare (rows options.constructs (lines_in (virtual_bytes options bytes))) h)
+
+  pub nothing-defined : defined.document_blocks g ≡ document_blocks g
+  nothing-defined = by (defined.document_blocks g ≡ document_blocks g) (blocks-can-be-without g) (blocks-need-brackets g)
+
+  -- no label is defined
+  pub no-label-defined : is_defined_in g ≡ no_labels
+  no-label-defined =
+      let on = options.constructs in
+      let seats = virtual_bytes options bytes in
+      let none : NothingIsDefined on bytes seats = by (NothingIsDefined on bytes seats) (λ off. definitions-can-be-off on off bytes seats) (definitions-need-brackets on bytes seats) in
+      ap is_one_of (none-normalised (written_labels on seats) none.no_labels)
+
+-- ==== A document in which no container begins is read as its leaf blocks are.
 -- ---- marks without chunks
 plain-linked : (i j : ℕ) (ms : List Mark) → AllByRecursion IsPlain ms → linked_from i ms ≡ linked_from j ms
 plain-linked i j [] h = refl

@@ -1,4 +1,4 @@
-use Rattle.mddocument_parts.proofs.Asked.{labels-decide}
+use Rattle.mddocument_parts.proofs.DocumentAsked.{labels-decide}
 use Rattle.mddocument_parts.proofs.laws.labels_decide.Goals as goal
 
 pub returns : goal.returns

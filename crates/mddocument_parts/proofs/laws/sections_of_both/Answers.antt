@@ -1,4 +1,4 @@
-use Rattle.mddocument_parts.proofs.SectionsApart.{sections-of-both}
+use Rattle.mddocument_parts.proofs.MarksOfBoth.{sections-of-both}
 use Rattle.mddocument_parts.proofs.laws.sections_of_both.Goals as goal
 
 pub returns : goal.returns
