@@ -1,18 +1,12 @@
 -- The program's command-line arguments, each a list of bytes.
-use Rattle.std.specs.Prelude.{ℕ, ◌^◌, ◌&&◌, Bool, true, false, List, [], ◌∷◌, Option, Some, None, unwrap_or, codes, nat_lt, cond, filter_map}
-use Rattle.std.specs.Char.{is_ascii_digit}
-use Rattle.std.specs.List.{list_all}
+use Rattle.std.specs.Prelude.{ℕ, Bool, true, false, List, [], ◌∷◌, Option, Some, None, unwrap_or, codes, cond, filter_map}
 use Rattle.std.specs.Option.{option_and_then, option_map}
 use Rattle.std.specs.Str.{bytes_eq}
-use Rattle.std.specs.Str.Parse.{digits_value}
 use Rattle.mdconstructs.specs.declared.choice.Choice.{Choice}
 use Rattle.mdconstructs.specs.declared.choice.Which.{Which}
 use Rattle.mdconstructs.specs.declared.choice.Which.TheVariants.{Lines, Paragraphs, Peek, Deep, Back, Save, Text, Flow, Document}
 use Rattle.mdconstructs.specs.Choices.{choice_together}
-
--- the number of an argument of decimal digits, if it is above 0 and fits `usize`
-abbrev pub decimal_of : List ℕ → Option ℕ
-decimal_of word = cond (list_all is_ascii_digit word && (nat_lt 0 (digits_value 10 word) && nat_lt (digits_value 10 word) (2 ^ 64))) (Some (digits_value 10 word)) None
+use Rattle.mdprograms.specs.Numbers.{decimal_of, tab_size_of}
 
 -- the machine of a name
 abbrev pub which_of : List ℕ → Option Which
@@ -22,10 +16,6 @@ which_of name =
     (cond (bytes_eq name (codes "peek")) (Some Peek)
     (cond (bytes_eq name (codes "deep")) (Some Deep) (cond (bytes_eq name (codes "back")) (Some Back) (cond (bytes_eq name (codes "save")) (Some Save)
     (cond (bytes_eq name (codes "text")) (Some Text) (cond (bytes_eq name (codes "flow")) (Some Flow) (cond (bytes_eq name (codes "document")) (Some Document) None))))))))
-
--- the tab size of an argument: its number, if that is at most 16
-abbrev pub tab_size_of : List ℕ → Option ℕ
-tab_size_of word = option_and_then (λ n. cond (nat_lt 16 n) None (Some n)) (decimal_of word)
 
 -- An option, with its value if it has one
 pub data Spelled : Type 0 where

@@ -6,7 +6,8 @@ use Rattle.mdconstructs.specs.declared.choice.Choice.{Choice}
 use Rattle.mdevents_program.specs.declared.arguments.SoFar.{SoFar}
 use Rattle.mdconstructs.specs.declared.choice.Which.TheVariants.{Lines}
 use Rattle.mdconstructs.specs.Choices.{choice_together}
-use Rattle.mdevents_program.specs.Arguments.{decimal_of, which_of, tab_size_of}
+use Rattle.mdevents_program.specs.Arguments.{which_of}
+use Rattle.mdprograms.specs.Numbers.{decimal_of, tab_size_of}
 
 -- a value, if there was none before
 abbrev pub once : {A : Type 0} → Option A → Option A → Option A

@@ -1,15 +1,14 @@
 //! The program's command-line arguments.
 
 ghost use Rattle.std.specs.Prelude.{◌≡◌, ◌≤◌, IfSome, map, string_bytes};
-ghost use Rattle.std.specs.Char.{is_ascii_digit};
-ghost use Rattle.std.specs.List.{list_all};
 ghost use Rattle.mdconstructs.specs.Choices.{CanCut};
-ghost use Rattle.mdevents_program.specs.Arguments.{choice_of_words, which_of, decimal_of, tab_size_of};
+ghost use Rattle.mdevents_program.specs.Arguments.{choice_of_words, which_of};
 ghost use Rattle.mdevents_program.specs.ArgumentsInner.{once, with_value, taken_of, chosen_after};
 
 use markdown::configuration::TabSize;
 use mdconstructs::choice::links_text;
 pub use mdconstructs::choice::{Choice, Which};
+use mdprograms::numbers::{read_number, read_tab_size};
 
 /// The usage line. It is shown if the arguments are not accepted.
 pub const USAGE: &str = "usage: mdevents [--cut n] [--deep] [--machine name] [--tab n]";
@@ -84,7 +83,7 @@ fn with_value(so_far: SoFar, option: &str, value: &str) -> Option<SoFar>
             ..so_far
         })
     } else if option == "--tab" {
-        let tab = once(so_far.tab, read_tab(value))?;
+        let tab = once(so_far.tab, read_tab_size(value))?;
         Some(SoFar {
             tab: Some(tab),
             ..so_far
@@ -151,33 +150,4 @@ fn read_which(name: &str) -> Option<Which>
     } else {
         None
     }
-}
-
-/// The number of an argument of decimal digits, if it is at least 1 and fits `usize`.
-fn read_number(word: &str) -> Option<usize>
-    ensures number { result ≡ decimal_of word.now }
-    ensures some { IfSome result (λ n. 1 ≤ n) }
-{
-    if !is_decimal(word) {
-        return None;
-    }
-    match word.parse::<usize>() {
-        Ok(number) => (number > 0).then_some(number),
-        Err(_) => None,
-    }
-}
-
-/// The tab size of an argument of decimal digits, if its number is from 1 to 16.
-fn read_tab(word: &str) -> Option<TabSize>
-    ensures { result ≡ tab_size_of word.now }
-{
-    let number = read_number(word)?;
-    TabSize::new(number)
-}
-
-/// Whether all bytes of an argument are decimal digits.
-fn is_decimal(word: &str) -> bool
-    ensures { result ≡ list_all is_ascii_digit word.now }
-{
-    word.bytes().all(|byte| byte.is_ascii_digit())
 }

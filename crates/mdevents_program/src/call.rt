@@ -1,17 +1,19 @@
 //! What a call of the program does: what it reads and writes, what it shows on standard error, and its status.
 
-ghost use Rattle.std.specs.Prelude.{◌≡◌, ◌≤◌, ◌↔◌, IfOk, IfSome, IsErr, IsOkUnless, Ok, None, map, string_bytes};
+ghost use Rattle.std.specs.Prelude.{◌≡◌, ◌≤◌, ◌↔◌, IfOk, IfSome, IsErr, Ok, None, map, string_bytes};
 ghost use Rattle.std.specs.Io.KnownBytes.{Keeps};
 ghost use Rattle.std.specs.Process.{exit_status};
 ghost use Rattle.mdconstructs.specs.Choices.{CanCut};
 ghost use Rattle.mdevents_program.specs.Arguments.{choice_of_words};
-ghost use Rattle.mdevents_program.specs.Program.{Prints, PrintsChosen, PrintsChosenFront, PrintsWords, PrintsWordsFront, PrintsFrontAtMost};
+ghost use Rattle.mdevents_program.specs.Program.{ArePrintedEvents};
+ghost use Rattle.mdprograms.specs.Output.{Writes, WritesChosen, WritesChosenFront, WritesFrontAtMost, WritesWords, WritesWordsFront};
 
 use crate::arguments::{Choice, USAGE, read_words};
-use crate::failure::Failure;
 use crate::program::write_events;
-use std::env;
-use std::io::{ErrorKind, Read, Write};
+use mdprograms::failure::Failure;
+use mdprograms::status::{failed, refused};
+pub use mdprograms::words::words_of;
+use std::io::{Read, Write};
 use std::process::ExitCode;
 use std::rt::Env;
 
@@ -23,8 +25,8 @@ pub fn answer_call<R: Read, W: Write>(
     writer: &mut W,
 ) -> ExitCode
     ensures status { exit_status result ≤ 2 }
-    ensures done { exit_status result ≡ 0 → (choice : _) × Prints choice R.remaining reader.old reader.new W.contents writer.old writer.new }
-    ensures failed { exit_status result ≡ 1 → PrintsFrontAtMost R.remaining reader.old reader.new W.contents writer.old writer.new }
+    ensures done { exit_status result ≡ 0 → (choice : _) × Writes ArePrintedEvents choice R.remaining reader.old reader.new W.contents writer.old writer.new }
+    ensures failed { exit_status result ≡ 1 → WritesFrontAtMost ArePrintedEvents R.remaining reader.old reader.new W.contents writer.old writer.new }
     ensures reads { exit_status result ≡ 2 → Keeps (R.remaining reader.old) (R.remaining reader.new) }
     ensures writes { exit_status result ≡ 2 → Keeps (W.contents writer.old) (W.contents writer.new) }
 {
@@ -44,8 +46,8 @@ pub fn answer_words<R: Read, W: Write>(
     writer: &mut W,
 ) -> ExitCode
     ensures status { exit_status result ≤ 2 }
-    ensures done { exit_status result ≡ 0 → PrintsWords words.now R.remaining reader.old reader.new W.contents writer.old writer.new }
-    ensures failed { exit_status result ≡ 1 → PrintsWordsFront words.now R.remaining reader.old reader.new W.contents writer.old writer.new }
+    ensures done { exit_status result ≡ 0 → WritesWords ArePrintedEvents choice_of_words words.now R.remaining reader.old reader.new W.contents writer.old writer.new }
+    ensures failed { exit_status result ≡ 1 → WritesWordsFront ArePrintedEvents choice_of_words words.now R.remaining reader.old reader.new W.contents writer.old writer.new }
     ensures usage { (exit_status result ≡ 2) ↔ (choice_of_words (map string_bytes words.now) ≡ None) }
     ensures reads { exit_status result ≡ 2 → Keeps (R.remaining reader.old) (R.remaining reader.new) }
     ensures writes { exit_status result ≡ 2 → Keeps (W.contents writer.old) (W.contents writer.new) }
@@ -64,11 +66,11 @@ pub fn answer_choice<R: Read, W: Write>(
 ) -> ExitCode
     requires { IfOk choice (λ choice. IfSome choice CanCut) }
     ensures status { exit_status result ≤ 2 }
-    ensures done { exit_status result ≡ 0 → PrintsChosen choice R.remaining reader.old reader.new W.contents writer.old writer.new }
+    ensures done { exit_status result ≡ 0 → WritesChosen ArePrintedEvents choice R.remaining reader.old reader.new W.contents writer.old writer.new }
     ensures usage { choice ≡ Ok None → exit_status result ≡ 2 }
     ensures usage_only { exit_status result ≡ 2 → choice ≡ Ok None }
     ensures failed { IsErr choice → exit_status result ≡ 1 }
-    ensures front { exit_status result ≡ 1 → PrintsChosenFront choice R.remaining reader.old reader.new W.contents writer.old writer.new }
+    ensures front { exit_status result ≡ 1 → WritesChosenFront ArePrintedEvents choice R.remaining reader.old reader.new W.contents writer.old writer.new }
     ensures reads { choice ≡ Ok None → Keeps (R.remaining reader.old) (R.remaining reader.new) }
     ensures writes { choice ≡ Ok None → Keeps (W.contents writer.old) (W.contents writer.new) }
 {
@@ -77,35 +79,7 @@ pub fn answer_choice<R: Read, W: Write>(
             Ok(()) => ExitCode::SUCCESS,
             Err(failure) => failed(rt, failure),
         },
-        Ok(None) => {
-            let _ = rt.eprintln(USAGE);
-            ExitCode::from(2)
-        }
+        Ok(None) => refused(rt, USAGE),
         Err(failure) => failed(rt, failure),
-    }
-}
-
-/// Shows a failure on standard error.
-fn failed(rt: &impl Eprint, failure: Failure) -> ExitCode
-    ensures { exit_status result ≡ 1 }
-{
-    let _ = rt.eprintln(failure);
-    ExitCode::FAILURE
-}
-
-/// The arguments after the program's name; `None` if one of them is not UTF-8.
-///
-/// It fails only with `Memory`.
-pub fn words_of(rt: &(impl Env + AllocGlobal)) -> Result<Option<Vec<String>>, Failure>
-    ensures cause { IsOkUnless result Failure.Memory }
-{
-    match env::args(rt) {
-        Ok(mut arguments) => {
-            let _ = arguments.next();
-            let words: Vec<String> = arguments.collect(rt.alloc())?;
-            Ok(Some(words))
-        }
-        Err(error) if error.kind() == ErrorKind::InvalidData => Ok(None),
-        Err(_) => Err(Failure::Memory),
     }
 }

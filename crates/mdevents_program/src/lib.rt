@@ -22,6 +22,7 @@ mod print;
 // call: what a call does, for any system, reader and writer
 pub mod call;
 
-// failure: why the program fails; the law that the usage line stays
-pub mod failure;
+// laws: that the usage line stays
 pub mod laws;
+
+pub use mdprograms::failure;

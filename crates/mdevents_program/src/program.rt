@@ -3,15 +3,16 @@
 ghost use Rattle.std.specs.Prelude.{◌≢◌, IfErr, OnOk, IsErrOf};
 ghost use Rattle.std.specs.Io.KnownBytes.{Keeps};
 ghost use Rattle.mdconstructs.specs.Choices.{CanCut};
-ghost use Rattle.mdevents_program.specs.Program.{Prints, PrintsFront};
-ghost use Rattle.mdevents_program.specs.Input.{ReadsWithinLimit, ReadsPastLimit};
+ghost use Rattle.mdevents_program.specs.Program.{ArePrintedEvents};
+ghost use Rattle.mdprograms.specs.Input.{ReadsWithinLimit, ReadsPastLimit};
+ghost use Rattle.mdprograms.specs.Output.{Writes, WritesFront};
 
 use crate::arguments::Choice;
-use crate::failure::Failure;
 use crate::read::read_to_end;
 use crate::write::write_lines;
 use markdown::configuration::Constructs;
 use mdconstructs::documents::events_of;
+use mdprograms::failure::Failure;
 use std::alloc::Global;
 use std::io::{Read, Write};
 
@@ -31,12 +32,12 @@ pub fn write_events<R: Read, W: Write>(
     choice: &Choice,
 ) -> Result<(), Failure>
     requires { CanCut choice.now }
-    ensures written { OnOk result (Prints choice.now R.remaining reader.old reader.new W.contents writer.old writer.new) }
+    ensures written { OnOk result (Writes ArePrintedEvents choice.now R.remaining reader.old reader.new W.contents writer.old writer.new) }
     ensures too_long { IsErrOf result Failure.TooLong → ReadsPastLimit choice.now.tab (R.remaining reader.old) (R.remaining reader.new) }
     ensures within_else { IfErr result (λ failure. failure ≢ Failure.TooLong → ReadsWithinLimit choice.now.tab (R.remaining reader.old) (R.remaining reader.new)) }
     ensures never_refused { (m : _) → ¬ IsErrOf result (Failure.Message m) }
     ensures ready { ¬ IsErrOf result Failure.NotReady }
-    ensures cut_short { IsErrOf result Failure.Write → PrintsFront choice.now R.remaining reader.old reader.new W.contents writer.old writer.new }
+    ensures cut_short { IsErrOf result Failure.Write → WritesFront ArePrintedEvents choice.now R.remaining reader.old reader.new W.contents writer.old writer.new }
     ensures nothing { IfErr result (λ failure. failure ≢ Failure.Write → Keeps (W.contents writer.old) (W.contents writer.new)) }
 {
     let bytes = read_to_end(alloc, reader, choice.tab)?;

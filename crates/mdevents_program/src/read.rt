@@ -2,13 +2,13 @@
 
 ghost use Rattle.std.specs.Prelude.{◌≡◌, ◌≢◌, ◌<◌, ℕ, List, ◌++◌, length, true, false, IfOk, IfErr, OnOk, OnErr, IsErrOf, Ok};
 ghost use Rattle.std.specs.Io.KnownBytes.{Consumes, IsAtEnd};
-ghost use Rattle.mdevents_program.specs.Failure.{IsOfReading};
-ghost use Rattle.mdevents_program.specs.Input.{ReadsWithinLimit, ReadsPastLimit};
+ghost use Rattle.mdprograms.specs.Failure.{IsOfReading};
+ghost use Rattle.mdprograms.specs.Input.{ReadsWithinLimit, ReadsPastLimit};
 ghost use Rattle.markdown.specs.Virtual.{IsWithinLimit};
 
-use crate::failure::Failure;
 use markdown::configuration::TabSize;
 use mdconstructs::limit::limit_of;
+use mdprograms::failure::Failure;
 use std::alloc::Global;
 use std::io::Read;
 

@@ -5,10 +5,11 @@ ghost use Rattle.std.specs.Io.KnownBytes.{Appends, Keeps};
 ghost use Rattle.mdevents_program.specs.Printed.{printed_events};
 
 use crate::buffer::{Buffer, SIZE};
-use crate::failure::Failure;
 use crate::last_point::LastPoint;
 use crate::print::{LONGEST, push_line};
 use markdown::event::Event;
+use mdprograms::failure::Failure;
+use mdprograms::write::write_all;
 use std::io::Write;
 
 /// Writes a line for each event and nothing else, through a buffer of [`SIZE`] bytes. Takes no memory. Returns
@@ -41,24 +42,6 @@ fn make_room<W: Write>(buffer: &mut Buffer, writer: &mut W) -> Result<(), Failur
     if buffer.len() > SIZE - LONGEST {
         write_all(writer, buffer.as_slice())?;
         buffer.clear();
-    }
-    Ok(())
-}
-
-/// Writes all of a text and nothing else. Returns `Failure::Write` for any error of the writer, and for a write of 0
-/// bytes; a beginning of the text was then written. An empty text needs no write.
-fn write_all<W: Write>(writer: &mut W, text: &[u8]) -> Result<(), Failure>
-    ensures all { OnOk result (Appends (W.contents writer.old) (W.contents writer.new) text.now) }
-    ensures failed { OnErr result ((count : ℕ) × Appends (W.contents writer.old) (W.contents writer.new) (take count text.now)) }
-    ensures cause { IsOkUnless result Failure.Write }
-    ensures asked { OnErr result (0 < length text.now) }
-{
-    let mut written = 0;
-    'writing: while written < text.len() {
-        match writer.write(&text[written..]) {
-            Ok(0) | Err(_) => return Err(Failure::Write),
-            Ok(count) => written += count,
-        }
     }
     Ok(())
 }

@@ -2,7 +2,3 @@
 pub mod Program
 -- arguments
 pub mod Arguments
--- input and output
-pub mod Input
--- failure
-pub mod Failure

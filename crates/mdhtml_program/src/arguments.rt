@@ -1,12 +1,11 @@
 //! The program's command-line arguments.
 
-ghost use Rattle.std.specs.Prelude.{◌≡◌, ◌≤◌, IfSome, map, string_bytes};
-ghost use Rattle.std.specs.Char.{is_ascii_digit};
-ghost use Rattle.std.specs.List.{list_all};
+ghost use Rattle.std.specs.Prelude.{◌≡◌, map, string_bytes};
 ghost use Rattle.std.specs.Option.{option_map};
-ghost use Rattle.mdhtml_program.specs.Arguments.{choice_of_words, chosen, decimal_of, lets_all, options_of, tab_of, tab_size_of};
+ghost use Rattle.mdhtml_program.specs.Arguments.{choice_of_words, chosen, lets_all, options_of, tab_of};
 
 use markdown_base::configuration::{Options, TabSize};
+use mdprograms::numbers::read_tab_size;
 
 /// The usage line. It is shown if the arguments are not accepted.
 pub const USAGE: &str = "usage: mdhtml [--unsafe] [--tab n]";
@@ -81,34 +80,5 @@ fn read_tab(name: &String, value: &String) -> Option<TabSize>
     if name.as_str() != "--tab" {
         return None;
     }
-    read_size(value.as_str())
-}
-
-/// The tab size of an argument of decimal digits, if its number is from 1 to 16.
-fn read_size(word: &str) -> Option<TabSize>
-    ensures { result ≡ tab_size_of word.now }
-{
-    let number = read_number(word)?;
-    TabSize::new(number)
-}
-
-/// The number of an argument of decimal digits, if it is at least 1 and fits `usize`.
-fn read_number(word: &str) -> Option<usize>
-    ensures number { result ≡ decimal_of word.now }
-    ensures some { IfSome result (λ n. 1 ≤ n) }
-{
-    if !is_decimal(word) {
-        return None;
-    }
-    match word.parse::<usize>() {
-        Ok(number) => (number > 0).then_some(number),
-        Err(_) => None,
-    }
-}
-
-/// Whether all bytes of an argument are decimal digits.
-fn is_decimal(word: &str) -> bool
-    ensures { result ≡ list_all is_ascii_digit word.now }
-{
-    word.bytes().all(|byte| byte.is_ascii_digit())
+    read_tab_size(value.as_str())
 }

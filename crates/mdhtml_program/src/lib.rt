@@ -7,13 +7,13 @@ pub mod program;
 // arguments: what those of the command line choose
 pub mod arguments;
 
-// input and output: reading to the end, within the limit; writing
+// input: reading to the end, within the limit
 pub mod read;
-pub mod write;
 
 // call: what a call does, for any system, reader and writer
 pub mod call;
 
-// failure: why the program fails; the law that the usage line stays
-pub mod failure;
+// laws: that the usage line stays
 pub mod laws;
+
+pub use mdprograms::failure;

@@ -2,14 +2,15 @@
 
 ghost use Rattle.std.specs.Prelude.{◌≡◌, ◌≢◌, false, IfErr, OnOk, IsErrOf};
 ghost use Rattle.std.specs.Io.KnownBytes.{Keeps};
-ghost use Rattle.mdhtml_program.specs.Program.{Writes, WritesFront, WritesSafe};
-ghost use Rattle.mdhtml_program.specs.Input.{ReadsPastLimit};
+ghost use Rattle.mdhtml_program.specs.Program.{IsHtmlOfRead, WritesSafe};
+ghost use Rattle.mdprograms.specs.Input.{ReadsPastLimit};
+ghost use Rattle.mdprograms.specs.Output.{Writes, WritesFront};
 
 use crate::arguments::{Choice, options_of};
-use crate::failure::Failure;
 use crate::read::read_to_end;
-use crate::write::write_all;
 use mdhtml_calls::html::to_html_with_options;
+use mdprograms::failure::Failure;
+use mdprograms::write::write_all;
 use std::alloc::Global;
 use std::io::{Read, Write};
 
@@ -17,16 +18,20 @@ use std::io::{Read, Write};
 ///
 /// Returns the first failure, in the order of reading, length, making HTML, and writing. After `Write`, a beginning of the HTML was written, and
 /// after any other failure nothing. What was written is safe HTML, unless the choice is unsafe or something failed.
+///
+/// Two failures never come: `Message` and `NotReady`.
 pub fn write_html<R: Read, W: Write>(
     alloc: Global,
     reader: &mut R,
     writer: &mut W,
     choice: &Choice,
 ) -> Result<(), Failure>
-    ensures written { OnOk result (Writes choice.now R.remaining reader.old reader.new W.contents writer.old writer.new) }
+    ensures written { OnOk result (Writes IsHtmlOfRead choice.now R.remaining reader.old reader.new W.contents writer.old writer.new) }
     ensures safe { choice.now.is_unsafe ≡ false → OnOk result (WritesSafe (W.contents writer.old) (W.contents writer.new)) }
     ensures too_long { IsErrOf result Failure.TooLong → ReadsPastLimit choice.now.tab (R.remaining reader.old) (R.remaining reader.new) }
-    ensures cut_short { IsErrOf result Failure.Write → WritesFront choice.now R.remaining reader.old reader.new W.contents writer.old writer.new }
+    ensures never_refused { (m : _) → ¬ IsErrOf result (Failure.Message m) }
+    ensures ready { ¬ IsErrOf result Failure.NotReady }
+    ensures cut_short { IsErrOf result Failure.Write → WritesFront IsHtmlOfRead choice.now R.remaining reader.old reader.new W.contents writer.old writer.new }
     ensures nothing { IfErr result (λ failure. failure ≢ Failure.Write → Keeps (W.contents writer.old) (W.contents writer.new)) }
 {
     let bytes = read_to_end(alloc, reader, choice.tab)?;

@@ -2,12 +2,12 @@
 
 ghost use Rattle.std.specs.Prelude.{◌≡◌, ◌≢◌, ◌⊎◌, IfErr, IfOk, IsErrOf};
 ghost use Rattle.std.specs.IoError.{error_kind};
-ghost use Rattle.mdhtml_program.specs.Failure.{IsOfReading};
-ghost use Rattle.mdhtml_program.specs.Input.{IsReadToEnd, ReadsPastLimit};
+ghost use Rattle.mdprograms.specs.Failure.{IsOfReading};
+ghost use Rattle.mdprograms.specs.Input.{IsReadToEnd, ReadsPastLimit};
 
-use crate::failure::Failure;
 use markdown_base::configuration::TabSize;
 use mddocument::limit::limit_of;
+use mdprograms::failure::Failure;
 use std::alloc::Global;
 use std::io::{Error, ErrorKind, Read};
 

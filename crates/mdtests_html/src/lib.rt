@@ -5,12 +5,9 @@
 #[cfg(test)]
 mod calls;
 
-// program: arguments, what is written, and reads and writes that fail
-#[cfg(test)]
-mod fakes;
 // bytes: text, addresses and safe HTML
 #[cfg(test)]
 mod markup;
-// program
+// program: arguments, what is written, and reads and writes that fail
 #[cfg(test)]
 mod program;

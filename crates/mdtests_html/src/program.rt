@@ -1,32 +1,14 @@
 //! Calls of the program, over a system, a reader and a writer for tests: the status, what is written, and what is shown on standard
 //! error.
 
-use crate::fakes::{CalledWith, FailingReader, FailingWriter, Line};
-use mdhtml_program::call::{answer_call, answer_choice, words_of};
+use mdhtml_program::call::{answer_call, answer_choice};
 use mdhtml_program::failure::Failure;
+use mdtests_fakes::ended::Ended;
+use mdtests_fakes::readers::{ALL, FailingReader};
+use mdtests_fakes::systems::CalledWith;
+use mdtests_fakes::writers::FailingWriter;
 use std::alloc::Global;
 use std::io::ErrorKind;
-use std::process::ExitCode;
-
-/// How a call of the program ended: its status, what it wrote and what it showed on standard error.
-#[derive(Drop)]
-struct Ended {
-    status: ExitCode,
-    written: Line,
-    shown: Line,
-}
-
-impl Ended {
-    /// Whether it ended so.
-    fn is(&self, status: u8, written: &[u8], shown: &[u8]) -> bool {
-        self.status == ExitCode::from(status)
-            && self.written.text() == written
-            && self.shown.text() == shown
-    }
-}
-
-/// More reads or writes than any call makes.
-const ALL: usize = usize::MAX;
 
 /// A document, with a tab behind a mark, and what is written of it.
 const DOCUMENT: &[u8] = b"-\t<b>";
@@ -50,22 +32,10 @@ fn call(
     takes_nothing: bool,
 ) -> Ended {
     let system = (CalledWith::new(words), alloc);
-    let mut reader = FailingReader {
-        rest: DOCUMENT,
-        good: good_reads,
-        error,
-    };
-    let mut writer = FailingWriter {
-        written: Line::new(),
-        good: good_writes,
-        takes_nothing,
-    };
+    let mut reader = FailingReader::new(DOCUMENT, good_reads, error);
+    let mut writer = FailingWriter::new(good_writes, takes_nothing);
     let status = answer_call(&system, &mut reader, &mut writer);
-    Ended {
-        status,
-        written: writer.written,
-        shown: system.0.shown.get(),
-    }
+    Ended::of(status, &writer, &system.0)
 }
 
 /// Arguments, the status, what is written for the document, and what is shown on standard error.
@@ -83,6 +53,8 @@ const CALLS: &[(&[&[u8]], u8, &[u8], &[u8])] = &[
     (&[b"mdhtml", b"--tab", b"+1"], 2, b"", USAGE_SHOWN),
     (&[b"mdhtml", b"--unsafe", b"--unsafe"], 2, b"", USAGE_SHOWN),
     (&[b"mdhtml", b"--safe"], 2, b"", USAGE_SHOWN),
+    (&[b"mdhtml", b"--UNSAFE"], 2, b"", USAGE_SHOWN),
+    (&[b"mdhtml", b" --unsafe "], 2, b"", USAGE_SHOWN),
     (
         &[b"mdhtml", b"--tab", b"4", b"--tab", b"4"],
         2,
@@ -148,7 +120,7 @@ fn shows(alloc: Global, failure: Failure, line: &[u8]) -> bool {
     let mut reader = b"ab".as_slice();
     let mut written = Vec::new(alloc);
     let _ = answer_choice(&system, Err(failure), &mut reader, &mut written);
-    system.0.shown.get().text() == line
+    system.0.shown().text() == line
 }
 
 #[test]
@@ -156,36 +128,4 @@ fn failures_are_shown(rt: HostRuntime) {
     let alloc = rt.alloc();
     assert!(rt; shows(alloc, Failure::Memory, b"out of memory\n"));
     assert!(rt; shows(alloc, Failure::TooLong, b"input too long\n"));
-}
-
-/// Whether the words after the name are these, byte for byte, and nothing fails.
-fn has_words(alloc: Global, called: &[&[u8]]) -> bool {
-    let system = (CalledWith::new(called), alloc);
-    let Ok(Some(words)) = words_of(&system) else {
-        return false;
-    };
-    let mut wanted = called.iter().skip(1);
-    for word in words.iter() {
-        if wanted.next().is_none_or(|it| *it != word.as_bytes()) {
-            return false;
-        }
-    }
-    wanted.next().is_none()
-}
-
-/// Words are taken as they are: with spaces, in upper case, the same again, no byte, and beyond ASCII.
-#[test]
-fn words_are_taken_as_they_are(rt: HostRuntime) {
-    let called = [
-        b"mdhtml".as_slice(),
-        b"--",
-        b"--UNSAFE",
-        b" --tab ",
-        b"",
-        b"--unsafe",
-        b"--unsafe",
-        b"a  b\t",
-        b"\xc3\xa9",
-    ];
-    assert!(rt; has_words(rt.alloc(), &called));
 }

@@ -1,14 +1,17 @@
 //! Calls of the program, over a system, a reader and a writer for tests: the status, what is written, and what is shown on standard
 //! error.
 
-use crate::fakes::{CalledWith, FailingReader, FailingWriter, Line};
 use crate::written::{TWO_LINES, choice};
 use markdown::configuration::TabSize;
 use mdevents_program::arguments::{Which, read_words};
 use mdevents_program::call::{answer_call, answer_choice, answer_words, words_of};
 use mdevents_program::failure::Failure;
+use mdtests_fakes::ended::Ended;
+use mdtests_fakes::readers::{ALL, FailingReader};
+use mdtests_fakes::systems::CalledWith;
+use mdtests_fakes::writers::FailingWriter;
 use std::alloc::Global;
-use std::process::ExitCode;
+use std::io::ErrorKind;
 
 /// Whether the program's arguments choose this, and nothing fails.
 fn chooses(
@@ -175,28 +178,8 @@ fn words_are_taken_as_they_are(rt: HostRuntime) {
     assert!(rt; has_words(rt.alloc(), &called));
 }
 
-/// How a call of the program ended: its status, what it wrote and what it showed on standard error.
-#[derive(Drop)]
-struct Ended {
-    status: ExitCode,
-    written: Line,
-    shown: Line,
-}
-
-impl Ended {
-    /// Whether it ended so.
-    fn is(&self, status: u8, written: &[u8], shown: &[u8]) -> bool {
-        self.status == ExitCode::from(status)
-            && self.written.text() == written
-            && self.shown.text() == shown
-    }
-}
-
-/// More reads or writes than any call makes.
-const ALL: usize = usize::MAX;
-
-/// Calls the program with these arguments, over a document. The read and the write after this many good ones fail. The write then
-/// takes nothing, or returns an error.
+/// Calls the program with these arguments, over a document. The read and the write after this many good ones fail. The read then returns
+/// the error after which Rust's own loops try again; so does the write, or it takes nothing.
 fn call(
     alloc: Global,
     words: &[&[u8]],
@@ -206,21 +189,10 @@ fn call(
     takes_nothing: bool,
 ) -> Ended {
     let system = (CalledWith::new(words), alloc);
-    let mut reader = FailingReader {
-        rest,
-        good: good_reads,
-    };
-    let mut writer = FailingWriter {
-        written: Line::new(),
-        good: good_writes,
-        takes_nothing,
-    };
+    let mut reader = FailingReader::new(rest, good_reads, ErrorKind::Interrupted);
+    let mut writer = FailingWriter::new(good_writes, takes_nothing);
     let status = answer_call(&system, &mut reader, &mut writer);
-    Ended {
-        status,
-        written: writer.written,
-        shown: system.0.shown.get(),
-    }
+    Ended::of(status, &writer, &system.0)
 }
 
 const USAGE_SHOWN: &[u8] = b"usage: mdevents [--cut n] [--deep] [--machine name] [--tab n]\n";
@@ -381,7 +353,7 @@ fn shows(alloc: Global, failure: Failure, line: &[u8]) -> bool {
     let mut reader = b"ab".as_slice();
     let mut written = Vec::new(alloc);
     let _ = answer_choice(&system, Err(failure), &mut reader, &mut written);
-    system.0.shown.get().text() == line
+    system.0.shown().text() == line
 }
 
 #[test]

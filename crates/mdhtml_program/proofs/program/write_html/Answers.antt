@@ -20,7 +20,7 @@ returns-in_err-html-clause-nothing g c =
 
 pub returns-clause-written : goal.returns-clause-written
 returns-clause-written g c = on_ok_weaker c.write_all.result
-    (λ written. record { html = c.in_ok-html.html.items; made = made g c; written = rw c.as_slice-2.ensures.value at written })
+    (λ written. record { text = c.in_ok-html.html.items; made = made g c; written = rw c.as_slice-2.ensures.value at written })
     c.write_all.ensures.all
 
 pub returns-clause-safe : goal.returns-clause-safe
@@ -36,4 +36,4 @@ pub returns-clause-cut_short : goal.returns-clause-cut_short
 returns-clause-cut_short g c = λ e.
     let (count, written) = IfErr-at_err (λ _. (count : ℕ) × Appends (g.W.Write.contents c.args.writer.now) (g.W.Write.contents c.write_all.new.writer) (take count c.in_ok-html.html.items)) e
     (rw c.as_slice-2.ensures.value at c.write_all.ensures.failed) in
-    record { html = c.in_ok-html.html.items; made = made g c; count = count; written = written }
+    record { text = c.in_ok-html.html.items; made = made g c; count = count; written = written }

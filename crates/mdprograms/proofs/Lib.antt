@@ -1,0 +1,2 @@
+-- What proofs cite from below
+mod Prelude
