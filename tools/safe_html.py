@@ -32,14 +32,14 @@ import usage  # noqa: E402
 ENTITIES = {b"amp": b"&", b"lt": b"<", b"gt": b">", b"quot": b'"', b"#x27": b"'", b"#x1B": b"\x1b"}
 ENTITY = re.compile(rb"&(" + b"|".join(ENTITIES) + rb");")
 TEXT = re.compile(rb'(?:[^<>&"\0\x1b]|' + ENTITY.pattern + rb")*")
-NAMES = rb"a|blockquote|br|code|em|h1|h2|h3|h4|h5|h6|hr|img|li|ol|p|pre|strong|ul"
+NAMES = rb"a|blockquote|br|code|del|em|h1|h2|h3|h4|h5|h6|hr|img|li|ol|p|pre|strong|ul"
 TAG = re.compile(rb"<(/?)(" + NAMES + rb')(?=[ >])((?: [a-z]+="[^"]*")*)( /)?>')
 ATTRIBUTE = re.compile(rb' ([a-z]+)="([^"]*)"')
 VOID = {b"br", b"hr", b"img"}
 # the attributes of an element, in the order in which they stand
 ATTRIBUTES = {b"a": [b"href", b"title"], b"code": [b"class"], b"img": [b"src", b"alt", b"title"], b"ol": [b"start"]}
 # elements of text, which stand anywhere; the others stand among blocks, and `li` in lists
-PHRASES = {b"a", b"br", b"code", b"em", b"img", b"strong"}
+PHRASES = {b"a", b"br", b"code", b"del", b"em", b"img", b"strong"}
 LISTS = {b"ol", b"ul"}
 HOLD_BLOCKS = {b"blockquote", b"li"}
 ADDRESS = re.compile(rb"[-_.+!*(),%#@?=;:/$~&'A-Za-z0-9]*")
@@ -174,12 +174,14 @@ TAKEN = [b"", b"a'b=`/", b"&amp;&lt;&gt;&quot;&#x27;&#x1B;", b"<p></p>", b"<p>a<
 TAKEN += [b'<a href="http://a/?b&amp;c&#x27;" title="&quot;">d</a>', b'<a href="HTTPS:a">b</a>', b'<a href="//a">b</a>', b'<a href="/a:b">c</a>', b'<a href="?a:b">c</a>']
 TAKEN += [b'<img src="a.png" alt="" title="b" />', b"<ul><li>a</li></ul>", b"<ol start=\"007\"><li><p>a</p></li></ol>", b'<ol start=""></ol>', b"<ul>a</ul>"]
 TAKEN += [b'<pre><code class="language-a;&amp;&quot;">b</code></pre>', b"<em><a><a>b</a></a></em>", b"<blockquote><h1>a</h1></blockquote>", b"\xff\x80", b"<em><code><img /></code></em>"]
+TAKEN += [b"<p><del>a <em>b</em></del></p>", b'<del><a href="mailto:b@c.d">e</a></del>']
 REFUSED = [b"<script>", b"<script></script>", b"<em />", b"<a />", b"<li>a</li>", b"<p><li>a</li></p>", b"<p>", b"</p>", b"<p></em>", b"<em><p></p></em>", b"<p><p></p></p>"]
 REFUSED += [b"<br>", b"<br></br>", b"<p />", b"<P></P>", b"<p onclick=\"x\"></p>", b"<p title=\"x\"></p>", b"<a href=x></a>", b"<a href='x'></a>", b'<a title="a" b"></a>']
 REFUSED += [b'<a href="javascript:x">y</a>', b'<a href=":x">y</a>', b'<img src="mailto:a" />', b'<a href="data:x">y</a>', b'<a href="java&#x27;script:x">y</a>', b'<a href="a b">c</a>']
 REFUSED += [b'<a href="a\\b">c</a>', b'<a href="\xc3\xa9">c</a>', b'<a href="&lt;">c</a>', b'<a href="&colon;">c</a>', b"&#60;", b"&", b"&amp", b"<", b">", b'"', b"\0", b"\x1b", b"<!-- -->"]
 REFUSED += [b'<a title="" href="">b</a>', b'<a href="" href="">b</a>', b'<code class="x">a</code>', b'<code class="language-a b">c</code>', b'<em class="language-a">b</em>', b"<h1><h2></h2></h1>"]
 REFUSED += [b'<ol start="-1"></ol>', b'<ol start="1&amp;"></ol>', b'<ul start="1"></ul>', b"<p >a</p>", b"<p>a</p >", b'<a  href="">b</a>', b'<img alt="<" />', b"<div></div>", b"<h7></h7>"]
+REFUSED += [b'<del cite="">a</del>', b'<del title="a">b</del>', b"<del />", b"<del>", b"<del><p></p></del>", b"<del><em></del></em>"]
 
 
 def self_test():

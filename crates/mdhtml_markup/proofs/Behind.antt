@@ -14,7 +14,7 @@ use Rattle.mdhtml_markup.specs.declared.addresses.Place.TheVariants as place
 use Rattle.mdhtml_markup.specs.declared.elements.AttributeName.{AttributeName}
 use Rattle.mdhtml_markup.specs.declared.elements.AttributeName.TheVariants as name
 use Rattle.mdhtml_markup.specs.declared.elements.Element.{Element}
-use Rattle.mdhtml_markup.specs.declared.elements.Element.TheVariants.{Anchor, BlockQuote, Break, Code, Emphasis, Heading1, Heading2, Heading3, Heading4, Heading5, Heading6, Image, ListItem, OrderedList, Paragraph, Preformatted, Strong, ThematicBreak, UnorderedList}
+use Rattle.mdhtml_markup.specs.declared.elements.Element.TheVariants.{Anchor, BlockQuote, Break, Code, Deleted, Emphasis, Heading1, Heading2, Heading3, Heading4, Heading5, Heading6, Image, ListItem, OrderedList, Paragraph, Preformatted, Strong, ThematicBreak, UnorderedList}
 use Rattle.mdhtml_markup.specs.SafeChecks.{behind_attribute, behind_attributes, behind_name, behind_value, elements, front_of, named, tag_end}
 use Rattle.mdhtml_markup.specs.SafeHtml as safe
 use Rattle.mdhtml_markup.specs.SafeHtml.{AreAttributes, attribute_name, attributes_of, behind, entity_at, is_address_byte, is_allowed, is_language, is_mark, is_safe_address, is_text, is_text_byte, is_value, is_void, name_of, quoted, undone}
@@ -299,6 +299,7 @@ named-read Anchor = refl
 named-read BlockQuote = refl
 named-read Break = refl
 named-read Code = refl
+named-read Deleted = refl
 named-read Emphasis = refl
 named-read Heading1 = refl
 named-read Heading2 = refl
@@ -320,6 +321,7 @@ name-letters Anchor = refl
 name-letters BlockQuote = refl
 name-letters Break = refl
 name-letters Code = refl
+name-letters Deleted = refl
 name-letters Emphasis = refl
 name-letters Heading1 = refl
 name-letters Heading2 = refl

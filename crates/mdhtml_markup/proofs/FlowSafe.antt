@@ -4,7 +4,7 @@ use Rattle.std.specs.Prelude.{◌==◌, not, ⊤, Bool, true, false, cond, is_so
 use Rattle.std.proofs.lemmas.Bool.{false≢true}
 use Rattle.mdhtml_markup.specs.declared.elements.AttributeName.{AttributeName}
 use Rattle.mdhtml_markup.specs.declared.elements.Element.{Element}
-use Rattle.mdhtml_markup.specs.declared.elements.Element.TheVariants.{Anchor, BlockQuote, Break, Code, Emphasis, Heading1, Heading2, Heading3, Heading4, Heading5, Heading6, Image, ListItem, OrderedList, Paragraph, Preformatted, Strong, ThematicBreak, UnorderedList}
+use Rattle.mdhtml_markup.specs.declared.elements.Element.TheVariants.{Anchor, BlockQuote, Break, Code, Deleted, Emphasis, Heading1, Heading2, Heading3, Heading4, Heading5, Heading6, Image, ListItem, OrderedList, Paragraph, Preformatted, Strong, ThematicBreak, UnorderedList}
 use Rattle.mdhtml_markup.specs.Flow as flow
 use Rattle.mdhtml_markup.specs.Flow.{AreGiven, BeforeCode, BehindCode, Blocks, IsContent, Items, Model, Phrases, Words, after, inside, may_stand, phrases_in}
 use Rattle.mdhtml_markup.specs.Laws.{FlowIsSafe}
@@ -74,6 +74,7 @@ stands m Anchor tags h f = refl
 stands m BlockQuote tags h f = block-stands m BlockQuote tags refl refl refl refl h f
 stands m Break tags h f = refl
 stands m Code tags h f = refl
+stands m Deleted tags h f = refl
 stands m Emphasis tags h f = refl
 stands m Heading1 tags h f = block-stands m Heading1 tags refl refl refl refl h f
 stands m Heading2 tags h f = block-stands m Heading2 tags refl refl refl refl h f
@@ -103,6 +104,7 @@ inside-fits m Anchor tags = tt
 inside-fits m BlockQuote tags = refl
 inside-fits m Break tags = tt
 inside-fits m Code tags = tt
+inside-fits m Deleted tags = phrases-fit m (Deleted ∷ tags)
 inside-fits m Emphasis tags = phrases-fit m (Emphasis ∷ tags)
 inside-fits m Heading1 tags = tt
 inside-fits m Heading2 tags = tt

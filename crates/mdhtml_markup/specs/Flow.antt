@@ -4,7 +4,7 @@ use Rattle.std.specs.Prelude.{◌≡◌, ℕ, ◌==◌, Bool, true, false, List,
 use Rattle.mdhtml_markup.specs.declared.elements.AttributeName.{AttributeName}
 use Rattle.mdhtml_markup.specs.declared.elements.AttributeName.TheVariants as name
 use Rattle.mdhtml_markup.specs.declared.elements.Element.{Element}
-use Rattle.mdhtml_markup.specs.declared.elements.Element.TheVariants.{Anchor, BlockQuote, Break, Code, Emphasis, Image, ListItem, OrderedList, Preformatted, Strong, UnorderedList}
+use Rattle.mdhtml_markup.specs.declared.elements.Element.TheVariants.{Anchor, BlockQuote, Break, Code, Deleted, Emphasis, Image, ListItem, OrderedList, Preformatted, Strong, UnorderedList}
 use Rattle.mdhtml_markup.specs.SafeHtml.{attributes_of, close_tag, is_text_byte, is_value, is_void, open_tag, quoted, void_tag}
 
 -- Where one stands: among blocks (and the text of tight items), among text (in a link or not), among the items of a list, in a `pre` before and behind its
@@ -20,6 +20,7 @@ pub data Model : Type 0 where
 abbrev pub is_phrase : (in_link : Bool) → Element → Bool
 is_phrase in_link Break = true
 is_phrase in_link Code = true
+is_phrase in_link Deleted = true
 is_phrase in_link Emphasis = true
 is_phrase in_link Image = true
 is_phrase in_link Strong = true
@@ -53,6 +54,7 @@ inside m ListItem = Blocks
 inside m OrderedList = Items
 inside m Preformatted = BeforeCode
 inside m UnorderedList = Items
+inside m Deleted = phrases_in m
 inside m Emphasis = phrases_in m
 inside m Strong = phrases_in m
 inside m e = Phrases false

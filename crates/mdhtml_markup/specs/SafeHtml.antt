@@ -18,7 +18,7 @@ use Rattle.mdhtml_markup.specs.declared.addresses.Place.TheVariants as place
 use Rattle.mdhtml_markup.specs.declared.elements.AttributeName.{AttributeName}
 use Rattle.mdhtml_markup.specs.declared.elements.AttributeName.TheVariants as name
 use Rattle.mdhtml_markup.specs.declared.elements.Element.{Element}
-use Rattle.mdhtml_markup.specs.declared.elements.Element.TheVariants.{Anchor, BlockQuote, Break, Code, Emphasis, Heading1, Heading2, Heading3, Heading4, Heading5, Heading6, Image, ListItem, OrderedList, Paragraph, Preformatted, Strong, ThematicBreak, UnorderedList}
+use Rattle.mdhtml_markup.specs.declared.elements.Element.TheVariants.{Anchor, BlockQuote, Break, Code, Deleted, Emphasis, Heading1, Heading2, Heading3, Heading4, Heading5, Heading6, Image, ListItem, OrderedList, Paragraph, Preformatted, Strong, ThematicBreak, UnorderedList}
 
 -- ---- elements
 
@@ -28,6 +28,7 @@ name_of Anchor = codes "a"
 name_of BlockQuote = codes "blockquote"
 name_of Break = codes "br"
 name_of Code = codes "code"
+name_of Deleted = codes "del"
 name_of Emphasis = codes "em"
 name_of Heading1 = codes "h1"
 name_of Heading2 = codes "h2"
@@ -71,6 +72,7 @@ stands_in ListItem tags = holds_items tags
 stands_in Anchor tags = true
 stands_in Break tags = true
 stands_in Code tags = true
+stands_in Deleted tags = true
 stands_in Emphasis tags = true
 stands_in Image tags = true
 stands_in Strong tags = true

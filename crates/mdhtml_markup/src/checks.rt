@@ -319,6 +319,9 @@ fn element_of(name: &[u8]) -> Option<Element>
     if name == b"code".as_slice() {
         return Some(Element::Code);
     }
+    if name == b"del".as_slice() {
+        return Some(Element::Deleted);
+    }
     if name == b"em".as_slice() {
         return Some(Element::Emphasis);
     }
@@ -396,6 +399,7 @@ fn stands_in(element: Element, tags: &Vec<Element>) -> bool
         Element::Anchor
         | Element::Break
         | Element::Code
+        | Element::Deleted
         | Element::Emphasis
         | Element::Image
         | Element::Strong => true,

@@ -14,6 +14,8 @@ pub enum Element {
     Break,
     /// Code: `code`.
     Code,
+    /// Text that is struck through: `del`.
+    Deleted,
     /// Emphasis: `em`.
     Emphasis,
     /// A heading of the first rank: `h1`.
@@ -56,6 +58,7 @@ impl Element {
             Element::BlockQuote => b"blockquote",
             Element::Break => b"br",
             Element::Code => b"code",
+            Element::Deleted => b"del",
             Element::Emphasis => b"em",
             Element::Heading1 => b"h1",
             Element::Heading2 => b"h2",
