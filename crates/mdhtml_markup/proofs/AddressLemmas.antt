@@ -1,20 +1,21 @@
 -- What is written of addresses.
-use Rattle.std.proofs.Common.{◌≡◌, ℕ, ◌+◌, List, [], ◌∷◌, ◌++◌, map, ap, sym, refl, ◌∙◌, arith, Option, None, Some, ⊎_elim}
+use Rattle.std.proofs.Common.{◌≡◌, ℕ, ◌+◌, ◌*◌, ◌≤◌, List, [], ◌∷◌, ◌++◌, map, ap, sym, refl, ◌∙◌, arith, Option, None, Some, ⊎_elim}
 use Rattle.std.specs.Char.{is_ascii_alphanumeric, is_ascii_lowercase, to_ascii_lowercase}
 use Rattle.std.specs.List.{flat_map, list_all, list_any}
 use Rattle.std.specs.Prelude.{zero, suc, ◌==◌, ◌||◌, ◌&&◌, not, nat_lt, Bool, true, false, bytes_eq, cond, codes, option_map, slice_index_or, ◌/◌, ◌%◌, is_some, length}
+use Rattle.std.proofs.lemmas.List.{length-append}
 use Rattle.std.proofs.lemmas.List.Folds.{list_all-append}
 use Rattle.std.specs.Int.{is_in_range}
 use Rattle.std.proofs.lemmas.Bool.{and_from, and_parts, false≢true, not-true, or_cases, or_parts, or_right}
 use Rattle.std.proofs.lemmas.Grind.{flat_map-append}
 use Rattle.std.proofs.lemmas.Bool.Decides.{Decides-eqb}
 use Rattle.std.proofs.lemmas.Slice.Eq.{bytes_eq-Decides}
-use Rattle.mdhtml_markup.specs.Addresses.{address, address_byte, hex_digit, quoted_byte, written_byte}
+use Rattle.mdhtml_markup.specs.Addresses.{address, address_byte, hex_digit, quoted_byte, written_address, written_byte}
 use Rattle.mdhtml_markup.specs.SafeHtml.{is_address_byte, is_allowed, is_known, is_mark, is_plain, is_safe_address, is_text, is_text_byte, scheme_of, schemes, undone, undone_from, entity_at}
 use Rattle.mdhtml_markup.proofs.Bools.{is-other}
 use Rattle.mdhtml_markup.specs.declared.addresses.Place.{Place}
 use Rattle.mdhtml_markup.specs.declared.addresses.Place.TheVariants.{Href, Src}
-use Rattle.mdhtml_markup.specs.Laws.{AddressesAreQuoted, AllowedAddressesAreSafe}
+use Rattle.mdhtml_markup.specs.Laws.{AddressesAreQuoted, AddressesAreShort, AllowedAddressesAreSafe}
 
 pub addresses-quoted : AddressesAreQuoted
 addresses-quoted [] = refl
@@ -262,3 +263,33 @@ other_written b p h =
     let no-one : has b ≡ false = ap (λ x. x || ((b == 38) || (b == 39))) p ∙ ap (λ x. x || (b == 39)) a ∙ q in
     let e : address_byte b ≡ 37 ∷ hex_digit (b / 16) ∷ hex_digit (b % 16) ∷ [] = ap (λ x. cond x (b ∷ []) (encoded (b == 0) b)) no-one ∙ ap (λ x. encoded x b) z in
     ap (flat_map quoted_byte) e ∙ ap (λ x. 37 ∷ (x ++ (quoted_byte (hex_digit (b % 16)) ++ []))) (quoted-hex (b / 16)) ∙ ap (λ x. 37 ∷ hex_digit (b / 16) ∷ (x ++ [])) (quoted-hex (b % 16))
+
+-- ---- how long
+
+quoted-short : (ampersand quote : Bool) (b : ℕ) → length (cond ampersand (codes "&amp;") (cond quote (codes "&#x27;") (b ∷ []))) ≤ 6
+quoted-short true quote b = omega arith
+quoted-short false true b = omega arith
+quoted-short false false b = omega arith
+
+written-short : (plain nul : Bool) (b : ℕ) → length (flat_map quoted_byte (cond plain (b ∷ []) (cond nul (codes "%EF%BF%BD") (37 ∷ hex_digit (b / 16) ∷ hex_digit (b % 16) ∷ [])))) ≤ 9
+written-short true nul b =
+    let short : length (quoted_byte b) ≤ 6 = quoted-short (b == 38) (b == 39) b in
+    let long = length-append (quoted_byte b) [] in
+    omega (arith, short, long)
+written-short false true b = let nine : length (flat_map quoted_byte (codes "%EF%BF%BD")) ≡ 9 = refl in omega (arith, nine)
+written-short false false b =
+    let high = hex_digit (b / 16) in
+    let low = hex_digit (b % 16) in
+    let all : flat_map quoted_byte (37 ∷ high ∷ low ∷ []) ≡ 37 ∷ high ∷ low ∷ [] =
+    ap (λ x. 37 ∷ (x ++ (quoted_byte low ++ []))) (quoted-hex (b / 16)) ∙ ap (λ x. 37 ∷ high ∷ (x ++ [])) (quoted-hex (b % 16))
+    in
+    let three = ap length all in
+    omega (arith, three)
+
+pub addresses-short : AddressesAreShort
+addresses-short [] = omega arith
+addresses-short (b ∷ bs) =
+    let here : length (written_byte b) ≤ 9 = written-short (is_address_byte b) (b == 0) b in
+    let more = addresses-short bs in
+    let long = length-append (written_byte b) (written_address bs) in
+    omega (arith, here, more, long)

@@ -25,6 +25,10 @@ EscapesAreShort = (t : List ℕ) → length (escaped t) ≤ 6 * length t
 abbrev pub AddressesAreQuoted : Type 0
 AddressesAreQuoted = (url : List ℕ) → written_address url ≡ flat_map quoted_byte (address url)
 
+-- what is written of an address is at most nine times as long
+abbrev pub AddressesAreShort : Type 0
+AddressesAreShort = (url : List ℕ) → length (written_address url) ≤ 9 * length url
+
 -- what is written of an address that is allowed is one that has no scheme, or one that is known, whatever the address is
 abbrev pub AllowedAddressesAreSafe : Type 0
 AllowedAddressesAreSafe = (at : Place) (url : List ℕ) → is_allowed at url ≡ true → is_safe_address at (written_address url) ≡ true

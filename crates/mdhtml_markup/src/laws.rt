@@ -1,6 +1,6 @@
 //! Laws of text, of addresses and of pieces of HTML. Each is a function that does nothing; its contract is the law.
 
-ghost use Rattle.mdhtml_markup.specs.Laws.{AddressesAreQuoted, AllowedAddressesAreSafe, EscapesAreShort, EscapesAreText, ExamplesAreTested, FlowIsSafe, PiecesAreWrittenInOrder, SafeHtmlIsTested, SafePiecesAreSafeHtml, TextIsKept};
+ghost use Rattle.mdhtml_markup.specs.Laws.{AddressesAreQuoted, AddressesAreShort, AllowedAddressesAreSafe, EscapesAreShort, EscapesAreText, ExamplesAreTested, FlowIsSafe, PiecesAreWrittenInOrder, SafeHtmlIsTested, SafePiecesAreSafeHtml, TextIsKept};
 
 /// What is written of a text is text, with no marks, whatever the text is, and at most six times as long.
 pub fn escapes_are_text()
@@ -8,9 +8,11 @@ pub fn escapes_are_text()
     ensures short { EscapesAreShort }
 {}
 
-/// What is written of an address that is allowed is an address whose scheme is known, or that has none; in quotes.
+/// What is written of an address that is allowed is an address whose scheme is known, or that has none; in quotes. Of any address, it is at most
+/// nine times as long.
 pub fn allowed_addresses_are_safe()
     ensures quoted { AddressesAreQuoted }
+    ensures short { AddressesAreShort }
     ensures safe { AllowedAddressesAreSafe }
 {}
 
