@@ -51,9 +51,13 @@ module _ (options : CompileOptions) (bytes : List â„•) (lookup : (label : List â
   inline-same inline.Break es said alt = refl
   inline-same inline.Emphasis es said alt = refl
   inline-same inline.Strong es said alt = refl
+  inline-same inline.Struck es said alt = refl
   inline-same inline.Code es said alt = refl
   inline-same inline.Html es said alt = refl
   inline-same inline.Autolink es said alt = refl
+  inline-same inline.Www es said alt = refl
+  inline-same inline.Email es said alt = refl
+  inline-same inline.Address es said alt = refl
   inline-same inline.Link es said alt = link-same options (parts_in_link bytes lookup es)
   inline-same inline.Image es said alt = image-same options alt (parts_in_link bytes lookup es)
   inline-same inline.Tail es said alt = refl

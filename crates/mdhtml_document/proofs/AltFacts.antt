@@ -10,11 +10,9 @@ use Rattle.mdhtml_document.specs.Html.{referred, references, size_of_target}
 use Rattle.mdhtml_document.specs.Names.{inline_of}
 use Rattle.mdhtml_document.specs.Spans.{Nothing, Span, Spans, events_of}
 use Rattle.mdhtml_document.specs.Values.{alt_by, alt_of, said}
-use Rattle.mdhtml_document.specs.Walks.{alt_from, is_left, is_passed, left, passed, references_from}
+use Rattle.mdhtml_document.specs.Walks.{alt_from, is_left, is_passed, left, passed, references_from, said_at}
 use Rattle.mdhtml_document.proofs.SpanFacts.{AreKinded, inside-of, said-of, span-append}
-use Rattle.mddocument_link_targets.specs.declared.strings.Reading.TheVariants.{Decoded}
 use Rattle.mddocument_link_targets.specs.Spans.{inside}
-use Rattle.mddocument_link_targets.specs.Strings.{given_at}
 use Rattle.mddocument_link_targets.specs.Targets.{target_in}
 
 module _ (bytes : List ℕ) where
@@ -29,22 +27,26 @@ module _ (bytes : List ℕ) where
   alt-parts inline.Break es own alt = sym (ap (λ x. x ++ alt) (append-nil own))
   alt-parts inline.Emphasis es own alt = sym (ap (λ x. x ++ alt) (append-nil own))
   alt-parts inline.Strong es own alt = sym (ap (λ x. x ++ alt) (append-nil own))
+  alt-parts inline.Struck es own alt = sym (ap (λ x. x ++ alt) (append-nil own))
   alt-parts inline.Code es own alt = sym (append-nil (alt_by bytes inline.Code es own []))
   alt-parts inline.Html es own alt = sym (append-nil (alt_by bytes inline.Html es own []))
   alt-parts inline.Autolink es own alt = sym (append-nil (alt_by bytes inline.Autolink es own []))
+  alt-parts inline.Www es own alt = sym (ap (λ x. x ++ alt) (append-nil own))
+  alt-parts inline.Email es own alt = sym (ap (λ x. x ++ alt) (append-nil own))
+  alt-parts inline.Address es own alt = sym (ap (λ x. x ++ alt) (append-nil own))
   alt-parts inline.Link es own alt = sym (ap (λ x. x ++ alt) (append-nil own))
   alt-parts inline.Image es own alt = sym (ap (λ x. x ++ alt) (append-nil own))
   alt-parts inline.Tail es own alt = refl
   alt-parts inline.Other es own alt = sym (ap (λ x. x ++ alt) (append-nil own))
 
   enter-alt : (e : Event) (es : List Event) → e.kind ≡ Enter
-      → alt_from bytes 0 (e ∷ es) ≡ alt_by bytes (inline_of e.name) (inside es) (given_at bytes Decoded e es) [] ++ alt_from bytes (passed (inline_of e.name) es) es
+      → alt_from bytes 0 (e ∷ es) ≡ alt_by bytes (inline_of e.name) (inside es) (said_at bytes e es) [] ++ alt_from bytes (passed (inline_of e.name) es) es
   enter-alt e es h =
-      ap (λ k. cond (is_enter k) (alt_by bytes (inline_of e.name) (inside es) (given_at bytes Decoded e es) [] ++ alt_from bytes (passed (inline_of e.name) es) es) (alt_from bytes 0 es)) h
+      ap (λ k. cond (is_enter k) (alt_by bytes (inline_of e.name) (inside es) (said_at bytes e es) [] ++ alt_from bytes (passed (inline_of e.name) es) es) (alt_from bytes 0 es)) h
 
   exit-alt : (e : Event) (es : List Event) → e.kind ≡ Exit → alt_from bytes 0 (e ∷ es) ≡ alt_from bytes 0 es
   exit-alt e es h =
-      ap (λ k. cond (is_enter k) (alt_by bytes (inline_of e.name) (inside es) (given_at bytes Decoded e es) [] ++ alt_from bytes (passed (inline_of e.name) es) es) (alt_from bytes 0 es)) h
+      ap (λ k. cond (is_enter k) (alt_by bytes (inline_of e.name) (inside es) (said_at bytes e es) [] ++ alt_from bytes (passed (inline_of e.name) es) es) (alt_from bytes 0 es)) h
 
   -- what is in a span is passed over, or is not
   inner-alt : (i : Inline) (s : Spans) (f : Event) (ys : List Event) → AreKinded s → f.kind ≡ Exit
@@ -65,7 +67,7 @@ module _ (bytes : List ℕ) where
       let own = alt_by bytes i (events_of s) (said bytes e f s) [] in
       let inner = cond (is_passed i) [] (alt_of bytes s) in
       ap (alt_from bytes 0) (span-append e f s behind zs) ∙ enter-alt e es h.0
-      ∙ ap (λ (x : List Event). alt_by bytes i x (given_at bytes Decoded e es) [] ++ alt_from bytes (passed i es) es) (inside-of s f rest h.2 h.1)
+      ∙ ap (λ (x : List Event). alt_by bytes i x (said_at bytes e es) [] ++ alt_from bytes (passed i es) es) (inside-of s f rest h.2 h.1)
       ∙ ap (λ (x : List ℕ). alt_by bytes i (events_of s) x [] ++ alt_from bytes (passed i es) es) (said-of bytes e f s rest h.0 h.1 h.2)
       ∙ ap (λ (x : List ℕ). own ++ x) (inner-alt i s f rest h.2 h.1 (alt-spans s h.2) ∙ ap (λ (x : List ℕ). inner ++ x) (alt-spans behind h.3 zs))
       ∙ sym (append_assoc own inner (alt_of bytes behind ++ alt_from bytes 0 zs)) ∙ ap (λ (x : List ℕ). x ++ (alt_of bytes behind ++ alt_from bytes 0 zs)) (sym (alt-parts i (events_of s) (said bytes e f s) (alt_of bytes s)))
@@ -76,9 +78,9 @@ module _ (bytes : List ℕ) where
 
   -- one event on, by what its span is
   pub entered-alt : (i : Inline) (n : ℕ) (e : Event) (es : List Event) (old new : List ℕ) → e.kind ≡ Enter → inline_of e.name ≡ i
-      → new ≡ old ++ alt_by bytes i (inside es) (given_at bytes Decoded e es) [] → n ≡ passed i es → new ++ alt_from bytes n es ≡ old ++ alt_from bytes 0 (e ∷ es)
+      → new ≡ old ++ alt_by bytes i (inside es) (said_at bytes e es) [] → n ≡ passed i es → new ++ alt_from bytes n es ≡ old ++ alt_from bytes 0 (e ∷ es)
   entered-alt i n e es old new enters is added few =
-      let own = λ (j : Inline). alt_by bytes j (inside es) (given_at bytes Decoded e es) [] in
+      let own = λ (j : Inline). alt_by bytes j (inside es) (said_at bytes e es) [] in
       ap (λ (x : List ℕ). x ++ alt_from bytes n es) added ∙ ap (λ m. (old ++ own i) ++ alt_from bytes m es) few ∙ append_assoc old (own i) (alt_from bytes (passed i es) es)
       ∙ ap (λ j. old ++ (own j ++ alt_from bytes (passed j es) es)) (sym is) ∙ ap (λ (x : List ℕ). old ++ x) (sym (enter-alt e es enters))
 
@@ -97,9 +99,13 @@ module _ (bytes : List ℕ) where
   other-alt inline.Break es own h = refl
   other-alt inline.Emphasis es own h = refl
   other-alt inline.Strong es own h = refl
+  other-alt inline.Struck es own h = refl
   other-alt inline.Code es own h = cc
   other-alt inline.Html es own h = cc
   other-alt inline.Autolink es own h = cc
+  other-alt inline.Www es own h = refl
+  other-alt inline.Email es own h = refl
+  other-alt inline.Address es own h = refl
   other-alt inline.Link es own h = refl
   other-alt inline.Image es own h = refl
   other-alt inline.Tail es own h = cc
@@ -111,18 +117,22 @@ module _ (bytes : List ℕ) where
   none-passed inline.Break a b c d e = refl
   none-passed inline.Emphasis a b c d e = refl
   none-passed inline.Strong a b c d e = refl
+  none-passed inline.Struck a b c d e = refl
   none-passed inline.Code a b c d e = absurd (b refl)
   none-passed inline.Html a b c d e = absurd (c refl)
   none-passed inline.Autolink a b c d e = absurd (d refl)
+  none-passed inline.Www a b c d e = refl
+  none-passed inline.Email a b c d e = refl
+  none-passed inline.Address a b c d e = refl
   none-passed inline.Link a b c d e = refl
   none-passed inline.Image a b c d e = refl
   none-passed inline.Tail a b c d e = absurd (e refl)
   none-passed inline.Other a b c d e = refl
 
   pub default-alt : (i : Inline) (e : Event) (es : List Event) (old new : List ℕ) → e.kind ≡ Enter → inline_of e.name ≡ i → is_passed i ≡ false
-      → new ≡ old ++ given_at bytes Decoded e es → new ++ alt_from bytes 0 es ≡ old ++ alt_from bytes 0 (e ∷ es)
+      → new ≡ old ++ said_at bytes e es → new ++ alt_from bytes 0 es ≡ old ++ alt_from bytes 0 (e ∷ es)
   default-alt i e es old new enters is passing added =
-      let own = given_at bytes Decoded e es in
+      let own = said_at bytes e es in
       entered-alt i 0 e es old new enters is (added ∙ ap (λ (x : List ℕ). old ++ x) (sym (append-nil own) ∙ sym (other-alt i (inside es) own passing)))
       (sym (ap (λ b. cond b (length (inside es)) 0) passing))
 
@@ -145,9 +155,13 @@ module _ (bytes : List ℕ) (size : (label : List ℕ) → ℕ) where
   parts-of-references inline.Break es inner = omega arith
   parts-of-references inline.Emphasis es inner = omega arith
   parts-of-references inline.Strong es inner = omega arith
+  parts-of-references inline.Struck es inner = omega arith
   parts-of-references inline.Code es inner = omega arith
   parts-of-references inline.Html es inner = omega arith
   parts-of-references inline.Autolink es inner = omega arith
+  parts-of-references inline.Www es inner = omega arith
+  parts-of-references inline.Email es inner = omega arith
+  parts-of-references inline.Address es inner = omega arith
   parts-of-references inline.Link es inner = omega arith
   parts-of-references inline.Image es inner = omega arith
   parts-of-references inline.Tail es inner = omega arith
@@ -202,9 +216,13 @@ module _ (bytes : List ℕ) (size : (label : List ℕ) → ℕ) where
   none-referred inline.Break es a b = (refl, refl)
   none-referred inline.Emphasis es a b = (refl, refl)
   none-referred inline.Strong es a b = (refl, refl)
+  none-referred inline.Struck es a b = (refl, refl)
   none-referred inline.Code es a b = (refl, refl)
   none-referred inline.Html es a b = (refl, refl)
   none-referred inline.Autolink es a b = (refl, refl)
+  none-referred inline.Www es a b = (refl, refl)
+  none-referred inline.Email es a b = (refl, refl)
+  none-referred inline.Address es a b = (refl, refl)
   none-referred inline.Link es a b = absurd (a refl)
   none-referred inline.Image es a b = absurd (b refl)
   none-referred inline.Tail es a b = (refl, refl)

@@ -22,13 +22,11 @@ use Rattle.mdhtml_document.specs.Frames.{AreListsOf, Open, closed_of, is_list, l
 use Rattle.mdhtml_document.specs.Written.{after}
 use Rattle.mdhtml_document.specs.Html.{Shape, block_shape, shape_by}
 use Rattle.mdhtml_document.specs.Names.{block_of, blocks_by_name, named}
-use Rattle.mdhtml_document.specs.Walks.{Entered, alt_from, shape_at, shape_in, walked, walked_in}
+use Rattle.mdhtml_document.specs.Walks.{Entered, alt_from, said_at, shape_at, shape_in, walked, walked_in}
 use Rattle.mdhtml_document.proofs.Walked.{enter-walked, exit-walked}
 use Rattle.mdhtml_document.proofs.Written.{after-append}
-use Rattle.mddocument_link_targets.specs.declared.strings.Reading.TheVariants.{Decoded}
 use Rattle.mddocument_link_targets.specs.declared.targets.Parts.{Parts}
 use Rattle.mddocument_link_targets.specs.Spans.{inside}
-use Rattle.mddocument_link_targets.specs.Strings.{given_at}
 
 -- ---- the list that is entered
 
@@ -145,12 +143,12 @@ pub enter-step : (w : Whole) (os next : List Open) (lists : List ListShape) (e :
     → after new (walked_in w next es) ≡ after old (walked_in w os (e ∷ es))
 enter-step w os next lists e es old new enters h entered =
     let lookup = lookup_of w in
-    let by = λ (list : Option ListShape). shape_by w.options.now w.bytes.now lookup w.tab (mode_of os) e.name (inside es) (loose_of list) (start_of list) (given_at w.bytes.now Decoded e es) (alt_from w.bytes.now 0 (inside es)) in
+    let by = λ (list : Option ListShape). shape_by w.options.now w.bytes.now lookup w.tab (mode_of os) e.name (inside es) (loose_of list) (start_of list) (said_at w.bytes.now e es) (alt_from w.bytes.now 0 (inside es)) in
     let here = shape_at w.options.now w.bytes.now lookup w.tab (mode_of os) e es in
     let listed : is_list e ≡ is_wanted list_names e.name = ap (λ k. is_enter k && is_wanted list_names e.name) enters in
     let same : by (list_at lists e) ≡ here =
     ap by (list-at w.bytes.now lists e es h ∙ ap (λ c. cond c (Some (shape_of w.bytes.now h.at es)) None) listed)
-    ∙ listed-by w.options.now w.bytes.now lookup w.tab (is_wanted list_names e.name) (mode_of os) e.name h.at es (inside es) (given_at w.bytes.now Decoded e es) (alt_from w.bytes.now 0 (inside es)) refl
+    ∙ listed-by w.options.now w.bytes.now lookup w.tab (is_wanted list_names e.name) (mode_of os) e.name h.at es (inside es) (said_at w.bytes.now e es) (alt_from w.bytes.now 0 (inside es)) refl
     in
     let go = λ (s : Shape). after (after old s.opened) (walked_in w (record { mode = s.inside; closed = s.closed } ∷ os) es) in
     ap (λ (out : List ℕ). after out (walked_in w next es)) entered.written

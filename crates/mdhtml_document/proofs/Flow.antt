@@ -15,7 +15,7 @@ use Rattle.mdhtml_document.specs.declared.names.Inline.{Inline}
 use Rattle.mdhtml_document.specs.declared.names.Inline.TheVariants as inline
 use Rattle.mdhtml_document.specs.declared.shapes.Mode.{Mode}
 use Rattle.mdhtml_document.specs.declared.shapes.Mode.TheVariants as mode
-use Rattle.mdhtml_document.specs.Html.{Shape, address_at, alone, autolink, block_shape, blocks, code, container, heading, heading_shape, image_of, inline_shape, item_shape, items, language, length_of_first, line, link_to, ordered, parts_in_link, pieces, raw, setext_rank, shape, shape_by, through, titled, told, within_line}
+use Rattle.mdhtml_document.specs.Html.{Shape, address_at, address_link, alone, autolink, block_shape, blocks, code, container, heading, heading_shape, image_of, inline_shape, item_shape, items, language, length_of_first, line, link_to, literal, ordered, parts_in_link, pieces, raw, setext_rank, shape, shape_by, through, titled, told, within_line}
 use Rattle.mdhtml_document.specs.HtmlLaws.{AreSafeOptions, HtmlIsFlow, are_apart, has_links, has_links_by, is_linked}
 use Rattle.mdhtml_document.specs.Names.{block_of, inline_of}
 use Rattle.mdhtml_document.specs.Spans.{Nothing, Span, Spans, events_of, spans_of}
@@ -24,7 +24,7 @@ use Rattle.mdhtml_document.proofs.Safe.{email-is, href-is, language-is, moved, s
 use Rattle.mdhtml_markup.specs.declared.addresses.Place.TheVariants as place
 use Rattle.mdhtml_markup.specs.declared.elements.AttributeName.{AttributeName}
 use Rattle.mdhtml_markup.specs.declared.elements.Element.{Element}
-use Rattle.mdhtml_markup.specs.declared.elements.Element.TheVariants.{Anchor, BlockQuote, Break, Code, Emphasis, Heading1, Heading2, Heading3, Heading4, Heading5, Heading6, Image, ListItem, OrderedList, Paragraph, Preformatted, Strong, ThematicBreak, UnorderedList}
+use Rattle.mdhtml_markup.specs.declared.elements.Element.TheVariants.{Anchor, BlockQuote, Break, Code, Deleted, Emphasis, Heading1, Heading2, Heading3, Heading4, Heading5, Heading6, Image, ListItem, OrderedList, Paragraph, Preformatted, Strong, ThematicBreak, UnorderedList}
 use Rattle.mdhtml_markup.specs.Escapes.{escaped}
 use Rattle.mdhtml_markup.specs.Flow as flow
 use Rattle.mdhtml_markup.specs.Flow.{AreGiven, BeforeCode, BehindCode, Blocks, IsContent, Items, Model, Phrases, Words, after, inside, may_be_missing, may_end, may_say, may_stand}
@@ -356,15 +356,19 @@ module _ (options : CompileOptions) (bytes : List ℕ) (lookup : (label : List �
       (void-front m Image (Src (address_at options place.Src parts.destination) ∷ (Alt alt ∷ titled parts.title)) t refl ((phrase-by Image refl (λ l. refl)).stands m t)
       (image-given (address_at options place.Src parts.destination) alt parts.title (src-is options bytes lookup tab safe parts.destination)))
 
-  autolink-around : (m : Model) (es : List Event) (linked : Bool) → IsText m → (in_link m ≡ true → true ≡ false) → Around m (autolink options bytes es) linked
-  autolink-around m es linked t h =
-      let address = autolink_address bytes es in
-      let url = cond (is_email es) (codes "mailto:" ++ address) (address_at options place.Href address) in
+  address-around : (m : Model) (url text : List ℕ) (linked : Bool) → IsText m → (in_link m ≡ true → true ≡ false) → is_allowed place.Href url ≡ true → Around m (address_link url text) linked
+  address-around m url text linked t h allowed =
       alone-around m _ linked
       (record {
-        front = phrase-front m Anchor (Href url ∷ []) (Text address ∷ []) t refl (link-stands m t h) (link-given url None (email-is options bytes lookup tab safe (is_email es) address))
-            (text-of (Phrases true) address [] (λ b. refl) (ended (Phrases true) refl));
+        front = phrase-front m Anchor (Href url ∷ []) (Text text ∷ []) t refl (link-stands m t h) (link-given url None allowed)
+            (text-of (Phrases true) text [] (λ b. refl) (ended (Phrases true) refl));
       })
+
+  autolink-around : (m : Model) (es : List Event) (linked : Bool) → IsText m → (in_link m ≡ true → true ≡ false) → Around m (autolink options bytes es) linked
+  autolink-around m es linked t h = let address = autolink_address bytes es in address-around m _ address linked t h (email-is options bytes lookup tab safe (is_email es) address)
+
+  literal-around : (m : Model) (scheme text : List ℕ) (linked : Bool) → IsText m → (in_link m ≡ true → true ≡ false) → Around m (literal options scheme text) linked
+  literal-around m scheme text linked t h = address-around m _ text linked t h (href-is options bytes lookup tab safe (scheme ++ text))
 
   inline-around : (m : Model) (i : Inline) (es : List Event) (said alt : List ℕ) (linked : Bool) → IsText m → (in_link m ≡ true → has_links_by i linked ≡ false)
       → is_linked i linked ≡ false → Around m (inline_shape options bytes lookup tab i es said alt) linked
@@ -374,9 +378,14 @@ module _ (options : CompileOptions) (bytes : List ℕ) (lookup : (label : List �
       within-around m Emphasis [] linked (in_link m) t refl ((phrase-by Emphasis refl (λ l. refl)).stands m t) flow.AreGiven.none (phrases-hold m t) h
   inline-around m inline.Strong es said alt linked t h a =
       within-around m Strong [] linked (in_link m) t refl ((phrase-by Strong refl (λ l. refl)).stands m t) flow.AreGiven.none (phrases-hold m t) h
+  inline-around m inline.Struck es said alt linked t h a =
+      within-around m Deleted [] linked (in_link m) t refl ((phrase-by Deleted refl (λ l. refl)).stands m t) flow.AreGiven.none (phrases-hold m t) h
   inline-around m inline.Code es said alt linked t h a = alone-around m _ linked (code-flows m (code_text bytes es) t)
   inline-around m inline.Html es said alt linked t h a = alone-around m _ linked (raw-flows m (html_text bytes es) t)
   inline-around m inline.Autolink es said alt linked t h a = autolink-around m es linked t h
+  inline-around m inline.Www es said alt linked t h a = literal-around m (codes "http://") said linked t h
+  inline-around m inline.Email es said alt linked t h a = literal-around m (codes "mailto:") said linked t h
+  inline-around m inline.Address es said alt linked t h a = literal-around m [] said linked t h
   inline-around m inline.Link es said alt linked t h a = link-around m (parts_in_link bytes lookup es) linked t h a
   inline-around m inline.Image es said alt linked t h a = image-around m alt (parts_in_link bytes lookup es) linked t
   inline-around m inline.Tail es said alt linked t h a = nothing-around m linked

@@ -15,7 +15,7 @@ use Rattle.mdhtml_document.specs.declared.names.Inline.{Inline}
 use Rattle.mdhtml_document.specs.declared.names.Inline.TheVariants as inline
 use Rattle.mdhtml_document.specs.declared.shapes.Mode.{Mode}
 use Rattle.mdhtml_document.specs.declared.shapes.Mode.TheVariants as mode
-use Rattle.mdhtml_document.specs.Html.{Shape, address_at, autolink, block_shape, blocks, code, container, heading, heading_shape, image_of, inline_shape, item_shape, items, language, length_of_first, line, link_to, ordered, parts_in_link, pieces, raw, setext_rank, shape, shape_by, through, titled, told, alone, within_line}
+use Rattle.mdhtml_document.specs.Html.{Shape, address_at, address_link, autolink, block_shape, blocks, code, container, heading, heading_shape, image_of, inline_shape, item_shape, items, language, length_of_first, line, link_to, literal, ordered, parts_in_link, pieces, raw, setext_rank, shape, shape_by, through, titled, told, alone, within_line}
 use Rattle.mdhtml_document.specs.HtmlLaws.{AreSafeOptions, HtmlIsSafe, HtmlKeepsText}
 use Rattle.mdhtml_document.specs.Names.{block_of, inline_of}
 use Rattle.mdhtml_document.specs.Spans.{Nothing, Span, Spans, events_of, spans_of}
@@ -24,7 +24,7 @@ use Rattle.mdhtml_markup.specs.Addresses.{allowed}
 use Rattle.mdhtml_markup.specs.declared.addresses.Place.{Place}
 use Rattle.mdhtml_markup.specs.declared.addresses.Place.TheVariants as place
 use Rattle.mdhtml_markup.specs.declared.elements.Element.{Element}
-use Rattle.mdhtml_markup.specs.declared.elements.Element.TheVariants.{Anchor, BlockQuote, Break, Code, Emphasis, Image, ListItem, OrderedList, Paragraph, Preformatted, Strong, ThematicBreak, UnorderedList}
+use Rattle.mdhtml_markup.specs.declared.elements.Element.TheVariants.{Anchor, BlockQuote, Break, Code, Deleted, Emphasis, Image, ListItem, OrderedList, Paragraph, Preformatted, Strong, ThematicBreak, UnorderedList}
 use Rattle.mdhtml_markup.specs.Pieces.{Alt, Attribute, Close, Feed, Fresh, Href, Kept, Language, Open, Piece, Src, Start, Text, Title, Void}
 use Rattle.mdhtml_markup.specs.SafeHtml.{IsSafeHtml, holds_blocks, holds_items, is_allowed, is_void, stands_in}
 use Rattle.mdhtml_markup.specs.SafePieces.{AreAllowed, AreSafe, IsTag}
@@ -200,12 +200,14 @@ module _ (options : CompileOptions) (bytes : List ℕ) (lookup : (label : List �
   email-is true a = refl
   email-is false a = href-is a
 
+  address-keeps : (m : Mode) (url text : List ℕ) → is_allowed place.Href url ≡ true → KeepsShape m (address_link url text)
+  address-keeps m url text h = alone-keeps m _ (record { keep = λ tags k s r. (record { kind = refl; stands = refl; allowed = (h, tt) }, (refl, r)) })
+
   autolink-keeps : (m : Mode) (es : List Event) → KeepsShape m (autolink options bytes es)
-  autolink-keeps m es =
-      alone-keeps m _
-      (record {
-        keep = λ tags k s h. (record { kind = refl; stands = refl; allowed = (email-is (is_email es) (autolink_address bytes es), tt) }, (refl, h));
-      })
+  autolink-keeps m es = let address = autolink_address bytes es in address-keeps m _ address (email-is (is_email es) address)
+
+  literal-keeps : (m : Mode) (scheme text : List ℕ) → KeepsShape m (literal options scheme text)
+  literal-keeps m scheme text = address-keeps m _ text (href-is (scheme ++ text))
 
   block-keeps : (m : Mode) (tight : Bool) (b : Block) (es : List Event) (loose : Bool) (start : Option ℕ) → ((tags : List Element) → Stands m tags → holds_blocks tags ≡ true)
       → KeepsShape m (block_shape options bytes lookup tab tight b es loose start)
@@ -269,9 +271,13 @@ module _ (options : CompileOptions) (bytes : List ℕ) (lookup : (label : List �
   inline-keeps m inline.Break es said alt = alone-keeps m _ (record { keep = λ tags k s h. (record { kind = refl; stands = refl; allowed = tt }, h) })
   inline-keeps m inline.Emphasis es said alt = within-keeps m Emphasis [] (record { kind = refl; stands = λ tags. refl }) tt
   inline-keeps m inline.Strong es said alt = within-keeps m Strong [] (record { kind = refl; stands = λ tags. refl }) tt
+  inline-keeps m inline.Struck es said alt = within-keeps m Deleted [] (record { kind = refl; stands = λ tags. refl }) tt
   inline-keeps m inline.Code es said alt = alone-keeps m _ (record { keep = λ tags k s h. (record { kind = refl; stands = refl; allowed = tt }, (refl, h)) })
   inline-keeps m inline.Html es said alt = alone-keeps m _ (raw-safe m (html_text bytes es))
   inline-keeps m inline.Autolink es said alt = autolink-keeps m es
+  inline-keeps m inline.Www es said alt = literal-keeps m (codes "http://") said
+  inline-keeps m inline.Email es said alt = literal-keeps m (codes "mailto:") said
+  inline-keeps m inline.Address es said alt = literal-keeps m [] said
   inline-keeps m inline.Link es said alt = link-keeps m (parts_in_link bytes lookup es)
   inline-keeps m inline.Image es said alt = image-keeps m alt (parts_in_link bytes lookup es)
   inline-keeps m inline.Tail es said alt = nothing-keeps m

@@ -7,10 +7,11 @@ use Rattle.markdown_base.specs.declared.event.Kind.{Kind}
 use Rattle.markdown_base.specs.declared.event.Kind.TheVariants.{Enter, Exit}
 use Rattle.markdown_base.specs.Events.{is_enter}
 use Rattle.mdhtml_document.specs.Spans.{Nothing, Opened, Outer, Span, Spans, entered, events_of, opened, opened_by}
-use Rattle.mdhtml_document.specs.Values.{said}
-use Rattle.mddocument_link_targets.specs.declared.strings.Reading.TheVariants.{Decoded}
+use Rattle.mdhtml_document.specs.Names.{inline_of}
+use Rattle.mdhtml_document.specs.Values.{reading_of, said}
+use Rattle.mdhtml_document.specs.Walks.{said_at}
 use Rattle.mddocument_link_targets.specs.Spans.{inside, size_by, size_from}
-use Rattle.mddocument_link_targets.specs.Strings.{given, given_at}
+use Rattle.mddocument_link_targets.specs.Strings.{given}
 
 -- each span begins with an enter and ends with an exit
 abbrev pub AreKinded : Spans → Type 0
@@ -81,6 +82,6 @@ none-by : (k l : Kind) (t : List ℕ) → k ≡ Enter → l ≡ Enter → cond (
 none-by k l t h e = ap (λ x. cond (is_enter x && not (is_enter l)) t []) h ∙ ap (λ x. cond (not (is_enter x)) t []) e
 
 pub said-of : (bytes : List ℕ) (e f : Event) (s : Spans) (ys : List Event) → e.kind ≡ Enter → f.kind ≡ Exit → AreKinded s
-    → given_at bytes Decoded e (events_of s ++ f ∷ ys) ≡ said bytes e f s
-said-of bytes e f Nothing ys h k a = given-by e.kind f.kind (given bytes Decoded e.name e.point.index f.point.index) h k
-said-of bytes e f (Span d g s behind) ys h k a = none-by e.kind d.kind (given bytes Decoded e.name e.point.index d.point.index) h a.0
+    → said_at bytes e (events_of s ++ f ∷ ys) ≡ said bytes e f s
+said-of bytes e f Nothing ys h k a = given-by e.kind f.kind (given bytes (reading_of (inline_of e.name)) e.name e.point.index f.point.index) h k
+said-of bytes e f (Span d g s behind) ys h k a = none-by e.kind d.kind (given bytes (reading_of (inline_of e.name)) e.name e.point.index d.point.index) h a.0

@@ -12,16 +12,14 @@ use Rattle.mdhtml_document.specs.Frames.{Open, closed_of, mode_of}
 use Rattle.mdhtml_document.specs.Html.{Shape, pieces, shape, shape_by}
 use Rattle.mdhtml_document.specs.Spans.{Nothing, Span, Spans, events_of, spans_of}
 use Rattle.mdhtml_document.specs.Values.{alt_of, said}
-use Rattle.mdhtml_document.specs.Walks.{alt_from, entered, shape_at, walked}
+use Rattle.mdhtml_document.specs.Walks.{alt_from, entered, said_at, shape_at, walked}
 use Rattle.mdhtml_document.proofs.AltFacts.{alt-of}
 use Rattle.mdhtml_document.proofs.Both.{keep-events}
 use Rattle.mdhtml_document.proofs.ListFacts.{loose-of, start-of}
 use Rattle.mdhtml_document.proofs.SpanFacts.{AreKinded, inside-of, opened-kinded, said-of, span-append}
 use Rattle.mdhtml_markup.specs.Pieces.{Piece}
-use Rattle.mddocument_link_targets.specs.declared.strings.Reading.TheVariants.{Decoded}
 use Rattle.mddocument_link_targets.specs.declared.targets.Parts.{Parts}
 use Rattle.mddocument_link_targets.specs.Spans.{inside}
-use Rattle.mddocument_link_targets.specs.Strings.{given_at}
 
 -- ---- the walk
 
@@ -32,7 +30,7 @@ module _ (options : CompileOptions) (bytes : List ℕ) (lookup : (label : List �
   shape-of m e f s ys enters exits h =
       let es = events_of s ++ f ∷ ys in
       let by = shape_by options bytes lookup tab m e.name in
-      let given = given_at bytes Decoded e es in
+      let given = said_at bytes e es in
       ap (λ (x : List Event). by x (is_loose es) (list_start bytes es) given (alt_from bytes 0 x)) (inside-of s f ys h exits)
       ∙ ap (λ b. by (events_of s) b (list_start bytes es) given (alt_from bytes 0 (events_of s))) (loose-of s f ys h exits)
       ∙ ap (λ o. by (events_of s) (is_loose (events_of s)) o given (alt_from bytes 0 (events_of s))) (start-of bytes s f ys h exits)

@@ -21,7 +21,7 @@ use Rattle.mdhtml_markup.specs.Addresses.{allowed}
 use Rattle.mdhtml_markup.specs.declared.addresses.Place.{Place}
 use Rattle.mdhtml_markup.specs.declared.addresses.Place.TheVariants as place
 use Rattle.mdhtml_markup.specs.declared.elements.Element.{Element}
-use Rattle.mdhtml_markup.specs.declared.elements.Element.TheVariants.{Anchor, BlockQuote, Break, Code, Emphasis, Heading1, Heading2, Heading3, Heading4, Heading5, Heading6, Image, ListItem, OrderedList, Paragraph, Preformatted, Strong, ThematicBreak, UnorderedList}
+use Rattle.mdhtml_markup.specs.declared.elements.Element.TheVariants.{Anchor, BlockQuote, Break, Code, Deleted, Emphasis, Heading1, Heading2, Heading3, Heading4, Heading5, Heading6, Image, ListItem, OrderedList, Paragraph, Preformatted, Strong, ThematicBreak, UnorderedList}
 use Rattle.mdhtml_markup.specs.Pieces.{Alt, Attribute, Close, Feed, Fresh, Href, Kept, Language, Open, Piece, Src, Start, Text, Title, Void, html}
 use Rattle.mddocument_link_targets.specs.declared.targets.Parts.{Parts}
 use Rattle.mddocument_link_targets.specs.declared.targets.Target.{Target}
@@ -130,11 +130,19 @@ abbrev pub image_of : CompileOptions → (alt : List ℕ) → Option Parts → S
 image_of options alt None = alone (Text alt ∷ [])
 image_of options alt (Some parts) = alone (Void Image (Src (address_at options place.Src parts.destination) ∷ (Alt alt ∷ titled parts.title)) ∷ [])
 
+-- an address as a link, by what is written of it
+abbrev pub address_link : (url text : List ℕ) → Shape
+address_link url text = alone (Open Anchor (Href url ∷ []) ∷ Text text ∷ Close Anchor ∷ [])
+
 abbrev pub autolink : CompileOptions → (bytes : List ℕ) → List Event → Shape
 autolink options bytes es =
     let address = autolink_address bytes es in
     let url = cond (is_email es) (codes "mailto:" ++ address) (address_at options place.Href address) in
-    alone (Open Anchor (Href url ∷ []) ∷ Text address ∷ Close Anchor ∷ [])
+    address_link url address
+
+-- A literal: a link to its text, with a scheme in front if it has none (GFM 0.29, 6.9: "The scheme http will be inserted automatically")
+abbrev pub literal : CompileOptions → (scheme text : List ℕ) → Shape
+literal options scheme text = address_link (address_at options place.Href (scheme ++ text)) text
 
 -- ---- spans
 
@@ -173,9 +181,13 @@ module _ (options : CompileOptions) (bytes : List ℕ) (lookup : (label : List �
   inline_shape inline.Break es said alt = alone (Void Break [] ∷ [])
   inline_shape inline.Emphasis es said alt = within_line Emphasis []
   inline_shape inline.Strong es said alt = within_line Strong []
+  inline_shape inline.Struck es said alt = within_line Deleted []
   inline_shape inline.Code es said alt = alone (Open Code [] ∷ Text (code_text bytes es) ∷ Close Code ∷ [])
   inline_shape inline.Html es said alt = alone (raw options (html_text bytes es) ∷ [])
   inline_shape inline.Autolink es said alt = autolink options bytes es
+  inline_shape inline.Www es said alt = literal options (codes "http://") said
+  inline_shape inline.Email es said alt = literal options (codes "mailto:") said
+  inline_shape inline.Address es said alt = literal options [] said
   inline_shape inline.Link es said alt = link_to options (parts_in_link bytes lookup es)
   inline_shape inline.Image es said alt = image_of options alt (parts_in_link bytes lookup es)
   inline_shape inline.Tail es said alt = alone []

@@ -20,7 +20,8 @@ pub record HtmlExample : Type 0 where
 abbrev pub html_of : HtmlExample → HtmlExample
 html_of e = record e { html = html_of_events default_compile_options e.document 4 e.events }
 
--- a heading; a list with HTML, which is shown, and a quote; an address that is not allowed, with a title, and an image; fenced code
+-- A heading; a list with HTML, which is shown, and a quote; an address that is not allowed, with a title, and an image; fenced code. And of GFM: text
+-- that is struck through, and literals; and an image that such text describes
 abbrev pub html_examples : List HtmlExample
 html_examples =
     record {
@@ -220,5 +221,97 @@ html_examples =
           ∷ event Exit name.CodeFenced 3 4 13
           ∷ [];
       html = codes "<pre><code class=\"language-r\"> a&lt;\n</code></pre>\n";
+    } ∷
+    record {
+      document = codes "~~a~~ www.b.c?d&e f@g.h ftp://i.j https://k.l mailto:m@n.o xmpp:p@q.r";
+      events =
+          event Enter name.Paragraph 1 1 0
+          ∷ event Enter name.GfmStrikethrough 1 1 0
+          ∷ event Enter name.GfmStrikethroughSequence 1 1 0
+          ∷ event Exit name.GfmStrikethroughSequence 1 3 2
+          ∷ event Enter name.GfmStrikethroughText 1 3 2
+          ∷ event Enter name.Data 1 3 2
+          ∷ event Exit name.Data 1 4 3
+          ∷ event Exit name.GfmStrikethroughText 1 4 3
+          ∷ event Enter name.GfmStrikethroughSequence 1 4 3
+          ∷ event Exit name.GfmStrikethroughSequence 1 6 5
+          ∷ event Exit name.GfmStrikethrough 1 6 5
+          ∷ event Enter name.Data 1 6 5
+          ∷ event Exit name.Data 1 7 6
+          ∷ event Enter name.GfmAutolinkLiteralWww 1 7 6
+          ∷ event Exit name.GfmAutolinkLiteralWww 1 18 17
+          ∷ event Enter name.Data 1 18 17
+          ∷ event Exit name.Data 1 19 18
+          ∷ event Enter name.GfmAutolinkLiteralEmail 1 19 18
+          ∷ event Exit name.GfmAutolinkLiteralEmail 1 24 23
+          ∷ event Enter name.Data 1 24 23
+          ∷ event Exit name.Data 1 25 24
+          ∷ event Enter name.GfmAutolinkLiteralProtocol 1 25 24
+          ∷ event Exit name.GfmAutolinkLiteralProtocol 1 34 33
+          ∷ event Enter name.Data 1 34 33
+          ∷ event Exit name.Data 1 35 34
+          ∷ event Enter name.GfmAutolinkLiteralProtocol 1 35 34
+          ∷ event Exit name.GfmAutolinkLiteralProtocol 1 46 45
+          ∷ event Enter name.Data 1 46 45
+          ∷ event Exit name.Data 1 47 46
+          ∷ event Enter name.GfmAutolinkLiteralMailto 1 47 46
+          ∷ event Exit name.GfmAutolinkLiteralMailto 1 59 58
+          ∷ event Enter name.Data 1 59 58
+          ∷ event Exit name.Data 1 60 59
+          ∷ event Enter name.GfmAutolinkLiteralXmpp 1 60 59
+          ∷ event Exit name.GfmAutolinkLiteralXmpp 1 70 69
+          ∷ event Exit name.Paragraph 1 70 69
+          ∷ [];
+      html = codes "<p><del>a</del> <a href=\"http://www.b.c?d&amp;e\">www.b.c?d&amp;e</a> <a href=\"mailto:f@g.h\">f@g.h</a> <a href=\"\">ftp://i.j</a> <a href=\"https://k.l\">https://k.l</a> <a href=\"mailto:m@n.o\">mailto:m@n.o</a> <a href=\"xmpp:p@q.r\">xmpp:p@q.r</a></p>\n";
+    } ∷
+    record {
+      document = codes "![a ~b~](c)";
+      events =
+          event Enter name.Paragraph 1 1 0
+          ∷ event Enter name.Image 1 1 0
+          ∷ event Enter name.Label 1 1 0
+          ∷ event Enter name.LabelImage 1 1 0
+          ∷ event Enter name.LabelImageMarker 1 1 0
+          ∷ event Exit name.LabelImageMarker 1 2 1
+          ∷ event Enter name.LabelMarker 1 2 1
+          ∷ event Exit name.LabelMarker 1 3 2
+          ∷ event Exit name.LabelImage 1 3 2
+          ∷ event Enter name.LabelText 1 3 2
+          ∷ event Enter name.Data 1 3 2
+          ∷ event Exit name.Data 1 5 4
+          ∷ event Enter name.GfmStrikethrough 1 5 4
+          ∷ event Enter name.GfmStrikethroughSequence 1 5 4
+          ∷ event Exit name.GfmStrikethroughSequence 1 6 5
+          ∷ event Enter name.GfmStrikethroughText 1 6 5
+          ∷ event Enter name.Data 1 6 5
+          ∷ event Exit name.Data 1 7 6
+          ∷ event Exit name.GfmStrikethroughText 1 7 6
+          ∷ event Enter name.GfmStrikethroughSequence 1 7 6
+          ∷ event Exit name.GfmStrikethroughSequence 1 8 7
+          ∷ event Exit name.GfmStrikethrough 1 8 7
+          ∷ event Exit name.LabelText 1 8 7
+          ∷ event Enter name.LabelEnd 1 8 7
+          ∷ event Enter name.LabelMarker 1 8 7
+          ∷ event Exit name.LabelMarker 1 9 8
+          ∷ event Exit name.LabelEnd 1 9 8
+          ∷ event Exit name.Label 1 9 8
+          ∷ event Enter name.Resource 1 9 8
+          ∷ event Enter name.ResourceMarker 1 9 8
+          ∷ event Exit name.ResourceMarker 1 10 9
+          ∷ event Enter name.ResourceDestination 1 10 9
+          ∷ event Enter name.ResourceDestinationRaw 1 10 9
+          ∷ event Enter name.ResourceDestinationString 1 10 9
+          ∷ event Enter name.Data 1 10 9
+          ∷ event Exit name.Data 1 11 10
+          ∷ event Exit name.ResourceDestinationString 1 11 10
+          ∷ event Exit name.ResourceDestinationRaw 1 11 10
+          ∷ event Exit name.ResourceDestination 1 11 10
+          ∷ event Enter name.ResourceMarker 1 11 10
+          ∷ event Exit name.ResourceMarker 1 12 11
+          ∷ event Exit name.Resource 1 12 11
+          ∷ event Exit name.Image 1 12 11
+          ∷ event Exit name.Paragraph 1 12 11
+          ∷ [];
+      html = codes "<p><img src=\"c\" alt=\"a b\" /></p>\n";
     } ∷
     []

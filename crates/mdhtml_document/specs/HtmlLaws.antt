@@ -33,10 +33,14 @@ HtmlKeepsText =
     (options : CompileOptions) (bytes : List ℕ) (lookup : (label : List ℕ) → Option Parts) (tab : ℕ) (events : List Event) → AreSafeOptions options
     → text_of (html_by options bytes lookup tab events) ≡ said_from true (pieces options bytes lookup tab mode.Flow (spans_of events))
 
--- There is a link in a span of inline text, by what that is and whether there is one among the spans in it. An image's links are told as text
+-- There is a link in a span of inline text, by what that is and whether there is one among the spans in it. Autolinks and literals are links. An image's
+-- links are told as text
 abbrev pub has_links_by : Inline → (inner : Bool) → Bool
 has_links_by inline.Link inner = true
 has_links_by inline.Autolink inner = true
+has_links_by inline.Www inner = true
+has_links_by inline.Email inner = true
+has_links_by inline.Address inner = true
 has_links_by inline.Image inner = false
 has_links_by _ inner = inner
 

@@ -1,5 +1,5 @@
--- What spans say that are written at once: code (CommonMark 0.31, 4.4, 4.5, 6.1), raw HTML (4.6, 6.6), autolinks (6.5), and what images are described
--- by (6.4). By the events in the span, or the spans in it.
+-- What spans say that are written at once: code (CommonMark 0.31, 4.4, 4.5, 6.1), raw HTML (4.6, 6.6), autolinks (6.5), literals (GFM 0.29, 6.9), and
+-- what images are described by (6.4). By the events in the span, or the spans in it.
 use Rattle.std.specs.List.{list_all, list_any, prefix_len, repeat, slice_range}
 use Rattle.std.specs.Prelude.{ℕ, ◌+◌, ◌-◌, ◌%◌, ◌==◌, ◌&&◌, ◌||◌, not, nat_lt, Bool, true, false, cond, List, [], ◌∷◌, ◌++◌, drop, length, slice_index}
 use Rattle.markdown_base.specs.declared.event.Event.{Event}
@@ -7,7 +7,8 @@ use Rattle.markdown_base.specs.declared.event.Name.{Name}
 use Rattle.markdown_base.specs.declared.event.Name.TheVariants as name
 use Rattle.markdown_base.specs.declared.event.Point.{Point}
 use Rattle.markdown_base.specs.Events.{is_enter}
-use Rattle.mddocument_link_targets.specs.declared.strings.Reading.TheVariants.{Decoded}
+use Rattle.mddocument_link_targets.specs.declared.strings.Reading.{Reading}
+use Rattle.mddocument_link_targets.specs.declared.strings.Reading.TheVariants.{AsWritten, Decoded}
 use Rattle.mddocument_link_targets.specs.Spans.{enters}
 use Rattle.mddocument_link_targets.specs.Strings.{given}
 use Rattle.mdhtml_document.specs.declared.names.Inline.{Inline}
@@ -49,6 +50,13 @@ is_address e = enters name.AutolinkEmail e || enters name.AutolinkProtocol e
 abbrev pub is_email : List Event → Bool
 is_email es = list_any (enters name.AutolinkEmail) es
 
+-- how an innermost span of inline text is read: a literal is its bytes
+abbrev pub reading_of : Inline → Reading
+reading_of inline.Www = AsWritten
+reading_of inline.Email = AsWritten
+reading_of inline.Address = AsWritten
+reading_of _ = Decoded
+
 -- a title, without the blanks that further lines begin with
 abbrev pub title_from : (start : Bool) → List ℕ → List ℕ
 title_from start [] = []
@@ -81,7 +89,7 @@ module _ (bytes : List ℕ) where
 
   -- what an innermost span of inline text says: nothing, if other spans are in it
   abbrev pub said : (enter exit : Event) → Spans → List ℕ
-  said e f Nothing = given bytes Decoded e.name e.point.index f.point.index
+  said e f Nothing = given bytes (reading_of (inline_of e.name)) e.name e.point.index f.point.index
   said e f (Span d g inside behind) = []
 
   -- What is said of a span within an image's description, by what it is, the events in it, what it says and what is said of the spans in it

@@ -13,12 +13,15 @@ use Rattle.mdhtml_document.specs.Frames.{Open, closed_of, lookup_of, loose_of, m
 use Rattle.mdhtml_document.specs.Written.{after}
 use Rattle.mdhtml_document.specs.Html.{Shape, referred, shape_by}
 use Rattle.mdhtml_document.specs.Names.{inline_of}
-use Rattle.mdhtml_document.specs.Values.{alt_by}
+use Rattle.mdhtml_document.specs.Values.{alt_by, reading_of}
 use Rattle.mdhtml_markup.specs.Pieces.{Piece}
-use Rattle.mddocument_link_targets.specs.declared.strings.Reading.TheVariants.{Decoded}
 use Rattle.mddocument_link_targets.specs.declared.targets.Parts.{Parts}
 use Rattle.mddocument_link_targets.specs.Spans.{inside}
 use Rattle.mddocument_link_targets.specs.Strings.{given_at}
+
+-- what the span of inline text that an event enters says, if it is an innermost one, by the events behind that
+abbrev pub said_at : (bytes : List ℕ) → Event → (behind : List Event) → List ℕ
+said_at bytes e es = given_at bytes (reading_of (inline_of e.name)) e es
 
 -- ---- descriptions of images
 
@@ -38,7 +41,7 @@ passed i es = cond (is_passed i) (length (inside es)) 0
 abbrev pub alt_from : (bytes : List ℕ) → (skip : ℕ) → List Event → List ℕ
 alt_from bytes skip [] = []
 alt_from bytes zero (e ∷ es) =
-    cond (is_enter e.kind) (alt_by bytes (inline_of e.name) (inside es) (given_at bytes Decoded e es) [] ++ alt_from bytes (passed (inline_of e.name) es) es) (alt_from bytes 0 es)
+    cond (is_enter e.kind) (alt_by bytes (inline_of e.name) (inside es) (said_at bytes e es) [] ++ alt_from bytes (passed (inline_of e.name) es) es) (alt_from bytes 0 es)
 alt_from bytes (suc n) (e ∷ es) = alt_from bytes n es
 
 -- ---- references
@@ -61,7 +64,7 @@ references_from bytes size (suc n) (e ∷ es) = references_from bytes size n es
 module _ (options : CompileOptions) (bytes : List ℕ) (lookup : (label : List ℕ) → Option Parts) (tab : ℕ) where
   -- the shape of the span that an event enters, by the events behind that
   abbrev pub shape_at : Mode → Event → List Event → Shape
-  shape_at m e es = shape_by options bytes lookup tab m e.name (inside es) (is_loose es) (list_start bytes es) (given_at bytes Decoded e es) (alt_from bytes 0 (inside es))
+  shape_at m e es = shape_by options bytes lookup tab m e.name (inside es) (is_loose es) (list_start bytes es) (said_at bytes e es) (alt_from bytes 0 (inside es))
 
   -- the pieces of events behind spans that are open, the innermost first
   abbrev pub entered : List Open → Shape → (rest : List Open → List Piece) → List Piece
@@ -80,7 +83,7 @@ pub record Entered (s : Shape) (old new : List ℕ) (before behind : List Open) 
 
 abbrev pub shape_in : Whole → Mode → (list : Option ListShape) → Event → List Event → Shape
 shape_in w m list e es =
-    shape_by w.options.now w.bytes.now (lookup_of w) w.tab m e.name (inside es) (loose_of list) (start_of list) (given_at w.bytes.now Decoded e es) (alt_from w.bytes.now 0 (inside es))
+    shape_by w.options.now w.bytes.now (lookup_of w) w.tab m e.name (inside es) (loose_of list) (start_of list) (said_at w.bytes.now e es) (alt_from w.bytes.now 0 (inside es))
 
 abbrev pub walked_in : Whole → List Open → List Event → List Piece
 walked_in w os es = walked w.options.now w.bytes.now (lookup_of w) w.tab os es

@@ -7,10 +7,9 @@ ghost use Rattle.mdhtml_document.specs.Walks.{alt_from};
 
 use crate::lines::{code_text, html_text};
 use crate::names::{Inline, inline_of};
-use crate::spans::{behind_first, bytes_at, inside};
+use crate::spans::{behind_first, bytes_at, inside, push_said};
 use markdown_base::event::{Event, Kind, Name};
 use mddocument_link_targets::spans::enters;
-use mddocument_link_targets::strings::{Reading, push_given_at};
 use std::alloc::{AllocError, Global};
 
 /// Whether an event enters the address of an autolink.
@@ -78,7 +77,7 @@ fn push_entered(
         }
         Inline::Tail => Ok(inside(behind).len()),
         _ => {
-            push_given_at(text, bytes, Reading::Decoded, event, behind)?;
+            push_said(text, bytes, event, behind)?;
             Ok(0)
         }
     }

@@ -30,7 +30,7 @@ pub fn html_of_both()
     ensures { HtmlOfBoth }
 {}
 
-/// The HTML of four documents.
+/// The HTML of six documents.
 pub fn html_of_documents()
     ensures { map html_of html_examples ≡ html_examples }
 {}

@@ -3,7 +3,7 @@
 ghost use Rattle.std.specs.List.{flat_map};
 ghost use Rattle.std.specs.Prelude.{◌≡◌, ◌++◌, IfOk, OnOk, Some, codes, cond, false};
 ghost use Rattle.mdhtml_document.specs.Frames.{Opens, lookup_of};
-ghost use Rattle.mdhtml_document.specs.Html.{address_at, autolink, image_of, link_to, parts_in_link, titled};
+ghost use Rattle.mdhtml_document.specs.Html.{address_at, autolink, image_of, link_to, literal, parts_in_link, titled};
 ghost use Rattle.mdhtml_document.specs.Values.{title_from};
 ghost use Rattle.mdhtml_document.specs.Walks.{alt_from};
 ghost use Rattle.mdhtml_markup.specs.Addresses.{allowed, written_address};
@@ -222,6 +222,27 @@ pub(crate) fn autolink(
     push_autolink_address(out, whole.options, is_email(inner), address)?;
     out.extend_from_slice(b"\">")?;
     push_escaped(out, address)?;
+    out.extend_from_slice(b"</a>")?;
+    Ok(DONE)
+}
+
+/// Writes a literal: a link to what it says, with a scheme in front if it has none.
+pub(crate) fn literal(
+    alloc: Global,
+    out: &mut Vec<u8>,
+    options: &CompileOptions,
+    scheme: &[u8],
+    said: &[u8],
+) -> Result<Frame, AllocError>
+    ensures { IfOk result (λ frame. Opens (literal options.now scheme.now said.now) out.old.items out.new.items frame) }
+{
+    let mut url = Vec::new(alloc);
+    url.extend_from_slice(scheme)?;
+    url.extend_from_slice(said)?;
+    out.extend_from_slice(b"<a href=\"")?;
+    push_url(out, options, Place::Href, url.as_slice())?;
+    out.extend_from_slice(b"\">")?;
+    push_escaped(out, said)?;
     out.extend_from_slice(b"</a>")?;
     Ok(DONE)
 }

@@ -2,8 +2,10 @@
 
 ghost use Rattle.std.specs.Prelude.{◌≡◌};
 ghost use Rattle.mdhtml_document.specs.Names.{block_of, inline_of};
+ghost use Rattle.mdhtml_document.specs.Values.{reading_of};
 
 use markdown_base::event::Name;
+use mddocument_link_targets::strings::Reading;
 
 /// A block, or a part of one.
 #[derive(Clone, Copy, Debug, PartialEq, Eq)]
@@ -47,12 +49,20 @@ pub enum Inline {
     Emphasis,
     /// Strong emphasis.
     Strong,
+    /// Text that is struck through.
+    Struck,
     /// A code span.
     Code,
     /// HTML.
     Html,
     /// An autolink.
     Autolink,
+    /// A literal that begins with `www.`.
+    Www,
+    /// A literal that is an address of email.
+    Email,
+    /// A literal that begins with its scheme.
+    Address,
     /// A link.
     Link,
     /// An image.
@@ -93,12 +103,28 @@ pub(crate) fn inline_of(name: Name) -> Inline
         Name::HardBreakEscape | Name::HardBreakTrailing => Inline::Break,
         Name::Emphasis => Inline::Emphasis,
         Name::Strong => Inline::Strong,
+        Name::GfmStrikethrough => Inline::Struck,
         Name::CodeText => Inline::Code,
         Name::HtmlText => Inline::Html,
         Name::Autolink => Inline::Autolink,
+        Name::GfmAutolinkLiteralWww => Inline::Www,
+        Name::GfmAutolinkLiteralEmail => Inline::Email,
+        Name::GfmAutolinkLiteralProtocol
+        | Name::GfmAutolinkLiteralMailto
+        | Name::GfmAutolinkLiteralXmpp => Inline::Address,
         Name::Link => Inline::Link,
         Name::Image => Inline::Image,
         Name::Resource | Name::Reference => Inline::Tail,
         _ => Inline::Other,
+    }
+}
+
+/// How an innermost span of inline text is read: a literal as it is written.
+pub(crate) fn reading_of(inline: Inline) -> Reading
+    ensures { result ≡ reading_of inline }
+{
+    match inline {
+        Inline::Www | Inline::Email | Inline::Address => Reading::AsWritten,
+        _ => Reading::Decoded,
     }
 }

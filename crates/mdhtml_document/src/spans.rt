@@ -1,11 +1,14 @@
 //! Spans among events, by the events behind their enters.
 
-ghost use Rattle.std.specs.Prelude.{◌≡◌, ◌≤◌, MatchOption, None, Some, drop, length};
+ghost use Rattle.std.specs.Prelude.{◌≡◌, ◌++◌, ◌≤◌, MatchOption, None, OnOk, Some, drop, length};
 ghost use Rattle.mddocument_link_targets.specs.Spans.{inside, size_from};
 ghost use Rattle.mdhtml_document.specs.Values.{bytes_at};
+ghost use Rattle.mdhtml_document.specs.Walks.{said_at};
 
+use crate::names::{inline_of, reading_of};
 use markdown_base::event::{Event, Kind};
-use mddocument_link_targets::strings::slice;
+use mddocument_link_targets::strings::{push_given_at, slice};
+use std::alloc::AllocError;
 
 /// How many events are in a span, by the events behind its enter.
 fn size_in(events: &[Event]) -> usize
@@ -52,4 +55,22 @@ pub(crate) fn behind_first(events: &[Event], count: usize) -> &[Event]
     ensures { result.now ≡ drop count events.now }
 {
     events.get(count..).unwrap_or(&[])
+}
+
+/// Adds what the span of inline text that an event enters says, if it is an innermost one, by the events behind that.
+pub(crate) fn push_said(
+    text: &mut Vec<u8>,
+    bytes: &[u8],
+    event: &Event,
+    behind: &[Event],
+) -> Result<(), AllocError>
+    ensures { OnOk result (text.new.items ≡ text.old.items ++ said_at bytes.now event.now behind.now) }
+{
+    push_given_at(
+        text,
+        bytes,
+        reading_of(inline_of(event.name)),
+        event,
+        behind,
+    )
 }

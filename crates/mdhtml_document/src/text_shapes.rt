@@ -2,23 +2,20 @@
 
 ghost use Rattle.std.specs.Prelude.{◌≡◌, ◌∷◌, [], IfOk};
 ghost use Rattle.mddocument_link_targets.specs.Spans.{inside};
-ghost use Rattle.mddocument_link_targets.specs.Strings.{given_at};
-ghost use Rattle.mddocument_link_targets.specs.declared.strings.Reading.TheVariants as reading;
 ghost use Rattle.mdhtml_document.specs.Frames.{Opens, lookup_of};
-ghost use Rattle.mdhtml_document.specs.Html.{inline_shape, raw, told, alone};
+ghost use Rattle.mdhtml_document.specs.Html.{alone, inline_shape, literal, raw, told};
 ghost use Rattle.mdhtml_document.specs.Values.{code_text, html_text};
-ghost use Rattle.mdhtml_document.specs.Walks.{alt_from};
+ghost use Rattle.mdhtml_document.specs.Walks.{alt_from, said_at};
 ghost use Rattle.mdhtml_markup.specs.Pieces.{Close, Open, Text};
 ghost use Rattle.mdhtml_markup.specs.declared.elements.Element.TheVariants as element;
 
 use crate::block_shapes::push_raw;
 use crate::lines::{code_text, html_text};
-use crate::links::{Whole, autolink, image, open_link};
+use crate::links::{Whole, autolink, image, literal, open_link};
 use crate::names::Inline;
 use crate::shapes::{DONE, Frame, Mode, open_within_line, through};
-use crate::spans::inside;
+use crate::spans::{inside, push_said};
 use markdown_base::event::Event;
-use mddocument_link_targets::strings::{Reading, push_given_at};
 use mdhtml_markup::elements::Element;
 use mdhtml_markup::escape::push_escaped;
 use std::alloc::{AllocError, Global};
@@ -61,12 +58,28 @@ fn told(
     event: &Event,
     behind: &[Event],
 ) -> Result<Frame, AllocError>
-    ensures { IfOk result (λ frame. Opens (told (given_at bytes.now reading.Decoded event.now behind.now)) out.old.items out.new.items frame) }
+    ensures { IfOk result (λ frame. Opens (told (said_at bytes.now event.now behind.now)) out.old.items out.new.items frame) }
 {
     let mut text = Vec::new(alloc);
-    push_given_at(&mut text, bytes, Reading::Decoded, event, behind)?;
+    push_said(&mut text, bytes, event, behind)?;
     push_escaped(out, text.as_slice())?;
     Ok(through(Mode::Text))
+}
+
+/// Writes a literal, with this scheme in front of it.
+fn open_literal(
+    alloc: Global,
+    out: &mut Vec<u8>,
+    whole: &Whole<'_>,
+    scheme: &[u8],
+    event: &Event,
+    behind: &[Event],
+) -> Result<Frame, AllocError>
+    ensures { IfOk result (λ frame. Opens (literal whole.now.options.now scheme.now (said_at whole.now.bytes.now event.now behind.now)) out.old.items out.new.items frame) }
+{
+    let mut said = Vec::new(alloc);
+    push_said(&mut said, whole.bytes, event, behind)?;
+    literal(alloc, out, whole.options, scheme, said.as_slice())
 }
 
 /// Begins a span of inline text, by what it is, the event that enters it and those behind that.
@@ -78,7 +91,7 @@ pub(crate) fn open_inline(
     event: &Event,
     behind: &[Event],
 ) -> Result<Frame, AllocError>
-    ensures { IfOk result (λ frame. Opens (inline_shape whole.now.options.now whole.now.bytes.now (lookup_of whole.now) whole.now.tab inline (inside behind.now) (given_at whole.now.bytes.now reading.Decoded event.now behind.now) (alt_from whole.now.bytes.now 0 (inside behind.now))) out.old.items out.new.items frame) }
+    ensures { IfOk result (λ frame. Opens (inline_shape whole.now.options.now whole.now.bytes.now (lookup_of whole.now) whole.now.tab inline (inside behind.now) (said_at whole.now.bytes.now event.now behind.now) (alt_from whole.now.bytes.now 0 (inside behind.now))) out.old.items out.new.items frame) }
 {
     match inline {
         Inline::Ending => {
@@ -91,9 +104,13 @@ pub(crate) fn open_inline(
         }
         Inline::Emphasis => open_within_line(out, Element::Emphasis),
         Inline::Strong => open_within_line(out, Element::Strong),
+        Inline::Struck => open_within_line(out, Element::Deleted),
         Inline::Code => code(alloc, out, whole.bytes, inside(behind)),
         Inline::Html => html(alloc, out, whole, inside(behind)),
         Inline::Autolink => autolink(out, whole, inside(behind)),
+        Inline::Www => open_literal(alloc, out, whole, b"http://", event, behind),
+        Inline::Email => open_literal(alloc, out, whole, b"mailto:", event, behind),
+        Inline::Address => open_literal(alloc, out, whole, b"", event, behind),
         Inline::Link => open_link(alloc, out, whole, inside(behind)),
         Inline::Image => image(alloc, out, whole, inside(behind)),
         Inline::Tail => Ok(DONE),
