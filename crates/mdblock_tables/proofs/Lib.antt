@@ -1,0 +1,10 @@
+-- cells
+pub mod CellLemmas
+pub mod DelimiterLemmas
+-- pieces
+pub mod PieceLemmas
+pub mod RowLemmas
+pub mod ContentLemmas
+pub mod TaskLemmas
+-- laws
+mod Examples
