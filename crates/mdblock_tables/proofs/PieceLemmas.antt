@@ -1,7 +1,7 @@
 -- Lemmas on pieces that need no look at what is cut.
-use Rattle.std.proofs.Common.{◌≡◌, ℕ, ◌+◌, List, [], ◌∷◌, ◌++◌, cond, None, append_assoc, ap, sym, refl, ◌∙◌, arith, take, drop, map}
+use Rattle.std.proofs.Common.{◌≡◌, ℕ, ◌+◌, ◌-◌, ◌≤◌, List, [], ◌∷◌, ◌++◌, cond, None, append-nil, append_assoc, ap, sym, refl, ◌∙◌, arith, take, drop, map}
 use Rattle.std.specs.List.{AllByRecursion}
-use Rattle.std.proofs.lemmas.List.{drop-drop, drop-map, take-map, map-append}
+use Rattle.std.proofs.lemmas.List.{drop-drop, drop-map, drop-take, take-map, take-take, map-append}
 use Rattle.markdown_base.specs.declared.event.Event.{Event}
 use Rattle.markdown_base.specs.declared.event.Kind.TheVariants.{Enter, Exit}
 use Rattle.markdown_base.specs.declared.event.Name.{Name}
@@ -11,11 +11,11 @@ use Rattle.markdown_base.specs.Places.{shown}
 use Rattle.markdown_base.specs.Virtual.{Seat, end_after}
 use Rattle.markdown_base.proofs.Common.{every-append}
 use Rattle.mdconstructs_machines.specs.Spans.{event}
-use Rattle.mdblock_leaf_blocks.specs.LeafEvents.{Mark, span_marks}
+use Rattle.mdblock_leaf_blocks.specs.LeafEvents.{Mark, leaf_marks, span_marks}
 use Rattle.mdblock_tables.specs.declared.pieces.Piece.{Piece}
 use Rattle.mdblock_tables.specs.declared.pieces.Step.TheVariants as step
-use Rattle.mdblock_tables.specs.Laws.{IsNoChunk, PiecesHaveNoChunks, PiecesMove, moved, moved_mark}
-use Rattle.mdblock_tables.specs.Pieces.{Pieces, nothing, leaf, span, joined, piece, placed, size_of, told, under}
+use Rattle.mdblock_tables.specs.Laws.{IsNoChunk, PiecesAreLaid, PiecesHaveNoChunks, PiecesMove, moved, moved_mark}
+use Rattle.mdblock_tables.specs.Pieces.{Pieces, nothing, leaf, span, enter_marks, exit_marks, joined, laid, piece, placed, size_of, told, under}
 
 -- ---- pieces before others
 pub size_joined : (ps qs : Pieces) → size_of (joined ps qs) ≡ size_of ps + size_of qs
@@ -95,3 +95,53 @@ pieces_have_no_chunks bytes ps seats = kept bytes (AllByRecursion IsNoChunk) tt 
     around : (n : Name) (seats : List Seat) (within : List Mark) → AllByRecursion IsNoChunk within → AllByRecursion IsNoChunk (span_marks bytes n seats within)
     around n [] within h = h
     around n (s ∷ ss) within h = (refl, every-append IsNoChunk within ((event bytes Exit n (end_after s.end ss), None) ∷ []) h (refl, tt))
+
+-- ---- pieces as a writer puts them
+module _ (bytes : List ℕ) where
+  -- pieces look at no byte behind their own
+  placed-front : (ps : Pieces) (k : ℕ) (seats : List Seat) → size_of ps ≤ k → placed bytes ps (take k seats) ≡ placed bytes ps seats
+  placed-front nothing k seats h = refl
+  placed-front (leaf n j more) k seats h =
+      let parts : j + (k - j) ≡ k = omega (arith, h) in
+      let rest : drop j (take k seats) ≡ take (k - j) (drop j seats) = ap (λ m. drop j (take m seats)) (sym parts) ∙ drop-take j (k - j) seats in
+      (λ i. leaf_marks bytes n (take-take j k seats (omega (arith, h)) i) ++ placed bytes more (rest i))
+      ∙ ap (λ l. leaf_marks bytes n (take j seats) ++ l) (placed-front more (k - j) (drop j seats) (omega (arith, h)))
+  placed-front (span n within more) k seats h =
+      let j = size_of within in
+      let parts : j + (k - j) ≡ k = omega (arith, h) in
+      let rest : drop j (take k seats) ≡ take (k - j) (drop j seats) = ap (λ m. drop j (take m seats)) (sym parts) ∙ drop-take j (k - j) seats in
+      let first = take-take j k seats (omega (arith, h)) in
+      (λ i. span_marks bytes n (first i) (placed bytes within (first i)) ++ placed bytes more (rest i))
+      ∙ ap (λ l. span_marks bytes n (take j seats) (placed bytes within (take j seats)) ++ l) (placed-front more (k - j) (drop j seats) (omega (arith, h)))
+
+  span-laid : (n : Name) (seats : List Seat) (inside : List Mark) → enter_marks bytes n seats ++ (inside ++ exit_marks bytes n seats) ≡ span_marks bytes n seats inside
+  span-laid n [] inside = append-nil inside
+  span-laid n (s ∷ ss) inside = refl
+
+  laid-told : (ps : Pieces) (rest : List Piece) (passed : ℕ) (seats : List Seat) → laid bytes (told ps ++ rest) passed seats ≡ placed bytes ps (drop passed seats) ++ laid bytes rest (passed + size_of ps) seats
+  laid-told nothing rest passed seats = let same : passed ≡ passed + 0 = omega arith in ap (λ k. laid bytes rest k seats) same
+  laid-told (leaf n k more) rest passed seats =
+      let here = leaf_marks bytes n (take k (drop passed seats)) in
+      let on : passed + k + size_of more ≡ passed + (k + size_of more) = omega arith in
+      ap (λ l. here ++ l) (laid-told more rest (passed + k) seats ∙ (λ i. placed bytes more (sym (drop-drop k passed seats) i) ++ laid bytes rest (on i) seats))
+      ∙ sym (append_assoc here (placed bytes more (drop k (drop passed seats))) (laid bytes rest (passed + (k + size_of more)) seats))
+  laid-told (span n within more) rest passed seats =
+      let k = size_of within in
+      let ss = take k (drop passed seats) in
+      let enter = enter_marks bytes n ss in
+      let exit = exit_marks bytes n ss in
+      let inner = placed bytes within ss in
+      let behind = placed bytes more (drop k (drop passed seats)) in
+      let last = laid bytes rest (passed + (k + size_of more)) seats in
+      let back : passed + k - k ≡ passed = omega arith in
+      let on : passed + k + size_of more ≡ passed + (k + size_of more) = omega arith in
+      let more_laid : laid bytes (told more ++ rest) (passed + k) seats ≡ behind ++ last =
+      laid-told more rest (passed + k) seats ∙ (λ i. placed bytes more (sym (drop-drop k passed seats) i) ++ laid bytes rest (on i) seats) in
+      ap (λ l. enter ++ laid bytes l passed seats) (append_assoc (told within) (piece step.Exit n k ∷ told more) rest)
+      ∙ ap (λ l. enter ++ l) (laid-told within (piece step.Exit n k ∷ (told more ++ rest)) passed seats
+      ∙ (λ i. sym (placed-front within k (drop passed seats) (omega arith)) i ++ (exit_marks bytes n (take k (drop (back i) seats)) ++ more_laid i)))
+      ∙ sym (ap (λ l. l ++ (behind ++ last)) (sym (span-laid n ss inner)) ∙ append_assoc enter (inner ++ exit) (behind ++ last) ∙ ap (λ l. enter ++ l) (append_assoc inner exit (behind ++ last)))
+      ∙ sym (append_assoc (span_marks bytes n ss inner) behind last)
+
+pub pieces_are_laid : PiecesAreLaid
+pieces_are_laid bytes pieces seats = ap (λ l. laid bytes l 0 seats) (sym (append-nil (told pieces))) ∙ laid-told bytes pieces [] 0 seats ∙ append-nil (placed bytes pieces seats)

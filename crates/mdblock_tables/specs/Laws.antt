@@ -7,7 +7,7 @@ use Rattle.markdown_base.specs.Virtual.{Seat}
 use Rattle.mdblock_leaf_blocks.specs.LeafEvents.{Mark}
 use Rattle.mdblock_tables.specs.declared.rows.RowKind.{RowKind}
 use Rattle.mdblock_tables.specs.declared.tables.Alignment.{Alignment}
-use Rattle.mdblock_tables.specs.Pieces.{Pieces, placed, size_of, under}
+use Rattle.mdblock_tables.specs.Pieces.{Pieces, laid, placed, size_of, told, under}
 use Rattle.mdblock_tables.specs.TablePieces.{content_name, row_pieces}
 use Rattle.mdblock_tables.specs.Tables.{cells, matched}
 use Rattle.mdblock_tables.specs.Tasks.{check_at, check_pieces}
@@ -48,3 +48,7 @@ IsNoChunk m = m.1 ≡ None
 -- No piece is a chunk
 abbrev pub PiecesHaveNoChunks : Type 0
 PiecesHaveNoChunks = (bytes : List ℕ) (pieces : Pieces) (seats : List Seat) → AllByRecursion IsNoChunk (placed bytes pieces seats)
+
+-- What a writer puts, piece after piece, are the marks of the pieces
+abbrev pub PiecesAreLaid : Type 0
+PiecesAreLaid = (bytes : List ℕ) (pieces : Pieces) (seats : List Seat) → laid bytes (told pieces) 0 seats ≡ placed bytes pieces seats

@@ -1,8 +1,10 @@
 -- Pieces: what a text is cut into, by their sizes alone. Where they stand comes later: `placed` lays them over virtual bytes.
-use Rattle.std.specs.Prelude.{ℕ, ◌+◌, cond, List, [], ◌∷◌, ◌++◌, take, drop}
+use Rattle.std.specs.Prelude.{ℕ, ◌+◌, ◌-◌, cond, List, [], ◌∷◌, ◌++◌, take, drop, None}
+use Rattle.markdown_base.specs.declared.event.Kind.TheVariants as kind
 use Rattle.markdown_base.specs.declared.event.Name.{Name}
 use Rattle.markdown_base.specs.Events.{same_name}
-use Rattle.markdown_base.specs.Virtual.{Seat}
+use Rattle.markdown_base.specs.Virtual.{Seat, end_after}
+use Rattle.mdconstructs_machines.specs.Spans.{event}
 use Rattle.mdblock_leaf_blocks.specs.LeafEvents.{Mark, leaf_marks, span_marks}
 use Rattle.mdblock_tables.specs.declared.pieces.Piece.{Piece}
 use Rattle.mdblock_tables.specs.declared.pieces.Step.{Step}
@@ -52,3 +54,23 @@ abbrev pub told : Pieces → List Piece
 told nothing = []
 told (leaf n k more) = piece Whole n k ∷ told more
 told (span n within more) = piece Enter n (size_of within) ∷ (told within ++ piece Exit n (size_of within) ∷ told more)
+
+-- ---- over virtual bytes of which so many were passed
+module _ (bytes : List ℕ) where
+  -- where a span over virtual bytes is entered, and where it is exited
+  abbrev pub enter_marks : Name → List Seat → List Mark
+  enter_marks n [] = []
+  enter_marks n (s ∷ ss) = (event bytes kind.Enter n s.point, None) ∷ []
+
+  abbrev pub exit_marks : Name → List Seat → List Mark
+  exit_marks n [] = []
+  exit_marks n (s ∷ ss) = (event bytes kind.Exit n (end_after s.end ss), None) ∷ []
+
+  -- Pieces one after another, as a writer puts them: a span that ends has the virtual bytes before it
+  abbrev pub laid : List Piece → (passed : ℕ) → List Seat → List Mark
+  laid [] passed seats = []
+  laid (p ∷ ps) passed seats = elim p.step [
+    | Enter ↦ enter_marks p.name (take p.size (drop passed seats)) ++ laid ps passed seats
+    | Whole ↦ leaf_marks bytes p.name (take p.size (drop passed seats)) ++ laid ps (passed + p.size) seats
+    | Exit ↦ exit_marks p.name (take p.size (drop (passed - p.size) seats)) ++ laid ps passed seats
+  ]

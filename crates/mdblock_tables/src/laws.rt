@@ -1,6 +1,6 @@
 //! Laws about tables, checks and pieces. Each is a function that does nothing; its contract is the law.
 
-ghost use Rattle.mdblock_tables.specs.Laws.{ChecksLeaveText, HeadersMatch, PiecesHaveNoChunks, PiecesMove, RowsAreWhole, RowsHaveCells};
+ghost use Rattle.mdblock_tables.specs.Laws.{ChecksLeaveText, HeadersMatch, PiecesAreLaid, PiecesHaveNoChunks, PiecesMove, RowsAreWhole, RowsHaveCells};
 
 /// The pieces of a row have all bytes of its line, each once.
 pub fn rows_are_whole()
@@ -30,4 +30,9 @@ pub fn pieces_move()
 /// No piece is a chunk.
 pub fn pieces_have_no_chunks()
     ensures { PiecesHaveNoChunks }
+{}
+
+/// What a writer puts, piece after piece, are the marks of the pieces.
+pub fn pieces_are_laid()
+    ensures { PiecesAreLaid }
 {}
