@@ -1,22 +1,7 @@
 -- The events of a leaf block stand where virtual bytes of its lines begin or end, as its spans are over parts of these.
-use Rattle.std.proofs.Common.{◌≡◌, ℕ, zero, suc, ◌+◌, ◌⊎◌, List, [], ◌∷◌, ◌++◌, inl, inr, Some, None, Option, refl, ap, take, drop, length}
-use Rattle.std.proofs.lemmas.List.Elements.{All-contains_itself, All-from_recursion, recursion_from_All}
-use Rattle.std.specs.List.{AllByRecursion}
-use Rattle.std.specs.Prelude.{Contains}
+use Rattle.mddocument_laws.proofs.Prelude.{◌≡◌, ℕ, zero, suc, ◌+◌, ◌⊎◌, List, [], ◌∷◌, ◌++◌, inl, inr, Some, None, Option, refl, ap, take, drop, length, All-contains_itself, All-from_recursion, recursion_from_All, AllByRecursion, Contains, every-append, every-drop, every-take, Constructs, Event, Name, shown, Seat, end_after, every-back, every-front, all_of, lines_in, block_lines, Line, LeafBlock, atx_heading, blank_line, block_of_kind, blocks_in, ends_text, further_code, lines_through, lines_until, text_of, underlined, fenced_code, leaf_blocks, paragraph, setext_heading, Chunk, Mark, chunk_span, flow_events, leaf_block_marks, leaf_blocks_marks, linked_from, LineKind, blank, closes, fence, heading, html, indented, line_kind, text, thematic_break, underline_rank}
 use Rattle.mdblock_containers.proofs.PlainLetters.{lines_each}
-use Rattle.markdown_base.proofs.Common.{every-append, every-drop, every-take}
-use Rattle.markdown_base.specs.declared.configuration.Constructs.{Constructs}
-use Rattle.markdown_base.specs.declared.event.Event.{Event}
-use Rattle.markdown_base.specs.declared.event.Name.{Name}
 use Rattle.markdown_base.specs.declared.event.Name.TheVariants as name
-use Rattle.markdown_base.specs.Places.{shown}
-use Rattle.markdown_base.specs.Virtual.{Seat, end_after}
-use Rattle.markdown_tokenizer.proofs.Positions.Order.{every-back, every-front}
-use Rattle.mdconstructs_machines.specs.LineEvents.{all_of, lines_in}
-use Rattle.mdblock_leaf_blocks.specs.BlockLines.{block_lines}
-use Rattle.mdblock_leaf_blocks.specs.LeafBlocks.{Line, LeafBlock, atx_heading, blank_line, block_of_kind, blocks_in, break_line, ends_text, further_code, lines_through, lines_until, text_of, underlined, fenced_code, html_block, indented_code, leaf_blocks, paragraph, setext_heading}
-use Rattle.mdblock_leaf_blocks.specs.LeafEvents.{Chunk, Mark, chunk_span, flow_events, leaf_block_marks, leaf_blocks_marks, linked_from}
-use Rattle.mdblock_leaf_blocks.specs.LineKinds.{LineKind, blank, closes, fence, heading, html, indented, line_kind, text, thematic_break, underline_rank}
 use Rattle.mddocument_laws.proofs.BlockWalk.{MayBlock, block-are}
 use Rattle.mddocument_laws.proofs.InnerTexts.{AnySeat, any-lines}
 use Rattle.mddocument_laws.proofs.MarksWalk.{Walk}
@@ -28,13 +13,11 @@ AnyName n = Unit {0}
 
 any-block : (block : LeafBlock) → MayBlock AnyName block
 any-block (blank_line line) = tt
-any-block (break_line line) = (tt, tt)
 any-block (atx_heading line) = (tt, tt, tt)
 any-block (paragraph lines) = tt
 any-block (setext_heading rank lines underline) = (tt, tt, tt, tt)
-any-block (indented_code lines) = (tt, tt)
 any-block (fenced_code f is_closed lines) = record { code_fenced = tt; fence = tt; sequence = tt; info = tt; meta = tt; code = tt }
-any-block (html_block kind is_closed lines) = (tt, tt)
+any-block block = (tt, tt)
 
 module _ (bytes : List ℕ) (Q : Seat → Type 0) where
   -- an event stands where a virtual byte that is so begins or ends

@@ -1,19 +1,5 @@
 -- Where chains of chunks are replaced by what they are read as, each event is of the list or of what is put in, but for the ends of its link.
-use Rattle.std.proofs.Common.{ℕ, ◌+◌, ◌==◌, List, [], ◌∷◌, ◌++◌, Option, drop, length, map}
-use Rattle.std.proofs.lemmas.Bool.{cond_both}
-use Rattle.std.specs.List.{AllByRecursion, flat_map, prefix_len}
-use Rattle.std.specs.Prelude.{if◌then◌else◌, not}
-use Rattle.markdown_base.proofs.Common.{every-append, every-drop, every-take}
-use Rattle.markdown_base.specs.declared.event.Content.{Content}
-use Rattle.markdown_base.specs.declared.event.Event.{Event}
-use Rattle.markdown_base.specs.declared.event.Point.{Point}
-use Rattle.markdown_base.specs.Events.{relinked}
-use Rattle.markdown_base.specs.Places.{stands_before}
-use Rattle.markdown_edits.specs.Woven.{Change, Tagged, as_listed, changed, events_at, is_removed, placed_end, placed_in, woven}
-use Rattle.markdown_children.specs.Chains.{chain_of, fitting_starts}
-use Rattle.markdown_children.specs.Children.{chain_changes, child_changes, first_chunk, part_changes, tagged_child, with_children}
-use Rattle.markdown_children.specs.Parts.{divided, divided_over, front_until, parts}
-use Rattle.markdown_children.specs.Ready.{place_at}
+use Rattle.mddocument_laws.proofs.Prelude.{ℕ, ◌+◌, ◌==◌, List, [], ◌∷◌, ◌++◌, Option, drop, length, map, cond_both, AllByRecursion, flat_map, prefix_len, if◌then◌else◌, every-append, every-drop, every-take, Content, Event, Point, relinked, stands_before, Change, Tagged, as_listed, changed, events_at, is_removed, placed_end, placed_in, woven, chain_of, fitting_starts, chain_changes, child_changes, first_chunk, part_changes, tagged_child, with_children, divided, divided_over, front_until, parts, place_at, not}
 
 module _ (P : Event → Type 0) where
   abbrev pub Are : List Event → Type 0

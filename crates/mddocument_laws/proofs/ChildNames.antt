@@ -1,16 +1,6 @@
 -- Where chains of chunks are replaced by what they are read as, and data in strings by their escapes and references, each name is of the list or of
 -- what is put in.
-use Rattle.std.proofs.Common.{◌≡◌, ℕ, List, [], ◌∷◌, ◌++◌, Bool, true, false, Option, map}
-use Rattle.std.proofs.lemmas.Bool.{cond_both}
-use Rattle.std.specs.Prelude.{◌&&◌}
-use Rattle.markdown_base.specs.declared.configuration.Constructs.{Constructs}
-use Rattle.markdown_base.specs.declared.event.Content.{Content}
-use Rattle.markdown_base.specs.declared.event.Event.{Event}
-use Rattle.markdown_base.specs.declared.event.Name.{Name}
-use Rattle.markdown_children.specs.Chains.{fitting_starts}
-use Rattle.markdown_children.specs.Children.{with_children}
-use Rattle.mdinline_link_strings.specs.Strings.{in_string_after, is_data, line_as_string, seats_between, with_strings, with_strings_from}
-use Rattle.mddocument_laws.specs.Names.{may_be_named}
+use Rattle.mddocument_laws.proofs.Prelude.{◌≡◌, ℕ, List, [], ◌∷◌, ◌++◌, Bool, true, false, Option, map, cond_both, ◌&&◌, Constructs, Content, Event, Name, fitting_starts, with_children, in_string_after, is_data, line_as_string, seats_between, with_strings, with_strings_from, may_be_named}
 use Rattle.mddocument_laws.proofs.ChildEvents.{children-are}
 use Rattle.mddocument_laws.proofs.PlainNames.{plain-may}
 use Rattle.mddocument_laws.proofs.ItemNames.{strings-named}

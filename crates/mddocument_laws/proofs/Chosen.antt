@@ -1,28 +1,8 @@
 -- The events with some names, where chains of chunks are replaced by what they are read as: those of the list stay, if no chunk has such a name,
 -- as where no void span has; and a list without them has those of its children, in order.
-use Rattle.std.proofs.Common.{◌≡◌, ℕ, suc, ◌+◌, ◌-◌, List, [], ◌∷◌, ◌++◌, Bool, true, false, cond, Option, None, drop, length, map, take, refl, sym, ap, ◌∙◌, subst, arith}
-use Rattle.std.proofs.lemmas.Grind.{flat_map-append}
-use Rattle.std.proofs.lemmas.List.{map-append}
-use Rattle.std.specs.List.{AllByRecursion, between, flat_map}
-use Rattle.markdown_base.proofs.Common.{every-drop, every-take}
-use Rattle.markdown_base.specs.declared.event.Content.{Content}
-use Rattle.markdown_base.specs.declared.event.Event.{Event}
-use Rattle.markdown_base.specs.declared.event.Name.{Name}
-use Rattle.markdown_base.specs.declared.event.Point.{Point}
-use Rattle.markdown_base.specs.Events.{is_void}
-use Rattle.markdown_edits.proofs.Edits.Passes.{olds, pass, woven-pass}
-use Rattle.markdown_edits.specs.Woven.{AreApart, Change, Tagged, placed_in, woven}
-use Rattle.markdown_children.proofs.ChainOrder.Following.{Fits, chunk, follow_one_another}
-use Rattle.markdown_children.proofs.ChainOrder.Spaced.{changes_are_apart, length-map_ends, length-parts}
-use Rattle.markdown_children.proofs.Parts.Kept.{after-step, after_changes, joined, joined-parts, split-at, untagged, untagged-child, untagged-olds}
+use Rattle.mddocument_laws.proofs.Prelude.{◌≡◌, ℕ, suc, ◌+◌, ◌-◌, List, [], ◌∷◌, ◌++◌, Bool, true, false, cond, Option, None, drop, length, map, take, refl, sym, ap, ◌∙◌, subst, arith, flat_map-append, map-append, AllByRecursion, between, flat_map, every-drop, every-take, Content, Event, Name, Point, is_void, olds, pass, woven-pass, AreApart, Change, Tagged, placed_in, woven, Fits, chunk, follow_one_another, changes_are_apart, length-map_ends, length-parts, after-step, after_changes, joined, joined-parts, split-at, untagged, untagged-child, untagged-olds, fitting_starts, chain_changes, child_changes, first_chunk, part_changes, with_children, IsWholeFrom, divided, divided_over, parts, IsReady, place_at, drop-two}
 use Rattle.markdown_children.proofs.Parts.Staying.{AtChunk, all-at}
-use Rattle.markdown_children.specs.Chains.{fitting_starts}
-use Rattle.markdown_children.specs.Children.{chain_changes, child_changes, first_chunk, part_changes, with_children}
-use Rattle.markdown_children.specs.LawStatements.{IsWholeFrom}
-use Rattle.markdown_children.specs.Parts.{divided, divided_over, parts}
-use Rattle.markdown_children.specs.Ready.{IsReady, place_at}
 use Rattle.mddocument_laws.proofs.ChildEvents.{AreChanges, AreTagged, divided-are, read-are}
-use Rattle.mdinline_text_machine.proofs.Paragraphs.ChunksReady.{drop-two}
 
 -- an event without its link
 abbrev pub bare : Event → Event

@@ -1,4 +1,5 @@
 -- Documents have names of the constructs that are on: so do their containers and definitions, and what is put in place of chunks and strings.
+use Rattle.mddocument_laws.proofs.Prelude.{chain_text, flow_events, document_blocks, document_skeleton, shown_as_text, rows, Inside, Section, defined, lines, text_in, all_rows, labels_in, labels_of_section, sections_in_seats, skeleton, inline_events, with_inlines, string_events, lines_in}
 use Rattle.std.proofs.Common.{◌≡◌, ℕ, List, [], ◌∷◌, ◌++◌, Bool, true, false, Some, inl, inr, sym, ◌∙◌, subst}
 use Rattle.std.proofs.lemmas.Bool.{cond_both, false_from_ne_true, false≢true, or_cases, or_left, or_right}
 use Rattle.std.proofs.lemmas.List.Elements.{All-contains, All-contains_itself, All-from_recursion, All-weaker, recursion_from_All}
@@ -19,17 +20,7 @@ use Rattle.markdown_children.specs.Children.{first_chunk}
 use Rattle.markdown_children.specs.Reads.{pieces_of, text_from}
 use Rattle.markdown_children.specs.Ready.{place_at}
 use Rattle.mdinline_labels.specs.Defined.{is_same}
-use Rattle.mdinline_text_machine.specs.ChainTexts.{chain_text}
-use Rattle.mdblock_leaf_blocks.specs.LeafEvents.{flow_events}
-use Rattle.mdblock_definitions.specs.Blocks.{document_blocks, document_skeleton, shown_as_text}
 use Rattle.mdblock_definitions.specs.Labelled.{is_one_of}
-use Rattle.mdblock_definitions.specs.Rows.{rows}
-use Rattle.mdblock_definitions.specs.Sections.{Inside, Section, defined, lines, text_in}
-use Rattle.mdblock_definitions.specs.Skeleton.{all_rows, labels_in, labels_of_section, sections_in_seats, skeleton}
-use Rattle.mdinline_machine.specs.InlineEvents.{inline_events}
-use Rattle.mdinline_machine.specs.LawStatements.{with_inlines}
-use Rattle.mdinline_machine.specs.StringEvents.{string_events}
-use Rattle.mdconstructs_machines.specs.LineEvents.{lines_in}
 use Rattle.mdinline_link_strings.specs.StringItems.{string_seat_events}
 use Rattle.mddocument.proofs.FlowTexts.InlineSteps.{Steps, steps-virtual}
 use Rattle.mddocument.specs.DocumentEvents.{document_events, document_texts, is_defined_in}

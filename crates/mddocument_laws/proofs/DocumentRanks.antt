@@ -1,43 +1,11 @@
 -- The events of documents tell the ranks of their headings: what is around leaf blocks and in their texts has no event that tells of them.
-use Rattle.std.proofs.Common.{◌≡◌, ℕ, ◌≤◌, ◌⊎◌, List, [], ◌∷◌, ◌++◌, Bool, true, false, cond, Option, Some, map, arith, refl, sym, ap, ◌∙◌, subst}
-use Rattle.std.proofs.lemmas.Bool.{and_parts}
-use Rattle.std.proofs.lemmas.Grind.{flat_map-append}
-use Rattle.std.proofs.lemmas.List.{map-append}
-use Rattle.std.proofs.lemmas.List.Elements.{All-from_recursion}
-use Rattle.std.proofs.lemmas.Option.{none-some}
-use Rattle.std.specs.List.{AllByRecursion, flat_map}
-use Rattle.std.specs.Prelude.{◌&&◌, IsSomeAnd, not, slice_get}
-use Rattle.markdown_base.proofs.Common.{every-append, every-map}
-use Rattle.markdown_base.specs.declared.configuration.Constructs.{Constructs}
+use Rattle.mddocument_laws.proofs.Prelude.{◌≡◌, ℕ, ◌≤◌, ◌⊎◌, List, [], ◌∷◌, ◌++◌, Bool, true, false, cond, Option, Some, map, arith, refl, sym, ap, ◌∙◌, subst, and_parts, flat_map-append, map-append, All-from_recursion, none-some, AllByRecursion, flat_map, ◌&&◌, IsSomeAnd, slice_get, every-append, every-map, Constructs, Event, IsVoidTight, is_enter, same_name, virtual, same_name-true, Given, IsDocument, Text, fitting_starts, text_from, all-begin, is-text, chain_text, lines_in, LeafBlock, atx_heading, leaf_blocks, setext_heading, flow_events, document_blocks, document_skeleton, shown_as_text, letters, inline_events, with_inlines, string_events, in_string_after, is_data, line_as_string, seats_between, with_strings_from, inlines-hold-text, skeleton-laws, content-ready as text-ready, strings-ready, events-tight, document_events, document_texts, is_defined_in, EachHeadingTellsItsRank, HasRank, HeadingsHaveRanks, HeadingsTellTheirRanks, enters_heading, leaf_blocks_of, rank_at, rank_of, ranks_in, not}
 use Rattle.markdown_base.specs.declared.event.Content.TheVariants as content
-use Rattle.markdown_base.specs.declared.event.Event.{Event}
 use Rattle.markdown_base.specs.declared.event.Name.TheVariants as name
-use Rattle.markdown_base.specs.Events.{IsVoidTight, is_enter, same_name}
-use Rattle.markdown_base.specs.Virtual.{virtual}
-use Rattle.markdown_edits.proofs.Balanced.{same_name-true}
-use Rattle.markdown_tokenizer.specs.Text.{Given, IsDocument, Text}
-use Rattle.markdown_children.specs.Chains.{begins, fitting_starts}
-use Rattle.markdown_children.specs.Reads.{text_from}
-use Rattle.mdinline_text_machine.proofs.Paragraphs.ChainEvents.{all-begin, is-text}
+use Rattle.markdown_children.specs.Chains.{begins}
 use Rattle.mdinline_text_machine.proofs.Paragraphs.Formed.{void-append}
-use Rattle.mdinline_text_machine.specs.ChainTexts.{chain_text}
-use Rattle.mdconstructs_machines.specs.LineEvents.{lines_in}
 use Rattle.mdblock_leaf_blocks.proofs.Marks.BlocksFormed.{blocks-are-formed}
-use Rattle.mdblock_leaf_blocks.specs.LeafBlocks.{LeafBlock, atx_heading, blank_line, break_line, fenced_code, html_block, indented_code, leaf_blocks, paragraph, setext_heading}
-use Rattle.mdblock_leaf_blocks.specs.LeafEvents.{flow_events}
-use Rattle.mdblock_definitions.specs.Blocks.{document_blocks, document_skeleton, shown_as_text}
-use Rattle.mdblock_definitions.specs.Skeleton.{letters}
-use Rattle.mdinline_machine.specs.InlineEvents.{inline_events}
-use Rattle.mdinline_machine.specs.LawStatements.{with_inlines}
-use Rattle.mdinline_machine.specs.StringEvents.{string_events}
-use Rattle.mdinline_link_strings.specs.Strings.{in_string_after, is_data, line_as_string, seats_between, with_strings_from}
 use Rattle.mddocument.proofs.InContainers.Blocks.{content-ready, shown-is}
-use Rattle.mddocument.proofs.InContainers.InlineHolds.{inlines-hold-text}
-use Rattle.mddocument.proofs.InContainers.Skeletons.{skeleton-laws}
-use Rattle.mddocument.proofs.InContainers.TextsFormed.{content-ready as text-ready, strings-ready}
-use Rattle.mddocument.proofs.InContainers.Tight.{events-tight}
-use Rattle.mddocument.specs.DocumentEvents.{document_events, document_texts, is_defined_in}
-use Rattle.mddocument_laws.specs.Ranks.{EachHeadingTellsItsRank, HasRank, HeadingsHaveRanks, HeadingsTellTheirRanks, enters_heading, leaf_blocks_of, rank_at, rank_of, ranks_in}
 use Rattle.mddocument_laws.proofs.ChildEvents.{children-are}
 use Rattle.mddocument_laws.proofs.Chosen.{bare, chosen-behind, chosen-flat, chosen-of-children}
 use Rattle.mddocument_laws.proofs.DocumentNames.{chain-in, defined-if-on, inline-inside, skeleton-inside, string-inside}
@@ -195,14 +163,9 @@ abbrev IsTold : Option ℕ → Type 0
 IsTold o = IsSomeAnd o IsRank
 
 block-told : (block : LeafBlock) → HasRank block → AllByRecursion IsTold (map Some (rank_of block))
-block-told (blank_line line) h = tt
-block-told (break_line line) h = tt
 block-told (atx_heading line) h = (h, tt)
-block-told (paragraph lines) h = tt
 block-told (setext_heading rank lines underline) h = let most = h.1 in ((h.0, omega (arith, most)), tt)
-block-told (indented_code lines) h = tt
-block-told (fenced_code f is_closed lines) h = tt
-block-told (html_block kind is_closed lines) h = tt
+block-told block h = tt
 
 all-told : (blocks : List LeafBlock) → AllByRecursion HasRank blocks → AllByRecursion IsTold (map Some (flat_map rank_of blocks))
 all-told [] h = tt

@@ -1,56 +1,19 @@
 -- Each character reference of a document has its events side by side, from its enter to its exit directly behind `;`, and the document's bytes there.
-use Rattle.std.proofs.Common.{◌≡◌, ℕ, suc, ◌+◌, List, [], ◌∷◌, ◌++◌, Bool, true, false, drop, Some, refl, sym, ap, ◌∙◌, subst, arith, cond, inl, inr, map, take}
-use Rattle.std.proofs.lemmas.Bool.{and_parts, false_from_ne_true, false≢true}
-use Rattle.std.proofs.lemmas.List.Elements.{All-from_recursion, recursion_from_All}
-use Rattle.std.specs.List.{AllByRecursion, flat_map}
-use Rattle.std.specs.Prelude.{◌&&◌, AllPairs, slice_index, not}
-use Rattle.markdown_base.specs.declared.configuration.Constructs.{Constructs}
+use Rattle.mddocument_laws.proofs.Prelude.{◌≡◌, ℕ, suc, ◌+◌, List, [], ◌∷◌, ◌++◌, Bool, true, false, drop, Some, refl, sym, ap, ◌∙◌, subst, arith, cond, inl, inr, map, take, and_parts, false_from_ne_true, false≢true, All-from_recursion, recursion_from_All, AllByRecursion, flat_map, ◌&&◌, AllPairs, slice_index, Constructs, Event, Name, Point, is_enter, same_name, IsPointOf, shown, stands_before, Seat, end_after, virtual, same_name-true, every-back, Given, IsDocument, IsText, Text, empty_text, followed_by, pushed, fitting_starts, text_from, all-begin, is-text, chain_text, Course, course-every, course-on, text-course, AcrossGap, flow_events, document_blocks, document_skeleton, shown_as_text, inline_events, inline_items, string_events, in_string_after, is_data, line_as_string, with_strings_from, skeleton-laws, content-ready as text-ready, strings-ready, texts-orderly, document_events, document_texts, is_defined_in, may_be_named, enters, BeginsWithReference, ReferencesOfDocumentsStand, IsWholeReference, ReferencesOfDocumentsEnd, string_seat_events, Found, item_events, inlines-hold-text, all-texts, inlines-lone, texts-torn, not}
 use Rattle.markdown_base.specs.declared.event.Content.TheVariants as content
-use Rattle.markdown_base.specs.declared.event.Event.{Event}
-use Rattle.markdown_base.specs.declared.event.Name.{Name}
 use Rattle.markdown_base.specs.declared.event.Name.TheVariants as name
-use Rattle.markdown_base.specs.declared.event.Point.{Point}
-use Rattle.markdown_base.specs.Events.{is_enter, same_name}
-use Rattle.markdown_base.specs.Places.{IsPointOf, shown, stands_before}
-use Rattle.markdown_base.specs.Virtual.{Seat, end_after, virtual}
-use Rattle.markdown_edits.proofs.Balanced.{same_name-true}
 use Rattle.markdown_tokenizer.proofs.Positions.Cursors.{same-self, upto-order}
-use Rattle.markdown_tokenizer.proofs.Positions.Order.{every-back}
-use Rattle.markdown_tokenizer.specs.Text.{Given, IsDocument, IsText, Text, empty_text, followed_by, pushed}
-use Rattle.markdown_children.specs.Chains.{begins, fitting_starts}
-use Rattle.markdown_children.specs.Reads.{text_from}
-use Rattle.mdconstructs_machines.specs.LineEvents.{lines_in}
-use Rattle.mdinline_text_machine.proofs.Paragraphs.ChainEvents.{all-begin, is-text}
-use Rattle.mdinline_text_machine.specs.ChainTexts.{chain_text}
+use Rattle.markdown_children.specs.Chains.{begins}
 use Rattle.mdinline_text_machine.specs.Parts.{bytes_of}
-use Rattle.mdblock_leaf_blocks.proofs.Marks.Courses.{Course, course-every, course-on, text-course}
-use Rattle.mdblock_leaf_blocks.specs.ChunksJoin.{AcrossGap}
-use Rattle.mdblock_leaf_blocks.specs.LeafBlocks.{LeafBlock, atx_heading, blank_line, break_line, fenced_code, html_block, indented_code, leaf_blocks, paragraph, setext_heading}
-use Rattle.mdblock_leaf_blocks.specs.LeafEvents.{flow_events, leaf_block_marks, leaf_blocks_marks}
-use Rattle.mdblock_definitions.specs.Blocks.{document_blocks, document_skeleton, shown_as_text}
 use Rattle.mdinline_machine.specs.InlineChains.{with_inlines}
-use Rattle.mdinline_machine.specs.InlineEvents.{inline_events, inline_items}
-use Rattle.mdinline_machine.specs.StringEvents.{string_events}
-use Rattle.mdinline_link_strings.specs.Strings.{in_string_after, is_data, line_as_string, with_strings_from}
-use Rattle.mddocument.proofs.InContainers.Skeletons.{skeleton-laws}
-use Rattle.mddocument.proofs.InContainers.TextsFormed.{content-ready as text-ready, strings-ready, texts-orderly}
-use Rattle.mddocument.specs.DocumentEvents.{document_events, document_texts, is_defined_in}
-use Rattle.mddocument_laws.specs.Names.{may_be_named}
-use Rattle.mddocument_laws.specs.Ranks.{enters}
-use Rattle.mddocument_laws.specs.ReferencePlaces.{BeginsWithReference, ReferencesOfDocumentsStand, IsWholeReference, ReferencesOfDocumentsEnd}
 use Rattle.mddocument_laws.proofs.ChildEvents.{children-are}
 use Rattle.mddocument_laws.proofs.DocumentNames.{skeleton-around}
-use Rattle.mddocument_laws.proofs.FlowNames.{IsOn, block-names}
+use Rattle.mddocument_laws.proofs.FlowNames.{flow-named-by}
 use Rattle.mddocument_laws.proofs.Inside.{around-other}
-use Rattle.mddocument_laws.proofs.Named.{Named, linked-named, marked-flat, marked-weaker, weaker}
+use Rattle.mddocument_laws.proofs.Named.{Named, weaker}
 use Rattle.mddocument_laws.proofs.ReferenceBytes.{IsWritten, written-virtual}
 use Rattle.mddocument_laws.proofs.ReferenceItems.{NoReference, Fits, read-has, string-has}
 use Rattle.markdown_children.proofs.Parts.TextGaps.{lone-untorn}
-use Rattle.mdinline_constructs.specs.StringItems.{string_seat_events}
-use Rattle.mdinline_text_machine.specs.Construct.{Found}
-use Rattle.mdinline_text_machine.specs.TextEvents.{item_events}
-use Rattle.mddocument.proofs.InContainers.InlineHolds.{inlines-hold-text}
-use Rattle.mddocument.proofs.InContainers.Tight.{all-texts, inlines-lone, texts-torn}
 use Rattle.mddocument_laws.proofs.ReferenceChildren.{children-whole}
 use Rattle.mddocument_laws.proofs.ReferenceLinks.{links-whole}
 use Rattle.mddocument_laws.proofs.ReferenceSeats.{IsSpanOf, reference-whole}
@@ -58,36 +21,14 @@ use Rattle.mddocument_laws.proofs.ReferenceSpans.{AreWhole, Goes, State, Step, b
 
 -- ---- leaf blocks have none
 
--- constructs by which leaf blocks have their names
 abbrev without : Constructs → Constructs
-without on = record on {
-  character_reference = false;
-  heading_atx = true;
-  heading_setext = true;
-  thematic_break = true;
-  code_indented = true;
-  code_fenced = true;
-  html_flow = true;
-}
-
-block-on : (on : Constructs) (block : LeafBlock) → IsOn (without on) block
-block-on on (blank_line line) = tt
-block-on on (break_line line) = refl
-block-on on (atx_heading line) = refl
-block-on on (paragraph lines) = tt
-block-on on (setext_heading rank lines underline) = refl
-block-on on (indented_code lines) = refl
-block-on on (fenced_code f is_closed lines) = refl
-block-on on (html_block kind is_closed lines) = refl
+without on = record on { character_reference = false }
 
 no-reference : (on : Constructs) (n : Name) → may_be_named (without on) n ≡ true → NoReference n
 no-reference on n h = false_from_ne_true (same_name n name.CharacterReference) (λ e. false≢true (subst (λ m. may_be_named (without on) m ≡ true) (same_name-true n name.CharacterReference e) h))
 
 flow-other : (on : Constructs) (bytes : List ℕ) (seats : List Seat) → Named NoReference (flow_events on bytes seats)
-flow-other on bytes seats =
-    let blocks = leaf_blocks on (lines_in seats) in
-    linked-named 0 (leaf_blocks_marks bytes blocks)
-    (marked-flat (leaf_block_marks bytes) blocks (λ block. marked-weaker (no-reference on) (leaf_block_marks bytes block) (block-names (without on) bytes block (block-on on block))))
+flow-other on bytes seats = weaker (no-reference on) (flow_events on bytes seats) (flow-named-by on (without on) (λ block h. h) bytes seats)
 
 -- ---- texts
 

@@ -1,29 +1,9 @@
 -- The events of leaf blocks tell the ranks of their headings; and none of them that has a link is of a heading.
-use Rattle.std.proofs.Common.{◌≡◌, ℕ, ◌+◌, ◌-◌, ◌==◌, List, [], ◌∷◌, ◌++◌, Bool, true, false, cond, inl, inr, Option, Some, None, append_assoc, drop, length, map, refl, sym, ap, ◌∙◌, subst, take}
-use Rattle.std.proofs.lemmas.Bool.{false_from_ne_true, false≢true, or_cases, or_parts}
-use Rattle.std.proofs.lemmas.List.{map-append}
-use Rattle.std.proofs.lemmas.Option.{none-some}
-use Rattle.std.specs.List.{AllByRecursion, flat_map, list_any}
-use Rattle.std.specs.Prelude.{◌&&◌, ◌||◌, option_map}
-use Rattle.markdown_base.proofs.Common.{every-append, every-map}
-use Rattle.markdown_base.specs.declared.configuration.Constructs.{Constructs}
+use Rattle.mddocument_laws.proofs.Prelude.{◌≡◌, ℕ, ◌+◌, ◌-◌, ◌==◌, List, [], ◌∷◌, ◌++◌, Bool, true, false, cond, inl, inr, Option, Some, None, append_assoc, drop, length, map, refl, sym, ap, ◌∙◌, subst, take, false_from_ne_true, false≢true, or_cases, or_parts, map-append, none-some, AllByRecursion, flat_map, list_any, ◌&&◌, ◌||◌, option_map, every-append, every-map, Constructs, Event, Enter, Exit, Name, is_enter, same_name, Seat, end_after, same_name-true, line_text, lines_in, event, Line, LeafBlock, atx_heading, blank_line, break_line, bytes_of, fenced_code, html_block, indented_code, leaf_blocks, paragraph, setext_heading, text_of, Chunk, Mark, body, chunk_span, flow_events, heading_around, last_end, leaf_block_marks, leaf_blocks_marks, linked_from, span_marks, text_chunk, text_marks, underline_marks, heading_text, indent, run, unindented, may_be_named, byte_of_first, enters, enters_heading, from_first, rank_at, rank_of, ranks_in, size_of_first}
 use Rattle.markdown_base.specs.declared.event.Content.TheVariants as content
-use Rattle.markdown_base.specs.declared.event.Event.{Event}
-use Rattle.markdown_base.specs.declared.event.Kind.TheVariants.{Enter, Exit}
-use Rattle.markdown_base.specs.declared.event.Name.{Name}
 use Rattle.markdown_base.specs.declared.event.Name.TheVariants as name
-use Rattle.markdown_base.specs.Events.{is_enter, same_name}
-use Rattle.markdown_base.specs.Virtual.{Seat, end_after}
-use Rattle.markdown_edits.proofs.Balanced.{same_name-true}
-use Rattle.mdconstructs_machines.specs.LineEvents.{line_text, lines_in}
-use Rattle.mdconstructs_machines.specs.Spans.{event}
 use Rattle.mdblock_leaf_blocks.proofs.Marks.LeafSpans.{leaf-blocks-keep}
 use Rattle.mdblock_leaf_blocks.proofs.Marks.MarkSpans.{IsKeptBySpans}
-use Rattle.mdblock_leaf_blocks.specs.LeafBlocks.{Line, LeafBlock, atx_heading, blank_line, break_line, bytes_of, fenced_code, html_block, indented_code, leaf_blocks, paragraph, setext_heading, text_of}
-use Rattle.mdblock_leaf_blocks.specs.LeafEvents.{Chunk, Mark, body, chunk_span, flow_events, heading_around, last_end, leaf_block_marks, leaf_blocks_marks, linked_from, span_marks, text_chunk, text_marks, underline_marks}
-use Rattle.mdblock_leaf_blocks.specs.LineKinds.{heading_text, indent, run, unindented}
-use Rattle.mddocument_laws.specs.Names.{may_be_named}
-use Rattle.mddocument_laws.specs.Ranks.{byte_of_first, enters, enters_heading, from_first, rank_at, rank_of, ranks_in, size_of_first}
 use Rattle.mddocument_laws.proofs.Chosen.{bare}
 use Rattle.mddocument_laws.proofs.FlowNames.{IsOn, block-names}
 use Rattle.mddocument_laws.proofs.HeadChildren.{IsOtherBy, IsOtherIfLinked}

@@ -1,20 +1,6 @@
 -- The events of leaf blocks have names of the constructs that are on.
-use Rattle.std.proofs.Common.{◌≡◌, ℕ, zero, suc, List, [], ◌∷◌, true, false, cond, not, Some, None, Option, refl, length}
-use Rattle.std.proofs.lemmas.Bool.{and_parts, cond_both, or_left, or_right}
-use Rattle.std.proofs.lemmas.Option.{none-some}
-use Rattle.std.specs.List.{AllByRecursion}
-use Rattle.std.specs.Prelude.{◌&&◌, ◌||◌}
-use Rattle.markdown_base.specs.declared.configuration.Constructs.{Constructs}
-use Rattle.markdown_base.specs.declared.event.Name.{Name}
+use Rattle.mddocument_laws.proofs.Prelude.{◌≡◌, ℕ, zero, suc, List, [], ◌∷◌, true, false, cond, not, Some, None, Option, refl, length, and_parts, cond_both, or_left, or_right, none-some, AllByRecursion, ◌&&◌, ◌||◌, Constructs, Name, Seat, lines_in, block_lines, HtmlKind, html_kind, Line, LeafBlock, atx_heading, blank_line, block_of_kind, blocks_in, break_line, content_at, fenced_code, html_block, indented_code, leaf_blocks, paragraph, setext_heading, text_of, underlined, Mark, flow_events, leaf_block_marks, LineKind, blank, fence, heading, html, indent, indented, is_atx_heading, is_blank_line, is_far, is_fence_of, is_thematic_break, is_underline_of_marks, kind_of_rest, line_kind, run, text, thematic_break, underline_rank, unindented, may_be_named}
 use Rattle.markdown_base.specs.declared.event.Name.TheVariants as name
-use Rattle.markdown_base.specs.Virtual.{Seat}
-use Rattle.mdconstructs_machines.specs.LineEvents.{lines_in}
-use Rattle.mdblock_leaf_blocks.specs.BlockLines.{block_lines}
-use Rattle.mdblock_leaf_blocks.specs.HtmlLines.{HtmlKind, html_kind}
-use Rattle.mdblock_leaf_blocks.specs.LeafBlocks.{Line, LeafBlock, atx_heading, blank_line, block_of_kind, blocks_in, break_line, content_at, fenced_code, html_block, indented_code, leaf_blocks, paragraph, setext_heading, text_of, underlined}
-use Rattle.mdblock_leaf_blocks.specs.LeafEvents.{Mark, flow_events, leaf_block_marks}
-use Rattle.mdblock_leaf_blocks.specs.LineKinds.{LineKind, blank, fence, heading, html, indent, indented, is_atx_heading, is_blank_line, is_far, is_fence_of, is_thematic_break, is_underline_of_marks, kind_of_rest, line_kind, run, text, thematic_break, underline_rank, unindented}
-use Rattle.mddocument_laws.specs.Names.{may_be_named}
 use Rattle.mddocument_laws.proofs.BlockWalk.{MayBlock, block-are}
 use Rattle.mddocument_laws.proofs.InnerTexts.{AnySeat, any-each, any-lines}
 use Rattle.mddocument_laws.proofs.Named.{Marked, Named, around, linked-named, marked-flat-by, names-walk, none}
@@ -80,12 +66,8 @@ module _ (on : Constructs) where
 
   block-is-on : (kind : LineKind) (line : Line) (lines : List Line) → KindIsOn kind → IsOn (block_of_kind on kind line lines).0
   block-is-on blank line lines h = tt
-  block-is-on indented line lines h = h
-  block-is-on heading line lines h = h
-  block-is-on (fence f) line lines h = h
-  block-is-on (html kind) line lines h = h
-  block-is-on thematic_break line lines h = h
   block-is-on text line lines h = content-is-on (line ∷ lines)
+  block-is-on kind line lines h = h
 
   pub blocks-are-on : (bound : ℕ) (lines : List Line) → AllByRecursion IsOn (blocks_in on bound lines)
   blocks-are-on zero lines = tt
@@ -102,16 +84,20 @@ module _ (on : Constructs) (bytes : List ℕ) where
 
   may-block : (block : LeafBlock) → IsOn on block → MayBlock May block
   may-block (blank_line line) h = tt
-  may-block (break_line line) h = (h, h)
   may-block (atx_heading line) h = (h, h, h)
   may-block (paragraph lines) h = refl
   may-block (setext_heading rank lines underline) h = (h, h, h, h)
   may-block (indented_code lines) h = (h, or_left on.code_indented on.code_fenced h)
   may-block (fenced_code f is_closed lines) h = record { code_fenced = h; fence = h; sequence = h; info = h; meta = h; code = or_right on.code_indented on.code_fenced h }
-  may-block (html_block kind is_closed lines) h = (h, h)
+  may-block block h = (h, h)
 
   pub block-names : (block : LeafBlock) → IsOn on block → Are (leaf_block_marks bytes block)
   block-names block h = block-are bytes Are May AnySeat AnySeat (names-walk May refl refl refl bytes) (λ c seats q i. around bytes (Some c) name.Data seats refl none) block (may-block block h) (any-each (block_lines block)) (any-lines (block_lines block))
 
-  pub flow-named : (seats : List Seat) → Named May (flow_events on bytes seats)
-  flow-named seats = linked-named 0 _ (marked-flat-by (IsOn on) (leaf_block_marks bytes) (leaf_blocks on (lines_in seats)) block-names (blocks-are-on on _ _))
+-- The leaf blocks of a text have names of the constructs that are on, also if others than leaf blocks' are not
+pub flow-named-by : (on other : Constructs) → ((block : LeafBlock) → IsOn on block → IsOn other block) → (bytes : List ℕ) (seats : List Seat) → Named (λ n. may_be_named other n ≡ true) (flow_events on bytes seats)
+flow-named-by on other still bytes seats =
+    linked-named 0 _ (marked-flat-by (IsOn on) (leaf_block_marks bytes) (leaf_blocks on (lines_in seats)) (λ block h. block-names other bytes block (still block h)) (blocks-are-on on _ _))
+
+pub flow-named : (on : Constructs) (bytes : List ℕ) (seats : List Seat) → Named (λ n. may_be_named on n ≡ true) (flow_events on bytes seats)
+flow-named on bytes seats = flow-named-by on on (λ block h. h) bytes seats

@@ -1,19 +1,7 @@
 -- The events of headings that tell ranks, where chains of chunks are replaced by what they are read as: those of the list stay, if no chunk is one.
-use Rattle.std.proofs.Common.{◌≡◌, ℕ, List, Option, Some, None, map}
-use Rattle.std.proofs.lemmas.Bool.{false≢true}
-use Rattle.std.specs.List.{AllByRecursion}
+use Rattle.mddocument_laws.proofs.Prelude.{◌≡◌, ℕ, List, Option, Some, None, map, false≢true, AllByRecursion, IsSome, every-get, Content, Event, Name, relinked, with_ends, Fits, chunk, fitting_starts, with_children, IsReady, false}
 use Rattle.std.specs.Option.{option_map}
-use Rattle.std.specs.Prelude.{IsSome, false}
-use Rattle.markdown_base.proofs.Common.{every-get}
-use Rattle.markdown_base.specs.declared.event.Content.{Content}
-use Rattle.markdown_base.specs.declared.event.Event.{Event}
 use Rattle.markdown_base.specs.declared.event.Link.{Link}
-use Rattle.markdown_base.specs.declared.event.Name.{Name}
-use Rattle.markdown_base.specs.Events.{relinked, with_ends}
-use Rattle.markdown_children.proofs.ChainOrder.Following.{Fits, chunk}
-use Rattle.markdown_children.specs.Chains.{fitting_starts}
-use Rattle.markdown_children.specs.Children.{with_children}
-use Rattle.markdown_children.specs.Ready.{IsReady}
 use Rattle.mddocument_laws.proofs.Chosen.{chosen-stay}
 use Rattle.mddocument_laws.proofs.Heads.{AreOther, heads}
 use Rattle.mddocument_laws.proofs.Inside.{is_of_heading}

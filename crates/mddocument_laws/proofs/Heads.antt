@@ -1,19 +1,10 @@
 -- The events of headings that tell ranks, among others: where other events come and go, the ranks stay.
-use Rattle.std.proofs.Common.{◌≡◌, ℕ, List, [], ◌∷◌, ◌++◌, Bool, true, false, cond, None, map, refl, sym, ap, ◌∙◌, subst}
-use Rattle.std.proofs.lemmas.Bool.{and_parts}
-use Rattle.std.proofs.lemmas.Option.{same_Some}
-use Rattle.std.specs.List.{AllByRecursion}
-use Rattle.std.specs.Prelude.{◌==◌, ◌&&◌, ◌||◌, option_map}
+use Rattle.mddocument_laws.proofs.Prelude.{◌≡◌, ℕ, List, [], ◌∷◌, ◌++◌, Bool, true, false, cond, None, map, refl, sym, ap, ◌∙◌, subst, arith, and_parts, same_Some, AllByRecursion, ◌&&◌, ◌||◌, option_map, Event, Name, IsVoidTight, is_enter, is_void, same_name, same_name-true, byte_of_first, enters, enters_heading, from_first, rank_at, ranks_in, size_of_first, ◌==◌}
 use Rattle.markdown_base.proofs.Facts.Kinds.{enter-is}
-use Rattle.markdown_base.specs.declared.event.Event.{Event}
-use Rattle.markdown_base.specs.declared.event.Name.{Name}
 use Rattle.markdown_base.specs.declared.event.Name.TheVariants as name
-use Rattle.markdown_base.specs.Events.{IsVoidTight, is_enter, is_void, same_name}
-use Rattle.markdown_edits.proofs.Balanced.{same_name-true}
 use Rattle.markdown_tokenizer.proofs.Readings.Formed.{tight-behind}
 use Rattle.mddocument_laws.proofs.Chosen.{bare, chosen}
 use Rattle.mddocument_laws.proofs.Inside.{is_of_heading}
-use Rattle.mddocument_laws.specs.Ranks.{byte_of_first, enters, enters_heading, from_first, rank_at, ranks_in, size_of_first}
 
 -- the events with these names, without their links
 abbrev pub heads : List Event → List Event
@@ -79,10 +70,7 @@ module _ (bytes : List ℕ) where
 
   -- what has no such name enters no heading
   no-heading : (k a s r : Bool) → (a || (s || r)) ≡ false → ((k && a) || (k && s)) ≡ false
-  no-heading true true s r h = absurd (cc)
-  no-heading true false true r h = absurd (cc)
-  no-heading true false false r h = refl
-  no-heading false a s r h = refl
+  no-heading k a s r h = grind arith
 
   -- The ranks that events with empty void spans tell are those that the events of headings alone tell
   pub ranks-heads : (es : List Event) → IsVoidTight es → ranks_in bytes (heads es) ≡ ranks_in bytes es

@@ -1,14 +1,6 @@
 -- Kinds of HTML are told apart by the bytes behind `<`, and by the names of tags; and so no order of kinds of lines matters.
-use Rattle.std.proofs.Common.{◌≡◌, ℕ, ◌==◌, ◌∙◌, ◌⊎◌, List, [], ◌∷◌, Bool, true, false, cond, inl, inr, Some, None, Option, arith, refl, sym, ap, subst, take, drop, length, map, nat_le}
-use Rattle.std.proofs.lemmas.Bool.{and_parts, and_right, cases_Bool, eqb-true, false≢true, ne_eqb, or_cases}
-use Rattle.std.proofs.lemmas.List.{length-map}
-use Rattle.std.specs.Char.{is_ascii_alphabetic, is_ascii_alphanumeric}
-use Rattle.std.specs.List.{AllByRecursion, prefix_len}
-use Rattle.std.specs.Prelude.{◌&&◌, ◌||◌, codes, is_some}
-use Rattle.markdown_base.specs.Texts.{html_block_names, html_raw_names}
-use Rattle.mdblock_leaf_blocks.specs.HtmlLines.{HtmlKind, any_tag, begins, behind_name, block_tag, cdata, comment, declaration, ends_name, first_passes, html_kind, instruction, is_block_name, is_closing_tag, is_named, is_open_tag, lower, name_at, raw, starts_with, tag_name}
-use Rattle.mdblock_leaf_blocks.specs.LineKinds.{is_fence_of, is_thematic_break}
-use Rattle.mddocument_laws.specs.LineStarts.{HtmlExcludes, KindsHaveNoOrder, LineStart, atx, has_own_name, line_break, markup, starts, ticks, tildes}
+use Rattle.mddocument_laws.proofs.Prelude.{◌≡◌, ℕ, ◌==◌, ◌∙◌, ◌⊎◌, List, [], ◌∷◌, Bool, true, false, cond, inl, inr, Some, None, Option, arith, refl, sym, ap, subst, take, drop, length, map, and_parts, and_right, cases_Bool, eqb-true, false≢true, ne_eqb, or_cases, length-map, is_ascii_alphabetic, is_ascii_alphanumeric, AllByRecursion, prefix_len, ◌&&◌, ◌||◌, codes, html_block_names, html_raw_names, HtmlKind, any_tag, begins, behind_name, block_tag, cdata, comment, declaration, ends_name, first_passes, html_kind, instruction, is_block_name, is_closing_tag, is_named, is_open_tag, lower, name_at, raw, starts_with, tag_name, is_fence_of, is_thematic_break, HtmlExcludes, KindsHaveNoOrder, LineStart, atx, has_own_name, line_break, markup, starts, ticks, tildes, nat_le}
+use Rattle.std.specs.Prelude.{is_some}
 use Rattle.mddocument_laws.proofs.LineStarts.{group_of, none-from, starts-group}
 
 -- ---- groups, by the second and the third byte

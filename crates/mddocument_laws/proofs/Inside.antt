@@ -1,12 +1,6 @@
 -- The names that stand around leaf blocks and in their texts: those that a document may have, but for those that tell of headings.
-use Rattle.std.proofs.Common.{◌≡◌, Bool, true, false, not}
-use Rattle.std.proofs.lemmas.Bool.{and_parts, not-true}
-use Rattle.std.specs.Prelude.{◌&&◌, ◌||◌}
-use Rattle.markdown_base.specs.declared.configuration.Constructs.{Constructs}
-use Rattle.markdown_base.specs.declared.event.Name.{Name}
+use Rattle.mddocument_laws.proofs.Prelude.{◌≡◌, Bool, true, false, not, and_parts, not-true, ◌&&◌, ◌||◌, Constructs, Name, same_name, may_be_named}
 use Rattle.markdown_base.specs.declared.event.Name.TheVariants as name
-use Rattle.markdown_base.specs.Events.{same_name}
-use Rattle.mddocument_laws.specs.Names.{may_be_named}
 
 -- the names of headings, and of the sequences that tell their ranks
 abbrev pub is_of_heading : Name → Bool

@@ -1,4 +1,5 @@
 -- The events of the items of inline text, and of strings, have names of the constructs that are on.
+use Rattle.mddocument_laws.proofs.Prelude.{Seat, is_white, leaf, span, Stretch, backticks, has_byte_at, is_backtick, is_greater_than, is_less_than, is_line_feed, passes, BracketMark, Found, Grammar, fails, first_there, if_on, makes, opens, or_else, plain, escape, escape_at, item_length, cut, cut_remembering, line_ending, part, part_events, part_length, plain_run, item_events, Kind, body_at, decimal, hexadecimal, mark_events, named, number_at, reference, reference_at, value_at, white_space, white_space_at}
 use Rattle.std.proofs.Common.{◌≡◌, ℕ, zero, suc, ◌+◌, ◌-◌, List, [], ◌∷◌, ◌++◌, Bool, true, cond, inl, not, Some, None, Option, refl, take, drop, length, map, inr, subst, sym}
 use Rattle.std.proofs.lemmas.Bool.{and_from, and_parts, cond_both, false≢true, or_left, or_right}
 use Rattle.std.specs.List.{AllByRecursion, between, flat_map, position_or_len, prefix_len}
@@ -9,29 +10,18 @@ use Rattle.markdown_base.specs.declared.configuration.Constructs.{Constructs}
 use Rattle.markdown_base.specs.declared.event.Event.{Event}
 use Rattle.markdown_base.specs.declared.event.Name.{Name}
 use Rattle.markdown_base.specs.declared.event.Name.TheVariants as name
-use Rattle.markdown_base.specs.Virtual.{Seat}
 use Rattle.mdinline_labels.specs.Labels.{is_label}
-use Rattle.mdconstructs_tables.specs.Breaks.{is_white}
-use Rattle.mdconstructs_machines.specs.Spans.{leaf, span}
-use Rattle.mdinline_labels.specs.declared.definitions.Stretch.{Stretch}
 use Rattle.mdinline_labels.specs.declared.resources.Resource.{Resource as Parts}
 use Rattle.mdinline_labels.specs.Resources.{resource_at}
 use Rattle.mdinline_labels.specs.Tails.{begins_with}
 use Rattle.mdinline_text_machine.specs.Autolink.{autolink, autolink_at, autolink_to, uri}
-use Rattle.mdinline_text_machine.specs.Bytes.{backticks, has_byte_at, is_backtick, is_greater_than, is_less_than, is_line_feed, passes}
 use Rattle.mdinline_text_machine.specs.CodeSpan.{before_backtick_string, code_span, code_span_at, pieces}
-use Rattle.mdinline_text_machine.specs.Construct.{BracketMark, Found, Grammar, fails, first_there, if_on, makes, opens, or_else, plain}
-use Rattle.mdinline_text_machine.specs.Escape.{escape, escape_at}
-use Rattle.mdinline_text_machine.specs.Items.{item_length}
-use Rattle.mdinline_text_machine.specs.Parts.{Part, bytes_of, cut, cut_remembering, line_ending, part, part_events, part_length, plain_run}
-use Rattle.mdinline_text_machine.specs.TextEvents.{item_events}
+use Rattle.mdinline_text_machine.specs.Parts.{Part, bytes_of}
 use Rattle.mdinline_constructs.specs.Email.{email, email_at, email_with}
 use Rattle.mdinline_constructs.specs.HardBreak.{break_escape_at, hard_break_escape, hard_break_trailing, trailing_break_at}
 use Rattle.mdinline_constructs.specs.HtmlMarked.{marked}
 use Rattle.mdinline_constructs.specs.HtmlTag.{tag_length}
 use Rattle.mdinline_constructs.specs.HtmlText.{Piece, data_run as html_run, has_blank_line, html, html_of, line_break as html_break, piece_at, piece_events, piece_length}
-use Rattle.mdinline_constructs.specs.Reference.{Kind, body_at, decimal, hexadecimal, mark_events, named, number_at, reference, reference_at, value_at}
-use Rattle.mdinline_constructs.specs.WhiteSpace.{white_space, white_space_at}
 use Rattle.mdinline_link_tails.specs.Resource.{behind_destination, destination_events, destination_string, gap_events, in_marks, in_resource, line_part, resource, string_events, title_events, unmarked}
 use Rattle.mdinline_full_references.specs.FullReference.{full_reference, label_length, label_text}
 use Rattle.mdinline_machine.specs.Brackets.{Bracket, Memory, after_item, are_brackets, before_link, bytes_before, has_bracket, spanned_bytes, begins_end, begins_link, bracket_at, collapsed_reference, end_at, end_of_last, image_bracket, is_image_bracket, is_wanted_at, label_end, link_bracket, lone_end, no_tail, nothing_read, own_is_defined, own_tail, tail_of, waiting_behind}
@@ -162,8 +152,7 @@ module _ (on : Constructs) where
   -- ---- character references
   marks-named : (bytes : List ℕ) (kind : Kind) (seats : List Seat) → on.character_reference ≡ true → Are (mark_events bytes kind seats)
   marks-named bytes named seats h = leafs bytes name.CharacterReferenceMarker _ h
-  marks-named bytes decimal seats h = search (together, leafs, h)
-  marks-named bytes hexadecimal seats h = search (together, leafs, h)
+  marks-named bytes kind seats h = search (together, leafs, h)
 
   reference-item : (kind : Kind) (n : ℕ) → on.character_reference ≡ true → IsItem (reference kind n)
   reference-item kind n h = record { opens = tt; names = λ bytes seats. search (together, over, leafs, marks-named, h) }

@@ -1,3 +1,4 @@
+mod Prelude
 -- names
 pub mod ChildNames
 pub mod Chosen

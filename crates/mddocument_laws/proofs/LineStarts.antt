@@ -1,16 +1,6 @@
 -- What lines begin with is told apart by their first bytes.
-use Rattle.std.proofs.Common.{◌≡◌, ℕ, suc, ◌≤◌, ◌==◌, ◌∙◌, ◌⊎◌, List, [], ◌∷◌, Bool, true, false, cond, inl, inr, None, arith, refl, sym, ap, subst, drop, nat_le}
-use Rattle.std.proofs.lemmas.Bool.{and_parts, cases_Bool, eqb-true, false≢true, leb-true, ne_eqb, or_cases}
-use Rattle.std.proofs.lemmas.Bool.Decides.{nat_tests}
-use Rattle.std.specs.List.{list_all}
-use Rattle.std.specs.Char.{is_ascii_alphabetic}
-use Rattle.std.specs.Prelude.{◌&&◌, ◌||◌, codes, is_some}
-use Rattle.markdown_base.specs.Texts.{html_raw_names}
-use Rattle.mdconstructs_tables.specs.Breaks.{is_white}
-use Rattle.mdblock_leaf_blocks.specs.HtmlLines.{HtmlKind, any_tag, begins, behind_name, block_tag, cdata, comment, declaration, ends_name, first_passes, html_kind, is_block_name, is_named, name_at, instruction, is_closing_tag, is_open_tag, raw, starts_with}
-use Rattle.mdblock_leaf_blocks.specs.LineKinds.{begins_with, is_break_of_marks, run}
-use Rattle.mdblock_lines.specs.Containers.{digits, first_byte, is_marker}
-use Rattle.mddocument_laws.specs.LineStarts.{BlankStartsNothing, LineStart, StartsExclude, atx, block_quote, dashes, equals_signs, has_precedence, line_break, list_item, markup, starts, ticks, tildes}
+use Rattle.mddocument_laws.proofs.Prelude.{◌≡◌, ℕ, suc, ◌≤◌, ◌==◌, ◌∙◌, ◌⊎◌, List, [], ◌∷◌, Bool, true, false, cond, inl, inr, None, arith, refl, sym, ap, subst, drop, and_parts, cases_Bool, eqb-true, false≢true, leb-true, ne_eqb, or_cases, nat_tests, list_all, is_ascii_alphabetic, ◌&&◌, ◌||◌, codes, html_raw_names, is_white, HtmlKind, any_tag, begins, behind_name, block_tag, cdata, comment, declaration, ends_name, first_passes, html_kind, is_block_name, is_named, name_at, instruction, is_closing_tag, is_open_tag, raw, starts_with, begins_with, is_break_of_marks, run, digits, first_byte, is_marker, BlankStartsNothing, LineStart, StartsExclude, atx, block_quote, dashes, equals_signs, has_precedence, line_break, list_item, markup, starts, ticks, tildes, nat_le}
+use Rattle.std.specs.Prelude.{is_some}
 
 -- the group of a first byte
 abbrev group_at : ℕ → ℕ
@@ -158,14 +148,7 @@ starts-exclude a b r h k = same-group a b (sym (starts-group a r h) ∙ starts-g
 
 few-groups : (a : LineStart) → (group_of a ≡ 0 → ⊥) × (group_of a ≡ 8 → ⊥)
 few-groups atx = (λ e. omega arith, λ e. omega arith)
-few-groups ticks = (λ e. omega arith, λ e. omega arith)
-few-groups tildes = (λ e. omega arith, λ e. omega arith)
-few-groups markup = (λ e. omega arith, λ e. omega arith)
-few-groups equals_signs = (λ e. omega arith, λ e. omega arith)
-few-groups block_quote = (λ e. omega arith, λ e. omega arith)
-few-groups line_break = (λ e. omega arith, λ e. omega arith)
-few-groups dashes = (λ e. omega arith, λ e. omega arith)
-few-groups list_item = (λ e. omega arith, λ e. omega arith)
+few-groups a = (λ e. omega arith, λ e. omega arith)
 
 blank-group : (b : ℕ) → is_white b ≡ true → group_at b ≡ 8
 blank-group b h = ap (λ t. cond t 8 (cond (b == 35) 1 (cond (b == 96) 2 (cond (b == 126) 3 (cond (b == 60) 4 (cond (b == 61) 5 (cond (b == 62) 6 7))))))) h

@@ -17,6 +17,7 @@ use Rattle.mdinline_emphasis.specs.Emphasis.{Run, have_two, style_by, style_of}
 use Rattle.mdinline_emphasis.specs.Runs.{depth_after, index_of_event, is_sequence, marker_from, run_at, runs_from, runs_in}
 use Rattle.mdinline_links.specs.Linked.{Part, SoFar, Waiting, added, all_parts, around, as_data, emphasised_parts, ended, events, failed, is_bracket, is_named, is_run, is_tail, label_text, last_place, linked_from, made, opened, outermost_spans, part_of, run, runs_of_parts, spanning, spans_in, taken, text_before, text_behind, with_links}
 use Rattle.mddocument_laws.specs.Names.{has_labels}
+use Rattle.mddocument_laws.proofs.Emphasis.LinkSpans.{every-part}
 use Rattle.mddocument_laws.proofs.EmphasisEvents.{IsOfStyle, IsRun, as-data-are, emphasis-are, spanning-are}
 use Rattle.mddocument_laws.proofs.Inside.{stands_inside}
 use Rattle.mddocument_laws.proofs.PlainNames.{plain-inside}
@@ -179,10 +180,6 @@ module _ (on : Constructs) where
     runs : AllByRecursion IsRunOn z.runs
     few : runs_among spans ≤ length z.runs
 
-  all-parts : (ws : List Waiting) (behind : List Part) → AllByRecursion IsWaiting ws → AreParts behind → AreParts (all_parts ws behind)
-  all-parts [] behind h k = k
-  all-parts (w ∷ ws) behind h k = all-parts ws (w.before ++ events (as_data w.opener) ∷ behind) h.1 (every-append IsPart w.before (events (as_data w.opener) ∷ behind) h.0.before (data-of-it w.opener, k))
-
   abbrev Left : List (List Event) → Part × List Run → Type 0
   Left spans p = IsPart p.0 × AllByRecursion IsRunOn p.1 × (runs_among spans ≤ length p.1)
 
@@ -261,7 +258,7 @@ module _ (on : Constructs) where
       let few : runs_among (outermost_spans es) ≤ length (runs_in bytes es) =
       subst (λ (l : List Event). runs_among (spans_in (length es) l) ≤ length (runs_from bytes 0 0 None l)) (append-nil es) (h.found [] none-found bytes 0 None (length es)) in
       let is = is-linked (outermost_spans es) start spans (record { waits = tt; behind = tt; runs = runs-on bytes 0 0 None es runs; few = few }) in
-      parts-named (all_parts z.waiting z.behind) (all-parts z.waiting z.behind is.waits is.behind)
+      parts-named (all_parts z.waiting z.behind) (every-part IsPart IsWaiting (λ w h. h.before) data-of-it z.waiting z.behind is.waits is.behind)
     where
       none-fine : (bound : ℕ) → AllByRecursion (IsFine on) (spans_in bound [])
       none-fine zero = tt

@@ -1,15 +1,6 @@
 -- What names lists of events and of marks have, by what they are made of.
-use Rattle.std.proofs.Common.{ℕ, ◌+◌, Bool, true, List, [], ◌∷◌, ◌++◌, Some, None, Option}
-use Rattle.std.specs.List.{AllByRecursion, flat_map}
-use Rattle.markdown_base.proofs.Common.{every-append, every-map}
-use Rattle.markdown_base.specs.declared.event.Event.{Event}
-use Rattle.markdown_base.specs.declared.event.Name.{Name}
+use Rattle.mddocument_laws.proofs.Prelude.{ℕ, ◌+◌, Bool, true, List, [], ◌∷◌, ◌++◌, Some, None, Option, AllByRecursion, flat_map, every-append, every-map, Event, Name, Seat, ending_of, line_text, leaf, span, Line, Chunk, Mark, chunk_span, last_end, leaf_marks, linked_from, sequence_marks, text_marks}
 use Rattle.markdown_base.specs.declared.event.Name.TheVariants as name
-use Rattle.markdown_base.specs.Virtual.{Seat}
-use Rattle.mdconstructs_machines.specs.LineEvents.{ending_of, line_text}
-use Rattle.mdconstructs_machines.specs.Spans.{leaf, span}
-use Rattle.mdblock_leaf_blocks.specs.LeafBlocks.{Line}
-use Rattle.mdblock_leaf_blocks.specs.LeafEvents.{Chunk, Mark, chunk_span, last_end, leaf_marks, linked_from, sequence_marks, text_marks}
 use Rattle.mddocument_laws.proofs.InnerTexts.{AnySeat}
 use Rattle.mddocument_laws.proofs.MarksWalk.{Walk, walk-of-marks}
 

@@ -2,30 +2,9 @@
 --
 -- A child is cut between two events only if the second stands behind the first. In a reference that is so only where a void span is entered, and no
 -- chunks tear one: so nothing comes between the two. No chunk of the list is in a reference, as its events are in no chain.
-use Rattle.std.proofs.Common.{◌≡◌, ℕ, ◌+◌, List, [], ◌∷◌, ◌++◌, Bool, true, false, not, inl, inr, Option, drop, length, refl, sym, ap, ◌∙◌, subst, arith, zero-add}
-use Rattle.std.proofs.lemmas.Bool.{and_parts, false≢true}
-use Rattle.std.specs.List.{AllByRecursion, between, take_while}
-use Rattle.std.specs.Prelude.{IsSome, slice_get}
-use Rattle.markdown_base.specs.declared.event.Content.{Content}
-use Rattle.markdown_base.specs.declared.event.Event.{Event}
-use Rattle.markdown_base.specs.declared.event.Kind.TheVariants.{Exit}
-use Rattle.markdown_base.specs.declared.event.Name.TheVariants.{CharacterReference}
-use Rattle.markdown_base.specs.declared.event.Point.{Point}
-use Rattle.markdown_base.specs.Events.{is_enter, relinked, same_name}
-use Rattle.markdown_base.specs.Places.{stands_before}
-use Rattle.markdown_edits.proofs.Edits.Passes.{woven-pass}
-use Rattle.markdown_edits.specs.Woven.{Change, Tagged, placed_end, placed_in, woven}
+use Rattle.mddocument_laws.proofs.Prelude.{◌≡◌, ℕ, ◌+◌, List, [], ◌∷◌, ◌++◌, Bool, true, false, not, inl, inr, Option, drop, length, refl, sym, ap, ◌∙◌, subst, arith, zero-add, and_parts, false≢true, AllByRecursion, between, take_while, IsSome, slice_get, Content, Event, Exit, CharacterReference, Point, is_enter, relinked, same_name, stands_before, woven-pass, Change, Tagged, placed_end, placed_in, woven, Fits, chunk, fits_next, changes_are_apart, after_changes, between-none, joined, joined-parts, part_after, split-at, untagged, untagged-olds, with_children_holds, fitting_starts, child_changes, part_changes, with_children, AreSpaced, EndsInVoidEnter, IsTornNowhere, LeadOnFrom, NoneTorn, StandSideBySide, Divided, divided_over, front_until, parts, IsReady, drop-two}
 use Rattle.markdown_tokenizer.proofs.Readings.Plain.{unlinked-same}
-use Rattle.markdown_children.proofs.ChainOrder.Following.{Fits, chunk, fits_next}
-use Rattle.markdown_children.proofs.ChainOrder.Spaced.{changes_are_apart}
-use Rattle.markdown_children.proofs.Parts.Kept.{after_changes, between-none, joined, joined-parts, part_after, split-at, untagged, untagged-olds, with_children_holds}
 use Rattle.markdown_children.proofs.Parts.Untorn.{fails-next, front-more, front-none}
-use Rattle.markdown_children.specs.Chains.{fitting_starts}
-use Rattle.markdown_children.specs.Children.{child_changes, part_changes, with_children}
-use Rattle.markdown_children.specs.LawStatements.{AreSpaced, EndsInVoidEnter, IsTornNowhere, LeadOnFrom, NoneTorn, StandSideBySide}
-use Rattle.markdown_children.specs.Parts.{Divided, divided_over, front_until, parts}
-use Rattle.markdown_children.specs.Ready.{IsReady}
-use Rattle.mdinline_text_machine.proofs.Paragraphs.ChunksReady.{drop-two}
 use Rattle.mddocument_laws.proofs.ReferenceSpans.{AreWhole, Goes, State, Step, behind, goes-both, goes-split, inside, outside}
 
 -- ---- where a child is cut

@@ -1,15 +1,5 @@
 -- Documents with a character reference, by computation: its events are its spans.
-use Rattle.std.proofs.Common.{◌≡◌, ℕ, List, [], ◌∷◌, ◌++◌, refl}
-use Rattle.std.specs.Prelude.{codes, drop, take}
-use Rattle.markdown_base.specs.declared.event.Event.{Event}
-use Rattle.markdown_base.specs.declared.event.Kind.TheVariants.{Enter, Exit}
-use Rattle.markdown_base.specs.declared.event.Name.TheVariants.{Paragraph}
-use Rattle.markdown_base.specs.Presets.{default_constructs, default_parse_options}
-use Rattle.markdown_base.specs.Virtual.{point}
-use Rattle.mdinline_emphasis.specs.Emphasis.{unlinked_event}
-use Rattle.mdinline_constructs.specs.Reference.{decimal, hexadecimal}
-use Rattle.mddocument.specs.DocumentEvents.{document_events}
-use Rattle.mddocument_laws.specs.ReferencePlaces.{reference_span}
+use Rattle.mddocument_laws.proofs.Prelude.{◌≡◌, ℕ, List, [], ◌∷◌, ◌++◌, refl, codes, Event, Enter, Exit, Paragraph, default_constructs, default_parse_options, point, unlinked_event, decimal, hexadecimal, document_events, reference_span, drop, take}
 
 abbrev events : List ℕ → List Event
 events bytes = document_events (record { bytes = bytes; options = record default_parse_options { constructs = default_constructs }; tab = 4 })

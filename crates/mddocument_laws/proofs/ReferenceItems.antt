@@ -1,35 +1,9 @@
 -- The items of texts and strings that enter a character reference are one, where they stand.
-use Rattle.std.proofs.Common.{◌≡◌, ◌⊎◌, ℕ, zero, suc, ◌+◌, List, [], ◌∷◌, ◌++◌, Bool, true, false, inl, inr, Option, Some, None, append_assoc, drop, length, refl, sym, ap, ◌∙◌, subst, take, take-append-drop}
-use Rattle.std.proofs.lemmas.Bool.{and_parts, cond_both, false_from_ne_true, false≢true}
-use Rattle.std.specs.List.{AllByRecursion, between, flat_map, prefix_len}
-use Rattle.std.specs.Option.{is_some}
-use Rattle.markdown_base.proofs.Common.{every-append, every-map}
-use Rattle.markdown_base.specs.declared.configuration.Constructs.{Constructs}
-use Rattle.markdown_base.specs.declared.event.Event.{Event}
-use Rattle.markdown_base.specs.declared.event.Kind.TheVariants.{Exit}
-use Rattle.markdown_base.specs.declared.event.Name.{Name}
+use Rattle.mddocument_laws.proofs.Prelude.{◌≡◌, ◌⊎◌, ℕ, zero, suc, ◌+◌, List, [], ◌∷◌, ◌++◌, Bool, true, false, inl, inr, Option, Some, None, append_assoc, drop, length, refl, sym, ap, ◌∙◌, subst, take, take-append-drop, and_parts, cond_both, false_from_ne_true, false≢true, AllByRecursion, between, flat_map, prefix_len, is_some, every-append, every-map, Constructs, Event, Exit, Name, is_enter, same_name, Seat, end_after, same_name-true, is_white, event, leaf, span, has_byte_at, is_ampersand, is_line_feed, Found, if_on, or_else, escape_at, item_length, cut, cut_remembering, line_ending, part, plain_run, item_events, Kind, body_at, decimal, hexadecimal, is_number_sign, is_value_byte, is_x, mark_events, marks, named, number_at, reference, reference_at, value_at, white_space, white_space_at, Bracket, Memory, after_item, begins_end, begins_link, bracket_at, end_at, end_of_last, image_bracket, is_image_bracket, link_bracket, nothing_read, data_length, data_run, delimiter_run, inline_item_at, inline_items, run_length, run_or_part, begins_run, string_data, string_item_at, string_part, string_seat_events, enters, StandsAtReference, may_be_named}
 use Rattle.markdown_base.specs.declared.event.Name.TheVariants as name
-use Rattle.markdown_base.specs.Events.{is_enter, same_name}
-use Rattle.markdown_base.specs.Virtual.{Seat, end_after}
-use Rattle.markdown_edits.proofs.Balanced.{same_name-true}
-use Rattle.mdconstructs_tables.specs.Breaks.{is_white}
-use Rattle.mdconstructs_machines.specs.Spans.{event, leaf, span}
-use Rattle.mdinline_text_machine.specs.Bytes.{has_byte_at, is_ampersand, is_line_feed}
-use Rattle.mdinline_text_machine.specs.Construct.{Found, if_on, or_else}
-use Rattle.mdinline_text_machine.specs.Escape.{escape_at}
-use Rattle.mdinline_text_machine.specs.Items.{item_length}
-use Rattle.mdinline_text_machine.specs.Parts.{Part, bytes_of, cut, cut_remembering, line_ending, part, plain_run}
-use Rattle.mdinline_text_machine.specs.TextEvents.{item_events}
-use Rattle.mdinline_constructs.specs.Reference.{Kind, body_at, decimal, hexadecimal, is_number_sign, is_value_byte, is_x, mark_events, marks, named, number_at, reference, reference_at, value_at}
-use Rattle.mdinline_constructs.specs.WhiteSpace.{white_space, white_space_at}
-use Rattle.mdinline_machine.specs.Brackets.{Bracket, Memory, after_item, begins_end, begins_link, bracket_at, end_at, end_of_last, image_bracket, is_image_bracket, link_bracket, nothing_read}
-use Rattle.mdinline_machine.specs.InlineEvents.{data_length, data_run, delimiter_run, inline_item_at, inline_items, line_break, run_length, run_or_part}
-use Rattle.mdinline_machine.specs.RunRows.{begins_run}
-use Rattle.mdinline_constructs.specs.StringItems.{string_data, string_item_at, string_part, string_seat_events}
-use Rattle.mddocument_laws.specs.Ranks.{enters}
-use Rattle.mddocument_laws.specs.ReferencePlaces.{StandsAtReference}
+use Rattle.mdinline_text_machine.specs.Parts.{Part, bytes_of}
+use Rattle.mdinline_machine.specs.InlineEvents.{line_break}
 use Rattle.mddocument_laws.proofs.Inside.{inside-may, stands_inside}
-use Rattle.mddocument_laws.specs.Names.{may_be_named}
 use Rattle.mddocument_laws.proofs.PlainNames.{plain-inside}
 use Rattle.mddocument_laws.proofs.ItemNames.{IfItem, IsItem, ends-fit, inlines-fit, strings-fit}
 use Rattle.mddocument_laws.proofs.Named.{Named, and, leafed, spanned, weaker}

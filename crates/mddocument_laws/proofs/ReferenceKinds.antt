@@ -1,14 +1,6 @@
 -- What bytes begin with, where a character reference is.
-use Rattle.std.proofs.Common.{◌≡◌, ℕ, List, Bool, true, false, cond, drop, Some, None, refl, sym, ap, ◌∙◌, subst, take}
-use Rattle.std.proofs.lemmas.Bool.{and_parts, false≢true}
-use Rattle.std.proofs.lemmas.List.{drop-drop}
-use Rattle.std.specs.List.{prefix_len}
-use Rattle.std.specs.Option.{is_some}
-use Rattle.std.specs.Prelude.{◌&&◌}
+use Rattle.mddocument_laws.proofs.Prelude.{◌≡◌, ℕ, List, Bool, true, false, cond, drop, Some, None, refl, sym, ap, ◌∙◌, subst, take, and_parts, false≢true, drop-drop, prefix_len, is_some, ◌&&◌, has_byte_at, is_ampersand, passes, Kind, body_at, decimal, hexadecimal, is_number_sign, is_semicolon, is_value, is_value_byte, is_x, marks, named, number_at, reference, reference_at, value_at, BeginsWithReference, ReferencesAreWritten}
 use Rattle.markdown_base.proofs.Facts.Lists.{get-dropped}
-use Rattle.mdinline_text_machine.specs.Bytes.{has_byte_at, is_ampersand, passes}
-use Rattle.mdinline_constructs.specs.Reference.{Kind, body_at, decimal, hexadecimal, is_number_sign, is_semicolon, is_value, is_value_byte, is_x, marks, named, number_at, reference, reference_at, value_at}
-use Rattle.mddocument_laws.specs.ReferencePlaces.{BeginsWithReference, ReferencesAreWritten}
 use Rattle.mddocument_laws.proofs.ReferenceBytes.{some-cond}
 
 -- a value, with its semicolon, and how many bytes it has

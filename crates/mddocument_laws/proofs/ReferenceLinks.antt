@@ -1,17 +1,6 @@
 -- Links, images and emphasis leave each character reference whole.
-use Rattle.std.proofs.Common.{◌≡◌, ℕ, List, [], ◌∷◌, ◌++◌, true, refl, inl}
-use Rattle.std.specs.List.{AllByRecursion}
-use Rattle.markdown_base.proofs.Common.{every-append}
-use Rattle.markdown_base.specs.declared.event.Event.{Event}
-use Rattle.markdown_base.specs.declared.event.Kind.TheVariants.{Exit}
-use Rattle.markdown_base.specs.declared.event.Name.{Name}
-use Rattle.markdown_base.specs.declared.event.Point.{Point}
-use Rattle.mdinline_emphasis.specs.declared.pairs.Style.{Style}
-use Rattle.mdinline_emphasis.specs.Emphasis.{Run, closings, data_of, events_of_runs, later, markers_of_all, openings, paired, unlinked_event}
-use Rattle.mdinline_emphasis.specs.Runs.{runs_in}
+use Rattle.mddocument_laws.proofs.Prelude.{◌≡◌, ℕ, List, [], ◌∷◌, ◌++◌, true, refl, inl, AllByRecursion, every-append, Event, Exit, Name, Point, Style, Run, closings, data_of, events_of_runs, later, markers_of_all, openings, paired, unlinked_event, runs_in, IsKept, is_made_of, as_data, spanning, with_links}
 use Rattle.mdinline_links.proofs.Kept.{links-keep}
-use Rattle.mdinline_links.specs.Kept.{IsKept, is_made_of}
-use Rattle.mdinline_links.specs.Linked.{as_data, spanning, with_links}
 use Rattle.mddocument_laws.proofs.EmphasisEvents.{as-data-are, closings-are, data-are, openings-are}
 use Rattle.mddocument_laws.proofs.LinkEvents.{AnyRun, IsOther as IsOtherName, any-runs, other-made, other-styles}
 use Rattle.mddocument_laws.proofs.ReferenceSpans.{AreWhole, IsOther, others-whole, outside, spans-whole, whole-both}

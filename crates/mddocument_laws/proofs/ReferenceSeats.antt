@@ -1,32 +1,12 @@
 -- The events of a character reference of a text are its spans in a line of the document, side by side; and there the document has the reference too.
-use Rattle.std.proofs.Common.{◌≡◌, ℕ, zero, suc, ◌+◌, ◌-◌, ◌<◌, ◌≤◌, List, [], ◌∷◌, ◌++◌, Bool, true, false, cond, drop, inl, inr, Some, length, length-drop, refl, sym, ap, ◌∙◌, subst, take, arith}
-use Rattle.std.proofs.lemmas.Bool.{false≢true}
-use Rattle.std.proofs.lemmas.List.{length-map, length-take-le}
-use Rattle.std.proofs.lemmas.List.Folds.{length-prefix_len}
+use Rattle.mddocument_laws.proofs.Prelude.{◌≡◌, ℕ, zero, suc, ◌+◌, ◌-◌, ◌≤◌, List, [], ◌∷◌, ◌++◌, Bool, true, false, cond, drop, inl, inr, Some, length, length-drop, refl, sym, ap, ◌∙◌, subst, take, arith, false≢true, length-map, length-take-le, length-prefix_len, same_Some, AllByRecursion, between, prefix_len, is_some, Event, Enter, Exit, Name, Point, is_void, same_name, shown, Seat, end_after, point, later, unlinked_event, Course, course-place, AcrossGap, leaf, span, Found, Kind, decimal, hexadecimal, is_value, mark_events, marks, named, reference, reference_at, BeginsWithReference, mark_spans, reference_span, span_in_line}
 use Rattle.std.proofs.lemmas.List.Sums.{prefix_len-le-length}
-use Rattle.std.proofs.lemmas.Option.{same_Some}
-use Rattle.std.specs.List.{AllByRecursion, between, prefix_len}
-use Rattle.std.specs.Option.{is_some}
-use Rattle.markdown_base.specs.declared.event.Event.{Event}
-use Rattle.markdown_base.specs.declared.event.Kind.TheVariants.{Enter, Exit}
-use Rattle.markdown_base.specs.declared.event.Name.{Name}
 use Rattle.markdown_base.specs.declared.event.Name.TheVariants as name
-use Rattle.markdown_base.specs.declared.event.Point.{Point}
-use Rattle.markdown_base.specs.Events.{same_name}
-use Rattle.markdown_base.specs.Places.{shown}
-use Rattle.markdown_base.specs.Virtual.{Seat, end_after, point}
-use Rattle.mdinline_emphasis.specs.Emphasis.{later, unlinked_event}
-use Rattle.mdblock_leaf_blocks.proofs.Marks.Courses.{Course, course-place}
-use Rattle.mdblock_leaf_blocks.specs.ChunksJoin.{AcrossGap}
 use Rattle.mdinline_links.proofs.RunOrder.{later-later, later-none}
-use Rattle.mdconstructs_machines.specs.Spans.{leaf, span}
 use Rattle.mdinline_characters.specs.CharacterReferences.{character_references}
 use Rattle.mdinline_characters.specs.References.{characters_of}
-use Rattle.mdinline_text_machine.specs.Bytes.{has_byte_at}
-use Rattle.mdinline_text_machine.specs.Construct.{Found}
+use Rattle.mdinline_text_machine.proofs.Autolinks.Calls.{byte-within}
 use Rattle.mdinline_text_machine.specs.Parts.{bytes_of}
-use Rattle.mdinline_constructs.specs.Reference.{Kind, decimal, hexadecimal, is_value, mark_events, marks, named, reference, reference_at}
-use Rattle.mddocument_laws.specs.ReferencePlaces.{BeginsWithReference, mark_spans, reference_span, span_in_line}
 use Rattle.mddocument_laws.proofs.Named.{Named, and, leafed, spanned}
 use Rattle.mddocument_laws.proofs.ReferenceBytes.{IsWritten, dark-shown, front-reference, is_dark, next-dark, reference-there, text-agrees}
 use Rattle.mddocument_laws.proofs.ReferenceKinds.{references-are-written}
@@ -194,11 +174,6 @@ value-some hexadecimal zero bs h = absurd (false≢true h)
 
 -- ---- a reference of a text
 
-has-within : (xs : List ℕ) (i : ℕ) (test : ℕ → Bool) → has_byte_at xs i test ≡ true → i < length xs
-has-within [] i test h = absurd (false≢true h)
-has-within (x ∷ xs) zero test h = omega arith
-has-within (x ∷ xs) (suc i) test h = let more = has-within xs i test h in omega (arith, more)
-
 -- an event and those behind it are the spans of a reference that the bytes have there
 pub record IsSpanOf (bytes : List ℕ) (e : Event) (ys : List Event) : Type 0 where
   pub begins : BeginsWithReference (drop e.point.index bytes)
@@ -222,82 +197,37 @@ module _ (bytes : List ℕ) where
       (mark_spans kind p ++ (span_in_line name.CharacterReferenceValue (later (marks kind) p) n [] ++ span_in_line name.CharacterReferenceMarkerSemi (later (marks kind + n) p) 1 []))
       ++ unlinked_event Exit name.CharacterReference (later (marks kind + n + 1) p) ∷ []
 
+  -- names of spans in a reference, with nothing in them
+  abbrev IsOfPart : Name → Type 0
+  IsOfPart m = (same_name m name.Data ≡ false) × (same_name m name.CharacterReference ≡ false) × (is_void m ≡ true)
+
+  -- such a span goes on where an event stands, and so does what comes behind the span
+  void-span : {Rest : Type 0} (last : Event) (m : Name) (q : Point) (size : ℕ) → IsOfPart m → last.point ≡ q → Rest
+      → GoesOn (IsSpanOf bytes) last (unlinked_event Enter m q) × (GoesOn (IsSpanOf bytes) (unlinked_event Enter m q) (unlinked_event Exit m (later size q)) × Rest)
+  void-span last m q size is at rest = (
+    record { own = record { unlinked = refl; no_data = is.0 }; no_enter = is.1; seam = inr at },
+    (record { own = record { unlinked = refl; no_data = is.0 }; no_enter = refl; seam = inl (refl, is.2) }, rest),
+  )
+
+  last-exit : (last : Event) (q : Point) → last.point ≡ q → Chained last (unlinked_event Exit name.CharacterReference q ∷ [])
+  last-exit last q at = (record { own = record { unlinked = refl; no_data = refl }; no_enter = refl; seam = inr at }, tt)
+
+  -- the value and `;`, behind the markers
+  value-chained : (last : Event) (n m : ℕ) (p : Point) → last.point ≡ later m p
+      → Chained last ((span_in_line name.CharacterReferenceValue (later m p) n [] ++ span_in_line name.CharacterReferenceMarkerSemi (later (m + n) p) 1 []) ++ unlinked_event Exit name.CharacterReference (later (m + n + 1) p) ∷ [])
+  value-chained last n m p at =
+      void-span last name.CharacterReferenceValue (later m p) n (refl, refl, refl) at
+      (void-span _ name.CharacterReferenceMarkerSemi (later (m + n) p) 1 (refl, refl, refl) (later-later n m p) (last-exit _ (later (m + n + 1) p) (later-later 1 (m + n) p)))
+
   others-chained : (kind : Kind) (n : ℕ) (p : Point) → Chained (first p) (others kind n p)
-  others-chained named n p = (
-    record { own = record { unlinked = refl; no_data = refl }; no_enter = refl; seam = inr refl },
-    (
-      record { own = record { unlinked = refl; no_data = refl }; no_enter = refl; seam = inl (refl, refl) },
-      (
-        record { own = record { unlinked = refl; no_data = refl }; no_enter = refl; seam = inr refl },
-        (
-          record { own = record { unlinked = refl; no_data = refl }; no_enter = refl; seam = inl (refl, refl) },
-          (
-            record { own = record { unlinked = refl; no_data = refl }; no_enter = refl; seam = inr (later-later n 1 p) },
-            (
-              record { own = record { unlinked = refl; no_data = refl }; no_enter = refl; seam = inl (refl, refl) },
-              (record { own = record { unlinked = refl; no_data = refl }; no_enter = refl; seam = inr (later-later 1 (1 + n) p) }, tt),
-            ),
-          ),
-        ),
-      ),
-    ),
-  )
-  others-chained decimal n p = (
-    record { own = record { unlinked = refl; no_data = refl }; no_enter = refl; seam = inr refl },
-    (
-      record { own = record { unlinked = refl; no_data = refl }; no_enter = refl; seam = inl (refl, refl) },
-      (
-        record { own = record { unlinked = refl; no_data = refl }; no_enter = refl; seam = inr refl },
-        (
-          record { own = record { unlinked = refl; no_data = refl }; no_enter = refl; seam = inl (refl, refl) },
-          (
-            record { own = record { unlinked = refl; no_data = refl }; no_enter = refl; seam = inr (later-later 1 1 p) },
-            (
-              record { own = record { unlinked = refl; no_data = refl }; no_enter = refl; seam = inl (refl, refl) },
-              (
-                record { own = record { unlinked = refl; no_data = refl }; no_enter = refl; seam = inr (later-later n 2 p) },
-                (
-                  record { own = record { unlinked = refl; no_data = refl }; no_enter = refl; seam = inl (refl, refl) },
-                  (record { own = record { unlinked = refl; no_data = refl }; no_enter = refl; seam = inr (later-later 1 (2 + n) p) }, tt),
-                ),
-              ),
-            ),
-          ),
-        ),
-      ),
-    ),
-  )
-  others-chained hexadecimal n p = (
-    record { own = record { unlinked = refl; no_data = refl }; no_enter = refl; seam = inr refl },
-    (
-      record { own = record { unlinked = refl; no_data = refl }; no_enter = refl; seam = inl (refl, refl) },
-      (
-        record { own = record { unlinked = refl; no_data = refl }; no_enter = refl; seam = inr refl },
-        (
-          record { own = record { unlinked = refl; no_data = refl }; no_enter = refl; seam = inl (refl, refl) },
-          (
-            record { own = record { unlinked = refl; no_data = refl }; no_enter = refl; seam = inr (later-later 1 1 p) },
-            (
-              record { own = record { unlinked = refl; no_data = refl }; no_enter = refl; seam = inl (refl, refl) },
-              (
-                record { own = record { unlinked = refl; no_data = refl }; no_enter = refl; seam = inr (later-later 1 2 p) },
-                (
-                  record { own = record { unlinked = refl; no_data = refl }; no_enter = refl; seam = inl (refl, refl) },
-                  (
-                    record { own = record { unlinked = refl; no_data = refl }; no_enter = refl; seam = inr (later-later n 3 p) },
-                    (
-                      record { own = record { unlinked = refl; no_data = refl }; no_enter = refl; seam = inl (refl, refl) },
-                      (record { own = record { unlinked = refl; no_data = refl }; no_enter = refl; seam = inr (later-later 1 (3 + n) p) }, tt),
-                    ),
-                  ),
-                ),
-              ),
-            ),
-          ),
-        ),
-      ),
-    ),
-  )
+  others-chained named n p = void-span _ name.CharacterReferenceMarker p 1 (refl, refl, refl) refl (value-chained _ n 1 p refl)
+  others-chained decimal n p =
+      void-span _ name.CharacterReferenceMarker p 1 (refl, refl, refl) refl
+      (void-span _ name.CharacterReferenceMarkerNumeric (later 1 p) 1 (refl, refl, refl) refl (value-chained _ n 2 p (later-later 1 1 p)))
+  others-chained hexadecimal n p =
+      void-span _ name.CharacterReferenceMarker p 1 (refl, refl, refl) refl
+      (void-span _ name.CharacterReferenceMarkerNumeric (later 1 p) 1 (refl, refl, refl) refl
+      (void-span _ name.CharacterReferenceMarkerHexadecimal (later 2 p) 1 (refl, refl, refl) (later-later 1 1 p) (value-chained _ n 3 p (later-later 1 2 p))))
 
   others-close : (kind : Kind) (n : ℕ) (p : Point) → Closes 1 (others kind n p)
   others-close named n p = (omega arith, (omega arith, (omega arith, (omega arith, (omega arith, (omega arith, refl))))))
@@ -323,7 +253,7 @@ module _ (bytes : List ℕ) where
         let size = same-count written.kind kind written.count n (same_Some (reference written.kind written.count) (reference kind n) (sym written.is ∙ dark)) in
         let kinds = same-kind written.kind kind written.count n (same_Some (reference written.kind written.count) (reference kind n) (sym written.is ∙ dark)) in
         let before : marks written.kind ≡ marks kind = ap marks kinds in
-        let last = has-within front (marks written.kind + written.count) _ written.ends in
+        let last = byte-within _ front (marks written.kind + written.count) written.ends in
         let long = length-prefix_len is_dark text in
         let few : marks kind + n + 1 ≤ prefix_len is_dark text = omega (arith, size, before, last, long) in
         let row = text-row t bytes (marks kind + n + 1) p s ss c w few in

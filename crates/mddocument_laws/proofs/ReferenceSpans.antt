@@ -1,16 +1,6 @@
 -- Lists of events in which those of each character reference stand side by side, and how such a list goes on, event by event.
-use Rattle.std.proofs.Common.{◌≡◌, ◌⊎◌, ℕ, zero, suc, ◌<◌, ◌≤◌, List, [], ◌∷◌, ◌++◌, Bool, true, false, cond, inl, inr, None, refl, sym, ap, subst, arith}
-use Rattle.std.proofs.lemmas.Bool.{and_parts, eqb-true, false≢true}
-use Rattle.std.specs.List.{AllByRecursion}
-use Rattle.std.specs.Prelude.{◌==◌}
-use Rattle.markdown_base.specs.declared.event.Event.{Event}
+use Rattle.mddocument_laws.proofs.Prelude.{◌≡◌, ◌⊎◌, ℕ, zero, suc, ◌<◌, ◌≤◌, List, [], ◌∷◌, ◌++◌, Bool, true, false, cond, inl, inr, None, refl, sym, ap, subst, arith, and_parts, eqb-true, false≢true, AllByRecursion, Event, Enter, Exit, CharacterReference, Data, is_enter, is_void, same_name, depth_after, span_at, spans_in, enters, ◌==◌}
 use Rattle.markdown_base.specs.declared.event.Kind.{Kind}
-use Rattle.markdown_base.specs.declared.event.Kind.TheVariants.{Enter, Exit}
-use Rattle.markdown_base.specs.declared.event.Name.TheVariants.{CharacterReference, Data}
-use Rattle.markdown_base.specs.Events.{is_enter, is_void, same_name}
-use Rattle.mdinline_emphasis.specs.Runs.{depth_after}
-use Rattle.mdinline_links.specs.Linked.{span_at, spans_in}
-use Rattle.mddocument_laws.specs.Ranks.{enters}
 
 -- an event has another name
 abbrev pub IsOther : Event → Type 0

@@ -1,13 +1,5 @@
 -- What the bytes of a character reference are.
-use Rattle.std.proofs.Common.{◌≡◌, ℕ, zero, suc, ◌+◌, List, [], ◌∷◌, ◌++◌, Bool, true, false, cond, drop, inl, inr, None, Some, refl, sym, ap, ◌∙◌, subst, take, arith}
-use Rattle.std.proofs.lemmas.Bool.{eqb-true, false≢true, or_cases}
-use Rattle.std.proofs.lemmas.Option.{same_Some}
-use Rattle.std.specs.List.{prefix_len}
-use Rattle.std.specs.Option.{is_some}
-use Rattle.std.specs.Prelude.{◌==◌, ◌&&◌, ◌||◌, codes}
-use Rattle.mdinline_text_machine.specs.Bytes.{has_byte_at, is_ampersand}
-use Rattle.mdinline_constructs.specs.Reference.{Kind, body_at, decimal, hexadecimal, is_number_sign, is_semicolon, is_value, is_value_byte, is_x, marks, named, number_at, reference, reference_at, value_at}
-use Rattle.mddocument_laws.specs.ReferencePlaces.{IsMark, ReferencesAreSpelled}
+use Rattle.mddocument_laws.proofs.Prelude.{◌≡◌, ℕ, zero, suc, ◌+◌, List, [], ◌∷◌, ◌++◌, Bool, true, false, cond, drop, inl, inr, None, Some, refl, sym, ap, ◌∙◌, subst, take, arith, eqb-true, false≢true, or_cases, same_Some, prefix_len, is_some, ◌&&◌, ◌||◌, codes, has_byte_at, is_ampersand, Kind, body_at, decimal, hexadecimal, is_number_sign, is_semicolon, is_value, is_value_byte, is_x, marks, named, number_at, reference, reference_at, value_at, IsMark, ReferencesAreSpelled, ◌==◌}
 use Rattle.mddocument_laws.proofs.ReferenceKinds.{references-are-written}
 use Rattle.mddocument_laws.proofs.ReferenceSeats.{same-count, same-kind}
 

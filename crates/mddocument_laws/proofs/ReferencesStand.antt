@@ -1,12 +1,5 @@
 -- Each event of strings and of inline text that enters a character reference stands at one.
-use Rattle.std.proofs.lemmas.List.Elements.{All-from_recursion}
-use Rattle.std.specs.List.{flat_map}
-use Rattle.std.specs.Prelude.{ℕ, Bool, List}
-use Rattle.markdown_tokenizer.specs.Text.{Given, Text}
-use Rattle.mdinline_text_machine.specs.TextEvents.{item_events}
-use Rattle.mdinline_machine.specs.InlineEvents.{inline_events, inline_items}
-use Rattle.mdinline_constructs.specs.StringItems.{string_seat_events}
-use Rattle.mddocument_laws.specs.ReferencePlaces.{ReferencesOfInlinesStand, ReferencesOfStringsStand}
+use Rattle.mddocument_laws.proofs.Prelude.{All-from_recursion, flat_map, Given, Text, item_events, inline_events, inline_items, string_seat_events, ReferencesOfInlinesStand, ReferencesOfStringsStand, ℕ, Bool, List}
 use Rattle.mddocument_laws.proofs.LinkEvents.{links-are}
 use Rattle.mddocument_laws.proofs.ReferenceItems.{AreGood, IsGood, other-good, read-good, string-good}
 

@@ -1,23 +1,9 @@
 -- The containers of lines, the spans of parts and the definitions in sections are of constructs that are on.
-use Rattle.std.proofs.Common.{◌≡◌, ℕ, zero, suc, ◌==◌, List, [], ◌∷◌, ◌++◌, Bool, true, false, cond, Some, None, Option, take, drop, length, map, reverse}
-use Rattle.std.proofs.lemmas.Bool.{and_parts, cond_both}
-use Rattle.std.specs.List.{AllByRecursion, flat_map}
-use Rattle.std.specs.Prelude.{◌&&◌, ◌||◌, nat_le, nat_lt}
-use Rattle.markdown_base.proofs.Common.{every-append, every-drop, every-reverse, every-take}
-use Rattle.markdown_base.specs.declared.configuration.Constructs.{Constructs}
-use Rattle.markdown_base.specs.declared.event.Name.{Name}
-use Rattle.markdown_base.specs.declared.event.Name.TheVariants.{ListOrdered, ListUnordered}
-use Rattle.mdinline_labels.specs.declared.definitions.Definition.{Definition}
-use Rattle.mdinline_labels.specs.Definitions.{definitions}
-use Rattle.mdblock_leaf_blocks.specs.LeafBlocks.{Line, text_of}
-use Rattle.mdblock_leaf_blocks.specs.LineKinds.{begins_with, indent, is_blank_line, is_thematic_break, unindented}
-use Rattle.mdblock_lines.specs.Containers.{Container, Item, Prefix, begins, goes_on, item, item_at, may_begin_item, quote, quote_size}
-use Rattle.mdblock_containers.specs.Prefixes.{beginning, columns_of, containers_of, going_on, in_place_of, with_list}
-use Rattle.mdblock_containers.specs.Rows.{Before, Row, is_paragraph, is_raw, nothing_known}
+use Rattle.mddocument_laws.proofs.Prelude.{◌≡◌, ℕ, zero, suc, ◌==◌, List, [], ◌∷◌, ◌++◌, Bool, true, false, cond, Some, None, Option, take, drop, length, map, reverse, and_parts, cond_both, AllByRecursion, flat_map, ◌&&◌, ◌||◌, nat_le, nat_lt, every-append, every-drop, every-reverse, every-take, Constructs, Name, ListOrdered, ListUnordered, Definition, definitions, Line, text_of, begins_with, indent, is_blank_line, is_thematic_break, unindented, Container, Item, Prefix, goes_on, item, item_at, may_begin_item, quote, quote_size, beginning, columns_of, containers_of, going_on, in_place_of, with_list, Before, Row, is_paragraph, is_raw, nothing_known, Frame, Part, frames_at, frames_of, further, going_on_at, left_in, list_at, list_begun, list_name, parts_in, standing, Known, known_after, row_of, rows, rows_from, Inside, Section, before_defined, begins_text, defined, defined_in, defining, in_same, lines, lines_defined, paragraph_of, sections, sections_in, sections_of, text_in, undefined}
+use Rattle.mdblock_lines.specs.Containers.{begins}
 use Rattle.mdblock_containers.specs.Rows as without
-use Rattle.mdblock_containers.specs.Skeleton.{Frame, Part, frames_at, frames_of, further, going_on_at, left_in, list_at, list_begun, list_name, parts, parts_in, standing}
-use Rattle.mdblock_definitions.specs.Rows.{Known, known_after, row_of, rows, rows_from}
-use Rattle.mdblock_definitions.specs.Sections.{Inside, Section, before_defined, begins_text, cut, defined, defined_in, defining, in_same, lines, lines_defined, paragraph_of, sections, sections_in, sections_of, text_in, undefined}
+use Rattle.mdblock_containers.specs.Skeleton.{parts}
+use Rattle.mdblock_definitions.specs.Sections.{cut}
 use Rattle.mddocument_laws.proofs.PlainNames.{stands_bare}
 
 module _ (on : Constructs) where

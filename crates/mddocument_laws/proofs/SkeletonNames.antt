@@ -1,20 +1,6 @@
 -- The events of containers and of definitions have names of the constructs that are on.
-use Rattle.std.proofs.Common.{◌≡◌, ℕ, suc, List, [], ◌∷◌, true, Some, None, Option, refl}
-use Rattle.std.specs.List.{AllByRecursion}
-use Rattle.markdown_base.proofs.Common.{every-map}
-use Rattle.markdown_base.specs.declared.configuration.Constructs.{Constructs}
-use Rattle.markdown_base.specs.declared.event.Name.{Name}
+use Rattle.mddocument_laws.proofs.Prelude.{◌≡◌, ℕ, suc, List, [], ◌∷◌, true, Some, None, Option, refl, AllByRecursion, every-map, Constructs, Name, Seat, every-all, line_text, lines_in, Mark, Container, Prefix, item, quote, Row, Part, chained_from, rows, Inside, Section, defined, lines, all_rows, sections_in_seats, sections_marks, skeleton}
 use Rattle.markdown_base.specs.declared.event.Name.TheVariants as name
-use Rattle.markdown_base.specs.Virtual.{Seat}
-use Rattle.markdown_tokenizer.proofs.Positions.Order.{every-all}
-use Rattle.mdconstructs_machines.specs.LineEvents.{line_text, lines_in}
-use Rattle.mdblock_leaf_blocks.specs.LeafEvents.{Mark}
-use Rattle.mdblock_lines.specs.Containers.{Container, Prefix, item, quote}
-use Rattle.mdblock_containers.specs.Rows.{Row}
-use Rattle.mdblock_containers.specs.Skeleton.{Part, chained_from}
-use Rattle.mdblock_definitions.specs.Rows.{rows}
-use Rattle.mdblock_definitions.specs.Sections.{Inside, Section, defined, lines}
-use Rattle.mdblock_definitions.specs.Skeleton.{all_rows, sections_in_seats, sections_marks, skeleton}
 use Rattle.mddocument_laws.proofs.InnerTexts.{AnySeat, any-seats}
 use Rattle.mddocument_laws.proofs.MarksWalk.{Walk}
 use Rattle.mddocument_laws.proofs.Named.{Marked, Named, around, names-walk, none}
@@ -50,18 +36,20 @@ module _ (on : Constructs) (bytes : List ℕ) where
   of-definition : on.definition ≡ true → AreOfDefinition May
   of-definition h = record {
     definition = h;
-    label = h;
-    label_marker = h;
-    label_string = h;
-    marker = h;
-    destination = h;
-    destination_literal = h;
-    destination_literal_marker = h;
-    destination_raw = h;
-    destination_string = h;
-    title = h;
-    title_marker = h;
-    title_string = h;
+    inside = record {
+      label = h;
+      label_marker = h;
+      label_string = h;
+      marker = h;
+      destination = h;
+      destination_literal = h;
+      destination_literal_marker = h;
+      destination_raw = h;
+      destination_string = h;
+      title = h;
+      title_marker = h;
+      title_string = h;
+    };
   }
 
   inside-may : (part : Part) (inside : Inside) → InsideIsOn on inside → InsideMay May AnySeat part inside

@@ -1,18 +1,7 @@
 -- Lists of whole spans, one behind another: where a span is open they are passed over, and each outermost span that is a run is counted as one.
-use Rattle.std.proofs.Common.{◌≡◌, ℕ, zero, suc, ◌+◌, ◌-◌, ◌≤◌, ◌==◌, ◌∙◌, List, [], ◌∷◌, ◌++◌, true, false, cond, Option, Some, append_assoc, length-append, arith, length, refl, sym, ap, subst}
-use Rattle.std.specs.Prelude.{◌&&◌, slice_get}
+use Rattle.mddocument_laws.proofs.Prelude.{◌≡◌, ℕ, zero, suc, ◌+◌, ◌-◌, ◌≤◌, ◌==◌, ◌∙◌, List, [], ◌∷◌, ◌++◌, true, false, cond, Option, Some, append_assoc, length-append, arith, length, refl, sym, ap, subst, ◌&&◌, slice_get, eqb-suc-zero, Event, Enter, Exit, Name, AttentionSequence, is_enter, same_name, Seat, end_after, depth_after, index_of_event, is_sequence, run_at, runs_from, is_run, span_at, spans_in, event, span}
 use Rattle.std.proofs.Math.Bool.{and-false}
-use Rattle.std.proofs.Math.Dec.{eqb-suc-zero}
-use Rattle.markdown_base.specs.declared.event.Event.{Event}
 use Rattle.markdown_base.specs.declared.event.Kind.{Kind}
-use Rattle.markdown_base.specs.declared.event.Kind.TheVariants.{Enter, Exit}
-use Rattle.markdown_base.specs.declared.event.Name.{Name}
-use Rattle.markdown_base.specs.declared.event.Name.TheVariants.{AttentionSequence}
-use Rattle.markdown_base.specs.Events.{is_enter, same_name}
-use Rattle.markdown_base.specs.Virtual.{Seat, end_after}
-use Rattle.mdinline_emphasis.specs.Runs.{depth_after, index_of_event, is_sequence, run_at, runs_from}
-use Rattle.mdinline_links.specs.Linked.{is_run, span_at, spans_in}
-use Rattle.mdconstructs_machines.specs.Spans.{event, span}
 
 -- where a span is open, a list is passed over whole
 abbrev IsPassed : List Event → Type 0

@@ -375,18 +375,20 @@ all-hold ps = every-all (λ (p : Prefix). MayHold IsOther p.container) (λ p. ho
 of-definition : AreOfDefinition IsOther
 of-definition = record {
   definition = refl;
-  label = refl;
-  label_marker = refl;
-  label_string = refl;
-  marker = refl;
-  destination = refl;
-  destination_literal = refl;
-  destination_literal_marker = refl;
-  destination_raw = refl;
-  destination_string = refl;
-  title = refl;
-  title_marker = refl;
-  title_string = refl;
+  inside = record {
+    label = refl;
+    label_marker = refl;
+    label_string = refl;
+    marker = refl;
+    destination = refl;
+    destination_literal = refl;
+    destination_literal_marker = refl;
+    destination_raw = refl;
+    destination_string = refl;
+    title = refl;
+    title_marker = refl;
+    title_string = refl;
+  };
 }
 
 module _ (At : Point → Type 0) (bytes : List ℕ) where

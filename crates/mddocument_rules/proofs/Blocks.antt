@@ -1,39 +1,16 @@
 -- The blocks of a document stand where they may: leaf blocks take the place of chunks, which stand where blocks may.
-use Rattle.std.proofs.Common.{◌≡◌, ◌∙◌, ℕ, ◌+◌, List, [], ◌∷◌, true, false, Option, Some, None, map, sym, ap, subst}
-use Rattle.std.proofs.lemmas.Bool.{false_from_ne_true, false≢true}
-use Rattle.std.specs.List.{AllByRecursion, between}
-use Rattle.std.specs.Prelude.{option_and_then, option_map}
-use Rattle.markdown_base.specs.declared.configuration.Constructs.{Constructs}
+use Rattle.mddocument_rules.proofs.Prelude.{◌≡◌, ◌∙◌, ℕ, ◌+◌, List, [], ◌∷◌, true, false, Option, Some, None, map, sym, ap, subst, false_from_ne_true, false≢true, AllByRecursion, between, option_and_then, option_map, Constructs, Event, Name, IsBalanced, relinked, with_ends, Seat, virtual, content_at, content_of, next_of, is_wanted, Given, IsDocument, Fits, chunk, some_content, begins, fitting_starts, IsReady, lines_in, flow_events, list_names, document_blocks, document_skeleton, rows, sections, holds_blocks, BlocksStand}
 use Rattle.markdown_base.specs.declared.event.Content.TheVariants as content
-use Rattle.markdown_base.specs.declared.event.Event.{Event}
 use Rattle.markdown_base.specs.declared.event.Link.{Link}
-use Rattle.markdown_base.specs.declared.event.Name.{Name}
-use Rattle.markdown_base.specs.Events.{IsBalanced, relinked, with_ends}
-use Rattle.markdown_base.specs.Virtual.{Seat, virtual}
-use Rattle.markdown_edits.specs.Links.{content_at, content_of, next_of}
-use Rattle.markdown_edits.specs.SpanWalks.{is_wanted}
-use Rattle.markdown_tokenizer.specs.Text.{Given, IsDocument}
-use Rattle.markdown_children.proofs.ChainOrder.Following.{Fits, chunk, some_content}
-use Rattle.markdown_children.specs.Chains.{begins, fitting_starts}
-use Rattle.markdown_children.specs.Ready.{IsReady}
-use Rattle.mdconstructs_machines.specs.LineEvents.{lines_in}
 use Rattle.mdinline_text_machine.proofs.Paragraphs.ChainEvents.{all-begin, is-text}
 use Rattle.mdinline_text_machine.specs.ChainTexts.{chain_text}
 use Rattle.mdblock_leaf_blocks.proofs.Marks.BlocksFormed.{blocks-are-formed}
-use Rattle.mdblock_leaf_blocks.specs.LeafBlocks.{LeafBlock, atx_heading, blank_line, break_line, fenced_code, html_block, indented_code, leaf_blocks, paragraph, setext_heading}
-use Rattle.mdblock_leaf_blocks.specs.LeafEvents.{flow_events, leaf_block_marks}
-use Rattle.mdblock_containers.specs.Lists.{list_names}
 use Rattle.mdblock_definitions.proofs.SectionsReady.{document-goes, marks}
-use Rattle.mdblock_definitions.specs.Blocks.{document_blocks, document_skeleton}
-use Rattle.mdblock_definitions.specs.Rows.{rows}
-use Rattle.mdblock_definitions.specs.Sections.{sections}
 use Rattle.mddocument.proofs.InContainers.Blocks.{blocks_at, content-ready, shown, shown-is}
 use Rattle.mddocument.proofs.InContainers.Skeletons.{skeleton-laws}
-use Rattle.mddocument_laws.proofs.FlowNames.{IsOn, block-names, blocks-are-on}
-use Rattle.mddocument_laws.proofs.Named.{linked-named, marked-flat-by}
+use Rattle.mddocument_laws.proofs.FlowNames.{flow-named-by}
+use Rattle.mddocument_laws.proofs.Named.{weaker}
 use Rattle.mddocument_laws.specs.Names.{may_be_named}
-use Rattle.mddocument_rules.specs.Standing.{holds_blocks}
-use Rattle.mddocument_rules.specs.StandingLaws.{BlocksStand}
 use Rattle.mddocument_rules.proofs.Gaps.{AllFree, IsFree, gap-free}
 use Rattle.mddocument_rules.proofs.LeafBlocks.{flow-stands}
 use Rattle.mddocument_rules.proofs.Places.{ChunkFits, NotInList, Stands, StandsAs, blocks-apart, by-wanted, free-inside, free-may, walks-stand}
@@ -47,26 +24,11 @@ module _ (on : Constructs) where
   abbrev without : Constructs
   without = record on { list_item = false }
 
-  still-on : (block : LeafBlock) → IsOn on block → IsOn without block
-  still-on (blank_line line) h = h
-  still-on (break_line line) h = h
-  still-on (atx_heading line) h = h
-  still-on (paragraph lines) h = h
-  still-on (setext_heading rank lines underline) h = h
-  still-on (indented_code lines) h = h
-  still-on (fenced_code f is_closed lines) h = h
-  still-on (html_block kind is_closed lines) h = h
-
   no-list : (n : Name) → may_be_named without n ≡ true → is_wanted list_names n ≡ false
   no-list n may = false_from_ne_true (is_wanted list_names n) (λ e. by-wanted (λ m. may_be_named without m ≡ true → ⊥) list_names n ((λ f. false≢true f), ((λ f. false≢true f), tt)) e may)
 
   flow-low : (bytes : List ℕ) (seats : List Seat) → AllByRecursion (λ (e : Event). is_wanted list_names e.name ≡ false) (flow_events on bytes seats)
-  flow-low bytes seats =
-      lows (flow_events on bytes seats) (linked-named 0 _ (marked-flat-by (IsOn on) (leaf_block_marks bytes) (leaf_blocks on (lines_in seats)) (λ block h. block-names without bytes block (still-on block h)) (blocks-are-on on _ _))).all
-    where
-      lows : (es : List Event) → AllByRecursion (λ (e : Event). may_be_named without e.name ≡ true) es → AllByRecursion (λ (e : Event). is_wanted list_names e.name ≡ false) es
-      lows [] h = tt
-      lows (e ∷ es) h = (no-list e.name h.0, lows es h.1)
+  flow-low bytes seats = (weaker no-list (flow_events on bytes seats) (flow-named-by on without (λ block h. h) bytes seats)).all
 
 -- ---- links do not matter
 pub stands-relinked : (around : List Name) (f : ℕ → Option ℕ) (e : Event) → Stands around e → Stands around (relinked f e)

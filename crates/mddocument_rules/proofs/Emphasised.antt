@@ -1,16 +1,7 @@
 -- Emphasis stands in texts. Its list is balanced, so each span that closings end is the last one that is open: behind each run only spans of emphasis are
 -- open, each with its text, and what comes next stands in a text.
-use Rattle.std.proofs.Common.{◌≡◌, ◌∙◌, ℕ, zero, suc, true, cond, List, [], ◌∷◌, ◌++◌, Some, Option, append_assoc, drop, refl, sym, ap, subst}
-use Rattle.std.proofs.lemmas.Bool.{and_from, and_parts}
-use Rattle.std.specs.Prelude.{◌&&◌}
-use Rattle.markdown_base.specs.declared.event.Event.{Event}
-use Rattle.markdown_base.specs.declared.event.Kind.TheVariants.{Enter, Exit}
-use Rattle.markdown_base.specs.declared.event.Name.{Name}
+use Rattle.mddocument_rules.proofs.Prelude.{◌≡◌, ◌∙◌, ℕ, zero, suc, true, cond, List, [], ◌∷◌, ◌++◌, Some, Option, append_assoc, drop, refl, sym, ap, subst, and_from, and_parts, ◌&&◌, Event, Enter, Exit, Name, Point, is_enter, names_after_all-append, names_after_balanced, names_after_all, Run, closings, data_of, emphasised, events_of_runs, inner_name, later, markers_of_all, openings, outer_name, paired, all_stand, is_in, may_stand, text_names, EmphasisStands, StandInTexts}
 use Rattle.markdown_base.specs.declared.event.Name.TheVariants as name
-use Rattle.markdown_base.specs.declared.event.Point.{Point}
-use Rattle.markdown_base.specs.Events.{is_enter}
-use Rattle.markdown_edits.proofs.Balanced.{names_after_all-append, names_after_balanced}
-use Rattle.markdown_edits.specs.OpenNames.{names_after_all}
 use Rattle.mdinline_emphasis.proofs.Balance.{leaves-balanced}
 use Rattle.mdinline_emphasis.specs.declared.pairs.Style.{Style}
 use Rattle.mdinline_emphasis.specs.declared.pairs.Style.TheVariants.{Emphasis as OfEmphasis, Strong as OfStrong, Struck, StruckTwice}

@@ -1,27 +1,9 @@
 -- Spans of containers: each begins where it may stand, and all that begin in a part end behind it.
-use Rattle.std.proofs.Common.{◌≡◌, ◌∙◌, ◌==◌, ◌&&◌, ℕ, zero, suc, Bool, true, false, cond, List, [], ◌∷◌, ◌++◌, drop, length, map, reverse, take, None, refl, sym, ap, subst, append-nil, append_assoc}
-use Rattle.std.proofs.lemmas.Bool.{cond_both, or_right}
+use Rattle.mddocument_rules.proofs.Prelude.{◌≡◌, ◌∙◌, ◌==◌, ℕ, zero, suc, Bool, true, false, cond, List, [], ◌∷◌, ◌++◌, drop, length, map, reverse, take, None, refl, sym, ap, subst, append-nil, append_assoc, cond_both, or_right, flat_map, nat_le, nat_lt, Enter, Exit, Name, Point, Seat, is_wanted, event, bytes_of, Mark, leaf_marks, span_marks, white, indent, Container, Item, Prefix, item, quote, all_entered, entered, list_names, Row, Frame, begin_of, begun_all, begun_marks, enters_of, exits, frames_at, frames_of, going_marks, going_on_at, list_at, list_begun, list_name, prefixes_marks, standing, holds_blocks, is_in, may_stand, ◌&&◌, not}
 use Rattle.std.proofs.lemmas.List.{reverse-append}
-use Rattle.std.specs.List.{flat_map}
-use Rattle.std.specs.Prelude.{nat_le, nat_lt, not}
-use Rattle.markdown_base.specs.declared.event.Kind.TheVariants.{Enter, Exit}
-use Rattle.markdown_base.specs.declared.event.Name.{Name}
 use Rattle.markdown_base.specs.declared.event.Name.TheVariants as name
-use Rattle.markdown_base.specs.declared.event.Point.{Point}
-use Rattle.markdown_base.specs.Virtual.{Seat}
-use Rattle.markdown_edits.specs.SpanWalks.{is_wanted}
-use Rattle.mdconstructs_machines.specs.Spans.{event}
-use Rattle.mdblock_leaf_blocks.specs.LeafBlocks.{bytes_of}
-use Rattle.mdblock_leaf_blocks.specs.LeafEvents.{Mark, leaf_marks, span_marks, white}
-use Rattle.mdblock_leaf_blocks.specs.LineKinds.{indent}
-use Rattle.mdblock_lines.specs.Containers.{Container, Item, Prefix, item, quote}
-use Rattle.mdblock_containers.proofs.FrameFacts.{all_entered, entered}
-use Rattle.mdblock_containers.specs.Lists.{list_names}
-use Rattle.mdblock_containers.specs.Rows.{Row}
-use Rattle.mdblock_containers.specs.Skeleton.{Frame, begin_of, begun_all, begun_marks, enters_of, exits, frames_at, frames_of, going_marks, going_on_at, list_at, list_begun, list_name, prefixes_marks, standing}
-use Rattle.mddocument_rules.specs.Standing.{holds_blocks, is_in, may_stand}
-use Rattle.mddocument_rules.proofs.Definitions.{IsKept, begins-are}
-use Rattle.mddocument_rules.proofs.Passes.{Free, MarksStand, Passes, free-both, free-none, free-leaf, free-span, passes-both, passes-none, span-passes}
+use Rattle.mddocument_rules.proofs.Definitions.{begins-are}
+use Rattle.mddocument_rules.proofs.Passes.{free-kept, Free, MarksStand, Passes, free-leaf, passes-both, passes-none, span-passes}
 use Rattle.mddocument_rules.proofs.Places.{NotInList}
 
 -- what is around where these spans are open
@@ -169,12 +151,6 @@ module _ (bytes : List ℕ) where
   prefixes-pass (p ∷ ps) seats = anywhere-both (going_marks bytes p.container (take p.size seats)) (prefixes_marks bytes ps (drop p.size seats)) (goings p.container (take p.size seats)) (prefixes-pass ps (drop p.size seats))
 
   -- ---- containers that begin
-  free-kept : IsKept bytes Free
-  free-kept = record { none = free-none; both = free-both; over = free-span bytes }
-
-  begins : (c : Container) (seats : List Seat) → Free (begun_marks bytes c seats)
-  begins c seats = begins-are free-kept c seats
-
   one-begins : (c : Container) (place : Point) (around : List Name) (ys : List Mark) → Stacked around (entered c) → (NotInList (within around (entered c)) → MarksStand (within around (entered c)) ys) → MarksStand around (enters_of bytes c place ++ ys)
   one-begins (quote line) place around ys h k = ((h.0, tt), k refl)
   one-begins (item i) place around ys h k = by (i.list == i.line) h k
@@ -194,7 +170,7 @@ module _ (bytes : List ℕ) where
       let there = within around (entered c) in
       let rest : MarksStand there (more ++ ys) =
       begun-stand ps (drop p.size seats) there ys (stacked-behind around (entered c) (all_entered ps) h) (subst (λ a. MarksStand a ys) (within-both around (entered c) (all_entered ps)) w) in
-      let both : MarksStand around (enters ++ (here ++ (more ++ ys))) = one-begins c (begin_of seats) around (here ++ (more ++ ys)) (stacked-front around (entered c) (all_entered ps) h) (λ ok. (begins c (take p.size seats)).passes there ok (more ++ ys) rest) in
+      let both : MarksStand around (enters ++ (here ++ (more ++ ys))) = one-begins c (begin_of seats) around (here ++ (more ++ ys)) (stacked-front around (entered c) (all_entered ps) h) (λ ok. (begins-are (free-kept bytes) c (take p.size seats)).passes there ok (more ++ ys) rest) in
       subst (MarksStand around) (sym (append_assoc enters (here ++ more) ys ∙ ap (λ l. enters ++ l) (append_assoc here more ys))) both
     where
       stacked-front : (around : List Name) (xs ys : List Frame) → Stacked around (xs ++ ys) → Stacked around xs

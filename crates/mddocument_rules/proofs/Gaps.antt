@@ -1,21 +1,8 @@
 -- Between two chunks of a chain of a skeleton stands only what may stand anywhere but directly in a list.
-use Rattle.std.proofs.Common.{◌≡◌, ℕ, zero, suc, ◌+◌, ◌-◌, Bool, true, false, cond, List, [], ◌∷◌, ◌++◌, Some, None, Option, append_assoc, arith, drop, refl, sym, ap, subst, take}
-use Rattle.std.proofs.lemmas.Bool.{false≢true}
-use Rattle.std.specs.List.{AllByRecursion, between}
-use Rattle.std.specs.Prelude.{is_some, unwrap_or}
-use Rattle.markdown_base.specs.declared.event.Event.{Event}
-use Rattle.markdown_base.specs.declared.event.Kind.TheVariants.{Exit}
-use Rattle.markdown_base.specs.declared.event.Name.{Name}
+use Rattle.mddocument_rules.proofs.Prelude.{◌≡◌, ℕ, zero, suc, ◌+◌, ◌-◌, Bool, true, false, cond, List, [], ◌∷◌, ◌++◌, Some, None, Option, append_assoc, arith, drop, refl, sym, ap, subst, take, false≢true, AllByRecursion, between, is_some, unwrap_or, Event, Exit, Name, Point, Seat, end_after, next_of, names_after_all, event, Chunk, Mark, chunk_span, span_marks, chained_from, next_chunk}
 use Rattle.markdown_base.specs.declared.event.Name.TheVariants as name
-use Rattle.markdown_base.specs.declared.event.Point.{Point}
-use Rattle.markdown_base.specs.Virtual.{Seat, end_after}
-use Rattle.markdown_edits.specs.Links.{next_of}
-use Rattle.markdown_edits.specs.OpenNames.{names_after_all}
-use Rattle.mdconstructs_machines.specs.Spans.{event}
-use Rattle.mdblock_leaf_blocks.specs.LeafEvents.{Chunk, Mark, chunk_span, span_marks}
 use Rattle.mdblock_containers.proofs.SkeletonChains.{Due, Runs, a_chunk, alone_unlinked, an_exit, behind_alone, chunk_is, idle, next_due, no_next_of}
-use Rattle.mdblock_containers.specs.Skeleton.{chained_from, next_chunk}
-use Rattle.mddocument_rules.proofs.Definitions.{IsKept}
+use Rattle.mddocument_rules.proofs.Definitions.{IsKept, kept}
 use Rattle.mddocument_rules.proofs.Places.{is_free}
 
 -- where a chunk has a next one, names up to that are free
@@ -125,7 +112,7 @@ module _ (bytes : List ℕ) where
       record { go = λ waits ys g. ((λ e. f), subst (Gapped waits) (sym (append_assoc inside (exit ∷ []) ys)) (h.go waits (exit ∷ ys) ((λ e. f), g))) }
 
   pub between-kept : IsKept bytes BetweenChunks
-  between-kept = record { none = between-none; both = between-both; over = between-span }
+  between-kept = kept between-none between-both between-span
 
   -- a span of any name
   pub apart-span : (n : Name) (seats : List Seat) (inside : List Mark) → Apart inside → Apart (span_marks bytes n seats inside)

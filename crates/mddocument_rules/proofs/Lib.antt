@@ -1,3 +1,4 @@
+mod Prelude
 -- walks: what is around each event; children in place of chains
 pub mod Walk
 pub mod Weave

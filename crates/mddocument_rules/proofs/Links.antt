@@ -1,26 +1,12 @@
 -- Links, images and emphasis stand in texts, and so does all that is in them: a label and a tail stand in a link, and the text of a label is a text.
-use Rattle.std.proofs.Common.{◌≡◌, ◌==◌, ℕ, true, false, cond, List, [], ◌∷◌, ◌++◌, None, refl, sym, subst}
-use Rattle.std.proofs.lemmas.Bool.{cond_both, or_left, or_right}
-use Rattle.std.specs.List.{AllByRecursion}
-use Rattle.std.specs.Prelude.{◌||◌}
-use Rattle.markdown_base.proofs.Common.{every-append}
-use Rattle.markdown_base.specs.declared.event.Event.{Event}
-use Rattle.markdown_base.specs.declared.event.Kind.TheVariants.{Exit}
-use Rattle.markdown_base.specs.declared.event.Name.{Name}
+use Rattle.mddocument_rules.proofs.Prelude.{◌≡◌, ◌==◌, ℕ, true, false, cond, List, [], ◌∷◌, ◌++◌, None, refl, sym, subst, cond_both, or_left, or_right, AllByRecursion, ◌||◌, every-append, Event, Exit, Name, Point, IsBalanced, empty, IsBalanced-append, is_wanted, Run, unlinked_event, list_names, all_stand, is_in, may_stand, text_names, IsPiece, LinksStand, StandApart, StandInTexts}
 use Rattle.markdown_base.specs.declared.event.Name.TheVariants.{Data, Image, Label, LabelEnd, LabelImage, LabelMarker, LabelText, Link}
-use Rattle.markdown_base.specs.declared.event.Point.{Point}
-use Rattle.markdown_base.specs.Events.{IsBalanced, empty}
-use Rattle.markdown_edits.proofs.Balanced.{IsBalanced-append}
-use Rattle.markdown_edits.specs.SpanWalks.{is_wanted}
-use Rattle.mdinline_emphasis.specs.Emphasis.{Run, unlinked_event}
 use Rattle.mdinline_emphasis.specs.LawStatements.{AreFresh}
 use Rattle.mdinline_emphasis.specs.Runs.{runs_in}
 use Rattle.mdinline_links.proofs.Leaves.{around-balanced, runs-fresh}
 use Rattle.mdinline_links.specs.Kept.{IsFresh}
 use Rattle.mdinline_links.specs.Linked.{Part, SoFar, Waiting, added, all_parts, around as spanned, as_data, emphasised_parts, ended, events, failed, is_bracket, is_named, is_run, is_tail, label_text, last_place, linked_from, made, opened, outermost_spans, part_of, run, runs_of_parts, spanning, taken, text_before, text_behind}
-use Rattle.mdblock_containers.specs.Lists.{list_names}
-use Rattle.mddocument_rules.specs.Standing.{all_stand, is_in, may_stand, text_names}
-use Rattle.mddocument_rules.specs.TextLaws.{IsPiece, LinksStand, StandApart, StandInTexts}
+use Rattle.mddocument_laws.proofs.Emphasis.LinkSpans.{every-part}
 use Rattle.mddocument_rules.proofs.Emphasised.{May, all-walks, emphasis-stands, walks-all}
 use Rattle.mddocument_rules.proofs.Places.{free-inside, free-may, is_free, texts-apart}
 use Rattle.mddocument_rules.proofs.Walk.{Walks, behind-balanced, walks-both}
@@ -135,10 +121,6 @@ record IsSoFar (z : SoFar) : Type 0 where
 data-part : (es : List Event) → StandInTexts (as_data es)
 data-part es = apart-in-texts (as_data es) (data-apart es)
 
-all-parts : (ws : List Waiting) (behind : List Part) → AllByRecursion IsWaiting ws → AreParts behind → AreParts (all_parts ws behind)
-all-parts [] behind h k = k
-all-parts (w ∷ ws) behind h k = all-parts ws (w.before ++ events (as_data w.opener) ∷ behind) h.1 (every-append IsPart w.before (events (as_data w.opener) ∷ behind) h.0.before (data-part w.opener, k))
-
 is-part : (span : List Event) (rs : List Run) → StandInTexts span → AllByRecursion IsFresh rs → IsPart (part_of span rs).0 × AllByRecursion IsFresh (part_of span rs).1
 is-part span [] b h = (b, tt)
 is-part span (r ∷ rs) b h = cond_both (is_run span) (run r, rs) (events span, r ∷ rs) (λ (p : Part × List Run). IsPart p.0 × AllByRecursion IsFresh p.1) (λ e. h) (λ e. (b, h))
@@ -201,4 +183,4 @@ links-stand bytes es pieces =
     let start : SoFar = record { waiting = []; behind = []; runs = runs_in bytes es } in
     let z = linked_from start (outermost_spans es) in
     let h = is-linked (outermost_spans es) start pieces (record { waits = tt; behind = tt; fresh = runs-fresh bytes 0 0 None es }) in
-    parts-stand (all_parts z.waiting z.behind) (all-parts z.waiting z.behind h.waits h.behind)
+    parts-stand (all_parts z.waiting z.behind) (every-part IsPart IsWaiting (λ w h. h.before) data-part z.waiting z.behind h.waits h.behind)

@@ -1,18 +1,8 @@
 -- Lists of marks that leave what is around them as it is, and in which each span stands where it may.
-use Rattle.std.proofs.Common.{◌≡◌, ℕ, suc, ◌+◌, true, List, [], ◌∷◌, ◌++◌, Some, None, Option, append-nil, append_assoc, refl, sym, subst}
-use Rattle.std.specs.List.{flat_map}
-use Rattle.markdown_base.specs.declared.event.Content.{Content}
+use Rattle.mddocument_rules.proofs.Prelude.{◌≡◌, ℕ, suc, ◌+◌, true, List, [], ◌∷◌, ◌++◌, Some, None, Option, append-nil, append_assoc, refl, sym, subst, flat_map, Content, Event, Exit, Name, Seat, end_after, content_of, event, Chunk, Mark, chunk_span, leaf_marks, linked_from, span_marks, chained_from, holds_blocks}
 use Rattle.markdown_base.specs.declared.event.Content.TheVariants as content
-use Rattle.markdown_base.specs.declared.event.Event.{Event}
-use Rattle.markdown_base.specs.declared.event.Kind.TheVariants.{Exit}
-use Rattle.markdown_base.specs.declared.event.Name.{Name}
 use Rattle.markdown_base.specs.declared.event.Name.TheVariants as name
-use Rattle.markdown_base.specs.Virtual.{Seat, end_after}
-use Rattle.markdown_edits.specs.Links.{content_of}
-use Rattle.mdconstructs_machines.specs.Spans.{event}
-use Rattle.mdblock_leaf_blocks.specs.LeafEvents.{Chunk, Mark, chunk_span, leaf_marks, linked_from, span_marks}
-use Rattle.mdblock_containers.specs.Skeleton.{chained_from}
-use Rattle.mddocument_rules.specs.Standing.{holds_blocks}
+use Rattle.mddocument_rules.proofs.Definitions.{IsKept, kept}
 use Rattle.mddocument_rules.proofs.Places.{NotInList, Stands, StandsAs, blocks-apart, free-inside, free-may, is_free}
 use Rattle.mddocument_rules.proofs.Walk.{IfEnter, Walks, behind_one}
 
@@ -90,6 +80,9 @@ module _ (bytes : List ℕ) where
 
   pub free-span : (n : Name) (seats : List Seat) (inside : List Mark) → is_free n ≡ true → Free inside → Free (span_marks bytes n seats inside)
   free-span n seats inside f h = record { passes = λ around ok. span-passes around n seats inside (free-may around n f ok, tt) (h.passes (n ∷ around) (free-inside n f)) (λ e. h.passes around ok) }
+
+  pub free-kept : IsKept bytes Free
+  free-kept = kept free-none free-both free-span
 
   pub free-leaf : (n : Name) (seats : List Seat) → is_free n ≡ true → Free (leaf_marks bytes n seats)
   free-leaf n seats f = free-span n seats [] f free-none

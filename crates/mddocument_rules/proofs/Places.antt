@@ -1,20 +1,7 @@
 -- Names by where they may stand: those that stand anywhere but directly in a list are free; and what a chunk is read as stands where the chunk does.
-use Rattle.std.proofs.Common.{◌≡◌, Bool, true, false, cond, not, List, [], ◌∷◌, drop, Some, None, Option, inl, inr, refl, subst}
-use Rattle.std.proofs.lemmas.Bool.{and_from, and_parts, false_from_ne_true, false≢true, not-true, or_cases}
-use Rattle.std.specs.List.{AllByRecursion}
-use Rattle.std.specs.Prelude.{◌&&◌, ◌||◌}
-use Rattle.markdown_base.specs.declared.event.Content.{Content}
+use Rattle.mddocument_rules.proofs.Prelude.{◌≡◌, Bool, true, false, cond, not, List, [], ◌∷◌, drop, Some, None, Option, inl, inr, refl, subst, and_from, and_parts, false_from_ne_true, false≢true, not-true, or_cases, AllByRecursion, ◌&&◌, ◌||◌, Content, Event, Enter, Exit, Name, is_enter, same_name, same_name-true, content_of, is_wanted, block_names, item_names, list_names, all_stand, between_names, holds_blocks, inline_names, is_in, may_stand, text_names}
 use Rattle.markdown_base.specs.declared.event.Content.TheVariants as content
-use Rattle.markdown_base.specs.declared.event.Event.{Event}
-use Rattle.markdown_base.specs.declared.event.Kind.TheVariants.{Enter, Exit}
-use Rattle.markdown_base.specs.declared.event.Name.{Name}
 use Rattle.markdown_base.specs.declared.event.Name.TheVariants as name
-use Rattle.markdown_base.specs.Events.{is_enter, same_name}
-use Rattle.markdown_edits.proofs.Balanced.{same_name-true}
-use Rattle.markdown_edits.specs.Links.{content_of}
-use Rattle.markdown_edits.specs.SpanWalks.{is_wanted}
-use Rattle.mdblock_containers.specs.Lists.{block_names, item_names, list_names}
-use Rattle.mddocument_rules.specs.Standing.{all_stand, between_names, holds_blocks, inline_names, is_in, may_stand, text_names}
 use Rattle.mddocument_rules.proofs.Walk.{IfEnter, Walks, behind_one}
 
 -- the innermost span is no list

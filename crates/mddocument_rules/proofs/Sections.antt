@@ -1,60 +1,31 @@
 -- The skeleton of a document: its containers, its definitions and its chunks stand where they may, and gaps between chunks are free.
-use Rattle.std.proofs.Common.{◌≡◌, ◌∙◌, ◌⊎◌, ◌==◌, ℕ, Bool, true, false, cond, not, List, [], ◌∷◌, ◌++◌, Some, None, append-nil, append_assoc, drop, inl, inr, length, map, refl, reverse, sym, ap, subst, take}
-use Rattle.std.proofs.lemmas.Bool.{cond_both, false≢true, not-true, or_right}
-use Rattle.std.specs.List.{AllByRecursion, flat_map}
+use Rattle.mddocument_rules.proofs.Prelude.{◌≡◌, ◌∙◌, ◌⊎◌, ◌==◌, ℕ, Bool, true, false, cond, not, List, [], ◌∷◌, ◌++◌, Some, None, append-nil, append_assoc, drop, inl, inr, length, map, refl, reverse, sym, ap, subst, take, cond_both, false≢true, not-true, or_right, AllByRecursion, flat_map, Exit, Point, Seat, ending_of, line_text, event, Chunk, Mark, chunk_span, leaf_marks, span_marks, white, indent, Container, Prefix, item, quote, Turn, all_entered, Row, has_none, rest_of, Frame, Part, Piece, begin_of, begun_all, chunks_of, end_of, ending_marks, enters_of, exits, inside_of, is_held, joined_pieces, last_line, pieces_of, prefixes_marks, shared, Inside, Section, defined, lines, all_rows, behind_marks, inside_marks, section_marks, sections_marks, every-all, any-seats, PieceIs, stretch-is, holds_blocks, is_in, may_stand, list_names}
 use Rattle.markdown_base.specs.declared.event.Content.TheVariants as content
-use Rattle.markdown_base.specs.declared.event.Kind.TheVariants.{Exit}
 use Rattle.markdown_base.specs.declared.event.Name.TheVariants as name
-use Rattle.markdown_base.specs.declared.event.Point.{Point}
-use Rattle.markdown_base.specs.Virtual.{Seat}
-use Rattle.mdconstructs_machines.specs.LineEvents.{ending_of, line_text}
-use Rattle.mdconstructs_machines.specs.Spans.{event}
-use Rattle.mdblock_leaf_blocks.specs.LeafEvents.{Chunk, Mark, chunk_span, leaf_marks, span_marks, white}
-use Rattle.mdblock_leaf_blocks.specs.LineKinds.{indent}
-use Rattle.mdblock_lines.specs.Containers.{Container, Prefix, item, quote}
-use Rattle.mdblock_containers.proofs.FrameFacts.{Turn, all_entered}
 use Rattle.mdblock_containers.specs.Prefixes.{columns_of}
-use Rattle.mdblock_containers.specs.Rows.{Row, has_none, rest_of}
-use Rattle.mdblock_containers.specs.Skeleton.{Frame, Part, Piece, begin_of, begun_all, chunks_of, end_of, ending_marks, enters_of, exits, inside_of, is_held, joined_pieces, last_line, pieces_of, prefixes_marks, shared}
-use Rattle.mdblock_definitions.specs.Definitions.{places_in}
-use Rattle.mdblock_definitions.specs.Sections.{Inside, Section, defined, lines}
-use Rattle.mdblock_definitions.specs.Skeleton.{all_rows, behind_marks, inside_marks, section_marks, sections_marks}
-use Rattle.mddocument_rules.specs.Standing.{holds_blocks, is_in, may_stand}
-use Rattle.mdblock_containers.specs.Lists.{list_names}
-use Rattle.mddocument_rules.proofs.Definitions.{IsKept, begins-are, definitions-are, places-are, prefixes-are}
+use Rattle.mddocument_rules.proofs.Definitions.{IsKept, begins-are, defined-in-rows, kept, prefixes-are}
 use Rattle.mddocument_rules.proofs.Frames.{Anywhere, Stacked, anywhere-free, anywhere-none, begun-stand, between-leaf, exits-stand, prefixes-pass, spaces, stacked-behind, within, within-both}
 use Rattle.mddocument_rules.proofs.Gaps.{Apart, BetweenChunks, Gapped, apart-between, apart-both, apart-mark, apart-none, apart-span, between-kept, between-none, chunk-gapped}
-use Rattle.mddocument_rules.proofs.Passes.{AsBlocks, Free, MarksStand, Passes, blocks-both, blocks-none, chunk-passes, free-as-blocks, free-both, free-none, free-span, passes-both, span-passes}
+use Rattle.mddocument_rules.proofs.Passes.{free-kept, AsBlocks, Free, MarksStand, Passes, blocks-both, blocks-none, chunk-passes, free-as-blocks, passes-both, span-passes}
 use Rattle.mddocument_rules.proofs.Places.{blocks-apart, free-may}
 
 module _ (bytes : List ℕ) where
   -- ---- pieces
   -- what is before a piece stands anywhere, and between chunks
-  abbrev BeforeIs : Piece bytes → Type 0
-  BeforeIs p = Anywhere p.before × BetweenChunks p.before
+  abbrev Before : List Mark → Type 0
+  Before ms = Anywhere ms × BetweenChunks ms
 
-  before-row : (ps : List Prefix) (seats : List Seat) → Anywhere (prefixes_marks bytes ps seats) × BetweenChunks (prefixes_marks bytes ps seats)
+  abbrev BeforeIs : Piece bytes → Type 0
+  BeforeIs p = PieceIs bytes Before p
+
+  before-row : (ps : List Prefix) (seats : List Seat) → Before (prefixes_marks bytes ps seats)
   before-row ps seats = (prefixes-pass bytes ps seats, prefixes-are (between-kept bytes) ps seats)
 
-  before-none : Anywhere [] × BetweenChunks []
+  before-none : Before []
   before-none = (anywhere-none, between-none)
 
-  pieces : (held : Bool) (row : Row) (more : List Row) → AllByRecursion BeforeIs (pieces_of bytes held row more)
-  pieces held row [] = (before-row row.went_on row.line, tt)
-  pieces held row (next ∷ more) = (before-row row.went_on row.line, pieces held next more)
-
-  joins : (ps : List (Piece bytes)) → AllByRecursion BeforeIs ps → AllByRecursion BeforeIs (joined_pieces bytes ps)
-  joins [] h = tt
-  joins (p ∷ []) h = h
-  joins (p ∷ q ∷ ps) h = by (joined_pieces bytes (q ∷ ps)) (joins (q ∷ ps) h.1)
-    where
-      by : (rs : List (Piece bytes)) → AllByRecursion BeforeIs rs
-          → AllByRecursion BeforeIs (elim rs [ [] ↦ p ∷ [] | r ∷ rs ↦ cond (has_none r.before) (record p { seats = p.seats ++ r.seats } ∷ rs) (p ∷ r ∷ rs) ])
-      by [] k = (h.0, tt)
-      by (r ∷ rs) k = cond_both (has_none r.before) (record p { seats = p.seats ++ r.seats } ∷ rs) (p ∷ r ∷ rs) (AllByRecursion BeforeIs) (λ e. (h.0, k.1)) (λ e. (h.0, k))
-
   of-part : (part : Part) → AllByRecursion BeforeIs (joined_pieces bytes (pieces_of bytes (is_held part) part.first part.more))
-  of-part part = joins (pieces_of bytes (is_held part) part.first part.more) (pieces (is_held part) part.first part.more)
+  of-part part = stretch-is bytes Before (λ (row : Row). Unit {0}) (λ row u. before-row row.went_on row.line) part (every-all (λ (row : Row). Unit {0}) (λ row. tt) (all_rows part))
 
   chunks-pass : (has_previous : Bool) (ps : List (Piece bytes)) → AllByRecursion BeforeIs ps → AsBlocks (chunks_of bytes has_previous ps)
   chunks-pass has_previous [] h = blocks-none
@@ -117,11 +88,11 @@ module _ (bytes : List ℕ) where
       (record { passes = λ around b. span-passes bytes around name.Definition seats inside (b, tt) (h.0.passes (name.Definition ∷ around) refl) (λ e. h.0.passes around (blocks-apart around b)) }, apart-span bytes name.Definition seats inside (apart-between inside h.1))
 
   two-kept : IsKept bytes (λ ms. Free ms × BetweenChunks ms)
-  two-kept = record {
-    none = (free-none, (between-kept bytes).none);
-    both = λ xs ys h k. (free-both xs ys h.0 k.0, (between-kept bytes).both xs ys h.1 k.1);
-    over = λ n seats inside f h. (free-span bytes n seats inside f h.0, (between-kept bytes).over n seats inside f h.1);
-  }
+  two-kept =
+      let free = free-kept bytes in
+      let gap = between-kept bytes in
+      kept (free.none, gap.none) (λ xs ys h k. (free.both xs ys h.0 k.0, gap.both xs ys h.1 k.1))
+      (λ n seats inside f h. (free.over n seats inside f (any-seats seats) h.0, gap.over n seats inside f (any-seats seats) h.1))
 
   -- a blank line stands anywhere; other sections where blocks may
   abbrev pub IsRoomy : Section → Type 0
@@ -140,7 +111,7 @@ module _ (bytes : List ℕ) where
   inside-both part (lines true) = behind-both (indent (rest_of part.first)) (joined_pieces bytes (pieces_of bytes (is_held part) part.first part.more)) (of-part part)
   inside-both part (lines false) = lines-both part
   inside-both part (defined ds) =
-      definitions-are two-kept Both (blocks-none, apart-none) both-both (λ ms h. (free-as-blocks ms h.0, apart-between ms h.1)) definition-both ds (places_in bytes (all_rows part)) (places-are two-kept (all_rows part))
+      defined-in-rows two-kept Both (blocks-none, apart-none) both-both (λ ms h. (free-as-blocks ms h.0, apart-between ms h.1)) definition-both ds (all_rows part)
 
   inside-passes : (s : Section) → IsRoomy s → Passes (within [] s.part.frames) (inside_marks bytes s.part s.inside)
   inside-passes s h = elim h [

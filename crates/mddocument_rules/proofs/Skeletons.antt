@@ -1,27 +1,8 @@
 -- The sections of a document stand in the spans of containers around them; so its skeleton stands.
-use Rattle.std.proofs.Common.{◌≡◌, ◌∙◌, ℕ, zero, suc, Bool, true, false, cond, List, [], ◌∷◌, ◌++◌, None, drop, inl, inr, length, map, refl, sym, subst, take}
-use Rattle.std.proofs.lemmas.Bool.{cond_both, false_from_ne_true, false≢true}
-use Rattle.std.specs.List.{AllByRecursion, flat_map}
-use Rattle.std.specs.Prelude.{◌&&◌}
-use Rattle.markdown_base.proofs.Common.{every-append, every-drop}
-use Rattle.markdown_base.specs.declared.configuration.Constructs.{Constructs}
-use Rattle.markdown_base.specs.Virtual.{virtual}
-use Rattle.markdown_tokenizer.specs.Text.{Given}
-use Rattle.mdconstructs_machines.specs.LineEvents.{lines_in}
-use Rattle.mdinline_labels.specs.declared.definitions.Definition.{Definition}
+use Rattle.mddocument_rules.proofs.Prelude.{◌≡◌, ◌∙◌, ℕ, zero, suc, Bool, true, false, cond, List, [], ◌∷◌, ◌++◌, None, drop, inl, inr, length, map, refl, sym, subst, take, cond_both, false_from_ne_true, false≢true, AllByRecursion, flat_map, ◌&&◌, every-append, every-drop, Constructs, virtual, Given, lines_in, Definition, Line, left_is, Row, nothing_known, Frame, Part, further, parts, parts_in, document_skeleton, Known, known_after, row_of, rows, rows_from, Section, before_defined, begins_text, cut, defined_in, defining, in_same, lines, paragraph_of, sections, sections_in, sections_of, text_in, undefined, sections_marks, holds_blocks, SkeletonsStand}
 use Rattle.mdinline_labels.specs.Definitions.{definitions}
-use Rattle.mdblock_leaf_blocks.specs.LeafBlocks.{Line}
-use Rattle.mdblock_containers.proofs.FrameFacts.{left_is}
 use Rattle.mdblock_containers.proofs.SeatFacts.{document_lines}
-use Rattle.mdblock_containers.specs.Rows.{Row, nothing_known}
-use Rattle.mdblock_containers.specs.Skeleton.{Frame, Part, further, parts, parts_in}
 use Rattle.mdblock_definitions.proofs.SectionTurns.{AreCut, document-cut}
-use Rattle.mdblock_definitions.specs.Blocks.{document_skeleton}
-use Rattle.mdblock_definitions.specs.Rows.{Known, known_after, row_of, rows, rows_from}
-use Rattle.mdblock_definitions.specs.Sections.{Section, before_defined, begins_text, cut, defined_in, defining, in_same, lines, paragraph_of, sections, sections_in, sections_of, text_in, undefined}
-use Rattle.mdblock_definitions.specs.Skeleton.{sections_marks}
-use Rattle.mddocument_rules.specs.Standing.{holds_blocks}
-use Rattle.mddocument_rules.specs.StandingLaws.{SkeletonsStand}
 use Rattle.mddocument_rules.proofs.Frames.{Stacked, frames-roomy, frames-stacked, within}
 use Rattle.mddocument_rules.proofs.Passes.{chained-stand}
 use Rattle.mddocument_rules.proofs.Places.{Stands, walks-stand}

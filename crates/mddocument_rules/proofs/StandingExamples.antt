@@ -1,15 +1,7 @@
 -- Some lists of spans, and some documents, in which each span stands where it may or does not, by computation.
-use Rattle.std.proofs.Common.{◌≡◌, ℕ, List, [], ◌∷◌, Bool, true, false, None, refl}
-use Rattle.std.specs.Prelude.{codes}
-use Rattle.markdown_base.specs.declared.event.Event.{Event}
-use Rattle.markdown_base.specs.declared.event.Kind.TheVariants.{Enter, Exit}
-use Rattle.markdown_base.specs.declared.event.Name.{Name}
+use Rattle.mddocument_rules.proofs.Prelude.{◌≡◌, ℕ, List, [], ◌∷◌, Bool, true, false, None, refl, codes, Event, Enter, Exit, Name, point, Given, document_blocks, all_stand, may_stand}
 use Rattle.markdown_base.specs.declared.event.Name.TheVariants as name
 use Rattle.markdown_base.specs.Presets.{default_parse_options}
-use Rattle.markdown_base.specs.Virtual.{point}
-use Rattle.markdown_tokenizer.specs.Text.{Given}
-use Rattle.mdblock_definitions.specs.Blocks.{document_blocks}
-use Rattle.mddocument_rules.specs.Standing.{all_stand, may_stand}
 
 -- ---- spans written by hand
 abbrev enter : Name → Event

@@ -1,12 +1,5 @@
 -- Walks over events, with the names of the spans around each, of which the innermost comes first.
-use Rattle.std.proofs.Common.{◌≡◌, List, [], ◌∷◌, ◌++◌, drop, refl, subst, sym}
-use Rattle.std.specs.List.{AllByRecursion}
-use Rattle.markdown_base.specs.declared.event.Event.{Event}
-use Rattle.markdown_base.specs.declared.event.Kind.{Kind}
-use Rattle.markdown_base.specs.declared.event.Kind.TheVariants.{Enter, Exit}
-use Rattle.markdown_base.specs.declared.event.Name.{Name}
-use Rattle.markdown_base.specs.Events.{IsBalanced, empty, span}
-use Rattle.markdown_tokenizer.proofs.Positions.Order.{every-back, every-front}
+use Rattle.mddocument_rules.proofs.Prelude.{◌≡◌, List, [], ◌∷◌, ◌++◌, drop, refl, subst, sym, AllByRecursion, Event, Kind, Enter, Exit, Name, IsBalanced, empty, span, every-back, every-front}
 
 -- what is around behind an event
 abbrev pub behind_one : Kind → Name → List Name → List Name

@@ -1,27 +1,13 @@
 -- A list with children in place of its chains is a walk, if the list is one, and each child is where its chunks stand: a child goes on from chunk to
 -- chunk with what is around it, and between two chunks stands what may stand anywhere.
-use Rattle.std.proofs.Common.{◌≡◌, ◌∙◌, ℕ, suc, ◌+◌, List, [], ◌∷◌, ◌++◌, Option, Some, drop, length, sym, ap, subst, arith}
-use Rattle.std.specs.List.{AllByRecursion, between}
-use Rattle.std.specs.Prelude.{slice_get}
-use Rattle.markdown_base.proofs.Common.{drop-at}
-use Rattle.markdown_base.specs.declared.event.Content.{Content}
-use Rattle.markdown_base.specs.declared.event.Event.{Event}
-use Rattle.markdown_base.specs.declared.event.Kind.{Kind}
-use Rattle.markdown_base.specs.declared.event.Kind.TheVariants.{Enter, Exit}
-use Rattle.markdown_base.specs.declared.event.Name.{Name}
-use Rattle.markdown_base.specs.Events.{IsBalanced, relinked}
+use Rattle.mddocument_rules.proofs.Prelude.{◌≡◌, ◌∙◌, ℕ, suc, ◌+◌, List, [], ◌∷◌, ◌++◌, Option, Some, drop, length, sym, ap, subst, arith, AllByRecursion, between, slice_get, drop-at, Content, Event, Kind, Enter, Exit, Name, IsBalanced, relinked, next_of, every-all, Fits, chunk, fits_next, fitting_starts, IsReady}
 use Rattle.markdown_edits.proofs.Edits.Passes.{woven-pass}
-use Rattle.markdown_edits.specs.Links.{next_of}
 use Rattle.markdown_edits.specs.Woven.{AreApart, Change, Tagged, placed_end, placed_in, woven}
-use Rattle.markdown_tokenizer.proofs.Positions.Order.{every-all}
-use Rattle.markdown_children.proofs.ChainOrder.Following.{Fits, chunk, fits_next}
 use Rattle.markdown_children.proofs.ChainOrder.Spaced.{changes_are_apart}
 use Rattle.markdown_children.proofs.Parts.Kept.{after_changes, joined, part_after, split-at, untagged, untagged-olds, with_children_holds}
-use Rattle.markdown_children.specs.Chains.{fitting_starts}
 use Rattle.markdown_children.specs.Children.{child_changes, part_changes, with_children}
 use Rattle.markdown_children.specs.LawStatements.{AreSpaced, LeadOnFrom}
 use Rattle.markdown_children.specs.Parts.{Divided, divided_over}
-use Rattle.markdown_children.specs.Ready.{IsReady}
 use Rattle.mddocument_rules.proofs.Walk.{IfEnter, Stays, Walks, behind-balanced, behind-both, behind_all, behind_one, stays-behind, stays-first, walks-both, walks-split}
 
 -- What is asked of an event; where chunks stand; and where what is between chunks may stand

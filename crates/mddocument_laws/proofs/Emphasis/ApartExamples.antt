@@ -1,15 +1,9 @@
 -- The parts into which a link takes the runs of a text, by computation: its own come first, and each is in one part.
-use Rattle.std.proofs.Common.{◌≡◌, ℕ, List, [], ◌∷◌, false, map, refl}
-use lib.Utf8.{encode}
-use Rattle.std.specs.Prelude.{codes}
+use Rattle.mddocument_laws.proofs.Prelude.{◌≡◌, ℕ, List, [], ◌∷◌, false, map, refl, codes, default_constructs, default_parse_options, point, virtual, Given, Text, empty_text, Run, read_events, runs_apart}
 use Rattle.std.specs.Str.{chars, is_utf8}
-use Rattle.markdown_base.specs.Presets.{default_constructs, default_parse_options}
-use Rattle.markdown_base.specs.Virtual.{point, virtual}
-use Rattle.markdown_tokenizer.specs.Text.{Given, Text, empty_text}
-use Rattle.mdinline_emphasis.specs.Emphasis.{Run}
-use Rattle.mdinline_emphasis.specs.Unicode.{punctuation, white_space}
-use Rattle.mdinline_machine.specs.InlineEvents.{read_events}
-use Rattle.mddocument_laws.specs.PairedApart.{runs_apart}
+use Rattle.mdinline_emphasis.specs.Unicode.{punctuation}
+use lib.Utf8.{encode}
+use Rattle.mdinline_emphasis.specs.Unicode.{white_space}
 
 abbrev places : List ℕ → List (List ℕ)
 places bytes =

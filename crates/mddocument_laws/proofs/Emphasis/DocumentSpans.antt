@@ -1,36 +1,7 @@
 -- The spans of emphasis of a document are those of its texts, one behind another, and so those of the pairs of each.
-use Rattle.std.proofs.Common.{◌≡◌, ℕ, List, [], ◌∷◌, ◌++◌, Bool, true, false, cond, not, Some, refl, sym, ap, ◌∙◌, subst, inl, inr}
-use Rattle.std.proofs.lemmas.Bool.{and_parts, cases_Bool}
-use Rattle.std.proofs.lemmas.List.Elements.{recursion_from_All}
-use Rattle.std.proofs.lemmas.List.Sorted.{IsPermutation-append_left, IsPermutation-append_right, IsPermutation-refl, IsPermutation-trans}
-use Rattle.std.specs.List.{flat_map}
-use Rattle.std.specs.List.Sorted.{IsPermutation}
-use Rattle.std.specs.Prelude.{◌&&◌}
-use Rattle.markdown_base.specs.declared.configuration.Constructs.{Constructs}
-use Rattle.markdown_base.specs.declared.event.Content.TheVariants.{Content, String, Text}
-use Rattle.markdown_base.specs.declared.event.Event.{Event}
-use Rattle.markdown_base.specs.declared.event.Name.{Name}
-use Rattle.markdown_base.specs.declared.event.Name.TheVariants.{Data}
-use Rattle.markdown_base.specs.Events.{is_enter, same_name}
-use Rattle.markdown_base.specs.Virtual.{Seat, virtual}
-use Rattle.markdown_edits.proofs.Balanced.{same_name-true}
-use Rattle.markdown_tokenizer.specs.Text.{Given, IsDocument, Text as TextOf}
-use Rattle.markdown_children.specs.Reads.{text_from}
-use Rattle.markdown_children.specs.Ready.{IsReady}
-use Rattle.mdblock_definitions.specs.Blocks.{document_blocks, document_skeleton, shown_as_text}
-use Rattle.mdblock_leaf_blocks.specs.LeafEvents.{flow_events}
-use Rattle.mdinline_machine.specs.InlineEvents.{inline_events, read_events}
-use Rattle.mdinline_machine.specs.LawStatements.{with_inlines}
-use Rattle.mdinline_machine.specs.StringEvents.{string_events}
+use Rattle.mddocument_laws.proofs.Prelude.{◌≡◌, ℕ, List, [], ◌∷◌, ◌++◌, Bool, true, false, cond, not, Some, refl, sym, ap, ◌∙◌, subst, inl, inr, and_parts, cases_Bool, recursion_from_All, IsPermutation-append_left, IsPermutation-append_right, IsPermutation-refl, IsPermutation-trans, flat_map, IsPermutation, ◌&&◌, Constructs, String, Event, Name, Data, is_enter, same_name, Seat, virtual, same_name-true, Given, IsDocument, Text as TextOf, text_from, IsReady, document_blocks, document_skeleton, shown_as_text, flow_events, inline_events, read_events, with_inlines, string_events, in_string_after, is_data, line_as_string, seats_between, with_strings_from, chain_text, skeleton-laws, content-ready, strings-ready, document_events, document_texts, is_defined_in, DocumentsHaveSpansOfPairs, DocumentsHaveSpansOfTexts, TextsHaveSpansOfPairs, text_starts, EmphasisSpan, emphasis_spans, is_emphasis, spans_of_text}
+use Rattle.markdown_base.specs.declared.event.Content.TheVariants.{Content, Text}
 use Rattle.mdinline_link_strings.specs.StringItems.{string_seat_events}
-use Rattle.mdinline_link_strings.specs.Strings.{in_string_after, is_data, line_as_string, seats_between, with_strings_from}
-use Rattle.mdinline_text_machine.specs.ChainTexts.{chain_text}
-use Rattle.mddocument.proofs.InContainers.Skeletons.{skeleton-laws}
-use Rattle.mddocument.proofs.InContainers.TextsFormed.{content-ready, strings-ready}
-use Rattle.mddocument.specs.DocumentEvents.{document_events, document_texts, is_defined_in}
-use Rattle.mddocument_laws.specs.EmphasisLaws.{DocumentsHaveSpansOfPairs, DocumentsHaveSpansOfTexts, TextsHaveSpansOfPairs, text_starts}
-use Rattle.mddocument_laws.specs.EmphasisSpans.{EmphasisSpan, emphasis_spans, is_emphasis}
-use Rattle.mddocument_laws.specs.PairedApart.{spans_of_text}
 use Rattle.mddocument_laws.proofs.ChildNames.{children-named}
 use Rattle.mddocument_laws.proofs.Chosen.{AreOther, bare, chosen-behind, chosen-kept, chosen-of-children}
 use Rattle.mddocument_laws.proofs.DocumentNames.{defined-if-on}

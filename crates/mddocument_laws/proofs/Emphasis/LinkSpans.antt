@@ -1,26 +1,9 @@
 -- Links, images and emphasis in place of brackets and delimiter runs have a span of emphasis for each pair of runs, and no other.
-use Rattle.std.proofs.Common.{◌≡◌, ℕ, ◌<◌, ◌∙◌, Bool, true, false, cond, List, [], ◌∷◌, ◌++◌, None, inl, inr, refl, sym, ap, subst, append_assoc, append-nil, length}
-use Rattle.std.proofs.lemmas.Bool.{cases_Bool, cond_both, false≢true}
-use Rattle.std.proofs.lemmas.List.Sorted.{IsPermutation-append_left, IsPermutation-append_right, IsPermutation-refl, IsPermutation-trans}
-use Rattle.std.specs.List.{AllByRecursion, flat_map}
-use Rattle.std.specs.List.Sorted.{IsPermutation}
-use Rattle.markdown_base.proofs.Common.{every-append}
-use Rattle.markdown_base.specs.declared.event.Event.{Event}
-use Rattle.markdown_base.specs.declared.event.Name.{Name}
-use Rattle.markdown_base.specs.declared.event.Name.TheVariants.{Image, Label, LabelEnd, LabelImage, LabelMarker, LabelText, Link}
-use Rattle.markdown_base.specs.declared.event.Point.{Point}
-use Rattle.markdown_tokenizer.proofs.Positions.Order.{every-back, every-front}
-use Rattle.mdinline_emphasis.specs.Emphasis.{Run}
-use Rattle.mdinline_emphasis.specs.Runs.{runs_in}
+use Rattle.mddocument_laws.proofs.Prelude.{◌≡◌, ℕ, ◌<◌, ◌∙◌, Bool, true, false, cond, List, [], ◌∷◌, ◌++◌, None, inl, inr, refl, sym, ap, subst, append_assoc, append-nil, length, cases_Bool, cond_both, false≢true, IsPermutation-append_left, IsPermutation-append_right, IsPermutation-refl, IsPermutation-trans, AllByRecursion, flat_map, IsPermutation, every-append, Event, Name, Image, Label, LabelEnd, LabelImage, LabelMarker, LabelText, Link, Point, every-back, every-front, Run, runs_in, runs-ascend, IsFresh, AreAscending, SoFar, Waiting, added, all_parts, around, as_data, emphasised_parts, ended, events, failed, is_bracket, is_run, is_tail, label_text, last_place, made, opened, outermost_spans, part_of, runs_of_parts, spanning, taken, with_links, EmphasisSpan, emphasis_spans, is_emphasis, spans_of_runs, runs_apart_from, runs_inside, runs_outside, spans_of_text}
 use Rattle.mdinline_links.proofs.Leaves.{runs-fresh}
-use Rattle.mdinline_links.proofs.Reached.{runs-ascend}
 use Rattle.mdinline_links.proofs.Spans.{spans-have}
 use Rattle.mdinline_links.proofs.Steps.{ascending-front}
-use Rattle.mdinline_links.specs.Kept.{IsFresh}
-use Rattle.mdinline_links.specs.Laid.{AreAscending}
-use Rattle.mdinline_links.specs.Linked.{Part, SoFar, Waiting, added, all_parts, around, as_data, emphasised_parts, ended, events, failed, is_bracket, is_named, is_run, is_tail, label_text, last_place, linked_from, made, opened, outermost_spans, part_of, run, runs_of_parts, spanning, taken, with_links}
-use Rattle.mddocument_laws.specs.EmphasisSpans.{EmphasisSpan, emphasis_spans, is_emphasis, spans_of_runs}
-use Rattle.mddocument_laws.specs.PairedApart.{runs_apart_from, runs_inside, runs_outside, spans_of_text}
+use Rattle.mdinline_links.specs.Linked.{Part, is_named, linked_from, run}
 use Rattle.mddocument_laws.proofs.Emphasis.PartSpans.{AreGood, HaveSpans, IsGood, parts-spans, spans_between}
 use Rattle.mddocument_laws.proofs.Emphasis.RunSpans.{IsPlain, closed-both, plain-closed, plain-none}
 
@@ -112,11 +95,12 @@ record IsFine (z : SoFar) : Type 0 where
 good-events : (es : List Event) → ArePlain es → IsGood (events es)
 good-events es h = plain-closed es h
 
-all-good : (ws : List Waiting) (ps : List Part) → AllByRecursion IsOpener ws → AreGood ps → AreGood (all_parts ws ps)
-all-good [] ps h g = g
-all-good (w ∷ ws) ps h g =
-    all-good ws (w.before ++ events (as_data w.opener) ∷ ps) h.1
-    (every-append IsGood w.before (events (as_data w.opener) ∷ ps) h.0.before (good-events (as_data w.opener) (data-plain w.opener), g))
+-- what holds of the parts before brackets that wait for an end, of brackets as data and of the parts behind, holds of all
+pub every-part : (P : Part → Type 0) (Waits : Waiting → Type 0) → ((w : Waiting) → Waits w → AllByRecursion P w.before) → ((es : List Event) → P (events (as_data es)))
+    → (ws : List Waiting) (ps : List Part) → AllByRecursion Waits ws → AllByRecursion P ps → AllByRecursion P (all_parts ws ps)
+every-part P Waits before datum [] ps h g = g
+every-part P Waits before datum (w ∷ ws) ps h g =
+    every-part P Waits before datum ws (w.before ++ events (as_data w.opener) ∷ ps) h.1 (every-append P w.before (events (as_data w.opener) ∷ ps) (before w h.0) (datum w.opener, g))
 
 pub all-runs : (ws : List Waiting) (ps : List Part) → runs_of_parts (all_parts ws ps) ≡ runs_waiting ws ++ runs_of_parts ps
 all-runs [] ps = refl
@@ -308,7 +292,7 @@ at-end z h =
     let up = subst AreAscending (sym (all-runs z.waiting z.behind)) (ascending-front (runs_so_far z) z.runs h.up) in
     let q = spans_of_runs (runs_of_parts parts) in
     let same : spans_between parts ++ q ≡ spans_so_far z ++ spans_of_all (runs_outside z) = ap (λ l. l ++ q) (all-between z.waiting z.behind) ∙ ap (λ l. spans_so_far z ++ l) (sym (append-nil q)) in
-    subst (HaveSpans (final z)) same (parts-spans parts (all-good z.waiting z.behind h.waits h.behind) up)
+    subst (HaveSpans (final z)) same (parts-spans parts (every-part IsGood IsOpener (λ w h. h.before) (λ es. good-events (as_data es) (data-plain es)) z.waiting z.behind h.waits h.behind) up)
 
 behind-goes : (z new last : SoFar) (apart : List (List Run)) → Goes z new → Makes new last apart → Makes z last apart
 behind-goes z new last apart g m = subst (λ l. HaveSpans (final last) (l ++ spans_of_all apart)) g.same m

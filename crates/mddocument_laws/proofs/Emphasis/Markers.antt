@@ -1,12 +1,5 @@
 -- Pairs are of two runs, which have the markers that they take.
-use Rattle.std.proofs.Common.{◌≡◌, ℕ, zero, suc, ◌+◌, ◌<◌, ◌≤◌, ◌==◌, List, [], ◌∷◌, ◌++◌, Some, length, ap, subst, arith}
-use Rattle.std.proofs.lemmas.List.Elements.{All-from_recursion}
-use Rattle.std.specs.List.{AllByRecursion}
-use Rattle.std.specs.Prelude.{slice_get}
-use Rattle.markdown_base.proofs.Common.{every-append, every-map}
-use Rattle.mdinline_emphasis.specs.Emphasis.{Delimiter, Pair, Run, close_pairs, markers_of_all, pairs, pairs_from}
-use Rattle.mddocument_laws.specs.EmphasisLaws.{PairsAreOfRuns, RunsHaveMarkers}
-use Rattle.mddocument_laws.specs.EmphasisSpans.{markers_given}
+use Rattle.mddocument_laws.proofs.Prelude.{◌≡◌, ℕ, zero, suc, ◌+◌, ◌<◌, ◌≤◌, ◌==◌, List, [], ◌∷◌, ◌++◌, Some, length, ap, subst, arith, All-from_recursion, AllByRecursion, slice_get, every-append, every-map, Delimiter, Pair, Run, close_pairs, markers_of_all, pairs, pairs_from, PairsAreOfRuns, RunsHaveMarkers, markers_given}
 use Rattle.mddocument_laws.proofs.Emphasis.PairOrder.{AreBelow, all-within, closes-at, delimiter}
 use Rattle.mddocument_laws.proofs.Emphasis.PartSpans.{IsAt, closed-is, first-at, next-at, opened-is}
 

@@ -1,15 +1,7 @@
 -- Pairs of delimiter runs: which runs open and close them, in which order, and how many markers they take.
-use Rattle.std.proofs.Common.{◌≡◌, ℕ, zero, suc, ◌+◌, ◌-◌, ◌<◌, ◌≤◌, ◌==◌, Bool, true, false, cond, List, [], ◌∷◌, ◌++◌, refl, sym, ap, subst, arith}
-use Rattle.std.proofs.lemmas.Bool.{cond_both, and_parts, leb-true}
-use Rattle.std.proofs.lemmas.Bool.Decides.{nat_tests}
-use Rattle.std.specs.List.{AllByRecursion, filter}
-use Rattle.std.specs.Prelude.{nat_le, nat_lt, map}
-use Rattle.markdown_base.proofs.Common.{every-append}
-use Rattle.markdown_tokenizer.proofs.Positions.Order.{every-back}
+use Rattle.mddocument_laws.proofs.Prelude.{◌≡◌, ℕ, zero, suc, ◌+◌, ◌-◌, ◌<◌, ◌≤◌, ◌==◌, Bool, true, false, cond, List, [], ◌∷◌, ◌++◌, refl, sym, ap, subst, arith, cond_both, and_parts, leb-true, nat_tests, AllByRecursion, filter, nat_le, nat_lt, every-append, every-back, Delimiter, Pair, Run, close_pairs, closes_yet, gave, look_back, markers_of, markers_of_all, may_pair, on_stack, opens_yet, pairs_from, style_of, markers_given, map}
 use Rattle.mdinline_emphasis.proofs.Markers.{pair-has}
 use Rattle.mdinline_emphasis.proofs.PairsKeep.{some-left}
-use Rattle.mdinline_emphasis.specs.Emphasis.{Delimiter, Pair, Run, close_pairs, closes_yet, gave, look_back, markers_of, markers_of_all, may_pair, on_stack, opens_yet, pairs_from, style_of}
-use Rattle.mddocument_laws.specs.EmphasisSpans.{markers_given}
 
 -- ---- one run closes pairs: a principle of induction
 abbrev Closed : Type 0

@@ -1,22 +1,9 @@
 -- Emphasis of parts: its spans are those of the events between runs, and one for each pair.
-use Rattle.std.proofs.Common.{◌≡◌, ℕ, suc, ◌+◌, ◌-◌, ◌<◌, ◌≤◌, ◌∙◌, ◌==◌, Bool, true, false, List, [], ◌∷◌, ◌++◌, Some, refl, sym, ap, subst, arith, append_assoc, append-nil, map, reverse}
-use Rattle.std.proofs.lemmas.Bool.Decides.{nat_tests}
-use Rattle.std.proofs.lemmas.List.Sorted.{IsPermutation-append_comm, IsPermutation-append_left, IsPermutation-append_right, IsPermutation-refl, IsPermutation-trans}
-use Rattle.std.specs.List.{AllByRecursion}
-use Rattle.std.specs.List.Sorted.{IsPermutation}
-use Rattle.std.specs.Prelude.{nat_lt, slice_get}
-use Rattle.markdown_base.proofs.Common.{every-append, every-map}
-use Rattle.markdown_base.specs.declared.event.Event.{Event}
-use Rattle.markdown_base.specs.declared.event.Point.{Point}
-use Rattle.mdinline_emphasis.specs.declared.pairs.Style.{Style}
-use Rattle.mdinline_emphasis.specs.Emphasis.{Delimiter, Pair, Run, all_in_pairs, close_pairs, in_lists, in_pairs, markers_of_all, paired, pairs, pairs_from, styles}
+use Rattle.mddocument_laws.proofs.Prelude.{◌≡◌, ℕ, suc, ◌+◌, ◌-◌, ◌<◌, ◌≤◌, ◌∙◌, ◌==◌, Bool, true, false, List, [], ◌∷◌, ◌++◌, Some, refl, sym, ap, subst, arith, append_assoc, append-nil, map, reverse, nat_tests, IsPermutation-append_comm, IsPermutation-append_left, IsPermutation-append_right, IsPermutation-refl, IsPermutation-trans, AllByRecursion, IsPermutation, nat_lt, slice_get, every-append, every-map, Event, Point, Style, Delimiter, Pair, Run, all_in_pairs, close_pairs, in_lists, in_pairs, markers_of_all, paired, pairs, pairs_from, styles, IsFresh, AreAscending, events, emphasised_parts, runs_of_parts, EmphasisSpan, emphasis_spans, markers_given, spans_behind, spans_of_pairs, spans_of_runs}
 use Rattle.mdinline_emphasis.specs.RunEdits.{in_place}
 use Rattle.mdinline_links.proofs.WithRuns.{emphasised-runs}
 use Rattle.mdinline_links.specs.Between.{with_runs}
-use Rattle.mdinline_links.specs.Kept.{IsFresh}
-use Rattle.mdinline_links.specs.Laid.{AreAscending}
-use Rattle.mdinline_links.specs.Linked.{Part, run, events, emphasised_parts, runs_of_parts}
-use Rattle.mddocument_laws.specs.EmphasisSpans.{EmphasisSpan, emphasis_spans, markers_given, spans_behind, spans_of_pairs, spans_of_runs}
+use Rattle.mdinline_links.specs.Linked.{Part, run}
 use Rattle.mddocument_laws.proofs.Emphasis.PairOrder.{AreBelow, AreFalling, CloseAt, HaveMarkers, all-within, are-nested, closes-at, closes-from, delimiter, falling-still, markers-still}
 use Rattle.mddocument_laws.proofs.Emphasis.RunSpans.{IsClosed, nested-starts, places_upto, run-place, spans-append, starts-append, starts-none, starts-opened, starts_of, styles-all, styles-append, styles-none, with_pairs}
 

@@ -1,29 +1,8 @@
 -- The delimiter runs of a text are taken apart by links and images: each is in one part, and in each part they stand in their order.
-use Rattle.std.proofs.Common.{◌≡◌, ℕ, zero, suc, ◌+◌, ◌-◌, ◌≤◌, ◌∙◌, List, [], ◌∷◌, ◌++◌, Bool, true, false, cond, inl, inr, not, Option, Some, None, append-nil, append_assoc, arith, length, refl, sym, ap, subst}
-use Rattle.std.proofs.Math.Dec.{eqb-suc-zero}
-use Rattle.std.proofs.lemmas.Bool.{and_parts, cond_both, false_from_ne_true, false≢true, or_cases}
-use Rattle.std.proofs.lemmas.Grind.{flat_map-append}
-use Rattle.std.proofs.lemmas.List.Elements.{All-from_recursion}
-use Rattle.std.proofs.lemmas.List.Sorted.{IsPermutation-append_comm, IsPermutation-append_left, IsPermutation-append_right, IsPermutation-refl, IsPermutation-trans}
-use Rattle.std.specs.List.{AllByRecursion, flat_map}
-use Rattle.std.specs.List.Sorted.{IsPermutation}
-use Rattle.std.specs.Prelude.{◌&&◌, ◌==◌, slice_get}
-use Rattle.markdown_base.proofs.Common.{every-append}
-use Rattle.markdown_base.specs.declared.event.Event.{Event}
+use Rattle.mddocument_laws.proofs.Prelude.{nil_from_length, ◌≡◌, ℕ, zero, suc, ◌+◌, ◌-◌, ◌≤◌, ◌∙◌, List, [], ◌∷◌, ◌++◌, Bool, true, false, cond, inl, inr, not, Option, Some, None, append-nil, append_assoc, arith, length, refl, sym, ap, subst, eqb-suc-zero, and_parts, cond_both, false_from_ne_true, false≢true, or_cases, flat_map-append, All-from_recursion, IsPermutation-append_comm, IsPermutation-append_left, IsPermutation-append_right, IsPermutation-refl, IsPermutation-trans, AllByRecursion, flat_map, IsPermutation, ◌&&◌, slice_get, every-append, Event, Enter, Exit, Name, AttentionSequence, LabelEnd, LabelImage, LabelLink, LabelMarker, Reference, Resource, is_enter, same_name, same_name-true, Run, depth_after, index_of_event, is_sequence, run_at, runs_from, runs_in, runs-ascend, AreAscending, SoFar, Waiting, added, all_parts, as_data, ended, events, failed, is_bracket, is_run, is_tail, made, opened, outermost_spans, part_of, runs_of_parts, span_at, spans_in, taken, RunsAreApart, runs_apart, runs_apart_from, runs_inside, runs_outside, ◌==◌}
 use Rattle.markdown_base.specs.declared.event.Kind.{Kind}
-use Rattle.markdown_base.specs.declared.event.Kind.TheVariants.{Enter, Exit}
-use Rattle.markdown_base.specs.declared.event.Name.{Name}
-use Rattle.markdown_base.specs.declared.event.Name.TheVariants.{AttentionSequence, LabelEnd, LabelImage, LabelLink, LabelMarker, Reference, Resource}
-use Rattle.markdown_base.specs.Events.{is_enter, same_name}
-use Rattle.markdown_edits.proofs.Balanced.{same_name-true}
-use Rattle.mdinline_emphasis.specs.Emphasis.{Run}
-use Rattle.mdinline_emphasis.specs.Runs.{depth_after, index_of_event, is_sequence, run_at, runs_from, runs_in}
-use Rattle.mdinline_links.proofs.Reached.{runs-ascend}
 use Rattle.mdinline_links.proofs.Plain.{no-run}
-use Rattle.mdinline_links.specs.Laid.{AreAscending}
-use Rattle.mdinline_links.specs.Linked.{Part, SoFar, Waiting, added, all_parts, as_data, ended, events, failed, is_bracket, is_named, is_run, is_tail, made, opened, outermost_spans, part_of, run, runs_of_parts, span_at, spans_in, taken}
-use Rattle.mddocument_laws.specs.EmphasisLaws.{RunsAreApart}
-use Rattle.mddocument_laws.specs.PairedApart.{runs_apart, runs_apart_from, runs_inside, runs_outside}
+use Rattle.mdinline_links.specs.Linked.{Part, is_named, run}
 use Rattle.mddocument_laws.proofs.Emphasis.LinkSpans.{all-runs, ascend-around, of-both, runs_so_far, runs_waiting}
 use Rattle.mddocument_laws.proofs.WholeSpans.{runs_among}
 
@@ -275,14 +254,10 @@ record Holds (z : SoFar) (parts : List (List Run)) : Type 0 where
   all : IsPermutation (all_of parts) (left z)
   order : AllByRecursion AreAscending parts
 
-none-left : (rs : List Run) → length rs ≡ 0 → rs ≡ []
-none-left [] h = refl
-none-left (r ∷ rs) h = absurd (omega (arith, h))
-
 outside-holds : (z : SoFar) → length z.runs ≡ 0 → AreAscending (left z) → Holds z (runs_outside z)
 outside-holds z none up =
     let parts = runs_of_parts (all_parts z.waiting z.behind) in
-    let same : parts ≡ left z = all-runs z.waiting z.behind ∙ sym (append-nil (runs_so_far z)) ∙ ap (λ l. runs_so_far z ++ l) (sym (none-left z.runs none)) in
+    let same : parts ≡ left z = all-runs z.waiting z.behind ∙ sym (append-nil (runs_so_far z)) ∙ ap (λ l. runs_so_far z ++ l) (sym (nil_from_length z.runs none)) in
     record { all = subst (IsPermutation (parts ++ [])) (append-nil parts ∙ same) (IsPermutation-refl (parts ++ [])); order = (subst AreAscending (sym same) up, tt) }
 
 step-holds : (span : List Event) (z new : SoFar) (parts : List (List Run)) → IsStep span z new → Holds new parts → Holds z parts

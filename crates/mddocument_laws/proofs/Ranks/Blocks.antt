@@ -1,16 +1,5 @@
 -- Headings among leaf blocks have their ranks, and tell them.
-use Rattle.std.proofs.Common.{◌≡◌, ℕ, zero, suc, ◌≤◌, ◌⊎◌, Bool, true, false, cond, List, [], ◌∷◌, length, take, drop, Option, Some, None, inl, inr, refl, arith}
-use Rattle.std.proofs.lemmas.Bool.{leb-true}
-use Rattle.std.specs.List.{AllByRecursion}
-use Rattle.std.specs.Prelude.{◌&&◌, ◌||◌, nat_le, not, slice_get}
-use Rattle.markdown_base.proofs.Common.{and-right}
-use Rattle.markdown_base.proofs.Facts.Bools.{and-left}
-use Rattle.markdown_base.specs.declared.configuration.Constructs.{Constructs}
-use Rattle.mdconstructs_machines.specs.LineEvents.{line_text}
-use Rattle.mdblock_leaf_blocks.specs.HtmlLines.{HtmlKind, html_kind}
-use Rattle.mdblock_leaf_blocks.specs.LeafBlocks.{Line, LeafBlock, block_of_kind, blocks_in, ends_text, lines_until, paragraph, setext_heading, text_of, underlined}
-use Rattle.mdblock_leaf_blocks.specs.LineKinds.{Fence, LineKind, blank, fence, heading, html, indent, indented, is_atx_heading, is_blank_line, is_far, is_fence_of, is_thematic_break, is_underline_of_marks, kind_of_rest, line_kind, run, text, thematic_break, underline_rank, unindented}
-use Rattle.mddocument_laws.specs.Ranks.{HasRank}
+use Rattle.mddocument_laws.proofs.Prelude.{◌≡◌, ℕ, zero, suc, ◌≤◌, ◌⊎◌, Bool, true, false, cond, List, [], ◌∷◌, length, take, drop, Option, Some, None, inl, inr, refl, arith, leb-true, AllByRecursion, ◌&&◌, ◌||◌, nat_le, slice_get, and-right, and-left, Constructs, line_text, HtmlKind, html_kind, Line, LeafBlock, block_of_kind, blocks_in, ends_text, lines_until, paragraph, setext_heading, text_of, underlined, Fence, LineKind, blank, fence, heading, html, indent, indented, is_atx_heading, is_blank_line, is_far, is_fence_of, is_thematic_break, is_underline_of_marks, kind_of_rest, line_kind, run, text, thematic_break, underline_rank, unindented, HasRank, not}
 use Rattle.mddocument_laws.proofs.Ranks.Told.{TellsItsRank}
 use Rattle.mddocument_laws.proofs.Ranks.Signs.{Laid, ranked}
 use Rattle.mddocument_laws.proofs.Ranks.Underlines.{Bytes, marks-of, underlined-ranks}

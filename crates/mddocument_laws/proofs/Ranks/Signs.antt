@@ -1,32 +1,11 @@
 -- Ranks of ATX headings: the number signs of a line stand side by side, so that the span of its opening sequence has as many bytes as there are.
-use Rattle.std.proofs.Common.{◌≡◌, ℕ, zero, suc, ◌+◌, ◌-◌, ◌≤◌, Bool, true, false, cond, List, [], ◌∷◌, ◌++◌, length, take, drop, Some, refl, sym, ap, ◌∙◌, subst, arith}
-use Rattle.std.proofs.lemmas.Bool.{eqb-true}
-use Rattle.std.proofs.lemmas.List.{drop-map, take-map}
-use Rattle.std.specs.List.{AllByRecursion, prefix_len}
-use Rattle.std.specs.Prelude.{◌==◌, ◌&&◌, not, slice_index}
-use Rattle.markdown_base.specs.declared.event.Event.{Event}
+use Rattle.mddocument_laws.proofs.Prelude.{◌≡◌, ℕ, zero, suc, ◌+◌, ◌-◌, ◌≤◌, Bool, true, false, cond, List, [], ◌∷◌, ◌++◌, length, take, drop, Some, refl, sym, ap, ◌∙◌, subst, arith, eqb-true, drop-map, take-map, AllByRecursion, ◌&&◌, slice_index, Event, Point, follows_cr, shown, Seat, begins_with_lf, end_after, in_tab, line_feed, other_byte, tab_width, virtual_from, is_line_ending, line_text, lines_in, Line, atx_heading, bytes_of, text_of, Mark, heading_around, leaf_marks, line_end, span_marks, white, indent, run, unindented, enters, from_first, size_of_first, ◌==◌, not}
+use Rattle.mdinline_text_machine.proofs.CodeSpans.FoundParts.{prefix-within}
 use Rattle.markdown_base.specs.declared.event.Name.TheVariants as name
-use Rattle.markdown_base.specs.declared.event.Point.{Point}
-use Rattle.markdown_base.specs.Places.{follows_cr, shown}
-use Rattle.markdown_base.specs.Virtual.{Seat, begins_with_lf, end_after, in_tab, line_feed, other_byte, tab_width, virtual_from}
-use Rattle.mdconstructs_machines.specs.LineEvents.{is_line_ending, joined, line_text, lines_in}
-use Rattle.mdblock_leaf_blocks.specs.LeafBlocks.{Line, atx_heading, bytes_of, text_of}
-use Rattle.mdblock_leaf_blocks.specs.LeafEvents.{Mark, heading_around, leaf_marks, line_end, span_marks, white}
-use Rattle.mdblock_leaf_blocks.specs.LineKinds.{indent, run, unindented}
-use Rattle.mddocument_laws.specs.Ranks.{enters, from_first, size_of_first}
+use Rattle.mdconstructs_machines.specs.LineEvents.{joined}
 use Rattle.mddocument_laws.proofs.Ranks.Told.{events_of, heading_events, rank_of_first}
 
 -- ---- lists
-
-prefix-take : (p : ℕ → Bool) (k : ℕ) (xs : List ℕ) → prefix_len p xs ≤ k → prefix_len p (take k xs) ≡ prefix_len p xs
-prefix-take p zero xs h = omega (arith, h)
-prefix-take p (suc k) [] h = refl
-prefix-take p (suc k) (x ∷ xs) h = by (λ less. prefix-take p k xs less) (p x) h
-  where
-    by : (prefix_len p xs ≤ k → prefix_len p (take k xs) ≡ prefix_len p xs) → (b : Bool) → cond b (1 + prefix_len p xs) 0 ≤ suc k
-        → cond b (1 + prefix_len p (take k xs)) 0 ≡ cond b (1 + prefix_len p xs) 0
-    by more true m = ap (λ n. 1 + n) (more (omega (arith, m)))
-    by more false m = refl
 
 take-in : {A : Type 0} (n k : ℕ) (xs : List A) → n ≤ k → take n (take k xs) ≡ take n xs
 take-in zero k xs h = refl
@@ -153,7 +132,7 @@ module _ (bytes : List ℕ) where
       let front = take start seats in
       let few : indent t ≤ start = omega arith in
       let within : indent t + n ≤ start = omega arith in
-      let columns : indent (bytes_of front) ≡ indent t = ap indent (sym (take-map (λ (r : Seat). r.byte) start seats)) ∙ prefix-take _ start t few in
+      let columns : indent (bytes_of front) ≡ indent t = ap indent (sym (take-map (λ (r : Seat). r.byte) start seats)) ∙ prefix-within _ start t few in
       let behind_white : List Seat = drop (indent t) seats in
       let same : bytes_of behind_white ≡ unindented t = sym (drop-map (λ (r : Seat). r.byte) (indent t) seats) in
       let zs : List Seat = take n (drop (indent (bytes_of front)) front) in

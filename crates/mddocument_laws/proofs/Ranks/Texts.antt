@@ -1,16 +1,5 @@
 -- The leaf blocks of each text of a document are ranked: its number signs stand side by side, as a gap is only where a line begins.
-use Rattle.std.proofs.Common.{◌≡◌, ℕ, zero, suc, ◌+◌, ◌⊎◌, Bool, true, false, cond, List, [], ◌∷◌, length, Some, inl, inr, sym, ap, ◌∙◌, arith}
-use Rattle.std.proofs.lemmas.Option.{same_Some}
-use Rattle.std.specs.List.{AllByRecursion, list_any}
-use Rattle.std.specs.Prelude.{◌==◌, slice_get, slice_index}
-use Rattle.markdown_base.specs.declared.event.Point.{Point}
-use Rattle.markdown_base.specs.Places.{shown}
-use Rattle.markdown_base.specs.Virtual.{Seat, virtual}
-use Rattle.markdown_tokenizer.specs.Text.{Given, IsText, Text}
-use Rattle.mdconstructs_machines.specs.LineEvents.{is_line_ending, lines_in}
-use Rattle.mdblock_leaf_blocks.proofs.Marks.Courses.{Course, course-every, text-course}
-use Rattle.mdblock_leaf_blocks.specs.ChunksJoin.{AcrossGap}
-use Rattle.mdblock_leaf_blocks.specs.LeafBlocks.{leaf_blocks}
+use Rattle.mddocument_laws.proofs.Prelude.{◌≡◌, ℕ, zero, suc, ◌+◌, ◌⊎◌, Bool, true, false, cond, List, [], ◌∷◌, length, Some, inl, inr, sym, ap, ◌∙◌, arith, same_Some, AllByRecursion, list_any, slice_get, slice_index, Point, shown, Seat, virtual, Given, IsText, Text, is_line_ending, lines_in, Course, course-every, text-course, AcrossGap, leaf_blocks, ◌==◌}
 use Rattle.mdblock_containers.specs.Letters.{letter, lettered_from, with_letters}
 use Rattle.mddocument_laws.proofs.Ranks.Blocks.{IsRanked, both, of-blocks}
 use Rattle.mddocument_laws.proofs.Ranks.Signs.{Laid, laid-lines, laid-virtual, shown-at}

@@ -1,13 +1,6 @@
 -- What the events of a leaf block tell: the rank of a heading, whatever its text is read as.
-use Rattle.std.specs.List.{list_any}
-use Rattle.std.specs.Prelude.{◌≡◌, ⊤, ℕ, false, List, [], ◌∷◌, ◌++◌, map, Option, None, Some}
-use Rattle.markdown_base.specs.declared.event.Event.{Event}
+use Rattle.mddocument_laws.proofs.Prelude.{list_any, ⊤, Event, Seat, Line, LeafBlock, atx_heading, setext_heading, text_of, Mark, block_around, run, unindented, enters, rank_at, ◌≡◌, ℕ, false, List, [], ◌∷◌, ◌++◌, map, Option, None, Some}
 use Rattle.markdown_base.specs.declared.event.Name.TheVariants as name
-use Rattle.markdown_base.specs.Virtual.{Seat}
-use Rattle.mdblock_leaf_blocks.specs.LeafBlocks.{Line, LeafBlock, atx_heading, setext_heading, text_of}
-use Rattle.mdblock_leaf_blocks.specs.LeafEvents.{Mark, block_around}
-use Rattle.mdblock_leaf_blocks.specs.LineKinds.{run, unindented}
-use Rattle.mddocument_laws.specs.Ranks.{enters, rank_at}
 
 abbrev pub events_of : List Mark → List Event
 events_of marks = map (λ (mark : Mark). mark.0) marks

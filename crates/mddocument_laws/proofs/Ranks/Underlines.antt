@@ -1,25 +1,8 @@
 -- Ranks of setext headings: the first mark of an underline is the byte of the document at its place.
-use Rattle.std.proofs.Common.{◌≡◌, ℕ, zero, suc, ◌+◌, ◌-◌, ◌≤◌, Bool, true, false, cond, List, [], ◌∷◌, ◌++◌, length, take, drop, Some, None, ◌⊎◌, inl, inr, refl, sym, ap, ◌∙◌, arith}
-use Rattle.std.proofs.lemmas.Bool.{eqb-true}
-use Rattle.std.proofs.lemmas.List.{append_assoc, drop-map, length-append, map-append}
-use Rattle.std.proofs.lemmas.List.Folds.{list_any-append}
-use Rattle.std.specs.List.{AllByRecursion, filter, list_any, prefix_len}
-use Rattle.std.specs.Prelude.{◌==◌, ◌||◌, not, option_map, slice_get, slice_index}
-use Rattle.markdown_base.proofs.Facts.Bools.{and-left}
-use Rattle.markdown_base.specs.declared.configuration.Constructs.{Constructs}
-use Rattle.markdown_base.specs.declared.event.Event.{Event}
-use Rattle.markdown_base.specs.declared.event.Name.{Name}
+use Rattle.mddocument_laws.proofs.Prelude.{◌≡◌, ℕ, zero, suc, ◌+◌, ◌-◌, ◌≤◌, Bool, true, false, cond, List, [], ◌∷◌, ◌++◌, length, take, drop, Some, None, ◌⊎◌, inl, inr, refl, sym, ap, ◌∙◌, arith, eqb-true, drop-map, map-append, list_any-append, AllByRecursion, filter, list_any, prefix_len, ◌||◌, option_map, slice_get, slice_index, and-left, Constructs, Event, Name, Point, same_name, follows_cr, shown, Seat, begins_with_lf, in_tab, line_feed, other_byte, tab_width, virtual_from, is_white, ending_of, is_line_ending, line_text, lines_in, Line, bytes_of, setext_heading, text_of, Mark, body, last_end, leaf_marks, span_marks, underline_marks, white, begins_with, indent, is_far, is_underline_of_marks, underline_rank, unindented, byte_of_first, enters, from_first, ◌==◌, not}
+use Rattle.std.proofs.lemmas.List.{append_assoc, length-append}
 use Rattle.markdown_base.specs.declared.event.Name.TheVariants as name
-use Rattle.markdown_base.specs.declared.event.Point.{Point}
-use Rattle.markdown_base.specs.Events.{same_name}
-use Rattle.markdown_base.specs.Places.{follows_cr, shown}
-use Rattle.markdown_base.specs.Virtual.{Seat, begins_with_lf, in_tab, line_feed, other_byte, tab_width, virtual_from}
-use Rattle.mdconstructs_tables.specs.Breaks.{is_white}
-use Rattle.mdconstructs_machines.specs.LineEvents.{ending_of, is_line_ending, joined, line_text, lines_in}
-use Rattle.mdblock_leaf_blocks.specs.LeafBlocks.{Line, bytes_of, setext_heading, text_of}
-use Rattle.mdblock_leaf_blocks.specs.LeafEvents.{Mark, body, last_end, leaf_marks, span_marks, underline_marks, white}
-use Rattle.mdblock_leaf_blocks.specs.LineKinds.{begins_with, indent, is_far, is_underline_of_marks, underline_rank, unindented}
-use Rattle.mddocument_laws.specs.Ranks.{byte_of_first, enters, from_first}
+use Rattle.mdconstructs_machines.specs.LineEvents.{joined}
 use Rattle.mddocument_laws.proofs.Ranks.Told.{EntersNoUnderline, events_of, heading_events, rank_of_first}
 use Rattle.mddocument_laws.proofs.Ranks.Signs.{plain}
 
@@ -219,10 +202,7 @@ module _ (bytes : List ℕ) where
   module _ (on : Constructs) where
     -- what a rank says of the underline
     pub marks-of : (t : List ℕ) (rank : ℕ) (a b c : Bool) → cond a None (cond b (Some 1) (cond c (Some 2) None)) ≡ Some rank → ((rank ≡ 1) × (b ≡ true)) ⊎ ((rank ≡ 2) × (c ≡ true))
-    marks-of t rank true b c h = absurd (cc)
-    marks-of t rank false true c h = inl (cc, refl)
-    marks-of t rank false false true h = inr (cc, refl)
-    marks-of t rank false false false h = absurd (cc)
+    marks-of t rank a b c h = grind arith
 
     pub underlined-ranks : (given : List ℕ) → ((i mark : ℕ) → (mark ≡ 61) ⊎ (mark ≡ 45) → slice_get bytes i ≡ Some mark → slice_get given i ≡ Some mark) → (texts : List Line) (underline : Line) (rank : ℕ) → Bytes underline → underline_rank on (text_of underline) ≡ Some rank
         → (text : List Seat → List Mark) (lines : List Line → List Mark) (behind : List Event) → EntersNoUnderline lines → rank_of_first given (heading_events bytes text lines (setext_heading rank texts underline) ++ behind) ≡ Some rank
