@@ -213,6 +213,7 @@ pub use Rattle.mddocument_laws.proofs.ReferenceSpans
 pub use Rattle.mddocument_laws.proofs.ReferenceSpelling
 pub use Rattle.mddocument_laws.proofs.ReferencesStand
 pub use Rattle.mddocument_laws.proofs.RowNames
+pub use Rattle.mddocument_laws.proofs.RunNames
 pub use Rattle.mddocument_laws.proofs.SkeletonNames
 pub use Rattle.mddocument_laws.proofs.SkeletonWalk
 pub use Rattle.mddocument_laws.proofs.SpanNames
