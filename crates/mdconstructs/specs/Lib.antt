@@ -253,3 +253,4 @@ pub use Rattle.mddocument_editing.specs.Put
 pub use Rattle.mddocument_editing.specs.Seams
 pub use Rattle.mddocument_editing.specs.Seen
 pub use Rattle.mddocument_editing.specs.Settled
+pub use Rattle.mddocument_editing.specs.Trims
