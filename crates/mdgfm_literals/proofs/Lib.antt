@@ -1,0 +1,17 @@
+-- grammar
+pub mod Slices
+pub mod ByteLemmas
+pub mod Domains
+pub mod Ends
+pub mod Either
+-- texts
+pub mod TextSteps
+-- events
+pub mod EventSteps
+pub mod EventLoops
+-- laws
+pub mod Balance
+pub mod Unchanged
+pub mod LiteralLaws
+pub mod Names
+pub mod Examples

@@ -1,0 +1,12 @@
+-- grammar
+pub mod Bytes
+pub mod Grammar
+-- texts
+pub mod Literals
+-- events
+pub mod Stretches
+pub mod Places
+pub mod LiteralEvents
+-- laws
+pub mod Laws
+pub mod Examples

@@ -1,0 +1,15 @@
+//! Autolink literals of GFM, by rewriting events: literals take the place of the data that they cover.
+#![tactic(auto)]
+
+// grammar: the literal at the front of a text, of bytes alone
+mod addresses;
+mod bytes;
+pub mod grammar;
+// texts: all literals of a text
+pub mod texts;
+// events: stretches of text among them, places in a line, and the events with literals
+pub mod events;
+mod places;
+pub mod stretches;
+// laws: what literals are, and what they leave as it was; examples
+pub mod laws;
