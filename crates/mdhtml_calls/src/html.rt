@@ -9,6 +9,7 @@ ghost use Rattle.mdhtml_markup.specs.SafeHtml.{IsSafeHtml};
 
 use markdown_base::configuration::Options;
 use mddocument::documents::read_document;
+use mdgfm_literals::events::with_literals;
 use mdhtml_document::html::html_of_events;
 use std::alloc::{AllocError, Global};
 
@@ -31,7 +32,8 @@ pub fn to_html_with_options(
     ensures html { IfOk result (λ html. html.items ≡ html_of_document options.now bytes.now) }
     ensures safe { IfOk result (λ html. AreSafeOptions options.now.compile → IsSafeHtml [] html.items) }
 {
-    let events = read_document(alloc, bytes, &options.parse)?;
+    let read = read_document(alloc, bytes, &options.parse)?;
+    let events = with_literals(alloc, bytes, &options.parse, read)?;
     html_of_events(
         alloc,
         bytes,
