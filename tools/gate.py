@@ -27,7 +27,7 @@ TICKS = os.sysconf("SC_CLK_TCK")
 PAGE = f"{HERE}/docs/maintaining/GATE.md"
 PARTS = ("proof", "second", "edits", "tests")
 PROVER = ("rattle", "antt-kernel")  # with more jobs than one, the first begins others, which prove the modules
-SMALL = 350  # crates below so many seconds are one row of the page
+SMALL = 450  # crates below so many seconds are one row of the page
 
 
 def text_of(path):
