@@ -13,7 +13,8 @@ one-front : (f g : Bool) (b : ℕ) (bs : List ℕ) → is_fresh f (b ∷ bs) ≡
 one-front f g b [] = refl
 one-front f g b (c ∷ cs) = any-front f (is_fresh f (b ∷ [])) c cs
 
-fresh-append : (f : Bool) (xs ys : List ℕ) → is_fresh f (xs ++ ys) ≡ is_fresh (is_fresh f xs) ys
+-- and so of bytes behind bytes
+pub fresh-append : (f : Bool) (xs ys : List ℕ) → is_fresh f (xs ++ ys) ≡ is_fresh (is_fresh f xs) ys
 fresh-append f [] ys = refl
 fresh-append f (x ∷ []) ys = one-front f f x ys
 fresh-append f (x ∷ (y ∷ zs)) ys = fresh-append f (y ∷ zs) ys
