@@ -1,17 +1,14 @@
 -- The last line of events is behind their last line ending.
 use Rattle.std.proofs.Common.{◌≡◌, ℕ, suc, ◌+◌, ◌<◌, List, [], ◌∷◌, length, get_or, drop, ap, sym, refl, ◌∙◌, arith}
+use Rattle.std.proofs.Math.Bool.{or-true}
 use Rattle.std.proofs.lemmas.List.{drop_more}
 use Rattle.std.specs.List.{list_any}
-use Rattle.std.specs.Prelude.{zero, ◌||◌, Bool, true, false, cond}
+use Rattle.std.specs.Prelude.{zero, ◌||◌, true, false, cond}
 use Rattle.markdown_base.proofs.SliceLemmas.{filler}
 use Rattle.markdown_base.specs.declared.event.Event.{Event}
 use Rattle.markdown_base.specs.declared.event.Name.TheVariants as name
 use Rattle.mdhtml_document.specs.Values.{last_line}
 use Rattle.mddocument_link_targets.specs.Spans.{enters}
-
-or-true : (b : Bool) → (b || true) ≡ true
-or-true true = refl
-or-true false = refl
 
 any-at : (es : List Event) (j : ℕ) → j < length es → enters name.LineEnding (get_or es j filler) ≡ true → list_any (enters name.LineEnding) es ≡ true
 any-at [] j h found = absurd (omega arith)
