@@ -8,13 +8,13 @@ use Rattle.markdown_base.specs.Events.{IsBalanced, empty, span}
 use Rattle.mddocument_link_targets.specs.Spans.{SpansEndAtTheirExits, size_by, size_from}
 
 -- one event on
-at_enter : (depth : ℕ) (e : Event) (es : List Event) → e.kind ≡ Enter → size_from depth (e ∷ es) ≡ suc (size_from (suc depth) es)
+pub at_enter : (depth : ℕ) (e : Event) (es : List Event) → e.kind ≡ Enter → size_from depth (e ∷ es) ≡ suc (size_from (suc depth) es)
 at_enter depth e es h = ap (λ k. size_by k depth (λ d. size_from d es)) h
 
-at_exit : (depth : ℕ) (e : Event) (es : List Event) → e.kind ≡ Exit → size_from (suc depth) (e ∷ es) ≡ suc (size_from depth es)
+pub at_exit : (depth : ℕ) (e : Event) (es : List Event) → e.kind ≡ Exit → size_from (suc depth) (e ∷ es) ≡ suc (size_from depth es)
 at_exit depth e es h = ap (λ k. size_by k (suc depth) (λ d. size_from d es)) h
 
-at_end : (e : Event) (es : List Event) → e.kind ≡ Exit → size_from 0 (e ∷ es) ≡ 0
+pub at_end : (e : Event) (es : List Event) → e.kind ≡ Exit → size_from 0 (e ∷ es) ≡ 0
 at_end e es h = ap (λ k. size_by k 0 (λ d. size_from d es)) h
 
 -- balanced events are passed over

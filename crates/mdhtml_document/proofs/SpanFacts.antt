@@ -2,6 +2,7 @@
 use Rattle.std.proofs.Common.{◌≡◌, ℕ, suc, ◌+◌, List, [], ◌∷◌, ◌++◌, length, take, drop, ap, sym, refl, ◌∙◌, append_assoc, length-append, arith}
 use Rattle.std.proofs.Math.Seq.{take-append_seam}
 use Rattle.std.specs.Prelude.{⊤, ◌&&◌, not, true, false, cond}
+use Rattle.mddocument_link_targets.proofs.SpanEnds.{at_end, at_enter, at_exit}
 use Rattle.markdown_base.specs.declared.event.Event.{Event}
 use Rattle.markdown_base.specs.declared.event.Kind.{Kind}
 use Rattle.markdown_base.specs.declared.event.Kind.TheVariants.{Enter, Exit}
@@ -39,15 +40,6 @@ opened-kinded (e ∷ es) = step-kinded e.kind e (opened es) refl (opened-kinded 
 
 -- ---- what is in a span
 
-enter-size : (depth : ℕ) (e : Event) (es : List Event) → e.kind ≡ Enter → size_from depth (e ∷ es) ≡ suc (size_from (suc depth) es)
-enter-size depth e es h = ap (λ k. size_by k depth (λ d. size_from d es)) h
-
-exit-size : (depth : ℕ) (e : Event) (es : List Event) → e.kind ≡ Exit → size_from (suc depth) (e ∷ es) ≡ suc (size_from depth es)
-exit-size depth e es h = ap (λ k. size_by k (suc depth) (λ d. size_from d es)) h
-
-end-size : (e : Event) (es : List Event) → e.kind ≡ Exit → size_from 0 (e ∷ es) ≡ 0
-end-size e es h = ap (λ k. size_by k 0 (λ d. size_from d es)) h
-
 -- the events of a span, and others behind them
 pub span-append : (e f : Event) (s behind : Spans) (zs : List Event) → events_of (Span e f s behind) ++ zs ≡ e ∷ (events_of s ++ f ∷ (events_of behind ++ zs))
 span-append e f s behind zs = ap (λ (x : List Event). e ∷ x) (append_assoc (events_of s) (f ∷ events_of behind) zs)
@@ -56,9 +48,9 @@ passed-size : (depth : ℕ) (s : Spans) (zs : List Event) → AreKinded s → si
 passed-size depth Nothing zs h = omega arith
 passed-size depth (Span e f s behind) zs h =
     let whole = ap (size_from depth) (span-append e f s behind zs) in
-    let first = enter-size depth e (events_of s ++ f ∷ (events_of behind ++ zs)) h.0 in
+    let first = at_enter depth e (events_of s ++ f ∷ (events_of behind ++ zs)) h.0 in
     let inner = passed-size (suc depth) s (f ∷ (events_of behind ++ zs)) h.2 in
-    let last = exit-size depth f (events_of behind ++ zs) h.1 in
+    let last = at_exit depth f (events_of behind ++ zs) h.1 in
     let outer = passed-size depth behind zs h.3 in
     let long = ap suc (length-append (events_of s) (f ∷ events_of behind)) in
     omega (arith, whole, first, inner, last, outer, long)
@@ -68,7 +60,7 @@ pub inside-of : (s : Spans) (f : Event) (ys : List Event) → AreKinded s → f.
 inside-of s f ys h exits =
     let size : size_from 0 (events_of s ++ f ∷ ys) ≡ length (events_of s) =
     let a = passed-size 0 s (f ∷ ys) h in
-    let z = end-size f ys exits in
+    let z = at_end f ys exits in
     omega (arith, a, z)
     in
     ap (λ n. take n (events_of s ++ f ∷ ys)) size ∙ take-append_seam (events_of s) (f ∷ ys)
