@@ -102,7 +102,7 @@ named-by : {A : Type 0} (P : A → Type 0) (c : Bool) (x y : A) → (c ≡ true 
 named-by P true x y h k = h refl
 named-by P false x y h k = k
 
-named-each : {A : Type 0} (P : A → Type 0) (ps : List (Name × A)) (other : A) (n : Name) → EachNamed P n ps → P other → P (named ps other n)
+pub named-each : {A : Type 0} (P : A → Type 0) (ps : List (Name × A)) (other : A) (n : Name) → EachNamed P n ps → P other → P (named ps other n)
 named-each P [] other n h k = k
 named-each P (p ∷ ps) other n h k = named-by P (same_name n p.0) p.1 (named ps other n) h.0 (named-each P ps other n h.1 k)
 

@@ -12,10 +12,14 @@ pub mod Fresh
 -- blocks
 pub mod LastLines
 pub mod ListFacts
+-- laws
+pub mod Linear
 -- spans
 pub mod Named
 -- laws
+pub mod Rooms
 pub mod Safe
+pub mod Short
 -- spans
 pub mod SpanFacts
 -- HTML

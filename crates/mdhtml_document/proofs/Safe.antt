@@ -138,7 +138,7 @@ allowed-by at url false h = refl
 allowed-is : (at : Place) (url : List ℕ) → is_allowed at (allowed at url) ≡ true
 allowed-is at url = allowed-by at url (is_allowed at url) refl
 
-all-taken : (p : ℕ → Bool) (t : List ℕ) → list_all p (take_while p t) ≡ true
+pub all-taken : (p : ℕ → Bool) (t : List ℕ) → list_all p (take_while p t) ≡ true
 all-taken p [] = refl
 all-taken p (b ∷ bs) =
     elim (p b) as (λ c. p b ≡ c → list_all p (take (cond c (1 + prefix_len p bs) 0) (b ∷ bs)) ≡ true) [

@@ -11,7 +11,7 @@ use Rattle.mdhtml_document.specs.Spans.{Nothing, Opened, Outer, Span, Spans, ent
 use Rattle.mdhtml_document.specs.Names.{inline_of}
 use Rattle.mdhtml_document.specs.Values.{reading_of, said}
 use Rattle.mdhtml_document.specs.Walks.{said_at}
-use Rattle.mddocument_link_targets.specs.Spans.{inside, size_by, size_from}
+use Rattle.mddocument_link_targets.specs.Spans.{inside, size_from}
 use Rattle.mddocument_link_targets.specs.Strings.{given}
 
 -- each span begins with an enter and ends with an exit
@@ -44,7 +44,7 @@ opened-kinded (e ∷ es) = step-kinded e.kind e (opened es) refl (opened-kinded 
 pub span-append : (e f : Event) (s behind : Spans) (zs : List Event) → events_of (Span e f s behind) ++ zs ≡ e ∷ (events_of s ++ f ∷ (events_of behind ++ zs))
 span-append e f s behind zs = ap (λ (x : List Event). e ∷ x) (append_assoc (events_of s) (f ∷ events_of behind) zs)
 
-passed-size : (depth : ℕ) (s : Spans) (zs : List Event) → AreKinded s → size_from depth (events_of s ++ zs) ≡ length (events_of s) + size_from depth zs
+pub passed-size : (depth : ℕ) (s : Spans) (zs : List Event) → AreKinded s → size_from depth (events_of s ++ zs) ≡ length (events_of s) + size_from depth zs
 passed-size depth Nothing zs h = omega arith
 passed-size depth (Span e f s behind) zs h =
     let whole = ap (size_from depth) (span-append e f s behind zs) in

@@ -1,12 +1,14 @@
 -- Laws of the HTML of documents.
-use Rattle.std.specs.Prelude.{◌≡◌, ◌++◌, ℕ, ◌&&◌, ◌||◌, not, Bool, true, false, List, [], Option}
+use Rattle.std.specs.Option.{option_map_or}
+use Rattle.std.specs.Prelude.{◌≡◌, ◌++◌, ◌∷◌, ℕ, ◌+◌, ◌-◌, ◌*◌, ◌<◌, ◌≤◌, max, ⊤, ◌&&◌, ◌||◌, not, Bool, true, false, List, [], Option, length}
 use Rattle.markdown_base.specs.declared.configuration.CompileOptions.{CompileOptions}
 use Rattle.markdown_base.specs.declared.event.Event.{Event}
+use Rattle.markdown_base.specs.declared.event.Name.TheVariants as name
 use Rattle.markdown_base.specs.Events.{IsBalanced}
 use Rattle.mdhtml_document.specs.declared.names.Inline.{Inline}
 use Rattle.mdhtml_document.specs.declared.names.Inline.TheVariants as inline
 use Rattle.mdhtml_document.specs.declared.shapes.Mode.TheVariants as mode
-use Rattle.mdhtml_document.specs.Html.{html_by, pieces}
+use Rattle.mdhtml_document.specs.Html.{html_by, html_of_events, pieces, references}
 use Rattle.mdhtml_document.specs.Names.{inline_of}
 use Rattle.mdhtml_document.specs.Spans.{Nothing, Span, Spans, spans_of}
 use Rattle.mdhtml_markup.specs.Flow.{IsFlow}
@@ -14,6 +16,7 @@ use Rattle.mdhtml_markup.specs.Pieces.{is_fresh}
 use Rattle.mdhtml_markup.specs.SafeHtml.{IsSafeHtml}
 use Rattle.mdhtml_markup.specs.ShownText.{said_from, text_of}
 use Rattle.mddocument_link_targets.specs.declared.targets.Parts.{Parts}
+use Rattle.mddocument_link_targets.specs.Spans.{enters}
 
 -- no option that lets something through is on
 pub record AreSafeOptions (options : CompileOptions) : Type 0 where
@@ -74,3 +77,48 @@ HtmlOfBoth =
     (options : CompileOptions) (bytes : List ℕ) (lookup : (label : List ℕ) → Option Parts) (tab : ℕ) (es fs : List Event) → IsBalanced es → IsBalanced fs
     → EndsLine (html_by options bytes lookup tab es)
     → html_by options bytes lookup tab (es ++ fs) ≡ html_by options bytes lookup tab es ++ html_by options bytes lookup tab fs
+
+-- ---- how long HTML is
+
+-- how far it is from an event to the next one: so many bytes, and virtual spaces behind them
+abbrev pub ahead : Event → List Event → ℕ
+ahead e [] = 0
+ahead e (f ∷ fs) = (f.point.index - e.point.index) + f.point.vs
+
+-- The room that events have for text. A byte of a character reference stands for three bytes at most (`&#0;`; four are counted), a line may begin with
+-- the columns of a tab, and an empty line ending is a byte. Of events that go forward it is in proportion to the document and their number
+abbrev pub room : (tab : ℕ) → List Event → ℕ
+room tab [] = 0
+room tab (e ∷ es) = (4 * ahead e es + (tab + 1)) + room tab es
+
+-- how long the destination and the title are that a label is defined as
+abbrev pub length_of_parts : Option Parts → ℕ
+length_of_parts parts = option_map_or (λ p. length p.destination + option_map_or length p.title 0) parts 0
+
+-- Where no link is in a link, HTML is no longer than this: the text of each event is in it once, six times as long if it is all quotation marks, or
+-- nine times if it is all NUL in an address; and again in the title and the description of an image, and in the link around that. Tags are 48 bytes a
+-- span at most. What labels are defined as is in it as often as links and images refer to it
+abbrev pub HtmlIsShort : Type 0
+HtmlIsShort =
+    (options : CompileOptions) (bytes : List ℕ) (lookup : (label : List ℕ) → Option Parts) (tab : ℕ) (events : List Event) → IsBalanced events
+    → are_apart (spans_of events) ≡ true
+    → length (html_by options bytes lookup tab events)
+    ≤ (36 * room tab events + 24 * length events) + 9 * references bytes (λ label. length_of_parts (lookup label)) (spans_of events)
+
+-- a line ending has a byte, by the events behind its enter
+abbrev pub HasByte : Event → List Event → Type 0
+HasByte e [] = ⊤
+HasByte e (f ∷ fs) = enters name.LineEnding e ≡ true → e.point.index < f.point.index
+
+-- Events go forward from a byte, over no more than so many bytes, with no more virtual spaces than a tab has columns
+abbrev pub GoForward : (tab most from : ℕ) → List Event → Type 0
+GoForward tab most from [] = ⊤
+GoForward tab most from (e ∷ es) =
+    (from ≤ e.point.index) × (e.point.index ≤ most) × (e.point.vs ≤ tab) × HasByte e es × GoForward tab most e.point.index es
+
+-- The HTML of a document is in proportion to its length, or to 100,000 bytes, and to its events: whatever it refers to
+abbrev pub HtmlIsLinear : Type 0
+HtmlIsLinear =
+    (options : CompileOptions) (bytes : List ℕ) (tab : ℕ) (events : List Event) → IsBalanced events → GoForward tab (length bytes) 0 events
+    → are_apart (spans_of events) ≡ true
+    → length (html_of_events options bytes tab events) ≤ (144 * length bytes + 72 * max 100000 (length bytes)) + length events * (180 * tab + 60)

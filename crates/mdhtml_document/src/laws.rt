@@ -2,7 +2,7 @@
 
 ghost use Rattle.std.specs.Prelude.{◌≡◌, map};
 ghost use Rattle.mdhtml_document.specs.HtmlExamples.{html_examples, html_of};
-ghost use Rattle.mdhtml_document.specs.HtmlLaws.{HtmlIsFlow, HtmlIsSafe, HtmlKeepsText, HtmlOfBoth};
+ghost use Rattle.mdhtml_document.specs.HtmlLaws.{HtmlIsFlow, HtmlIsLinear, HtmlIsSafe, HtmlIsShort, HtmlKeepsText, HtmlOfBoth};
 ghost use Rattle.mdhtml_document.specs.Spans.{SpansKeepEvents};
 
 /// Whatever the document is, its HTML is safe, if no option lets something through.
@@ -18,6 +18,16 @@ pub fn html_keeps_text()
 /// A browser reads the HTML as the tree that it is written as, if no option lets something through, and no link is in a link.
 pub fn html_is_flow()
     ensures { HtmlIsFlow }
+{}
+
+/// The HTML of a document whose events go forward is in proportion to the document and its events, where no link is in a link.
+pub fn html_is_linear()
+    ensures { HtmlIsLinear }
+{}
+
+/// How long the HTML is at most, where no link is in a link: in proportion to the document, its events, and what links and images refer to.
+pub fn html_is_short()
+    ensures { HtmlIsShort }
 {}
 
 /// The tree of a document's spans has all its events.
