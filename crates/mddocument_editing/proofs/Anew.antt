@@ -1,16 +1,5 @@
 -- A line that begins anew, by its parts.
-use Rattle.std.proofs.Common.{◌≡◌, ℕ, Bool, true, false, List, [], ◌∷◌, length, refl, sym, ◌∙◌, arith}
-use Rattle.std.proofs.lemmas.Bool.Decides.{nat_tests}
-use Rattle.std.specs.Prelude.{◌==◌, ◌&&◌, not}
-use Rattle.markdown_base.specs.declared.configuration.Constructs.{Constructs}
-use Rattle.mdblock_leaf_blocks.specs.LeafBlocks.{Line, text_of}
-use Rattle.mdblock_leaf_blocks.specs.LineKinds.{line_kind}
-use Rattle.mdblock_containers.specs.Rows.{has_none}
-use Rattle.mdblock_containers.specs.Views.{IsRow, begun_of}
-use Rattle.mdblock_containers.specs.declared.rows.Row.{Row as CodeRow}
-use Rattle.mdblock_definitions.specs.Rows.{Known, row_of}
-use Rattle.mddocument_parts.specs.DocumentRests.{begins_anew, is_closed, joins_list}
-use Rattle.mddocument_parts.specs.Rests.{begins_near}
+use Rattle.mddocument_editing.proofs.Prelude.{◌≡◌, ℕ, Bool, List, [], ◌∷◌, length, refl, sym, ◌∙◌, arith, nat_tests, ◌==◌, not, Constructs, Line, text_of, line_kind, has_none, IsRow, begun_of, Row as CodeRow, Known, row_of, begins_anew, is_closed, joins_list, begins_near, ◌&&◌}
 
 none-long : {A : Type 0} (xs : List A) → (length xs == 0) ≡ has_none xs
 none-long [] = refl
@@ -18,11 +7,7 @@ none-long (x ∷ xs) = grind (arith, nat_tests)
 
 -- the same tests, one after another
 turned : (a b c : Bool) → ((a && b) && c) ≡ (a && (c && b))
-turned true true true = refl
-turned true true false = refl
-turned true false true = refl
-turned true false false = refl
-turned false b c = refl
+turned a b c = grind arith
 
 pub anew-is : (on : Constructs) (k : Known) (number : ℕ) (line : Line) (row : CodeRow) (closed alone near : Bool) → is_closed k.before.leaf ≡ closed → IsRow number row (row_of on k number line)
     → alone ≡ (closed && ((row.many == 0) && not (joins_list k.before.stack (begun_of row.list number row.begun.items)))) → near ≡ begins_near (line_kind on (text_of line)) → (alone && near) ≡ begins_anew on k number line

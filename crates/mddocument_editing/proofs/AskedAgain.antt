@@ -1,19 +1,9 @@
 -- Bytes that look up no label that changes have the same events by both sets of labels.
-use Rattle.std.proofs.Common.{◌≡◌, ◌&&◌, ℕ, Bool, true, false, List, refl, subst, sym}
-use Rattle.std.specs.List.{AllByRecursion}
-use Rattle.markdown_base.proofs.Common.{every-map}
-use Rattle.markdown_base.specs.declared.configuration.ParseOptions.{ParseOptions}
-use Rattle.markdown_tokenizer.specs.Text.{IsDocument}
-use Rattle.mddocument.specs.Documents.{document}
-use Rattle.mdinline_labels.specs.Labels.{is_label}
-use Rattle.mddocument_parts.specs.BothDocuments.{asked_in, events_by}
+use Rattle.mddocument_editing.proofs.Prelude.{◌≡◌, ◌&&◌, ℕ, Bool, true, false, List, refl, subst, sym, AllByRecursion, every-map, ParseOptions, IsDocument, document, is_label, asked_in, events_by, BracketsDecide, is_in_brackets, may_ask, has_end}
 use Rattle.mddocument_editing.proofs.AskedInBrackets.{asked-in-brackets}
 use Rattle.mddocument_editing.proofs.AskedNothing.{asks-nothing}
 use Rattle.mddocument_editing.proofs.Below.{labels-decide}
 use Rattle.mddocument_editing.proofs.MayStand.{none-wanted}
-use Rattle.mddocument_editing.specs.Asking.{BracketsDecide}
-use Rattle.mddocument_editing.specs.InBrackets.{is_in_brackets, may_ask}
-use Rattle.mddocument_editing.specs.Kept.{has_end}
 
 -- bytes have the same events by both sets of labels
 abbrev pub HasSameEvents : ParseOptions → (defined others : List ℕ → Bool) → List ℕ → Type 0

@@ -1,29 +1,11 @@
 -- What is looked up in the texts of a document may stand between its brackets.
-use Rattle.std.proofs.Common.{◌≡◌, ℕ, zero, suc, ◌+◌, ◌<◌, ◌≤◌, ◌==◌, ◌&&◌, ◌||◌, not, Bool, true, false, cond, List, [], ◌∷◌, ◌++◌, Option, Some, None, length, take, drop, map, refl, sym, ap, ◌∙◌, subst, arith, append_assoc, eqb-true, option_map}
-use Rattle.std.proofs.lemmas.List.{drop-append-le, drop_all, length-append, length-map, length-take-le, take-append-drop}
-use Rattle.std.specs.List.{AllByRecursion, flat_map, prefix_len}
+use Rattle.mddocument_editing.proofs.Prelude.{◌≡◌, ℕ, zero, suc, ◌+◌, ◌<◌, ◌≤◌, ◌&&◌, Bool, true, false, cond, List, [], ◌∷◌, ◌++◌, Option, Some, None, length, take, drop, map, refl, sym, ap, ◌∙◌, subst, arith, append_assoc, eqb-true, drop-append-le, drop_all, length-append, length-map, length-take-le, take-append-drop, AllByRecursion, flat_map, prefix_len, slice_index, and-right, every-append, every-drop, Constructs, ParseOptions, Event, Point, shown, Seat, end_after, begins, fitting_starts, every-back, every-front, Given, IsDocument, IsText, Text, IsWritten, written-virtual, lined-cut, document, Course, course-every, course-on, text-course, AcrossGap, white_space, Bracket, Memory, after_item, before_link, begins_end, begins_link, bytes_before, end_at, image_bracket, is_image_bracket, is_open_bracket, label_end, link_bracket, lone_end, nothing_read, spanned_bytes, tail_of, waiting_behind, bracket_or_part, data_length, data_run, delimiter_run, inline_grammars, inline_item_at, line_break, run_length, run_or_part, hides, is_label, is_white, asked_from, asked_labels, if_label, label_ahead, label_behind, labels_at, looked_up, own_label, blocks_of, IsCut, cut-append, cut-none, chain_text, AskedLabelsAreInBrackets, is_in_brackets, ◌==◌, ◌||◌, not, option_map}
 use Rattle.std.specs.Option.{option_and_then}
-use Rattle.std.specs.Prelude.{slice_index}
-use Rattle.markdown_base.proofs.Common.{and-right, every-append, every-drop}
 use Rattle.markdown_base.proofs.Facts.Bools.{and-left}
-use Rattle.markdown_base.specs.declared.configuration.Constructs.{Constructs}
-use Rattle.markdown_base.specs.declared.configuration.ParseOptions.{ParseOptions}
 use Rattle.markdown_base.specs.declared.event.Content.TheVariants as content
-use Rattle.markdown_base.specs.declared.event.Event.{Event}
-use Rattle.markdown_base.specs.declared.event.Point.{Point}
-use Rattle.markdown_base.specs.Places.{shown}
-use Rattle.markdown_base.specs.Virtual.{Seat, end_after}
-use Rattle.markdown_children.specs.Chains.{begins, fitting_starts}
-use Rattle.markdown_tokenizer.proofs.Positions.Order.{every-back, every-front}
-use Rattle.markdown_tokenizer.specs.Text.{Given, IsDocument, IsText, Text}
-use Rattle.mddocument_laws.proofs.ReferenceBytes.{IsWritten, written-virtual}
 use Rattle.mddocument.proofs.Emphasis.InlineRuns.{item-runs}
 use Rattle.mddocument.proofs.InContainers.Skeletons.{skeleton-laws}
 use Rattle.mddocument.proofs.InContainers.TextsFormed.{content-ready}
-use Rattle.mddocument.proofs.Innermost.Lined.{lined-cut}
-use Rattle.mddocument.specs.Documents.{document}
-use Rattle.mdblock_leaf_blocks.proofs.Marks.Courses.{Course, course-every, course-on, text-course}
-use Rattle.mdblock_leaf_blocks.specs.ChunksJoin.{AcrossGap}
 use Rattle.mdinline_full_references.specs.FullReference.{label_length, label_text}
 use Rattle.mdinline_constructs.proofs.References.Bytes.{reference-holds}
 use Rattle.mdinline_constructs.specs.Email.{email_with, is_atext}
@@ -31,19 +13,11 @@ use Rattle.mdinline_constructs.specs.HardBreak.{hard_break_escape, hard_break_tr
 use Rattle.mdinline_constructs.specs.HtmlMarked.{marked}
 use Rattle.mdinline_constructs.specs.HtmlTag.{tag_length}
 use Rattle.mdinline_constructs.specs.HtmlText.{has_blank_line, html, html_of}
-use Rattle.mdinline_constructs.specs.WhiteSpace.{white_space}
-use Rattle.mdinline_machine.specs.Brackets.{Bracket, Memory, after_item, before_link, begins_end, begins_link, bytes_before, end_at, image_bracket, is_image_bracket, is_open_bracket, label_end, link_bracket, lone_end, nothing_read, spanned_bytes, tail_of, waiting_behind}
-use Rattle.mdinline_machine.specs.InlineEvents.{bracket_or_part, data_length, data_run, delimiter_run, inline_grammars, inline_item_at, line_break, run_length, run_or_part}
 use Rattle.mdinline_machine.specs.RunRows.{begins_run}
-use Rattle.mdinline_labels.specs.Labels.{hides, is_label}
 use Rattle.mdinline_labels.specs.Tails.{bare_behind, begins_with, is_plain, label_size, marked_size}
-use Rattle.mdconstructs_tables.specs.Breaks.{is_white}
 use Rattle.mdinline_link_tails.proofs.Resources.Cuts.{string-cut}
 use Rattle.mdinline_link_tails.specs.Resource.{string_events}
-use Rattle.mddocument_parts.specs.Asked.{asked_from, asked_labels, if_label, label_ahead, label_behind, labels_at, looked_up, own_label}
-use Rattle.mddocument_parts.specs.BothDocuments.{blocks_of}
 use Rattle.mdinline_text_machine.proofs.Constructs.Apart.{EachThere, OfOption, there-holds, when-there}
-use Rattle.mdinline_text_machine.proofs.DeepSpans.Atoms.{IsCut, cut-append, cut-none}
 use Rattle.mdinline_text_machine.proofs.DeepSpans.Stretches.{ItemCut}
 use Rattle.mdinline_text_machine.proofs.Paragraphs.ChainEvents.{all-begin, is-text}
 use Rattle.mdinline_text_machine.specs.Autolink.{autolink, autolink_to, uri}
@@ -52,10 +26,7 @@ use Rattle.mdinline_text_machine.specs.CodeSpan.{before_backtick_string, code_sp
 use Rattle.mdinline_text_machine.specs.Construct.{BracketMark, Found, Grammar, fails, makes, opens, or_else, plain}
 use Rattle.mdinline_text_machine.specs.Escape.{escape}
 use Rattle.mdinline_text_machine.specs.Parts.{bytes_of}
-use Rattle.mdinline_text_machine.specs.ReadChains.{chain_text}
 use Rattle.mddocument_editing.proofs.LabelBytes.{IsFed, fed-virtual, label-stands}
-use Rattle.mddocument_editing.specs.Asking.{AskedLabelsAreInBrackets}
-use Rattle.mddocument_editing.specs.InBrackets.{is_in_brackets}
 
 -- ---- items that are brackets
 

@@ -1,31 +1,10 @@
 -- Bytes without `]` look up no label.
-use Rattle.std.proofs.Common.{Bool, List, Some, [], ap, cond, drop, eqb-true, false, length, refl, subst, suc, sym, true, zero, ℕ, ◌&&◌, ◌++◌, ◌+◌, ◌==◌, ◌∙◌, ◌∷◌, ◌≡◌}
-use Rattle.std.proofs.Math.Bool.{and-false}
-use Rattle.std.proofs.lemmas.Bool.{or_parts}
-use Rattle.std.specs.List.{AllByRecursion, flat_map, list_any, prefix_len}
-use Rattle.markdown_base.proofs.Common.{every-append, every-drop, every-filter}
-use Rattle.markdown_base.specs.declared.configuration.Constructs.{Constructs}
-use Rattle.markdown_base.specs.declared.configuration.ParseOptions.{ParseOptions}
+use Rattle.mddocument_editing.proofs.Prelude.{Bool, List, Some, [], ap, cond, drop, eqb-true, false, length, refl, subst, suc, sym, true, zero, ℕ, ◌&&◌, ◌++◌, ◌+◌, ◌∙◌, ◌∷◌, ◌≡◌, and-false, or_parts, AllByRecursion, flat_map, list_any, prefix_len, every-append, every-drop, every-filter, Constructs, ParseOptions, Event, in_range, Seat, begins_with_lf, in_tab, line_feed, other_byte, tab_width, virtual, virtual_from, chain_of, fitting_starts, Given, document, white_space, Memory, after_item, nothing_read, inline_item_at, is_white, asked_from, asked_labels, labels_at, looked_up, blocks_of, BytesWithoutEndAskNothing, has_end, chain_text, ◌==◌}
 use Rattle.markdown_base.specs.declared.event.Content.TheVariants as content
-use Rattle.markdown_base.specs.declared.event.Event.{Event}
-use Rattle.markdown_base.specs.Places.{in_range}
-use Rattle.markdown_base.specs.Virtual.{Seat, begins_with_lf, in_tab, line_feed, other_byte, tab_width, virtual, virtual_from}
-use Rattle.markdown_children.specs.Chains.{chain_of, fitting_starts}
 use Rattle.markdown_children.specs.Ready.{place_at}
-use Rattle.markdown_tokenizer.specs.Text.{Given}
-use Rattle.mddocument.specs.Documents.{document}
-use Rattle.mdinline_constructs.specs.WhiteSpace.{white_space}
-use Rattle.mdinline_machine.specs.Brackets.{Memory, after_item, nothing_read}
-use Rattle.mdinline_machine.specs.InlineEvents.{inline_item_at}
-use Rattle.mdconstructs_tables.specs.Breaks.{is_white}
 use Rattle.mddocument_parts.proofs.TextsOfBoth.{seats-of}
-use Rattle.mddocument_parts.specs.Asked.{asked_from, asked_labels, labels_at, looked_up}
-use Rattle.mddocument_parts.specs.BothDocuments.{blocks_of}
-use Rattle.mddocument_editing.specs.Asking.{BytesWithoutEndAskNothing}
-use Rattle.mddocument_editing.specs.Kept.{has_end}
 use Rattle.mdinline_text_machine.proofs.DeepSpans.Chunks.{chunk_seats}
 use Rattle.mdinline_text_machine.specs.Parts.{bytes_of}
-use Rattle.mdinline_text_machine.specs.ReadChains.{chain_text}
 
 -- ---- virtual bytes are bytes, line feeds and spaces
 

@@ -1,8 +1,5 @@
 -- The laws that this crate cites from below.
-use Rattle.std.specs.Prelude.{◌≡◌, ℕ, []}
-use Rattle.std.proofs.Common.{refl}
-use Rattle.markdown_base.specs.Virtual.{virtual}
-use Rattle.markdown_base.specs.declared.configuration.Constructs.{Constructs}
+use Rattle.mddocument_editing.proofs.Prelude.{refl, virtual, Constructs, DocumentLabelsDecide, DocumentSectionsGiveEvents, DocumentFirstLineTells, ◌≡◌, ℕ, []}
 use Rattle.mdblock_definitions.specs.Skeleton.{written_labels}
 use Rattle.mdblock_definitions.proofs.PlainLetters.{open-not-blank}
 use Rattle.mddocument_parts.proofs.BothDocuments.{document-sections-give-events}
@@ -10,9 +7,7 @@ pub use Rattle.mddocument_parts.proofs.BothDocuments.{rest-begins}
 use Rattle.mddocument_parts.proofs.DocumentAsked.{document-labels-decide}
 use Rattle.mddocument_parts.proofs.DocumentBytes.{document-first-line-tells}
 use Rattle.mddocument_parts.proofs.DocumentLabels.{labels-of-both}
-use Rattle.mddocument_parts.specs.BothDocuments.{DocumentLabelsDecide, DocumentSectionsGiveEvents}
 use Rattle.mddocument_parts.specs.DocumentLabels.{LabelsOfBoth}
-use Rattle.mddocument_parts.specs.DocumentRests.{DocumentFirstLineTells}
 
 pub first-tells : DocumentFirstLineTells
 first-tells = document-first-line-tells

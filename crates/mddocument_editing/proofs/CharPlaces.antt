@@ -1,14 +1,5 @@
 -- The places between the characters of a text, one character on.
-use Rattle.std.proofs.Common.{◌≡◌, ℕ, zero, suc, ◌+◌, ◌-◌, ◌<◌, ◌≤◌, Bool, true, false, cond, List, [], ◌∷◌, length, take, drop, refl, sym, ap, ◌∙◌, arith, inl, inr, Some, None, ne_eqb}
-use Rattle.std.proofs.lemmas.Bool.{cases_Bool}
-use Rattle.std.proofs.lemmas.Bool.Decides.{nat_tests}
-use Rattle.std.proofs.lemmas.List.{drop-drop, drop_all, length-drop, take_rest}
-use Rattle.std.proofs.lemmas.List.Sums.{sum_by-cons}
-use Rattle.std.specs.Prelude.{◌==◌, find, map, sum}
-use Rattle.std.specs.Str.{is_utf8}
-use Rattle.mddocument_editing.specs.declared.positions.Encoding.{Encoding}
-use Rattle.mddocument_editing.specs.declared.positions.Encoding.TheVariants.{Utf8, Utf16}
-use Rattle.mddocument_editing.specs.Positions.{Place, behind, first_size, length_in, places_from, sizes, sizes_behind, units}
+use Rattle.mddocument_editing.proofs.Prelude.{◌≡◌, ℕ, zero, suc, ◌+◌, ◌-◌, ◌<◌, ◌≤◌, Bool, true, false, cond, List, [], ◌∷◌, length, take, drop, refl, sym, ap, ◌∙◌, arith, inl, inr, Some, None, ne_eqb, cases_Bool, nat_tests, drop-drop, drop_all, length-drop, take_rest, sum_by-cons, ◌==◌, find, sum, is_utf8, Encoding, Utf8, Utf16, Place, behind, first_size, length_in, places_from, sizes, sizes_behind, units, map}
 use Rattle.mddocument_editing.proofs.CharSizes.{first-size, led_by, led-within}
 
 -- ---- sizes

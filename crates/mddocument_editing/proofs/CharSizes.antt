@@ -1,15 +1,6 @@
 -- The number of bytes of the character with which bytes begin, by the first byte.
+use Rattle.mddocument_editing.proofs.Prelude.{◌≡◌, ℕ, ◌+◌, ◌<◌, ◌≤◌, Bool, true, false, cond, List, [], ◌∷◌, ◌++◌, length, take, get_or, refl, sym, ap, ◌∙◌, subst, arith, inl, inr, take-append_seam, cases_Bool, false≢true, nat_tests, get_or-take, get_or_append_left, length-append, length-take, take-take, IsUtf8-encode, IsUtf8-from_is_utf8, is_utf8-from_IsUtf8, length-encode, len_utf8_bounds, find, IsUtf8, unwrap_or, continuation_len, is_utf8, all_scalars, encode_utf8_all, first_size, ◌⊎◌}
 use lib.Utf8.{encode, scalar}
-use Rattle.std.proofs.Common.{◌≡◌, ℕ, ◌+◌, ◌<◌, ◌≤◌, Bool, true, false, cond, List, [], ◌∷◌, ◌++◌, length, take, get_or, refl, sym, ap, ◌∙◌, subst, arith, inl, inr}
-use Rattle.std.proofs.Math.Seq.{take-append_seam}
-use Rattle.std.proofs.lemmas.Bool.{cases_Bool, false≢true}
-use Rattle.std.proofs.lemmas.Bool.Decides.{nat_tests}
-use Rattle.std.proofs.lemmas.List.{get_or-take, get_or_append_left, length-append, length-take, take-take}
-use Rattle.std.proofs.lemmas.Str.{IsUtf8-encode, IsUtf8-from_is_utf8, is_utf8-from_IsUtf8, length-encode, len_utf8_bounds}
-use Rattle.std.specs.Prelude.{◌⊎◌, find, IsUtf8}
-use Rattle.std.specs.Option.{unwrap_or}
-use Rattle.std.specs.Str.{continuation_len, is_utf8, all_scalars, encode_utf8_all}
-use Rattle.mddocument_editing.specs.Positions.{first_size}
 
 -- the first byte of a character tells its size
 pub led : (c : ℕ) → continuation_len (get_or (encode c) 0 0) + 1 ≡ length (encode c)

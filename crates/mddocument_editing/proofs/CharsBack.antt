@@ -1,12 +1,5 @@
 -- The places between the characters of a text: what is found by one of its two numbers is found by the other.
-use Rattle.std.proofs.Common.{◌≡◌, ℕ, zero, suc, ◌+◌, ◌-◌, ◌<◌, ◌≤◌, Bool, true, cond, List, [], ◌∷◌, length, sym, ap, ◌∙◌, subst, arith, inl, inr, Some, eq-eqb, ne_eqb}
-use Rattle.std.proofs.lemmas.Bool.{cases_Bool}
-use Rattle.std.proofs.lemmas.List.Sums.{sum_by-cons}
-use Rattle.std.proofs.lemmas.Option.{cond_some, same_Some}
-use Rattle.std.specs.List.{AllByRecursion}
-use Rattle.std.specs.Prelude.{◌==◌, find, map, sum}
-use Rattle.mddocument_editing.specs.declared.positions.Encoding.{Encoding}
-use Rattle.mddocument_editing.specs.Positions.{Place, behind, first_size, length_in, places, places_from, sizes, sizes_behind, units}
+use Rattle.mddocument_editing.proofs.Prelude.{◌≡◌, ℕ, zero, suc, ◌+◌, ◌-◌, ◌<◌, ◌≤◌, Bool, true, cond, List, [], ◌∷◌, length, sym, ap, ◌∙◌, arith, inl, inr, Some, eq-eqb, ne_eqb, cases_Bool, sum_by-cons, cond_some, same_Some, AllByRecursion, ◌==◌, find, sum, Encoding, Place, behind, first_size, length_in, places, places_from, sizes, sizes_behind, units, map}
 use Rattle.mddocument_editing.proofs.CharPlaces.{find-first, first-some, units-some}
 
 -- each character has a byte
@@ -95,7 +88,4 @@ module _ (encoding : Encoding) where
 -- what is found passes
 pub find-passes : {X : Type 0} (f : X → Bool) (xs : List X) (x : X) → find f xs ≡ Some x → f x ≡ true
 find-passes f [] x h = absurd (cc)
-find-passes f (y ∷ ys) x h = elim (cases_Bool (f y)) [
-  | inl here ↦ let same : y ≡ x = same_Some y x (sym (ap (λ b. cond b (Some y) (find f ys)) here) ∙ h) in subst (λ z. f z ≡ true) same here
-  | inr past ↦ find-passes f ys x (sym (ap (λ b. cond b (Some y) (find f ys)) past) ∙ h)
-]
+find-passes f (y ∷ ys) x h = grind (arith, find-passes f ys x)

@@ -1,10 +1,7 @@
 -- Positions and byte indices come back.
-use Rattle.std.proofs.Common.{◌≡◌, ℕ, ◌+◌, ◌-◌, ◌≤◌, Bool, true, false, cond, List, length, min, sym, ap, ◌∙◌, arith, refl, leb-true, le-leb, eqb-true, Option, Some, None, nat_le}
-use Rattle.std.proofs.lemmas.Option.{get_or_from_slice_get, same_Some}
-use Rattle.std.specs.Prelude.{◌==◌, find, option_and_then, option_map, slice_get, slice_index}
-use Rattle.mddocument_editing.specs.declared.positions.Encoding.{Encoding}
-use Rattle.mddocument_editing.specs.declared.positions.Position.{Position}
-use Rattle.mddocument_editing.specs.Positions.{OffsetsComeBack, Place, PositionsComeBack, character_in, clamped, index_in, is_between, length_in, line_of, offset_of, places, position_of, start_of, starts, text_at}
+use Rattle.mddocument_editing.proofs.Prelude.{◌≡◌, ℕ, ◌+◌, ◌-◌, ◌≤◌, Bool, true, false, cond, List, length, min, sym, ap, ◌∙◌, arith, refl, eqb-true, Option, Some, None, nat_le, get_or_from_slice_get, same_Some, ◌==◌, find, option_and_then, option_map, slice_get, slice_index, Encoding, Position, OffsetsComeBack, Place, PositionsComeBack, character_in, clamped, index_in, is_between, length_in, line_of, offset_of, places, position_of, starts, text_at}
+use Rattle.std.proofs.Common.{leb-true, le-leb}
+use Rattle.mddocument_editing.specs.Positions.{start_of}
 use Rattle.mddocument_editing.proofs.CharsBack.{by-character, by-index, in-text, find-passes}
 use Rattle.mddocument_editing.proofs.LinesBack.{in-line, offset-in, start-before, start-found}
 

@@ -1,12 +1,5 @@
 -- Line endings counted from the front on, and lines that start behind other bytes: for definitions that walk down a list.
-use Rattle.std.proofs.Common.{◌≡◌, ℕ, zero, suc, ◌+◌, Bool, true, false, cond, List, [], ◌∷◌, ◌++◌, length, refl, sym, ap, ◌∙◌, arith}
-use Rattle.std.proofs.lemmas.Bool.Decides.{nat_tests}
-use Rattle.std.proofs.lemmas.List.{length-append}
-use Rattle.std.specs.Prelude.{◌==◌, ◌&&◌, ◌||◌, not, slice_index}
-use Rattle.markdown_base.specs.Lines.{ends_line, is_line_start}
-use Rattle.markdown_base.specs.Virtual.{begins_with_lf}
-use Rattle.mddocument_editing.specs.PositionParts.{endings}
-use Rattle.mddocument_editing.specs.Positions.{starts_up_to}
+use Rattle.mddocument_editing.proofs.Prelude.{◌≡◌, ℕ, zero, suc, ◌+◌, Bool, true, false, cond, List, [], ◌∷◌, ◌++◌, length, refl, sym, ap, ◌∙◌, arith, nat_tests, length-append, ◌==◌, ◌||◌, not, slice_index, ends_line, is_line_start, begins_with_lf, endings, starts_up_to, ◌&&◌}
 use Rattle.mddocument_editing.proofs.StartsUpTo.{more, starts-some}
 
 -- the next byte is an LF

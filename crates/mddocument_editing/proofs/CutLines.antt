@@ -1,6 +1,5 @@
 -- Where a document is cut, positions count lines as the laws of rests do.
-use Rattle.std.proofs.Common.{refl, ◌∙◌}
-use Rattle.mddocument_parts.specs.Moved.{begins_line, line_endings}
+use Rattle.mddocument_editing.proofs.Prelude.{refl, ◌∙◌, begins_line, line_endings}
 use Rattle.mddocument_editing.proofs.CountedEndings.{endings-counted, starts-line}
 use Rattle.mddocument_editing.specs.Cuts.{EndingsAreCounted, PartsStartLines}
 

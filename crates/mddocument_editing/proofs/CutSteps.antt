@@ -1,15 +1,6 @@
 -- A document is cut at its first rest, and what is behind it again.
-use Rattle.std.proofs.Common.{◌≡◌, ℕ, ◌<◌, ◌≤◌, true, List, [], ◌∷◌, ◌++◌, length, take, drop, refl, sym, ap, ◌∙◌, subst, arith, inl, inr}
-use Rattle.std.proofs.lemmas.Bool.{and_from, cases_lt, le-leb}
-use Rattle.std.proofs.lemmas.List.{append-nil, append_assoc, drop-append-le, drop_all, length-drop, length-take, take-append-drop, take-take}
-use Rattle.std.specs.List.{AllByRecursion}
-use Rattle.markdown_base.proofs.Common.{every-append}
-use Rattle.markdown_base.specs.declared.configuration.ParseOptions.{ParseOptions}
-use Rattle.mddocument_parts.specs.BothDocuments.{is_rest}
-use Rattle.mddocument_parts.specs.Moved.{begins_line}
-use Rattle.mddocument_parts.specs.Sections.{are_sections_by, document_of}
-use Rattle.mddocument_parts.proofs.LineFronts.{line-behind}
-use Rattle.mddocument_editing.specs.FirstRest.{AreSectionsOf, IsFirstRest, IsWhole}
+use Rattle.mddocument_editing.proofs.Prelude.{◌≡◌, ℕ, ◌<◌, ◌≤◌, true, List, [], ◌∷◌, ◌++◌, length, take, drop, refl, sym, ap, ◌∙◌, subst, arith, inl, inr, and_from, cases_lt, le-leb, append-nil, drop-append-le, drop_all, length-drop, length-take, take-append-drop, take-take, AllByRecursion, every-append, ParseOptions, is_rest, begins_line, are_sections_by, document_of, line-behind, AreSectionsOf, IsFirstRest, IsWhole}
+use Rattle.std.proofs.lemmas.List.{append_assoc}
 use Rattle.mddocument_editing.proofs.Below.{first-tells, rest-begins}
 use Rattle.mddocument_editing.proofs.Joined.{document-last, joins, sections-one, tells-all}
 

@@ -1,25 +1,5 @@
 -- If the events of a document can be packed, so can those of each of its sections; and an edited document within the limit is a possible one.
-use Rattle.std.proofs.Common.{◌≡◌, ℕ, ◌+◌, ◌-◌, ◌^◌, ◌&&◌, Bool, true, nat_lt, ◌<◌, List, [], ◌∷◌, ◌++◌, length, take, drop, map, refl, subst, sym, ap, ◌∙◌, arith, Option, Some, None}
-use Rattle.std.proofs.lemmas.Bool.{and_from, and_parts, lt-ltb, ltb-true}
-use Rattle.std.proofs.lemmas.List.Folds.{list_all-append}
-use Rattle.std.proofs.lemmas.List.Elements.{All-append, All-drop, All-take}
-use Rattle.std.specs.List.{AllByRecursion}
-use Rattle.std.specs.Prelude.{All}
-use Rattle.markdown_base.specs.Virtual.{IsWithinLimit}
-use Rattle.markdown_base.specs.declared.configuration.ParseOptions.{ParseOptions}
-use Rattle.markdown_base.specs.declared.event.Event.{Event}
-use Rattle.markdown_base.specs.declared.event.Link.{Link}
-use Rattle.markdown_base.specs.declared.event.Point.{Point}
-use Rattle.markdown_tokenizer.specs.Text.{IsDocument}
-use Rattle.mddocument.specs.DocumentEvents.{document_events}
-use Rattle.mddocument.specs.Documents.{document}
-use Rattle.mddocument_parts.specs.Moved.{line_endings, moved_event, moved_index, moved_link, moved_point}
-use Rattle.mddocument_parts.specs.Sections.{events_of_sections}
-use Rattle.mddocument_editing.specs.Divided.{Divided, IsDivided, bytes_of, is_label_of, section_events}
-use Rattle.mddocument_editing.specs.Edits.{edited}
-use Rattle.mddocument_editing.specs.Kept.{IsPackable}
-use Rattle.mddocument_editing.specs.Packed.{end_fits, event_fits, events_fit, link_fits, point_fits}
-use Rattle.mddocument_editing.specs.declared.edit.Edit.{Edit}
+use Rattle.mddocument_editing.proofs.Prelude.{◌≡◌, ℕ, ◌+◌, ◌-◌, ◌^◌, ◌&&◌, Bool, true, nat_lt, ◌<◌, List, [], ◌∷◌, ◌++◌, length, take, drop, map, refl, subst, sym, ap, ◌∙◌, arith, Option, Some, None, and_from, and_parts, lt-ltb, ltb-true, list_all-append, All-append, All-drop, All-take, AllByRecursion, All, IsWithinLimit, ParseOptions, Event, Link, Point, IsDocument, document_events, document, line_endings, moved_event, moved_index, moved_link, moved_point, events_of_sections, Divided, IsDivided, bytes_of, is_label_of, section_events, edited, IsPackable, end_fits, event_fits, events_fit, link_fits, point_fits, Edit}
 use Rattle.mddocument_editing.proofs.Below.{sections-give}
 
 -- a number fits if a greater one does

@@ -1,10 +1,6 @@
 -- Sections joined and cut: what holds of sections holds of those in front and of those behind; where one bytes are a rest, so are others that begin alike.
-use Rattle.std.proofs.Common.{◌≡◌, ℕ, ◌<◌, ◌≤◌, Bool, true, false, List, [], ◌∷◌, ◌++◌, length, take, drop, refl, sym, ap, ◌∙◌, subst, arith, inl, inr}
-use Rattle.std.proofs.lemmas.Bool.{and_from, and_parts, cases_Bool, leb-true, le-leb}
-use Rattle.std.proofs.lemmas.List.{append-nil, append_assoc, length-append, take-append-drop}
-use Rattle.mddocument_parts.proofs.LineFronts.{line-ahead}
-use Rattle.mddocument_parts.specs.Moved.{begins_line}
-use Rattle.mddocument_parts.specs.Sections.{are_sections_by, document_of}
+use Rattle.mddocument_editing.proofs.Prelude.{◌≡◌, ℕ, ◌<◌, ◌≤◌, Bool, true, false, List, [], ◌∷◌, ◌++◌, length, take, drop, refl, sym, ap, ◌∙◌, subst, arith, inl, inr, and_from, and_parts, cases_Bool, leb-true, le-leb, append-nil, length-append, take-append-drop, line-ahead, begins_line, are_sections_by, document_of}
+use Rattle.std.proofs.lemmas.List.{append_assoc}
 
 -- ---- bytes
 

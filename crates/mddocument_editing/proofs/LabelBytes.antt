@@ -1,24 +1,9 @@
 -- What was read between a `[` and a `]`: the bytes that it stands for agree with those behind the `[`, up to the `]` or to a line ending.
-use Rattle.std.proofs.Common.{◌≡◌, ◌⊎◌, ℕ, zero, suc, ◌+◌, ◌-◌, ◌<◌, ◌≤◌, ◌==◌, ◌&&◌, ◌||◌, Bool, true, false, cond, List, [], ◌∷◌, ◌++◌, drop, take, inl, inr, map, refl, sym, ap, ◌∙◌, subst, arith, append_assoc, get_or-drop}
-use Rattle.std.proofs.lemmas.Bool.{or_parts, false≢true, ltb-false}
-use Rattle.std.proofs.lemmas.List.{drop-drop, drop-take, take-take}
+use Rattle.mddocument_editing.proofs.Prelude.{◌≡◌, ◌⊎◌, ℕ, zero, suc, ◌+◌, ◌-◌, ◌<◌, ◌≤◌, ◌&&◌, Bool, true, false, cond, List, [], ◌∷◌, ◌++◌, drop, take, inl, inr, map, refl, sym, ap, ◌∙◌, subst, arith, append_assoc, or_parts, false≢true, ltb-false, drop-drop, drop-take, take-take, AllByRecursion, between, flat_map, slice_index, every-back, every-front, Event, Point, follows_cr, shown, stands_before, Seat, begins_with_lf, end_after, in_tab, line_feed, other_byte, tab_width, virtual_from, IsWritten, dark-shown, is_dark, LinedFor, Course, course-on, course-place, course-upto, AcrossGap, bytes_before, spanned_bytes, is_line_ending, OneLine, is_in_brackets, may_stand, nat_lt}
+use Rattle.std.proofs.Common.{◌==◌, ◌||◌, get_or-drop}
 use Rattle.std.proofs.lemmas.Slice.{between_is}
-use Rattle.std.specs.List.{AllByRecursion, between, flat_map}
-use Rattle.std.specs.Prelude.{nat_lt, slice_index}
-use Rattle.markdown_tokenizer.proofs.Positions.Order.{every-back, every-front}
-use Rattle.markdown_base.specs.declared.event.Event.{Event}
-use Rattle.markdown_base.specs.declared.event.Point.{Point}
-use Rattle.markdown_base.specs.Places.{follows_cr, shown, stands_before}
-use Rattle.markdown_base.specs.Virtual.{Seat, begins_with_lf, end_after, in_tab, line_feed, other_byte, tab_width, virtual_from}
-use Rattle.mddocument_laws.proofs.ReferenceBytes.{IsWritten, dark-shown, is_dark}
-use Rattle.mddocument.proofs.Innermost.Lined.{LinedFor}
-use Rattle.mdblock_leaf_blocks.proofs.Marks.Courses.{Course, course-on, course-place, course-upto}
-use Rattle.mdblock_leaf_blocks.specs.ChunksJoin.{AcrossGap}
-use Rattle.mdinline_machine.specs.Brackets.{bytes_before, spanned_bytes}
-use Rattle.mdconstructs_machines.specs.LineEvents.{is_line_ending}
 use Rattle.mdconstructs_machines.specs.Innermost.{span_over, stretch_bytes}
-use Rattle.mdinline_text_machine.proofs.DeepSpans.Atoms.{OneLine}
-use Rattle.mddocument_editing.specs.InBrackets.{ends_line, is_in_brackets, may_stand}
+use Rattle.mddocument_editing.specs.InBrackets.{ends_line}
 use Rattle.mddocument_editing.proofs.MayStand.{brackets-at, drop-index, may-behind, may-over}
 
 pub not-before : (p q : Point) → stands_before q p ≡ false → p.index ≤ q.index

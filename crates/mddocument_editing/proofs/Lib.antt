@@ -1,3 +1,4 @@
+mod Prelude
 -- cuts
 pub mod Anew
 pub mod CutSteps

@@ -1,14 +1,6 @@
 -- Which line an index is in, and what is in a line.
-use Rattle.std.proofs.Common.{◌≡◌, ℕ, zero, suc, ◌+◌, ◌-◌, ◌<◌, ◌≤◌, true, false, List, [], ◌∷◌, ◌++◌, length, drop, refl, sym, ap, ◌∙◌, subst, arith, inl, inr, Some, get_or}
-use Rattle.std.proofs.lemmas.Bool.{cases_Bool, cases_lt, false≢true}
-use Rattle.std.proofs.lemmas.List.{get_or-drop, get_or_push, length-append, length-drop, length-take-le, length_push}
-use Rattle.std.proofs.lemmas.List.Sums.{prefix_len-le-length, prefix_len_passes, prefix_len_stops}
-use Rattle.std.proofs.lemmas.Option.{get_or_from_slice_get, same_Some, slice_get-get_or, slice_get_within}
-use Rattle.std.specs.List.{prefix_len}
-use Rattle.std.specs.Prelude.{◌==◌, slice_get, slice_index}
-use Rattle.markdown_base.proofs.Common.{get-front}
-use Rattle.markdown_base.specs.Lines.{ends_line, is_lf}
-use Rattle.mddocument_editing.specs.Positions.{is_between, is_in_line, line_of, start_of, starts, starts_up_to, text_at}
+use Rattle.mddocument_editing.proofs.Prelude.{◌≡◌, ℕ, zero, suc, ◌+◌, ◌-◌, ◌<◌, ◌≤◌, true, false, List, [], ◌∷◌, ◌++◌, length, drop, refl, sym, ap, ◌∙◌, subst, arith, inl, inr, Some, get_or, cases_Bool, cases_lt, false≢true, get_or-drop, get_or_push, length-append, length-drop, length-take-le, length_push, prefix_len-le-length, prefix_len_passes, prefix_len_stops, get_or_from_slice_get, same_Some, slice_get-get_or, slice_get_within, prefix_len, ◌==◌, slice_get, slice_index, get-front, ends_line, is_lf, is_between, is_in_line, line_of, starts, starts_up_to, text_at}
+use Rattle.mddocument_editing.specs.Positions.{start_of}
 use Rattle.mddocument_editing.proofs.StartsUpTo.{starts-front, starts-get, starts-more, starts-same, starts-some}
 
 -- a byte of a line's text ends no line; one that is no part of it is LF or CR

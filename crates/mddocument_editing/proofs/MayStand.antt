@@ -1,10 +1,7 @@
 -- Labels that may stand behind a `[`.
-use Rattle.std.proofs.Common.{◌≡◌, eqb-true, ℕ, zero, suc, ◌<◌, ◌==◌, ◌&&◌, ◌||◌, not, Bool, true, false, List, [], ◌∷◌, ◌++◌, drop, take, refl, sym, ap, ◌∙◌, subst, arith, append-nil, append_assoc}
-use Rattle.std.proofs.Math.Bool.{and-true}
-use Rattle.std.proofs.lemmas.Bool.{and_parts, or_parts}
-use Rattle.std.specs.Prelude.{slice_index}
-use Rattle.mdinline_labels.specs.Labels.{has_no_bracket, hides, is_bracket, is_label}
-use Rattle.mddocument_editing.specs.InBrackets.{ends_line, is_in_brackets, is_untold, label_ends, may_ask, may_stand}
+use Rattle.mddocument_editing.proofs.Prelude.{◌≡◌, eqb-true, ℕ, zero, suc, ◌<◌, ◌&&◌, Bool, true, false, List, [], ◌∷◌, ◌++◌, drop, take, refl, sym, ap, ◌∙◌, subst, arith, append_assoc, and-true, and_parts, or_parts, slice_index, has_no_bracket, hides, is_bracket, is_label, is_in_brackets, is_untold, label_ends, may_ask, may_stand}
+use Rattle.std.proofs.Common.{◌==◌, ◌||◌, not, append-nil}
+use Rattle.mddocument_editing.specs.InBrackets.{ends_line}
 
 -- bytes in front of those where a label may stand
 pub may-behind : (label xs : List ℕ) (n : ℕ) → may_stand label (drop n xs) ≡ true → may_stand (take n xs ++ label) xs ≡ true

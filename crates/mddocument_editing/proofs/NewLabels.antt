@@ -1,19 +1,7 @@
 -- The labels of a document with parts in the place of some of its sections.
-use Rattle.std.proofs.Common.{◌≡◌, ℕ, ◌+◌, ◌-◌, ◌≤◌, Bool, true, false, List, [], ◌∷◌, ◌++◌, length, take, drop, map, refl, sym, ap, ◌∙◌, subst, arith}
+use Rattle.mddocument_editing.proofs.Prelude.{◌≡◌, ℕ, ◌+◌, ◌-◌, ◌≤◌, Bool, false, List, [], ◌∷◌, ◌++◌, length, take, drop, map, refl, sym, ap, ◌∙◌, subst, arith, drop-drop, drop-map, map-append, take-append-drop, take-map, take_rest, list_any-append, AllByRecursion, flat_map, ◌||◌, every-map, ParseOptions, is_one_of, defines, is_same, is_label_of, IsKept, IsLabelled, IsRead, IsRecut, bytes_of_parts, bytes_of_sections, labels_written, recut_document, Kept, Section}
 use Rattle.std.proofs.lemmas.Grind.{flat_map-append}
-use Rattle.std.proofs.lemmas.List.{drop-drop, drop-map, map-append, take-append-drop, take-map, take_rest}
-use Rattle.std.proofs.lemmas.List.Folds.{list_any-append}
-use Rattle.std.specs.List.{AllByRecursion, flat_map}
-use Rattle.std.specs.Prelude.{◌||◌}
-use Rattle.markdown_base.proofs.Common.{every-map}
-use Rattle.markdown_base.specs.declared.configuration.ParseOptions.{ParseOptions}
-use Rattle.mdblock_definitions.specs.Labelled.{is_one_of}
-use Rattle.mdinline_labels.specs.Defined.{defines, is_same}
-use Rattle.mddocument_editing.specs.Divided.{is_label_of}
-use Rattle.mddocument_editing.specs.Kept.{IsKept, IsLabelled, IsRead, IsRecut, bytes_of_parts, bytes_of_sections, labels_written, recut_document}
-use Rattle.mddocument_editing.specs.declared.kept.Kept.{Kept}
 use Rattle.mddocument_editing.specs.declared.section.Part.{Part}
-use Rattle.mddocument_editing.specs.declared.section.Section.{Section}
 use Rattle.mddocument_editing.proofs.SectionLabels.{labels-divided}
 
 -- a label is written in sections
@@ -22,20 +10,10 @@ is_written options sections label = is_one_of (flat_map (labels_written options)
 
 -- a list is what is in front, between and behind
 three : {A : Type 0} (from end : ℕ) (xs : List A) → from ≤ end → xs ≡ take from xs ++ (take (end - from) (drop from xs) ++ drop end xs)
-three from end xs order =
-    let e : from + (end - from) ≡ end = omega arith in
-    sym (take-append-drop from xs)
-    ∙ ap (λ ys. take from xs ++ ys) (sym (take-append-drop (end - from) (drop from xs)) ∙ ap (λ ys. take (end - from) (drop from xs) ++ ys) (drop-drop (end - from) from xs ∙ ap (λ k. drop k xs) e))
+three from end xs order = let e : from + (end - from) ≡ end = omega arith in grind (arith, drop-drop (end - from) from xs, take-append-drop (end - from) (drop from xs), take-append-drop from xs)
 
 turned : (a b c : Bool) → (c || (b || (a || false))) ≡ (a || (b || c))
-turned true true true = refl
-turned true true false = refl
-turned true false true = refl
-turned true false false = refl
-turned false true true = refl
-turned false true false = refl
-turned false false true = refl
-turned false false false = refl
+turned a b c = grind arith
 
 module _ (options : ParseOptions) where
   written-append : (xs ys : List (List ℕ)) (label : List ℕ) → is_written options (xs ++ ys) label ≡ (is_written options xs label || is_written options ys label)

@@ -1,10 +1,6 @@
 -- An edit that leaves the bytes of a document changes nothing.
-use Rattle.std.proofs.Common.{◌≡◌, ℕ, ◌<◌, List, [], ◌∷◌, length, refl, subst, sym, ap, ◌∙◌, arith}
-use Rattle.std.proofs.lemmas.List.{length-drop}
-use Rattle.std.specs.List.{AllByRecursion}
+use Rattle.mddocument_editing.proofs.Prelude.{◌≡◌, ℕ, ◌<◌, List, [], ◌∷◌, length, refl, subst, sym, ap, ◌∙◌, arith, length-drop, AllByRecursion, Divided, IsChange, KeepsEvents, NothingIsNamed, section_of}
 use Rattle.mddocument_editing.proofs.Unique.{divided-unique}
-use Rattle.mddocument_editing.specs.Divided.{Divided}
-use Rattle.mddocument_editing.specs.Edits.{IsChange, KeepsEvents, NothingIsNamed, section_of}
 use Rattle.mddocument_editing.specs.declared.edit.Change.{Change}
 
 -- no section of the same document has other events

@@ -1,12 +1,5 @@
 -- If the events of each section of a document that is edited can be packed, so can those of its parts, by any labels that are the document's.
-use Rattle.std.proofs.Common.{◌≡◌, ℕ, Bool, List, [], ◌∷◌, ◌++◌, take, drop, subst, sym}
-use Rattle.std.proofs.lemmas.List.{drop-map, take-map}
-use Rattle.std.specs.List.{AllByRecursion}
-use Rattle.markdown_tokenizer.proofs.Positions.Order.{every-back, every-front}
-use Rattle.mddocument_editing.specs.Divided.{is_label_of}
-use Rattle.mddocument_editing.specs.Kept.{ArePackable, IsPackable, bytes_of_sections, recut_document, recut_sections}
-use Rattle.mddocument_editing.specs.declared.kept.Kept.{Kept}
-use Rattle.mddocument_editing.specs.declared.section.Section.{Section}
+use Rattle.mddocument_editing.proofs.Prelude.{◌≡◌, ℕ, Bool, List, [], ◌∷◌, ◌++◌, take, drop, subst, sym, drop-map, take-map, AllByRecursion, every-back, every-front, is_label_of, ArePackable, IsPackable, bytes_of_sections, recut_document, recut_sections, Kept, Section}
 
 -- what holds of the bytes of each section holds of each
 each-bytes : (P : List ℕ → Type 0) (sections : List Section) → AllByRecursion P (bytes_of_sections sections) → AllByRecursion (λ section. P section.part.bytes.items) sections

@@ -1,12 +1,7 @@
 -- Where lines start in a document of two parts, if a line starts with the second.
-use Rattle.std.proofs.Common.{◌≡◌, ℕ, zero, suc, ◌+◌, ◌-◌, ◌<◌, Bool, true, false, cond, List, [], ◌∷◌, ◌++◌, length, drop, refl, sym, ap, ◌∙◌, subst, arith, Some}
-use Rattle.std.proofs.Math.Seq.{drop-append-add}
-use Rattle.std.proofs.lemmas.List.{append_assoc, drop-append-le, get_or-append-add, get_or-drop, get_or-map, get_or_append_left, get_or_past, length-append, length-drop, length-map, length_push, map-append}
-use Rattle.std.proofs.lemmas.List.Sums.{take_while-cons}
-use Rattle.std.specs.Prelude.{map, slice_get, slice_index, take_while}
-use Rattle.markdown_base.specs.Lines.{ends_line, is_line_start}
-use Rattle.mddocument_editing.specs.PositionParts.{StartsLine, endings}
-use Rattle.mddocument_editing.specs.Positions.{is_in_line, line_of, start_of, starts_up_to, text_at}
+use Rattle.mddocument_editing.proofs.Prelude.{◌≡◌, ℕ, zero, suc, ◌+◌, ◌-◌, ◌<◌, Bool, true, false, cond, List, [], ◌∷◌, ◌++◌, length, drop, refl, sym, ap, ◌∙◌, subst, arith, Some, drop-append-add, drop-append-le, get_or-append-add, get_or-drop, get_or-map, get_or_append_left, get_or_past, length-append, length-drop, length-map, length_push, map-append, take_while-cons, slice_get, slice_index, take_while, ends_line, is_line_start, StartsLine, endings, is_in_line, line_of, starts_up_to, text_at, map}
+use Rattle.std.proofs.lemmas.List.{append_assoc}
+use Rattle.mddocument_editing.specs.Positions.{start_of}
 use Rattle.mddocument_editing.proofs.LinesBack.{start-at}
 use Rattle.mddocument_editing.proofs.StartsUpTo.{more, starts-more, starts-some}
 

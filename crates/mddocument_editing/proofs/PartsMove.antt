@@ -1,16 +1,8 @@
 -- Places in the second part move, and those in the first stay.
-use Rattle.std.proofs.Common.{◌≡◌, ℕ, ◌+◌, ◌-◌, ◌<◌, Bool, true, false, cond, List, ◌∷◌, [], ◌++◌, length, refl, sym, ap, ◌∙◌, arith, le-leb, nat_le, Option, Some, None, add_assoc}
-use Rattle.std.proofs.Math.Seq.{drop-append_seam}
-use Rattle.std.proofs.lemmas.Bool.Decides.{nat_tests}
-use Rattle.std.proofs.lemmas.List.{length-append}
-use Rattle.std.proofs.lemmas.Option.{slice_get-map}
-use Rattle.std.specs.Prelude.{map, option_and_then, option_map, slice_get, slice_index}
-use Rattle.markdown_base.proofs.Common.{get-front}
+use Rattle.mddocument_editing.proofs.Prelude.{◌≡◌, ℕ, ◌+◌, ◌-◌, ◌<◌, Bool, true, false, cond, List, ◌∷◌, [], ◌++◌, length, refl, sym, ap, ◌∙◌, arith, nat_le, Option, Some, None, add_assoc, drop-append_seam, nat_tests, length-append, slice_get-map, option_and_then, option_map, slice_get, slice_index, get-front, Encoding, Position, EndingsAdd, OffsetsMove, OffsetsStay, PositionsMove, PositionsStay, StartsLine, down, endings, character_in, index_in, line_of, starts, starts_up_to, text_at, map}
+use Rattle.std.proofs.Common.{le-leb}
 use Rattle.markdown_base.proofs.Facts.Lists.{get-dropped}
-use Rattle.mddocument_editing.specs.declared.positions.Encoding.{Encoding}
-use Rattle.mddocument_editing.specs.declared.positions.Position.{Position}
-use Rattle.mddocument_editing.specs.PositionParts.{EndingsAdd, OffsetsMove, OffsetsStay, PositionsMove, PositionsStay, StartsLine, down, endings}
-use Rattle.mddocument_editing.specs.Positions.{character_in, index_in, line_of, start_of, starts, starts_up_to, text_at}
+use Rattle.mddocument_editing.specs.Positions.{start_of}
 use Rattle.mddocument_editing.proofs.LinesBack.{start-before}
 use Rattle.mddocument_editing.proofs.PartStarts.{Before, endings-are, line-behind, seam-is, start-behind, starts-behind, starts-in, text-behind, text-in}
 

@@ -1,16 +1,6 @@
 -- Sections that are cut again are put in the place of others.
-use Rattle.std.proofs.Common.{◌≡◌, ℕ, ◌+◌, ◌-◌, ◌<◌, ◌≤◌, true, List, [], ◌∷◌, ◌++◌, length, take, drop, refl, sym, ap, ◌∙◌, subst, arith, inl, inr}
-use Rattle.std.proofs.Math.Seq.{drop-append-add, take-append-add}
-use Rattle.std.proofs.lemmas.List.{append-nil, append_assoc, drop-append-le, drop-drop, drop-take, drop_all, length-drop, length-take, take-append-drop, take-append-le, take-take, take_all}
-use Rattle.std.specs.List.{AllByRecursion}
-use Rattle.std.specs.Prelude.{◌⊎◌}
-use Rattle.markdown_base.proofs.Common.{every-append, every-drop, every-take}
-use Rattle.markdown_base.specs.declared.configuration.ParseOptions.{ParseOptions}
-use Rattle.mddocument_parts.specs.BothDocuments.{is_rest}
-use Rattle.mddocument_parts.specs.Sections.{are_sections_by, document_of}
-use Rattle.mddocument_editing.specs.FirstRest.{AreSectionsOf, IsWhole}
-use Rattle.mddocument_editing.specs.Seams.{IsSeam}
-use Rattle.mddocument_editing.specs.Settled.{is_settled}
+use Rattle.mddocument_editing.proofs.Prelude.{◌≡◌, ℕ, ◌+◌, ◌-◌, ◌<◌, ◌≤◌, true, List, [], ◌∷◌, ◌++◌, length, take, drop, refl, sym, ap, ◌∙◌, subst, arith, inl, inr, drop-append-add, take-append-add, append-nil, drop-append-le, drop-drop, drop-take, drop_all, length-drop, length-take, take-append-drop, take-append-le, take-take, take_all, AllByRecursion, every-append, every-drop, every-take, ParseOptions, is_rest, are_sections_by, document_of, AreSectionsOf, IsWhole, IsSeam, is_settled, ◌⊎◌}
+use Rattle.std.proofs.lemmas.List.{append_assoc}
 use Rattle.mddocument_editing.proofs.Below.{first-tells, rest-begins}
 use Rattle.mddocument_editing.proofs.Joined.{document-append, document-cut, gathers, joins, meets, puts-back, sections-drop, sections-one, sections-take}
 use Rattle.mddocument_editing.proofs.SectionSizes.{bytes-front, bytes-left}
@@ -18,10 +8,7 @@ use Rattle.mddocument_editing.proofs.SettledBytes.{settled-some, settled-tells}
 
 -- the first few of a list, and some more
 pub take-both : {X : Type 0} (n m : ℕ) (xs : List X) → take n xs ++ take m (drop n xs) ≡ take (n + m) xs
-take-both n m xs =
-    ap (λ ys. ys ++ take m (drop n xs)) (sym (take-take n (n + m) xs (omega arith)))
-    ∙ ap (λ ys. take n (take (n + m) xs) ++ ys) (sym (drop-take n m xs))
-    ∙ take-append-drop n (take (n + m) xs)
+take-both n m xs = rw (← drop-take n m xs, ← take-take n (n + m) xs (omega arith)) (take-append-drop n (take (n + m) xs))
 
 module _ (options : ParseOptions) (old : List (List ℕ)) (from behind : ℕ) (text : List ℕ) (is : AreSectionsOf options (document_of old) old) (seam : IsSeam options (take from old) (text ++ document_of (drop behind old))) where
   -- sections of what is in front, of the text and of what is behind
@@ -88,11 +75,7 @@ module _ (options : ParseOptions) (old : List (List ℕ)) (from behind : ℕ) (t
 -- bytes with others in the place of some in the middle of them
 pub edited-middle : (a m z w : List ℕ) (i j : ℕ) → i ≤ length m → j ≤ length m
     → a ++ ((take i m ++ (w ++ drop j m)) ++ z) ≡ take (length a + i) (a ++ (m ++ z)) ++ (w ++ drop (length a + j) (a ++ (m ++ z)))
-edited-middle a m z w i j few less =
-    let front : take (length a + i) (a ++ (m ++ z)) ≡ a ++ take i m = take-append-add a (m ++ z) i ∙ ap (λ bs. a ++ bs) (take-append-le i m z few) in
-    let rest : drop (length a + j) (a ++ (m ++ z)) ≡ drop j m ++ z = drop-append-add a (m ++ z) j ∙ drop-append-le j m z less in
-    let flat : a ++ ((take i m ++ (w ++ drop j m)) ++ z) ≡ (a ++ take i m) ++ (w ++ (drop j m ++ z)) = simp append_assoc in
-    flat ∙ ap (λ bs. bs ++ (w ++ (drop j m ++ z))) (sym front) ∙ ap (λ bs. take (length a + i) (a ++ (m ++ z)) ++ (w ++ bs)) (sym rest)
+edited-middle a m z w i j few less = rw (take-append-add a (m ++ z) i, take-append-le i m z few, drop-append-add a (m ++ z) j, drop-append-le j m z less) (simp append_assoc)
 
 module _ (options : ParseOptions) where
   -- sections begin at a rest as before, if a line ends in front of what is new

@@ -1,27 +1,9 @@
 -- Sections with others in the place of some, where labels change: the document that is kept then, and what changed.
-use Rattle.std.proofs.Common.{◌≡◌, ◌⊎◌, ℕ, zero, suc, ◌+◌, ◌-◌, ◌≤◌, ◌<◌, List, [], ◌∷◌, ◌++◌, length, get_or, take, drop, refl, subst, sym, ap, ◌∙◌, arith, append_assoc, inl, inr}
-use Rattle.std.proofs.lemmas.Bool.{cases_lt}
-use Rattle.std.proofs.lemmas.List.{get_or-append_right, get_or-map, get_or_append_left, length-append, length-map, length-take-le}
-use Rattle.std.specs.List.{AllByRecursion}
-use Rattle.std.specs.Prelude.{Contains}
-use Rattle.std.specs.declared.alloc.Global.{Global}
-use Rattle.std.specs.declared.vec.Vec.{Vec}
-use Rattle.markdown_base.proofs.Common.{every-append, every-drop, every-map, every-take}
-use Rattle.markdown_base.specs.declared.event.Event.{Event}
+use Rattle.mddocument_editing.proofs.Prelude.{◌≡◌, ◌⊎◌, ℕ, zero, suc, ◌+◌, ◌-◌, ◌≤◌, ◌<◌, List, [], ◌∷◌, ◌++◌, length, get_or, take, drop, refl, subst, sym, ap, ◌∙◌, arith, append_assoc, inl, inr, cases_lt, get_or-append_right, get_or-map, get_or_append_left, length-append, length-map, length-take-le, AllByRecursion, Contains, Global, Vec, every-append, every-drop, every-map, every-take, Event, defines, events_by, Divided, is_label_of, IsChange, KeepsEvents, ascend_from, section_of, IsKept, IsRead, IsRecut, bytes_of_sections, divided_of, recut_document, AreReread, HasEvents, put_all, AreTrimmed, Kept, Reread, Section}
 use Rattle.mdinline_machine.specs.declared.inlines.Inlines.{Inlines}
-use Rattle.mdinline_labels.specs.Defined.{defines}
-use Rattle.mddocument_parts.specs.BothDocuments.{events_by}
 use Rattle.mddocument_editing.proofs.PutSections.{bytes-put, change-of, kept-as}
 use Rattle.mddocument_editing.proofs.Rereads.{IsReadBySome, numbers, put-again, rereads-ascend, rereads-each, rereads-same}
 use Rattle.mddocument_editing.proofs.SectionBytes.{every-at}
-use Rattle.mddocument_editing.specs.Divided.{Divided, is_label_of}
-use Rattle.mddocument_editing.specs.Edits.{IsChange, KeepsEvents, ascend_from, section_of}
-use Rattle.mddocument_editing.specs.Kept.{IsKept, IsRead, IsRecut, bytes_of_sections, divided_of, recut_document}
-use Rattle.mddocument_editing.specs.Put.{AreReread, HasEvents, put_all}
-use Rattle.mddocument_editing.specs.Trims.{AreTrimmed}
-use Rattle.mddocument_editing.specs.declared.kept.Kept.{Kept}
-use Rattle.mddocument_editing.specs.declared.put.Reread.{Reread}
-use Rattle.mddocument_editing.specs.declared.section.Section.{Section}
 
 -- what holds of each number of those that were read again
 each-number : (Q : ℕ → Type 0) (os : List Reread) → AllByRecursion (λ (other : Reread). Q other.section) os → AllByRecursion Q (numbers os)

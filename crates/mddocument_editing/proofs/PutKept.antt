@@ -1,20 +1,6 @@
 -- What is kept, cut again: the sections' bytes, and parts in their place.
-use Rattle.std.proofs.Common.{◌≡◌, ℕ, ◌+◌, ◌^◌, ◌-◌, ◌<◌, ◌≤◌, true, List, ◌++◌, length, take, drop, sym, ap, ◌∙◌, subst, arith}
-use Rattle.std.proofs.Math.Nat.{mul-le-mul_right}
-use Rattle.std.proofs.lemmas.List.{append_assoc, drop-drop, drop-map, length-append, length-drop, length-map, length-take, take-map}
-use Rattle.std.specs.Prelude.{◌⊎◌}
-use Rattle.markdown_base.specs.Virtual.{IsWithinLimit}
-use Rattle.mddocument_parts.specs.BothDocuments.{is_rest}
-use Rattle.mddocument_parts.specs.Sections.{are_sections_by, document_of}
-use Rattle.mddocument_editing.specs.declared.edit.Edit.{Edit}
-use Rattle.mddocument_editing.specs.declared.kept.Kept.{Kept}
-use Rattle.mddocument_editing.specs.declared.section.Section.{Section}
-use Rattle.mddocument_editing.specs.Divided.{IsDivided}
-use Rattle.mddocument_editing.specs.Edits.{edited}
-use Rattle.mddocument_editing.specs.FirstRest.{AreSectionsOf}
-use Rattle.mddocument_editing.specs.Kept.{IsKept, IsRecut, bytes_of_sections, divided_of, recut_sections}
-use Rattle.mddocument_editing.specs.Seams.{IsSeam}
-use Rattle.mddocument_editing.specs.Settled.{is_settled}
+use Rattle.mddocument_editing.proofs.Prelude.{◌≡◌, ℕ, ◌+◌, ◌^◌, ◌-◌, ◌<◌, ◌≤◌, true, List, ◌++◌, length, take, drop, sym, ap, ◌∙◌, subst, arith, mul-le-mul_right, drop-drop, drop-map, length-append, length-drop, length-map, length-take, take-map, IsWithinLimit, is_rest, are_sections_by, document_of, Edit, Kept, Section, IsDivided, edited, AreSectionsOf, IsKept, IsRecut, bytes_of_sections, divided_of, recut_sections, IsSeam, is_settled, ◌⊎◌}
+use Rattle.std.proofs.lemmas.List.{append_assoc}
 use Rattle.mddocument_editing.proofs.Joined.{document-append}
 use Rattle.mddocument_editing.proofs.PutBack.{AreBack, back-all, back-met, edited-bytes, edited-seam, take-both}
 

@@ -1,20 +1,8 @@
 -- Sections that were read of a document: their events are those by other labels, if they look up no label that changes.
-use Rattle.std.proofs.Common.{◌≡◌, ◌&&◌, Bool, ℕ, false, List, [], ◌∷◌, sym, ap, ◌∙◌}
-use Rattle.std.specs.List.{AllByRecursion}
-use Rattle.markdown_base.specs.declared.configuration.ParseOptions.{ParseOptions}
-use Rattle.markdown_tokenizer.specs.Text.{IsDocument}
-use Rattle.mddocument.specs.Documents.{document}
-use Rattle.mdinline_labels.specs.Defined.{defines}
-use Rattle.mdinline_labels.specs.declared.labels.Labels.{Labels}
+use Rattle.mddocument_editing.proofs.Prelude.{◌≡◌, ◌&&◌, Bool, ℕ, false, List, [], ◌∷◌, sym, ap, ◌∙◌, AllByRecursion, ParseOptions, IsDocument, document, defines, Labels, events_by, document_of, changes, may_ask, IsRead, bytes_of_sections, HasEvents, IsReadDocument, looks_up, Section}
 use Rattle.mddocument_parts.proofs.DocumentParts.{behind-document, front-document}
-use Rattle.mddocument_parts.specs.BothDocuments.{events_by}
-use Rattle.mddocument_parts.specs.Sections.{document_of}
 use Rattle.mddocument_editing.proofs.AskedAgain.{same-unless-asked}
 use Rattle.mddocument_editing.proofs.AskingCode.{same-unless-changed}
-use Rattle.mddocument_editing.specs.InBrackets.{changes, may_ask}
-use Rattle.mddocument_editing.specs.Kept.{IsRead, bytes_of_sections}
-use Rattle.mddocument_editing.specs.Put.{HasEvents, IsReadDocument, looks_up}
-use Rattle.mddocument_editing.specs.declared.section.Section.{Section}
 
 -- each section that was read of a document is one
 pub read-documents : (options : ParseOptions) (defined : List ℕ → Bool) (ss : List Section) → IsDocument (document options (document_of (bytes_of_sections ss)))

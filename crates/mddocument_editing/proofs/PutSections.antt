@@ -1,27 +1,10 @@
 -- Sections with others in the place of some: the document that is kept then, and what changed.
-use Rattle.std.proofs.Common.{◌≡◌, ◌⊎◌, ℕ, ◌+◌, ◌-◌, ◌≤◌, ◌<◌, List, [], ◌++◌, length, get_or, take, drop, subst, sym, ap, ◌∙◌, arith, map-id}
+use Rattle.mddocument_editing.proofs.Prelude.{◌≡◌, ◌⊎◌, ℕ, ◌+◌, ◌-◌, ◌≤◌, ◌<◌, List, [], ◌++◌, length, get_or, take, drop, subst, sym, ap, ◌∙◌, arith, map-id, YieldsList-from_vec, drop-map, drop_at, get_or-append_right, get_or_append_left, length-append, length-take-le, map-append, take-map, take_at, AllByRecursion, Contains, into_iter_items, into_iter_len, into_iter_steps, Global, Vec, every-append, every-drop, every-take, IsWithinLimit, every-back, every-front, defines, document_of, Divided, IsDivided, is_label_of, IsChange, KeepsEvents, ascend_from, section_of, IsKept, IsRead, bytes_of_sections, divided_of, AreTrimmed, Kept, Section}
 use Rattle.std.proofs.lemmas.Iterator.{items_from_drains}
-use Rattle.std.proofs.lemmas.Iterator.Adapters.{YieldsList-from_vec}
-use Rattle.std.proofs.lemmas.List.{append_assoc, drop-map, drop_at, get_or-append_right, get_or_append_left, length-append, length-take-le, map-append, take-map, take_at}
+use Rattle.std.proofs.lemmas.List.{append_assoc}
 use Rattle.std.specs.Iterator.{Drains}
-use Rattle.std.specs.List.{AllByRecursion}
-use Rattle.std.specs.Prelude.{Contains}
-use Rattle.std.specs.Vec.Iter.{into_iter_items, into_iter_len, into_iter_steps}
-use Rattle.std.specs.declared.alloc.Global.{Global}
 use Rattle.std.specs.declared.vec.IntoIter.{IntoIter}
-use Rattle.std.specs.declared.vec.Vec.{Vec}
-use Rattle.markdown_base.proofs.Common.{every-append, every-drop, every-take}
-use Rattle.markdown_base.specs.Virtual.{IsWithinLimit}
-use Rattle.markdown_tokenizer.proofs.Positions.Order.{every-back, every-front}
-use Rattle.mdinline_labels.specs.Defined.{defines}
-use Rattle.mddocument_parts.specs.Sections.{document_of}
 use Rattle.mddocument_editing.proofs.SectionBytes.{sections-within}
-use Rattle.mddocument_editing.specs.Divided.{Divided, IsDivided, is_label_of}
-use Rattle.mddocument_editing.specs.Edits.{IsChange, KeepsEvents, ascend_from, section_of}
-use Rattle.mddocument_editing.specs.Kept.{IsKept, IsRead, bytes_of_sections, divided_of}
-use Rattle.mddocument_editing.specs.Trims.{AreTrimmed}
-use Rattle.mddocument_editing.specs.declared.kept.Kept.{Kept}
-use Rattle.mddocument_editing.specs.declared.section.Section.{Section}
 
 -- a vector that was drained gave its elements
 pub drained : {A Z : Type 0} (it : IntoIter A Z) (all xs : List A) → into_iter_items it ≡ all → into_iter_len it ≡ length all → Drains into_iter_steps it xs → xs ≡ all

@@ -1,17 +1,6 @@
 -- Sections that are read again, and their events put in.
-use Rattle.std.proofs.Common.{◌≡◌, ℕ, zero, suc, ◌+◌, ◌<◌, Bool, List, [], ◌∷◌, ◌++◌, length, Option, Some, None, get_or, take, set, map, refl, sym, ap, ◌∙◌, subst, arith, append-nil, append_assoc, inl, inr}
-use Rattle.std.proofs.lemmas.List.{length-append, length-take-le, take_more}
-use Rattle.std.proofs.lemmas.List.Elements.{Contains-append_right}
-use Rattle.std.specs.List.{AllByRecursion}
-use Rattle.std.specs.Prelude.{Contains, IfNone, IfSome}
-use Rattle.markdown_base.specs.declared.configuration.ParseOptions.{ParseOptions}
-use Rattle.markdown_base.specs.declared.event.Event.{Event}
-use Rattle.mddocument_parts.specs.BothDocuments.{events_by}
-use Rattle.mddocument_editing.specs.Edits.{ascend_from}
-use Rattle.mddocument_editing.specs.Kept.{IsRead, bytes_of_sections}
-use Rattle.mddocument_editing.specs.Put.{AreReread, HasEvents, put_all, put_at, with_events}
-use Rattle.mddocument_editing.specs.declared.put.Reread.{Reread}
-use Rattle.mddocument_editing.specs.declared.section.Section.{Section}
+use Rattle.mddocument_editing.proofs.Prelude.{◌≡◌, ℕ, zero, suc, ◌+◌, ◌<◌, Bool, List, [], ◌∷◌, ◌++◌, length, Option, Some, None, get_or, take, set, map, refl, sym, ap, ◌∙◌, subst, arith, append_assoc, inl, inr, length-append, length-take-le, take_more, Contains-append_right, AllByRecursion, Contains, IfNone, IfSome, ParseOptions, Event, events_by, ascend_from, IsRead, bytes_of_sections, AreReread, HasEvents, put_all, put_at, with_events, Reread, Section}
+use Rattle.std.proofs.Common.{append-nil}
 
 -- what is put at the number of a section that was read there
 pub put-at-set : (xs : List Section) (i : ℕ) (x : Section) (events : List Event) → x ≡ get_or xs i x → set xs i (with_events events x) ≡ put_at i events xs

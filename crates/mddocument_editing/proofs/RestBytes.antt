@@ -1,10 +1,6 @@
 -- Where the lines of bytes begin: behind the first line, and nowhere in it.
-use Rattle.std.proofs.Common.{◌≡◌, ℕ, zero, suc, ◌+◌, ◌<◌, Bool, true, false, cond, List, [], ◌∷◌, length, take, drop, refl, sym, subst, ◌∙◌, arith, eqb-true}
-use Rattle.std.specs.Prelude.{◌==◌, ◌&&◌, ◌||◌, not}
-use Rattle.std.specs.List.{prefix_len}
-use Rattle.markdown_base.specs.Virtual.{begins_with_lf}
-use Rattle.mdblock_lines.specs.Lines.{ending_size, is_in_line, line_length}
-use Rattle.mddocument_parts.specs.Moved.{begins_line, line_endings}
+use Rattle.mddocument_editing.proofs.Prelude.{◌≡◌, ℕ, zero, suc, ◌+◌, ◌<◌, Bool, true, false, cond, List, [], ◌∷◌, length, take, drop, refl, sym, subst, ◌∙◌, arith, eqb-true, ◌==◌, ◌||◌, not, prefix_len, begins_with_lf, ending_size, line_length, begins_line, line_endings, ◌&&◌}
+use Rattle.mdblock_lines.specs.Lines.{is_in_line}
 
 -- how long the first line is, by its first byte: it is in the line, or begins the line ending
 module _ (x : ℕ) (bs : List ℕ) where

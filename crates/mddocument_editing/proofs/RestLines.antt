@@ -1,48 +1,28 @@
 -- Lines of a document one after another: what is known before one, and whether it is at a rest.
-use Rattle.std.proofs.Common.{Option, ◌≡◌, ◌⊎◌, inl, inr, ◌-◌, ℕ, suc, ◌+◌, ◌<◌, ◌≤◌, Bool, true, false, cond, List, [], ◌∷◌, ◌++◌, length, take, drop, map, sym, ap, subst, ◌∙◌, arith, length-append, length-drop}
-use Rattle.std.specs.List.{AllByRecursion}
-use Rattle.std.specs.Prelude.{◌&&◌, is_some}
-use Rattle.std.proofs.Math.Seq.{take-add}
-use Rattle.std.proofs.lemmas.Bool.{cases_order}
-use Rattle.std.proofs.lemmas.List.{drop-drop, length-take-le, take-append-drop}
-use Rattle.markdown_base.specs.Virtual.{virtual, virtual_from}
-use Rattle.markdown_base.specs.declared.configuration.Constructs.{Constructs}
-use Rattle.markdown_base.specs.declared.configuration.ParseOptions.{ParseOptions}
-use Rattle.mdconstructs_machines.specs.LineEvents.{lines_in}
-use Rattle.mdblock_leaf_blocks.specs.LeafBlocks.{Line, text_of}
-use Rattle.mdblock_leaf_blocks.specs.LineKinds.{underline_rank}
-use Rattle.mdblock_lines.specs.Lines.{line_at, line_bytes, line_length}
+use Rattle.mddocument_editing.proofs.Prelude.{Option, ◌≡◌, ◌⊎◌, inl, inr, ◌-◌, ℕ, suc, ◌+◌, ◌<◌, ◌≤◌, Bool, true, false, cond, List, [], ◌∷◌, ◌++◌, length, take, drop, map, sym, ap, subst, ◌∙◌, arith, AllByRecursion, is_some, take-add, cases_order, drop-drop, length-take-le, take-append-drop, virtual, virtual_from, Constructs, ParseOptions, lines_in, Line, text_of, underline_rank, line_bytes, line_length, Before, has_none, is_paragraph, open_paragraph, IsRow, before_of, leaf_of, open_of, Row as CodeRow, BeganBefore, Known, is_behind_text, is_used_up, known_after, row_of, is_rest, begins_anew, begins_at_document_rest, first_at_document_rest, is_closed, known_at_start, known_behind, begins_line, line_endings, moved_line, moved_lines, line-ahead, line-behind, HasNoRestBefore, ◌&&◌}
+use Rattle.std.proofs.Common.{length-append, length-drop}
+use Rattle.mdblock_lines.specs.Lines.{line_at}
 use Rattle.mdblock_lines.proofs.LinesCut.{lines_follow}
 use Rattle.mdblock_lines.proofs.PlaceLemmas.{expanded_is_virtual}
 use Rattle.mdblock_containers.specs.Prefixes.{columns_of, going_on}
 use Rattle.mdblock_containers.specs.Rows as without
-use Rattle.mdblock_containers.specs.Rows.{Before, Row, has_none, is_paragraph, open_paragraph}
-use Rattle.mdblock_containers.specs.Views.{IsRow, before_of, leaf_of, open_of}
-use Rattle.mdblock_containers.specs.declared.rows.Row.{Row as CodeRow}
+use Rattle.mdblock_containers.specs.Rows.{Row}
 use Rattle.mdblock_containers.proofs.DocumentRows.{line_length_some, text_of_line_at}
-use Rattle.mdblock_containers.proofs.RowFacts.{BeganBefore}
 use Rattle.mdblock_containers.proofs.RowReads.{old_behind}
 use Rattle.mdblock_definitions.specs.Known.{IsKnown}
-use Rattle.mdblock_definitions.specs.Rows.{Known, is_behind_text, is_used_up, known_after, row_of}
 use Rattle.mdblock_definitions.specs.declared.rows.Known.{Known as CodeKnown}
 use Rattle.mdblock_definitions.proofs.KnownReads.{known-reads}
-use Rattle.mddocument_parts.specs.BothDocuments.{is_rest}
-use Rattle.mddocument_parts.specs.DocumentRests.{begins_anew, begins_at_document_rest, first_at_document_rest, is_closed, known_at_start, known_behind}
-use Rattle.mddocument_parts.specs.Moved.{begins_line, line_endings, moved_line, moved_lines}
 use Rattle.mddocument_parts.proofs.DocumentRests.{anew-same, behind-append}
-use Rattle.mddocument_parts.proofs.LineFronts.{line-ahead, line-behind}
 use Rattle.mddocument_parts.proofs.MovedBlocks.{text-moved}
 use Rattle.mddocument_parts.proofs.MovedRows.{begun_by, row_by}
 use Rattle.mddocument_parts.proofs.Virtual.{lines-are-counted, lines-of-both}
-use Rattle.mddocument_editing.specs.FirstRest.{HasNoRestBefore}
 use Rattle.mddocument_editing.specs.Seen.{first_marker}
 use Rattle.mddocument_editing.proofs.RestBytes.{Ends, line-ends, none-inside}
 
 -- a list with one item, which is the first of another
 first-alone : {A : Type 0} (xs ys zs : List A) (y : A) → length xs ≡ 1 → y ∷ zs ≡ xs ++ ys → xs ≡ y ∷ []
-first-alone [] ys zs y one e = absurd (omega (arith, one))
 first-alone (x ∷ []) ys zs y one e = cc
-first-alone (x ∷ w ∷ xs) ys zs y one e = absurd (omega (arith, one))
+first-alone _ ys zs y one e = absurd (omega arith)
 
 module _ (on : Constructs) where
   -- a line, and what is known behind it, by the line's text

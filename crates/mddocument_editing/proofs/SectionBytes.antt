@@ -1,16 +1,6 @@
 -- Lists joined end to end: one more of them, and how long they are.
-use Rattle.std.proofs.Common.{◌≡◌, ℕ, zero, suc, ◌+◌, ◌*◌, ◌<◌, ◌≤◌, Bool, List, [], ◌∷◌, ◌++◌, length, map, take, get_or, sym, ap, ◌∙◌, arith, add-one, append-nil, append_assoc, refl, subst}
-use Rattle.std.proofs.Math.Bool.{or_assoc, or_comm}
-use Rattle.std.proofs.Math.Nat.{mul-le-mul_left}
-use Rattle.std.proofs.lemmas.List.{length-append}
-use Rattle.std.proofs.lemmas.List.Folds.{list_any-append}
-use Rattle.std.specs.List.{AllByRecursion, flat_map, list_any}
-use Rattle.std.specs.Prelude.{◌||◌}
-use Rattle.markdown_base.specs.declared.configuration.ParseOptions.{ParseOptions}
-use Rattle.markdown_base.specs.Virtual.{IsWithinLimit}
-use Rattle.mddocument_parts.specs.Sections.{document_of}
-use Rattle.mddocument_editing.specs.Divided.{IsDivided}
-use Rattle.mddocument_editing.specs.FirstRest.{AreSectionsOf}
+use Rattle.mddocument_editing.proofs.Prelude.{◌≡◌, ℕ, zero, suc, ◌+◌, ◌*◌, ◌<◌, ◌≤◌, Bool, List, [], ◌∷◌, ◌++◌, length, map, take, get_or, sym, ap, ◌∙◌, arith, add-one, append_assoc, refl, subst, or_assoc, or_comm, mul-le-mul_left, length-append, list_any-append, AllByRecursion, flat_map, list_any, ◌||◌, ParseOptions, IsWithinLimit, document_of, IsDivided, AreSectionsOf}
+use Rattle.std.proofs.Common.{append-nil}
 
 -- what holds of each element holds of the one at an index
 pub every-at : {X : Type 0} (P : X → Type 0) (xs : List X) (i : ℕ) (d : X) → AllByRecursion P xs → i < length xs → P (get_or xs i d)

@@ -1,22 +1,5 @@
 -- The events of sections that were read, moved one after the other.
-use Rattle.std.proofs.Common.{◌≡◌, ℕ, ◌+◌, ◌≤◌, Bool, List, ◌∷◌, [], ◌++◌, length, map, refl, subst, sym, ap, ◌∙◌, arith, take, drop}
-use Rattle.std.proofs.lemmas.List.{drop-map, length-append, length-map, map-append, take-map, take_all}
-use Rattle.std.specs.List.{AllByRecursion, sum_by}
-use Rattle.markdown_base.proofs.Common.{every-take}
-use Rattle.markdown_base.specs.declared.configuration.ParseOptions.{ParseOptions}
-use Rattle.markdown_base.specs.declared.event.Event.{Event}
-use Rattle.mddocument.specs.Documents.{AreDocumentEvents}
-use Rattle.mdinline_labels.specs.Defined.{defines}
-use Rattle.mddocument_parts.proofs.ChildrenOfBoth.{no-further}
-use Rattle.mddocument_parts.specs.BothDocuments.{events_by, is_rest}
-use Rattle.mddocument_parts.specs.Moved.{line_endings, moved_event}
-use Rattle.mddocument_parts.specs.Sections.{document_of, events_of_sections}
-use Rattle.mddocument_editing.specs.declared.kept.Kept.{Kept}
-use Rattle.mddocument_editing.specs.declared.moved.Front.{Front}
-use Rattle.mddocument_editing.specs.declared.section.Section.{Section}
-use Rattle.mddocument_editing.specs.Divided.{Divided, EventsOfAllSectionsAreTheDocuments, bytes_of, events_between, events_of, is_label_of}
-use Rattle.mddocument_editing.specs.Fronts.{IsFrontOf, IsSmall, moved_by}
-use Rattle.mddocument_editing.specs.Kept.{IsKept, IsRead, bytes_of_sections, divided_of}
+use Rattle.mddocument_editing.proofs.Prelude.{◌≡◌, ℕ, ◌+◌, ◌≤◌, Bool, List, ◌∷◌, [], ◌++◌, length, map, refl, subst, sym, ap, ◌∙◌, arith, take, drop, drop-map, length-append, length-map, map-append, take-map, take_all, AllByRecursion, sum_by, every-take, ParseOptions, Event, AreDocumentEvents, defines, no-further, events_by, is_rest, line_endings, moved_event, document_of, events_of_sections, Kept, Front, Section, Divided, EventsOfAllSectionsAreTheDocuments, bytes_of, events_between, events_of, is_label_of, IsFrontOf, IsSmall, moved_by, IsKept, IsRead, bytes_of_sections, divided_of}
 use Rattle.mddocument_editing.proofs.Below.{sections-give}
 use Rattle.mddocument_editing.proofs.CutLines.{endings-are-counted}
 use Rattle.mddocument_editing.proofs.Joined.{sections-take}

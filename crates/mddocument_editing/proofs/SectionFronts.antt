@@ -1,19 +1,6 @@
 -- What is in front of sections: one section more, and the events of sections.
-use Rattle.std.proofs.Common.{◌≡◌, ℕ, ◌+◌, ◌<◌, List, ◌∷◌, [], ◌++◌, length, refl, sym, ap, ◌∙◌, arith, take, map, get_or, append_assoc, add_assoc, append-nil}
-use Rattle.std.proofs.lemmas.List.{length-append, length-map, map-append, take_more}
-use Rattle.std.proofs.lemmas.List.Sums.{sum_by-append}
-use Rattle.std.specs.Prelude.{slice_get, Option, Some, None}
-use Rattle.std.specs.List.{sum_by}
-use Rattle.std.proofs.lemmas.Option.{get_or_from_slice_get, slice_get_within}
-use Rattle.markdown_base.specs.declared.event.Event.{Event}
-use Rattle.markdown_base.specs.declared.event.Link.{Link}
-use Rattle.mddocument_parts.proofs.ChildrenOfBoth.{no-further}
-use Rattle.mddocument_parts.specs.Moved.{line_endings, moved_event, moved_index, moved_link}
-use Rattle.mddocument_parts.specs.Sections.{document_of, events_of_sections}
-use Rattle.mddocument_editing.specs.declared.moved.Front.{Front}
-use Rattle.mddocument_editing.specs.declared.section.Section.{Section}
-use Rattle.mddocument_editing.specs.Fronts.{IsFrontOf, IsSmall}
-use Rattle.mddocument_editing.specs.Kept.{bytes_of_sections}
+use Rattle.mddocument_editing.proofs.Prelude.{◌≡◌, ℕ, ◌+◌, ◌<◌, List, ◌∷◌, [], ◌++◌, length, refl, sym, ap, ◌∙◌, arith, take, map, get_or, append_assoc, add_assoc, length-append, length-map, map-append, take_more, sum_by-append, slice_get, sum_by, get_or_from_slice_get, slice_get_within, Event, Link, no-further, line_endings, moved_event, moved_index, moved_link, document_of, events_of_sections, Front, Section, IsFrontOf, IsSmall, bytes_of_sections, Option, Some, None}
+use Rattle.std.proofs.Common.{append-nil}
 
 -- the front of a list, one element longer
 pub take-next : {A : Type 0} (xs : List A) (i : ℕ) (x : A) → i < length xs → x ≡ get_or xs i x → take (i + 1) xs ≡ take i xs ++ x ∷ []

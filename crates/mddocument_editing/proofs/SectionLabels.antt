@@ -1,14 +1,6 @@
 -- The labels of a document that is cut: those of its sections, one after another.
-use Rattle.std.proofs.Common.{◌≡◌, ℕ, ◌≤◌, true, List, [], ◌∷◌, ◌++◌, length, sym, ap, ◌∙◌, append-nil}
-use Rattle.std.proofs.lemmas.Bool.{and_parts, leb-true}
-use Rattle.std.specs.List.{flat_map}
-use Rattle.std.specs.Prelude.{◌&&◌, nat_le}
-use Rattle.markdown_base.specs.declared.configuration.ParseOptions.{ParseOptions}
-use Rattle.mdblock_definitions.specs.Labelled.{is_one_of}
-use Rattle.mddocument_parts.specs.BothDocuments.{is_rest}
-use Rattle.mddocument_parts.specs.Sections.{are_sections_by, document_of}
-use Rattle.mddocument_editing.specs.Divided.{Divided, IsDivided, is_label_of}
-use Rattle.mddocument_editing.specs.Kept.{labels_written}
+use Rattle.mddocument_editing.proofs.Prelude.{◌≡◌, ℕ, ◌≤◌, true, List, [], ◌∷◌, ◌++◌, length, sym, ap, ◌∙◌, and_parts, leb-true, flat_map, ParseOptions, is_one_of, is_rest, are_sections_by, document_of, Divided, IsDivided, is_label_of, labels_written, ◌&&◌, nat_le}
+use Rattle.std.proofs.Common.{append-nil}
 use Rattle.mddocument_editing.proofs.Below.{first-tells, labels-both, labels-none, rest-begins}
 
 module _ (options : ParseOptions) where

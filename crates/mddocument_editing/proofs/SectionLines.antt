@@ -1,12 +1,5 @@
 -- Lines of sections: each section starts one, and their line endings add.
-use Rattle.std.proofs.Common.{◌≡◌, ℕ, ◌+◌, true, List, ◌∷◌, [], ◌++◌, refl, ap, ◌∙◌, arith}
-use Rattle.std.proofs.lemmas.Bool.{and_parts}
-use Rattle.std.proofs.lemmas.List.{append-nil, length-append}
-use Rattle.markdown_base.specs.declared.configuration.ParseOptions.{ParseOptions}
-use Rattle.mddocument_parts.specs.BothDocuments.{is_rest}
-use Rattle.mddocument_parts.specs.Moved.{begins_line, line_endings}
-use Rattle.mddocument_parts.specs.Sections.{are_sections_by, document_of}
-use Rattle.mddocument_parts.proofs.LineFronts.{line-ahead, line-behind}
+use Rattle.mddocument_editing.proofs.Prelude.{◌≡◌, ℕ, ◌+◌, true, List, ◌∷◌, [], ◌++◌, refl, ap, ◌∙◌, arith, and_parts, append-nil, length-append, ParseOptions, is_rest, begins_line, line_endings, are_sections_by, document_of, line-ahead, line-behind}
 use Rattle.mddocument_editing.proofs.Below.{rest-begins}
 use Rattle.mddocument_editing.proofs.CutLines.{endings-are-counted, parts-start-lines}
 use Rattle.mddocument_editing.proofs.Joined.{document-append, sections-back, sections-tail}

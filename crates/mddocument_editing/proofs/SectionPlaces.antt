@@ -1,19 +1,6 @@
 -- Where sections start, and the lines that they start.
-use Rattle.std.proofs.Common.{◌≡◌, ℕ, ◌+◌, ◌-◌, ◌<◌, ◌≤◌, true, List, ◌∷◌, [], ◌++◌, length, sym, ap, ◌∙◌, subst, arith, take, drop, get_or, Bool, cond, suc}
-use Rattle.std.specs.Prelude.{◌==◌, vec_len}
-use Rattle.markdown_base.specs.Virtual.{begins_with_lf}
-use Rattle.std.proofs.lemmas.List.{length-append, length-map, take-map}
-use Rattle.markdown_base.specs.declared.configuration.ParseOptions.{ParseOptions}
-use Rattle.mddocument_parts.specs.BothDocuments.{is_rest}
-use Rattle.mddocument_parts.specs.Moved.{line_endings}
-use Rattle.mddocument_parts.specs.Sections.{are_sections_by, document_of}
-use Rattle.mddocument_editing.specs.declared.section.Section.{Section}
-use Rattle.mddocument_editing.specs.Kept.{IsKept, IsRead, bytes_of_sections}
-use Rattle.mddocument_editing.specs.declared.kept.Kept.{Kept}
-use Rattle.mdinline_labels.specs.Defined.{defines}
+use Rattle.mddocument_editing.proofs.Prelude.{◌≡◌, ℕ, ◌+◌, ◌-◌, ◌<◌, ◌≤◌, true, List, ◌∷◌, [], ◌++◌, length, sym, ap, ◌∙◌, subst, arith, take, drop, get_or, Bool, cond, suc, ◌==◌, vec_len, begins_with_lf, length-append, length-map, take-map, ParseOptions, is_rest, line_endings, are_sections_by, document_of, Section, IsKept, IsRead, bytes_of_sections, Kept, defines, line_at, start_of, endings}
 use Rattle.mddocument_editing.proofs.SectionBytes.{every-at}
-use Rattle.mddocument_editing.specs.Lookups.{line_at, start_of}
-use Rattle.mddocument_editing.specs.PositionParts.{endings}
 use Rattle.mddocument_editing.proofs.CutLines.{endings-are-counted}
 use Rattle.mddocument_editing.proofs.Joined.{document-cut, sections-take}
 use Rattle.mddocument_editing.proofs.SectionEvents.{bytes-one}

@@ -1,23 +1,7 @@
 -- Places of a document, looked up in one of its sections.
-use Rattle.std.proofs.Common.{◌≡◌, ℕ, ◌+◌, ◌-◌, ◌<◌, ◌≤◌, true, List, ◌∷◌, [], ◌++◌, length, refl, sym, ap, ◌∙◌, subst, arith, take, drop, Some, add-one, get_or, ◌^◌}
-use Rattle.std.proofs.lemmas.List.{append-nil, length-append, length-take, take-append-drop}
-use Rattle.std.proofs.lemmas.Option.{get_or_from_slice_get, slice_get-map, slice_get_read, slice_get_within}
-use Rattle.std.specs.Prelude.{◌==◌, Bool, Option, None, find, min, option_and_then, option_map, slice_get}
-use Rattle.markdown_base.proofs.Common.{drop-at}
-use Rattle.markdown_base.specs.declared.configuration.ParseOptions.{ParseOptions}
-use Rattle.mddocument_parts.specs.BothDocuments.{is_rest}
-use Rattle.mddocument_parts.specs.Moved.{begins_line, line_endings}
-use Rattle.mddocument_parts.specs.Sections.{are_sections_by, document_of}
-use Rattle.mddocument_editing.specs.declared.kept.Kept.{Kept}
+use Rattle.mddocument_editing.proofs.Prelude.{◌≡◌, ℕ, ◌+◌, ◌-◌, ◌<◌, ◌≤◌, true, List, ◌∷◌, [], ◌++◌, length, refl, sym, ap, ◌∙◌, subst, arith, take, drop, Some, add-one, get_or, ◌^◌, append-nil, length-append, length-take, take-append-drop, get_or_from_slice_get, slice_get-map, slice_get_read, slice_get_within, ◌==◌, find, option_and_then, option_map, slice_get, drop-at, ParseOptions, is_rest, begins_line, line_endings, are_sections_by, document_of, Kept, Encoding, Position, Section, IsKept, bytes_of_sections, line_at, start_of, StartsLine, down, endings, Place, index_in, length_in, offset_of, places_from, position_of, sizes, starts, text_at, Bool, Option, None, min}
 use Rattle.mddocument_editing.specs.declared.lookup.Found.{Found}
-use Rattle.mddocument_editing.specs.declared.positions.Encoding.{Encoding}
-use Rattle.mddocument_editing.specs.declared.positions.Position.{Position}
-use Rattle.mddocument_editing.specs.declared.section.Section.{Section}
 use Rattle.mddocument_editing.specs.Finds.{IsByteIn, IsLineIn}
-use Rattle.mddocument_editing.specs.Kept.{IsKept, bytes_of_sections}
-use Rattle.mddocument_editing.specs.Lookups.{line_at, start_of}
-use Rattle.mddocument_editing.specs.PositionParts.{StartsLine, down, endings}
-use Rattle.mddocument_editing.specs.Positions.{Place, index_in, length_in, offset_of, places_from, position_of, sizes, starts, text_at}
 use Rattle.mddocument_editing.proofs.CutLines.{endings-are-counted, parts-start-lines}
 use Rattle.mddocument_editing.proofs.Joined.{document-cut, document-last, sections-back, sections-take}
 use Rattle.mddocument_editing.proofs.PartsMove.{offsets-move, offsets-stay, positions-move, positions-stay}

@@ -1,9 +1,5 @@
 -- The bytes of the first few items, each of which has some: one more, and all.
-use Rattle.std.proofs.Common.{◌≡◌, ℕ, ◌+◌, ◌-◌, ◌<◌, ◌≤◌, List, [], ◌∷◌, ◌++◌, length, take, drop, get_or, sym, ap, ◌∙◌, arith}
-use Rattle.std.proofs.Math.Seq.{drop-append_seam, take-append-add, take-append_seam}
-use Rattle.std.proofs.lemmas.List.{drop-map, drop_more, length-append, map-append, take-append-le, take-map, take_more}
-use Rattle.std.specs.Prelude.{map}
-use Rattle.mddocument_parts.specs.Sections.{document_of}
+use Rattle.mddocument_editing.proofs.Prelude.{◌≡◌, ℕ, ◌+◌, ◌-◌, ◌<◌, ◌≤◌, List, [], ◌∷◌, ◌++◌, length, take, drop, get_or, sym, ap, ◌∙◌, arith, drop-append_seam, take-append-add, take-append_seam, drop-map, drop_more, length-append, map-append, take-append-le, take-map, take_more, document_of, map}
 use Rattle.mddocument_editing.proofs.Joined.{document-cut, document-last}
 
 module _ {X : Type 0} (f : X → List ℕ) (xs : List X) where

@@ -1,11 +1,6 @@
 -- Bytes in which a line ends: whatever comes behind them, they are a rest or they are none.
-use Rattle.std.proofs.Common.{◌≡◌, ℕ, ◌<◌, ◌≤◌, Bool, true, false, List, [], ◌∷◌, ◌++◌, length, refl, sym, ap, ◌∙◌, arith, inl, inr}
-use Rattle.std.proofs.lemmas.Bool.{and_from, and_parts, cases_Bool, le-leb, leb-true, not_from_false, or_cases, or_left, or_right}
-use Rattle.std.proofs.lemmas.List.{append_assoc, length-append}
-use Rattle.std.specs.Prelude.{◌==◌, ◌&&◌, ◌||◌, nat_le, not}
-use Rattle.markdown_base.specs.Virtual.{begins_with_lf}
-use Rattle.mddocument_parts.specs.Moved.{begins_line}
-use Rattle.mddocument_editing.specs.Settled.{is_settled}
+use Rattle.mddocument_editing.proofs.Prelude.{◌≡◌, ℕ, ◌<◌, ◌≤◌, Bool, true, List, [], ◌∷◌, ◌++◌, length, refl, sym, ap, ◌∙◌, arith, inl, inr, and_from, and_parts, cases_Bool, le-leb, leb-true, not_from_false, or_cases, or_left, or_right, length-append, ◌==◌, ◌||◌, not, begins_with_lf, begins_line, is_settled, ◌&&◌, nat_le}
+use Rattle.std.proofs.lemmas.List.{append_assoc}
 use Rattle.mddocument_editing.proofs.Joined.{tells-all}
 
 -- a line that ends in bytes ends in them with more behind
@@ -15,9 +10,7 @@ settled-more (b ∷ front) more h =
     or-more (b == 10) ((b == 13) && nat_le 1 (length front)) ((b == 13) && nat_le 1 (length (front ++ more))) (is_settled front) (is_settled (front ++ more)) (at-cr b front more) (settled-more front more) h
   where
     or-more : (x y z v w : Bool) → (y ≡ true → z ≡ true) → (v ≡ true → w ≡ true) → (x || (y || v)) ≡ true → (x || (z || w)) ≡ true
-    or-more true y z v w p q h = refl
-    or-more false true z v w p q h = or_left z w (p refl)
-    or-more false false z v w p q h = or_right z w (q h)
+    or-more x y z v w p q h = grind arith
 
     at-cr : (b : ℕ) (front more : List ℕ) → ((b == 13) && nat_le 1 (length front)) ≡ true → ((b == 13) && nat_le 1 (length (front ++ more))) ≡ true
     at-cr b front more h =

@@ -1,11 +1,7 @@
 -- Where lines start, up to an index: one index on, and of a front.
-use Rattle.std.proofs.Common.{◌≡◌, ℕ, zero, suc, ◌+◌, ◌-◌, ◌<◌, ◌≤◌, true, false, cond, List, [], ◌∷◌, ◌++◌, length, sym, ap, ◌∙◌, arith, add-one, Some, get_or}
-use Rattle.std.proofs.lemmas.List.{append-nil, append_assoc, length-append, get_or_append_left, get_or_push, length_push}
-use Rattle.std.proofs.lemmas.Option.{slice_get-get_or}
-use Rattle.std.specs.Prelude.{slice_get, slice_index}
+use Rattle.mddocument_editing.proofs.Prelude.{◌≡◌, ℕ, zero, suc, ◌+◌, ◌-◌, ◌<◌, ◌≤◌, true, false, cond, List, [], ◌∷◌, ◌++◌, length, sym, ap, ◌∙◌, arith, add-one, Some, get_or, append-nil, length-append, get_or_append_left, get_or_push, length_push, slice_get-get_or, slice_get, slice_index, ends_line, is_line_start, starts, starts_up_to}
+use Rattle.std.proofs.lemmas.List.{append_assoc}
 use Rattle.markdown_base.proofs.LineLemmas.{passing_more}
-use Rattle.markdown_base.specs.Lines.{ends_line, is_line_start}
-use Rattle.mddocument_editing.specs.Positions.{starts, starts_up_to}
 
 module _ (bytes : List ℕ) where
   -- one index on, a line starts there, if the byte in front ends one

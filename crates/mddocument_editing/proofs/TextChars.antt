@@ -1,16 +1,8 @@
 -- The characters of UTF-8 text, and their units.
+use Rattle.mddocument_editing.proofs.Prelude.{◌≡◌, ℕ, ◌+◌, ◌≤◌, true, cond, List, [], ◌∷◌, ◌++◌, length, take, drop, refl, sym, ap, ◌∙◌, arith, zero-add, drop-append_seam, take-append_seam, nat_tests, get_or_append_left, length-append, IsUtf8-encode, chars-encodes, is_utf8-from_IsUtf8, len_utf8_bounds, length-encode, chars, all_scalars, continuation_len, encode_utf8_all, is_utf8, Utf16, CharactersAreUtf8, UnitsAreWritten, first_size, sizes, units, map}
 use lib.Utf8.{encode}
-use Rattle.std.proofs.Common.{◌≡◌, ℕ, ◌+◌, ◌≤◌, true, cond, List, [], ◌∷◌, ◌++◌, length, take, drop, refl, sym, ap, ◌∙◌, arith, zero-add}
-use Rattle.std.proofs.Math.Seq.{drop-append_seam, take-append_seam}
-use Rattle.std.proofs.lemmas.Bool.Decides.{nat_tests}
-use Rattle.std.proofs.lemmas.List.{get_or_append_left, length-append}
-use Rattle.std.proofs.lemmas.Str.{IsUtf8-encode, chars-encodes, is_utf8-from_IsUtf8, len_utf8_bounds, length-encode}
 use Rattle.std.specs.Char.{IsScalar, len_utf8}
 use Rattle.std.specs.Char.Escape.{encode_utf16}
-use Rattle.std.specs.Prelude.{chars, map}
-use Rattle.std.specs.Str.{all_scalars, continuation_len, encode_utf8_all, is_utf8}
-use Rattle.mddocument_editing.specs.declared.positions.Encoding.TheVariants.{Utf16}
-use Rattle.mddocument_editing.specs.Positions.{CharactersAreUtf8, UnitsAreWritten, first_size, sizes, units}
 use Rattle.mddocument_editing.proofs.CharPlaces.{sizes-next}
 use Rattle.mddocument_editing.proofs.CharSizes.{first-size, led, led_by}
 

@@ -1,12 +1,5 @@
 -- Lists with parts in the place of some of their elements, without those at either end that are as the elements there.
-use Rattle.std.proofs.Common.{◌≡◌, ℕ, ◌+◌, ◌-◌, ◌≤◌, ◌<◌, List, [], ◌∷◌, ◌++◌, length, get_or, take, drop, sym, ap, ◌∙◌, subst, arith, append_assoc}
-use Rattle.std.proofs.lemmas.List.{drop_more, get_or-drop, get_or-map, get_or-take, length-drop, length-take-le, take-append-drop, take_more}
-use Rattle.std.specs.declared.alloc.Global.{Global}
-use Rattle.std.specs.declared.vec.Vec.{Vec}
-use Rattle.mddocument_editing.specs.FirstRest.{items_of}
-use Rattle.mddocument_editing.specs.Kept.{bytes_of_sections}
-use Rattle.mddocument_editing.specs.Trims.{AreTrimmed, StayBehind, StayInFront}
-use Rattle.mddocument_editing.specs.declared.section.Section.{Section}
+use Rattle.mddocument_editing.proofs.Prelude.{◌≡◌, ℕ, ◌+◌, ◌-◌, ◌≤◌, ◌<◌, List, [], ◌∷◌, ◌++◌, length, get_or, take, drop, sym, ap, ◌∙◌, subst, arith, append_assoc, drop_more, get_or-drop, get_or-map, get_or-take, length-drop, length-take-le, take-append-drop, take_more, Global, Vec, items_of, bytes_of_sections, AreTrimmed, StayBehind, StayInFront, Section}
 
 -- one more stays in front
 pub front-more : {X : Type 0} (xs ps : List X) (from n : ℕ) (d : X) → from + n < length xs → n < length ps → take (from + n) xs ≡ take from xs ++ take n ps → get_or ps n d ≡ get_or xs (from + n) d

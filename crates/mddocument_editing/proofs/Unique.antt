@@ -1,17 +1,7 @@
 -- A document is cut at its rests in one way alone.
-use Rattle.std.proofs.Common.{◌≡◌, ℕ, ◌<◌, ◌≤◌, Bool, true, List, [], ◌∷◌, ◌++◌, length, take, drop, refl, sym, ap, ◌∙◌, subst, arith}
-use Rattle.std.proofs.lemmas.Bool.{and_parts, false≢true}
-use Rattle.std.proofs.lemmas.List.{append-nil, drop-append-le, drop_at, length-append, length-drop, take-append-drop, take-append-le, take_at}
-use Rattle.std.specs.List.{AllByRecursion}
-use Rattle.markdown_base.specs.declared.configuration.ParseOptions.{ParseOptions}
-use Rattle.mddocument_parts.proofs.LineFronts.{line-ahead, line-behind}
-use Rattle.mddocument_parts.specs.BothDocuments.{is_rest}
-use Rattle.mddocument_parts.specs.Moved.{begins_line}
-use Rattle.mddocument_parts.specs.Sections.{are_sections_by, document_of}
+use Rattle.mddocument_editing.proofs.Prelude.{◌≡◌, ℕ, ◌<◌, ◌≤◌, Bool, true, List, [], ◌∷◌, ◌++◌, length, take, drop, refl, sym, ap, ◌∙◌, subst, arith, and_parts, false≢true, append-nil, drop-append-le, drop_at, length-append, length-drop, take-append-drop, take-append-le, take_at, AllByRecursion, ParseOptions, line-ahead, line-behind, is_rest, begins_line, are_sections_by, document_of, DividedIsUnique, AreSectionsOf, IsWhole}
 use Rattle.mddocument_editing.proofs.Below.{first-tells, rest-begins}
 use Rattle.mddocument_editing.proofs.Joined.{front-tells, sections-some, sections-tail, tells-all}
-use Rattle.mddocument_editing.specs.Divided.{DividedIsUnique}
-use Rattle.mddocument_editing.specs.FirstRest.{AreSectionsOf, IsWhole}
 
 module _ (options : ParseOptions) where
   abbrev rest : (a b : List ℕ) → Bool

@@ -1,5 +1,4 @@
-use Rattle.std.proofs.Common.{◌≡◌, ◌-◌, [], length, take, drop}
-use Rattle.mddocument_editing.specs.InBrackets.{changes, label_ends}
+use Rattle.mddocument_editing.proofs.Prelude.{◌≡◌, ◌-◌, [], length, take, drop, changes, label_ends}
 use Rattle.mddocument_editing.proofs.asking.label_ends.Given as goal
 
 abbrev pub invariant-loop-index : goal.invariant-loop-index

@@ -1,5 +1,4 @@
-use Rattle.std.proofs.Common.{◌≡◌, ◌-◌, length, drop}
-use Rattle.mddocument_editing.specs.InBrackets.{changes, may_ask}
+use Rattle.mddocument_editing.proofs.Prelude.{◌≡◌, ◌-◌, length, drop, changes, may_ask}
 use Rattle.mddocument_editing.proofs.asking.may_ask.Given as goal
 
 abbrev pub invariant-loop-index : goal.invariant-loop-index

@@ -1,7 +1,5 @@
-use Rattle.std.proofs.Common.{◌≡◌, ◌++◌, [], ◌∷◌, take, drop, sym, ap, ◌∙◌, subst}
+use Rattle.mddocument_editing.proofs.Prelude.{◌≡◌, ◌++◌, [], ◌∷◌, take, drop, sym, ap, ◌∙◌, subst, map-append, take_rest, items_of}
 use Rattle.std.proofs.lemmas.Bool.{eqb-true}
-use Rattle.std.proofs.lemmas.List.{map-append, take_rest}
-use Rattle.mddocument_editing.specs.FirstRest.{items_of}
 use Rattle.mddocument_editing.proofs.CutSteps.{IsCut, all-cut, next-cut, none-cut}
 use Rattle.mddocument_editing.proofs.cut.cut.Goals as goal
 

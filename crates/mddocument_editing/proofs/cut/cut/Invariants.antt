@@ -1,5 +1,4 @@
-use Rattle.std.proofs.Common.{length}
-use Rattle.mddocument_editing.specs.FirstRest.{items_of}
+use Rattle.mddocument_editing.proofs.Prelude.{length, items_of}
 use Rattle.mddocument_editing.proofs.CutSteps.{IsCut}
 use Rattle.mddocument_editing.proofs.cut.cut.Given as goal
 

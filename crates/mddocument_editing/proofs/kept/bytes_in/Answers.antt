@@ -1,8 +1,4 @@
-use Rattle.std.proofs.Common.{List, ℕ, ◌+◌, ◌<◌, ◌≡◌, length, take, get_or, ap, sym, ◌∙◌, arith}
-use Rattle.std.proofs.lemmas.List.{length-append, take_all}
-use Rattle.mddocument_parts.specs.Sections.{document_of}
-use Rattle.mddocument_editing.specs.Kept.{bytes_of_sections}
-use Rattle.mddocument_editing.specs.declared.section.Section.{Section}
+use Rattle.mddocument_editing.proofs.Prelude.{List, ℕ, ◌+◌, ◌<◌, ◌≡◌, length, take, get_or, ap, sym, ◌∙◌, arith, length-append, take_all, document_of, bytes_of_sections, Section}
 use Rattle.mddocument_editing.proofs.SectionBytes.{joined-more, joined-within}
 use Rattle.mddocument_editing.proofs.kept.bytes_in.Goals as goal
 

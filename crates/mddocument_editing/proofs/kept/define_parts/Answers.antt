@@ -1,10 +1,4 @@
-use Rattle.std.proofs.Common.{◌∙◌, ap}
-use Rattle.std.proofs.lemmas.List.{take_all}
-use Rattle.std.specs.List.{flat_map}
-use Rattle.std.specs.Prelude.{◌||◌}
-use Rattle.mdblock_definitions.specs.Labelled.{is_one_of}
-use Rattle.mdinline_labels.specs.Defined.{defines, is_same}
-use Rattle.mddocument_editing.specs.Kept.{IsLabelled, bytes_of_parts, labels_written}
+use Rattle.mddocument_editing.proofs.Prelude.{◌∙◌, ap, take_all, flat_map, ◌||◌, is_one_of, defines, is_same, IsLabelled, bytes_of_parts, labels_written}
 use Rattle.mddocument_editing.proofs.SectionBytes.{every-at, settled-more}
 use Rattle.mddocument_editing.proofs.kept.define_parts.Goals as goal
 

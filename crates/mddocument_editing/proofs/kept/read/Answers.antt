@@ -1,19 +1,4 @@
-use Rattle.std.proofs.Common.{◌≡◌, ◌∙◌, List, ℕ, ap, length, subst, sym}
-use Rattle.std.proofs.Math.Bool.{or-false}
-use Rattle.std.proofs.lemmas.Result.{err_from_is_err_and}
-use Rattle.std.specs.List.{AllByRecursion, flat_map}
-use Rattle.std.specs.Prelude.{◌||◌}
-use Rattle.markdown_base.specs.declared.configuration.ParseOptions.{ParseOptions}
-use Rattle.markdown_base.specs.Virtual.{IsWithinLimit}
-use Rattle.markdown_tokenizer.specs.Text.{IsDocument}
-use Rattle.mdblock_definitions.specs.Labelled.{is_one_of}
-use Rattle.mddocument.specs.DocumentEvents.{document_events}
-use Rattle.mddocument.specs.Documents.{document}
-use Rattle.mdinline_labels.specs.Defined.{defines}
-use Rattle.mddocument_editing.specs.Divided.{Divided, IsDivided, is_label_of}
-use Rattle.mddocument_editing.specs.FirstRest.{items_of}
-use Rattle.mddocument_editing.specs.Kept.{IsPackable, bytes_of_parts, bytes_of_sections, labels_written}
-use Rattle.mddocument_editing.specs.Packed.{events_fit}
+use Rattle.mddocument_editing.proofs.Prelude.{◌≡◌, ◌∙◌, List, ℕ, ap, length, subst, sym, or-false, err_from_is_err_and, AllByRecursion, flat_map, ◌||◌, ParseOptions, IsWithinLimit, IsDocument, is_one_of, document_events, document, defines, Divided, IsDivided, is_label_of, items_of, IsPackable, bytes_of_parts, bytes_of_sections, labels_written, events_fit}
 use Rattle.mddocument_editing.proofs.FitSections.{sections-fit}
 use Rattle.mddocument_editing.proofs.SectionBytes.{divided-cut, sections-within}
 use Rattle.mddocument_editing.proofs.SectionLabels.{labels-divided}

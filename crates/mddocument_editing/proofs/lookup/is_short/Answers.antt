@@ -1,7 +1,4 @@
-use Rattle.std.proofs.Common.{◌*◌, ◌≤◌, arith, length}
-use Rattle.std.proofs.Math.Nat.{mul-le-mul_right}
-use Rattle.mddocument_editing.specs.Divided.{bytes_of}
-use Rattle.mddocument_editing.specs.Kept.{divided_of}
+use Rattle.mddocument_editing.proofs.Prelude.{◌*◌, ◌≤◌, arith, length, mul-le-mul_right, bytes_of, divided_of}
 use Rattle.mddocument_editing.proofs.lookup.is_short.Goals as goal
 
 pub returns : goal.returns

@@ -1,5 +1,4 @@
-use Rattle.std.proofs.Common.{◌+◌, ap, ◌∙◌, arith}
-use Rattle.std.specs.Prelude.{option_map}
+use Rattle.mddocument_editing.proofs.Prelude.{◌+◌, ap, ◌∙◌, arith, option_map}
 use Rattle.mddocument_editing.proofs.SectionPositions.{kept-offset, offset-fits}
 use Rattle.mddocument_editing.proofs.lookup.offset_of.Goals as goal
 

@@ -1,4 +1,4 @@
-use Rattle.std.proofs.Common.{arith, refl}
+use Rattle.mddocument_editing.proofs.Prelude.{arith, refl}
 use Rattle.mddocument_editing.proofs.SectionPlaces.{kept-next}
 use Rattle.mddocument_editing.proofs.lookup.place_in.Goals as goal
 use Rattle.mddocument_editing.proofs.lookup.place_in.Goals.{then-this-ne0, else-this-ne0}

@@ -1,7 +1,4 @@
-use Rattle.std.proofs.Common.{◌-◌, ◌≡◌, ◌≤◌, cond}
-use Rattle.std.specs.Prelude.{◌==◌}
-use Rattle.mddocument_editing.specs.Kept.{bytes_of_sections}
-use Rattle.mddocument_editing.specs.Lookups.{line_at, start_of}
+use Rattle.mddocument_editing.proofs.Prelude.{◌-◌, ◌≡◌, ◌≤◌, cond, ◌==◌, bytes_of_sections, line_at, start_of}
 use Rattle.mddocument_editing.proofs.lookup.place_in.Given as goal
 
 abbrev pub invariant-loop-index : goal.invariant-loop-index

@@ -1,6 +1,4 @@
-use Rattle.std.proofs.Common.{ap, ◌∙◌}
-use Rattle.std.specs.Prelude.{option_map}
-use Rattle.mddocument_editing.specs.PositionParts.{down}
+use Rattle.mddocument_editing.proofs.Prelude.{ap, ◌∙◌, option_map, down}
 use Rattle.mddocument_editing.proofs.SectionPositions.{kept-position}
 use Rattle.mddocument_editing.proofs.lookup.position_of.Goals as goal
 

@@ -1,6 +1,4 @@
-use Rattle.std.proofs.Common.{◌≡◌, ap, arith, length}
-use Rattle.mddocument_editing.specs.Kept.{bytes_of_sections}
-use Rattle.mddocument_editing.specs.Lookups.{start_of}
+use Rattle.mddocument_editing.proofs.Prelude.{◌≡◌, ap, arith, length, bytes_of_sections, start_of}
 use Rattle.mddocument_editing.proofs.SectionPlaces.{count-bytes, start-next}
 use Rattle.mddocument_editing.proofs.lookup.section_and_left.Goals as goal
 

@@ -1,6 +1,4 @@
-use Rattle.std.proofs.Common.{◌≡◌, ◌+◌}
-use Rattle.mddocument_editing.specs.Kept.{bytes_of_sections}
-use Rattle.mddocument_editing.specs.Lookups.{start_of}
+use Rattle.mddocument_editing.proofs.Prelude.{◌≡◌, ◌+◌, bytes_of_sections, start_of}
 use Rattle.mddocument_editing.proofs.lookup.section_and_left.Given as goal
 
 abbrev pub invariant-loop-index : goal.invariant-loop-index

@@ -1,10 +1,4 @@
-use Rattle.std.proofs.Common.{◌≡◌, subst, ◌∙◌, arith, Some, None}
-use Rattle.std.specs.Prelude.{slice_get}
-use Rattle.mddocument_parts.specs.Sections.{document_of}
-use Rattle.mddocument_editing.specs.declared.positions.Encoding.TheVariants.{Utf8}
-use Rattle.mddocument_editing.specs.Kept.{bytes_of_sections}
-use Rattle.mddocument_editing.specs.Lookups.{IsSectionAt}
-use Rattle.mddocument_editing.specs.Positions.{starts}
+use Rattle.mddocument_editing.proofs.Prelude.{◌≡◌, subst, ◌∙◌, arith, Some, None, slice_get, document_of, Utf8, bytes_of_sections, IsSectionAt, starts}
 use Rattle.mddocument_editing.proofs.SectionPlaces.{count-bytes}
 use Rattle.mddocument_editing.proofs.SectionPositions.{line-start}
 use Rattle.mddocument_editing.proofs.lookup.section_at_line.Goals as goal

@@ -1,7 +1,4 @@
-use Rattle.std.proofs.Common.{List, ap, sym, ◌∙◌, arith, length, take}
-use Rattle.mddocument_parts.specs.Sections.{document_of}
-use Rattle.mddocument_editing.specs.declared.section.Section.{Section}
-use Rattle.mddocument_editing.specs.Kept.{bytes_of_sections}
+use Rattle.mddocument_editing.proofs.Prelude.{List, ap, sym, ◌∙◌, arith, length, take, document_of, Section, bytes_of_sections}
 use Rattle.mddocument_editing.proofs.SectionPlaces.{first-bytes, start-within}
 use Rattle.mddocument_editing.proofs.lookup.start_of.Goals as goal
 

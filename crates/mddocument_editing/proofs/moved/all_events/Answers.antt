@@ -1,11 +1,5 @@
-use Rattle.std.proofs.Common.{◌≡◌, sym, ap, subst, ◌∙◌, arith, length, Vec, Global}
-use Rattle.std.proofs.lemmas.List.{length-map}
-use Rattle.std.proofs.lemmas.Result.{IfOk-weaker}
-use Rattle.markdown_base.specs.declared.event.Event.{Event}
-use Rattle.mddocument.specs.Documents.{AreDocumentEvents}
-use Rattle.mddocument_editing.specs.declared.section.Section.{Section}
-use Rattle.mddocument_editing.specs.Divided.{bytes_of, events_between}
-use Rattle.mddocument_editing.specs.Kept.{divided_of}
+use Rattle.mddocument_editing.proofs.Prelude.{◌≡◌, sym, ap, subst, ◌∙◌, arith, length, length-map, IfOk-weaker, Event, AreDocumentEvents, Section, bytes_of, events_between, divided_of}
+use Rattle.std.proofs.Common.{Vec, Global}
 use Rattle.mddocument_editing.proofs.SectionEvents.{all-are-the-documents}
 use Rattle.mddocument_editing.proofs.moved.all_events.Goals as goal
 

@@ -1,12 +1,4 @@
-use Rattle.std.proofs.Common.{◌≡◌, ◌+◌, ◌-◌, ◌<◌, sym, ap, subst, ◌∙◌, length, drop, map, take, arith}
-use Rattle.std.proofs.lemmas.List.{drop-take, take_all}
-use Rattle.std.specs.List.{AllByRecursion}
-use Rattle.mdinline_labels.specs.Defined.{defines}
-use Rattle.mddocument_parts.specs.BothDocuments.{events_by}
-use Rattle.mddocument_parts.specs.Sections.{events_of_sections}
-use Rattle.markdown_base.proofs.Common.{every-take, every-drop}
-use Rattle.mddocument_editing.specs.Fronts.{IsFrontOf, moved_by}
-use Rattle.mddocument_editing.specs.Kept.{IsRead, bytes_of_sections}
+use Rattle.mddocument_editing.proofs.Prelude.{◌≡◌, ◌+◌, ◌-◌, ◌<◌, sym, ap, subst, ◌∙◌, length, drop, map, take, arith, drop-take, take_all, AllByRecursion, defines, events_by, events_of_sections, every-take, every-drop, IsFrontOf, moved_by, IsRead, bytes_of_sections}
 use Rattle.mddocument_editing.proofs.SectionBytes.{every-at}
 use Rattle.mddocument_editing.proofs.SectionEvents.{behind-more, behind-none, between-events, moved-more}
 use Rattle.mddocument_editing.proofs.SectionFronts.{take-next}

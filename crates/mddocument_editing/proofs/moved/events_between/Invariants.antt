@@ -1,9 +1,4 @@
-use Rattle.std.proofs.Common.{◌≡◌, map, take}
-use Rattle.mdinline_labels.specs.Defined.{defines}
-use Rattle.mddocument_parts.specs.BothDocuments.{events_by}
-use Rattle.mddocument_parts.specs.Sections.{events_of_sections}
-use Rattle.mddocument_editing.specs.Fronts.{moved_by}
-use Rattle.mddocument_editing.specs.Kept.{bytes_of_sections}
+use Rattle.mddocument_editing.proofs.Prelude.{◌≡◌, map, take, defines, events_by, events_of_sections, moved_by, bytes_of_sections}
 use Rattle.mddocument_editing.proofs.SectionEvents.{IsBehind}
 use Rattle.mddocument_editing.proofs.moved.events_between.Given as goal
 

@@ -1,5 +1,4 @@
-use Rattle.std.proofs.Common.{take}
-use Rattle.mddocument_editing.specs.Fronts.{IsFrontOf}
+use Rattle.mddocument_editing.proofs.Prelude.{take, IsFrontOf}
 use Rattle.mddocument_editing.proofs.moved.front_of.Given as goal
 
 abbrev pub invariant-loop-section : goal.invariant-loop-section

@@ -1,5 +1,4 @@
-use Rattle.std.proofs.Common.{◌<◌, arith}
-use Rattle.std.proofs.lemmas.List.Elements.{All-from_get_or}
+use Rattle.mddocument_editing.proofs.Prelude.{◌<◌, arith, All-from_get_or}
 use Rattle.mddocument_editing.proofs.moved.is_bytes.Goals as goal
 
 pub returns : goal.returns

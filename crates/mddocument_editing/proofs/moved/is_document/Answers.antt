@@ -1,9 +1,4 @@
-use Rattle.std.proofs.Common.{◌≡◌, ◌+◌, ◌<◌, ◌++◌, ap, refl, sym, subst, ◌∙◌, arith, take}
-use Rattle.std.proofs.lemmas.List.{take_all}
-use Rattle.std.proofs.lemmas.List.Elements.{All-append}
-use Rattle.std.specs.Prelude.{All}
-use Rattle.mddocument_parts.specs.Sections.{document_of}
-use Rattle.mddocument_editing.specs.Kept.{bytes_of_sections}
+use Rattle.mddocument_editing.proofs.Prelude.{◌≡◌, ◌+◌, ◌<◌, ◌++◌, ap, refl, sym, subst, ◌∙◌, arith, take, take_all, All-append, All, document_of, bytes_of_sections}
 use Rattle.mddocument_editing.proofs.Joined.{document-last}
 use Rattle.mddocument_editing.proofs.SectionEvents.{bytes-one}
 use Rattle.mddocument_editing.proofs.SectionFronts.{take-next}

@@ -1,4 +1,4 @@
-use Rattle.mddocument_editing.specs.Fronts.{moved_by}
+use Rattle.mddocument_editing.proofs.Prelude.{moved_by}
 use Rattle.mddocument_editing.proofs.SectionFronts.{push-next}
 use Rattle.mddocument_editing.proofs.moved.push_section.Goals as goal
 

@@ -1,5 +1,4 @@
-use Rattle.std.proofs.Common.{◌≡◌, ◌++◌, map, take}
-use Rattle.mddocument_editing.specs.Fronts.{moved_by}
+use Rattle.mddocument_editing.proofs.Prelude.{◌≡◌, ◌++◌, map, take, moved_by}
 use Rattle.mddocument_editing.proofs.moved.push_section.Given as goal
 
 abbrev pub invariant-loop-index : goal.invariant-loop-index

@@ -1,4 +1,4 @@
-use Rattle.std.proofs.Common.{◌≡◌, map, take}
+use Rattle.mddocument_editing.proofs.Prelude.{◌≡◌, map, take}
 use Rattle.mddocument_editing.specs.PackedEvents.{unpacked}
 use Rattle.mddocument_editing.proofs.packed.pack_all.Given as goal
 

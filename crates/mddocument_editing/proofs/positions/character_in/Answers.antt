@@ -1,6 +1,4 @@
-use Rattle.std.proofs.Common.{◌≡◌, ◌<◌, length, drop, sym, ap, ◌∙◌, arith, eq-eqb, ne_eqb, false}
-use Rattle.std.specs.Prelude.{◌==◌, find, option_map}
-use Rattle.mddocument_editing.specs.Positions.{Place, places, sizes}
+use Rattle.mddocument_editing.proofs.Prelude.{◌≡◌, ◌<◌, length, drop, sym, ap, ◌∙◌, arith, eq-eqb, ne_eqb, false, ◌==◌, find, option_map, Place, places, sizes}
 use Rattle.mddocument_editing.proofs.CharPlaces.{find-first, find-none, turn-find, turn-units}
 use Rattle.mddocument_editing.proofs.positions.character_in.Goals as goal
 

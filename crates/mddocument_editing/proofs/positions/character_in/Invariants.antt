@@ -1,6 +1,4 @@
-use Rattle.std.proofs.Common.{◌≡◌, ◌-◌, ◌≤◌, length, drop}
-use Rattle.std.specs.Prelude.{◌==◌, find}
-use Rattle.mddocument_editing.specs.Positions.{Place, places, places_from, sizes}
+use Rattle.mddocument_editing.proofs.Prelude.{◌≡◌, ◌-◌, ◌≤◌, length, drop, ◌==◌, find, Place, places, places_from, sizes}
 use Rattle.mddocument_editing.proofs.positions.character_in.Given as goal
 
 abbrev pub invariant-loop-passed : goal.invariant-loop-passed

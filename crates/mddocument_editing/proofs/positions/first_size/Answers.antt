@@ -1,7 +1,4 @@
-use Rattle.std.proofs.Common.{◌≡◌, take, cond, true, false, sym, ap, ◌∙◌, arith, inl, inr}
-use Rattle.std.proofs.lemmas.Bool.{cases_Bool}
-use Rattle.std.specs.Str.{is_utf8}
-use Rattle.mddocument_editing.specs.Positions.{first_size}
+use Rattle.mddocument_editing.proofs.Prelude.{◌≡◌, take, cond, true, false, sym, ap, ◌∙◌, arith, inl, inr, cases_Bool, is_utf8, first_size}
 use Rattle.mddocument_editing.proofs.CharSizes.{first-size, led_by, led-within}
 use Rattle.mddocument_editing.proofs.positions.first_size.Goals as goal
 use Rattle.mddocument_editing.proofs.positions.first_size.Goals.{else-size-gt1-via-then-size-gt1+then-size-bytes+else-is_utf8, else-size-gt1-via-then-size-gt1+else-size-bytes, else-size-gt1-via-else-size-gt1}

@@ -1,6 +1,4 @@
-use Rattle.std.proofs.Common.{◌≡◌, drop, min, sym, ap, ◌∙◌, arith, eq-eqb, ne_eqb, false}
-use Rattle.std.specs.Prelude.{◌==◌, option_map}
-use Rattle.mddocument_editing.specs.Positions.{Place, length_in, sizes}
+use Rattle.mddocument_editing.proofs.Prelude.{◌≡◌, drop, min, sym, ap, ◌∙◌, arith, eq-eqb, ne_eqb, false, ◌==◌, option_map, Place, length_in, sizes}
 use Rattle.mddocument_editing.proofs.CharPlaces.{find-first, find-none, length-end, turn-find, turn-length, turn-units}
 use Rattle.mddocument_editing.proofs.positions.index_in.Goals as goal
 use Rattle.mddocument_editing.proofs.positions.index_in.Goals.{then-loop-index-test+else-passed-character, else-loop-index-test}

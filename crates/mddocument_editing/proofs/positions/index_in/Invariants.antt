@@ -1,6 +1,4 @@
-use Rattle.std.proofs.Common.{◌≡◌, ◌+◌, ◌-◌, ◌≤◌, length, drop, min}
-use Rattle.std.specs.Prelude.{◌==◌, find}
-use Rattle.mddocument_editing.specs.Positions.{Place, length_in, places, places_from, sizes}
+use Rattle.mddocument_editing.proofs.Prelude.{◌≡◌, ◌+◌, ◌-◌, ◌≤◌, length, drop, min, ◌==◌, find, Place, length_in, places, places_from, sizes}
 use Rattle.mddocument_editing.proofs.positions.index_in.Given as goal
 
 abbrev pub invariant-loop-index : goal.invariant-loop-index

@@ -1,9 +1,5 @@
-use Rattle.std.proofs.Common.{◌≡◌, ℕ, List, inl, inr, sym, ◌∙◌}
-use Rattle.std.proofs.lemmas.Bool.{cases_Bool}
-use Rattle.std.proofs.lemmas.Str.{IsUtf8-from_is_utf8, is_utf8-from_IsUtf8}
-use Rattle.std.specs.Prelude.{IsUtf8, MatchResult, Result, Ok, Err}
+use Rattle.mddocument_editing.proofs.Prelude.{◌≡◌, ℕ, List, inl, inr, sym, ◌∙◌, cases_Bool, IsUtf8-from_is_utf8, is_utf8-from_IsUtf8, IsUtf8, MatchResult, Result, Ok, Err, is_utf8}
 use Rattle.std.specs.Result.{is_ok}
-use Rattle.std.specs.Str.{is_utf8}
 use Rattle.mddocument_editing.proofs.positions.is_utf8.Goals as goal
 
 told : {T E : Type 0} (P : T → Type 0) (Q : E → Type 0) (bs : List ℕ) (r : Result T E) → MatchResult r (λ s. P s × IsUtf8 bs) (λ e. ¬ (IsUtf8 bs) × Q e) → is_ok r ≡ is_utf8 bs

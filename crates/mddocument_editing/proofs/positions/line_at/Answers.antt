@@ -1,5 +1,4 @@
-use Rattle.std.proofs.Common.{◌≡◌, ◌+◌, length, true, false, sym, ap, ◌∙◌, arith, get_or}
-use Rattle.markdown_base.specs.Lines.{ends_line}
+use Rattle.mddocument_editing.proofs.Prelude.{◌≡◌, ◌+◌, length, true, false, sym, ap, ◌∙◌, arith, get_or, ends_line}
 use Rattle.mddocument_editing.proofs.StartsUpTo.{more-starts, starts-same}
 use Rattle.mddocument_editing.proofs.positions.line_at.Goals as goal
 use Rattle.mddocument_editing.proofs.positions.line_at.Goals.{then-ends_line, else-ends_line}

@@ -1,6 +1,4 @@
-use Rattle.std.proofs.Common.{◌≡◌, ◌+◌, ◌≤◌, length}
-use Rattle.std.specs.Prelude.{slice_index}
-use Rattle.mddocument_editing.specs.Positions.{starts_up_to}
+use Rattle.mddocument_editing.proofs.Prelude.{◌≡◌, ◌+◌, ◌≤◌, length, slice_index, starts_up_to}
 use Rattle.mddocument_editing.proofs.positions.line_at.Given as goal
 
 abbrev pub invariant-loop-index : goal.invariant-loop-index

@@ -1,7 +1,4 @@
-use Rattle.std.proofs.Common.{◌≡◌, ◌+◌, length, Some, sym, ap, ◌∙◌, arith}
-use Rattle.std.proofs.lemmas.Option.{slice_get_past}
-use Rattle.std.specs.Prelude.{slice_get}
-use Rattle.mddocument_editing.specs.Positions.{starts, starts_up_to}
+use Rattle.mddocument_editing.proofs.Prelude.{◌≡◌, ◌+◌, length, Some, sym, ap, ◌∙◌, arith, slice_get_past, slice_get, starts, starts_up_to}
 use Rattle.mddocument_editing.proofs.StartsUpTo.{more-starts, starts-get, starts-same}
 use Rattle.mddocument_editing.proofs.positions.line_start.Goals as goal
 use Rattle.mddocument_editing.proofs.positions.line_start.Goals.{then-ends_line+else-passed-line, else-ends_line}

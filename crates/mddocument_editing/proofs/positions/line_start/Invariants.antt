@@ -1,5 +1,4 @@
-use Rattle.std.proofs.Common.{◌≡◌, ◌+◌, ◌<◌, ◌≤◌, length}
-use Rattle.mddocument_editing.specs.Positions.{starts_up_to}
+use Rattle.mddocument_editing.proofs.Prelude.{◌≡◌, ◌+◌, ◌<◌, ◌≤◌, length, starts_up_to}
 use Rattle.mddocument_editing.proofs.positions.line_start.Given as goal
 
 abbrev pub invariant-loop-index : goal.invariant-loop-index

@@ -1,6 +1,4 @@
-use Rattle.std.proofs.Common.{◌<◌, ◌≤◌, length, refl, sym, ◌∙◌, arith}
-use Rattle.std.proofs.lemmas.List.{take_all, take_more_same}
-use Rattle.std.proofs.lemmas.Option.{get_or_from_slice_get}
+use Rattle.mddocument_editing.proofs.Prelude.{◌<◌, ◌≤◌, length, refl, sym, ◌∙◌, arith, take_all, take_more_same, get_or_from_slice_get}
 use Rattle.mddocument_editing.proofs.put.are_same.Goals as goal
 
 pub loop-index-preserved : goal.loop-index-preserved

@@ -1,4 +1,4 @@
-use Rattle.std.proofs.Common.{◌≡◌, take}
+use Rattle.mddocument_editing.proofs.Prelude.{◌≡◌, take}
 use Rattle.mddocument_editing.proofs.put.are_same.Given as goal
 
 abbrev pub invariant-loop-index : goal.invariant-loop-index

@@ -1,4 +1,4 @@
-use Rattle.std.proofs.Common.{sym, ◌∙◌}
+use Rattle.mddocument_editing.proofs.Prelude.{sym, ◌∙◌}
 use Rattle.mddocument_editing.proofs.put.is_same.Goals as goal
 
 pub returns : goal.returns

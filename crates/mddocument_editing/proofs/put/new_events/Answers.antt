@@ -1,12 +1,6 @@
-use Rattle.std.proofs.Common.{◌≡◌, subst, sym, ap, ◌∙◌}
-use Rattle.std.proofs.lemmas.Bool.{false≢true}
-use Rattle.std.proofs.lemmas.Result.{err_from_is_err_and}
-use Rattle.mdinline_labels.specs.Defined.{defines}
-use Rattle.mddocument_parts.specs.BothDocuments.{events_by}
+use Rattle.mddocument_editing.proofs.Prelude.{◌≡◌, subst, sym, ap, ◌∙◌, false≢true, err_from_is_err_and, defines, events_by, IsPackable, TooLong}
 use Rattle.mddocument_editing.proofs.PutOthers.{has-unasked}
 use Rattle.mddocument_editing.proofs.put.new_events.Goals as goal
-use Rattle.mddocument_editing.specs.Kept.{IsPackable}
-use Rattle.mddocument_editing.specs.declared.packed.PackError.TheVariants.{TooLong}
 
 pub returns-then-not-asks-clause-none : goal.returns-then-not-asks-clause-none
 returns-then-not-asks-clause-none c = has-unasked c.args.options.now c.args.old.now c.args.machine.now.labels c.args.section.now c.requires (sym c.in_ok-asks.ensures ∙ c.if-not-asks.true)

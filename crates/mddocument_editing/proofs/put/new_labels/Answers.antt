@@ -1,7 +1,4 @@
-use Rattle.std.proofs.Common.{◌-◌, length, take, drop, refl, sym, ap, ◌∙◌}
-use Rattle.markdown_base.proofs.Common.{every-drop, every-take}
-use Rattle.mddocument_editing.specs.Kept.{IsLabelled, bytes_of_sections, divided_of}
-use Rattle.mddocument_editing.specs.declared.section.Section.{Section}
+use Rattle.mddocument_editing.proofs.Prelude.{◌-◌, length, take, drop, refl, sym, ap, ◌∙◌, every-drop, every-take, IsLabelled, bytes_of_sections, divided_of, Section}
 use Rattle.mddocument_editing.proofs.SectionLabels.{labels-divided}
 use Rattle.mddocument_editing.proofs.put.new_labels.Goals as goal
 use Rattle.mddocument_editing.proofs.NewLabels.{defined-recut, is_written, kept-labelled, none-changed, none-written, written-recut}

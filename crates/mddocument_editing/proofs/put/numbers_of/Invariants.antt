@@ -1,4 +1,4 @@
-use Rattle.std.proofs.Common.{◌≡◌, map, take}
+use Rattle.mddocument_editing.proofs.Prelude.{◌≡◌, map, take}
 use Rattle.mddocument_editing.proofs.put.numbers_of.Given as goal
 
 abbrev pub invariant-loop-other : goal.invariant-loop-other

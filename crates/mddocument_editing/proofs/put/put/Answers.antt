@@ -1,6 +1,4 @@
-use Rattle.std.proofs.Common.{take, drop}
-use Rattle.mddocument_editing.specs.FirstRest.{items_of}
-use Rattle.mddocument_editing.specs.Kept.{bytes_of_sections}
+use Rattle.mddocument_editing.proofs.Prelude.{take, drop, items_of, bytes_of_sections}
 use Rattle.mddocument_editing.proofs.PutSections.{parts-within}
 use Rattle.mddocument_editing.proofs.put.put.Goals as goal
 

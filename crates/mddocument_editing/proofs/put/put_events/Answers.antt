@@ -1,12 +1,7 @@
-use Rattle.std.proofs.Common.{◌≡◌, ◌<◌, length, subst, sym, ap, ◌∙◌, arith, rules, map-id}
-use Rattle.std.proofs.lemmas.Iterator.Adapters.{YieldsList-from_vec}
+use Rattle.mddocument_editing.proofs.Prelude.{◌≡◌, ◌<◌, length, subst, sym, ap, ◌∙◌, arith, rules, map-id, YieldsList-from_vec, fold_push, All-from_recursion, put_all, put_at, Reread}
 use Rattle.std.proofs.lemmas.Iterator.Consumers.{YieldsList-end, YieldsList-turn}
-use Rattle.std.proofs.lemmas.List.Sums.{fold_push}
-use Rattle.std.proofs.lemmas.List.Elements.{All-from_recursion}
 use Rattle.mddocument_editing.proofs.put.put_events.Goals as goal
 use Rattle.mddocument_editing.proofs.Rereads.{length-put-all, put-at-set}
-use Rattle.mddocument_editing.specs.Put.{put_all, put_at}
-use Rattle.mddocument_editing.specs.declared.put.Reread.{Reread}
 
 pub index_mut-requires : goal.index_mut-requires
 index_mut-requires c =

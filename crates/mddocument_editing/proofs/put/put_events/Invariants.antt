@@ -1,5 +1,4 @@
-use Rattle.std.proofs.Common.{◌≡◌}
-use Rattle.mddocument_editing.specs.Put.{put_all}
+use Rattle.mddocument_editing.proofs.Prelude.{◌≡◌, put_all}
 use Rattle.mddocument_editing.proofs.put.put_events.Given as goal
 
 abbrev pub invariant-loop-other : goal.invariant-loop-other

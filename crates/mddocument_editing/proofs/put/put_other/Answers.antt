@@ -1,9 +1,4 @@
-use Rattle.std.proofs.Common.{◌+◌, ◌++◌, take, drop, subst, ap, ◌∙◌}
-use Rattle.std.proofs.lemmas.Result.{err_from_is_err_and}
-use Rattle.mdinline_labels.specs.Defined.{defines}
-use Rattle.mddocument_parts.specs.BothDocuments.{events_by}
-use Rattle.mddocument_editing.specs.Kept.{bytes_of_parts, bytes_of_sections}
-use Rattle.mddocument_editing.specs.Put.{AreReread}
+use Rattle.mddocument_editing.proofs.Prelude.{◌+◌, ◌++◌, take, drop, subst, ap, ◌∙◌, err_from_is_err_and, defines, events_by, bytes_of_parts, bytes_of_sections, AreReread}
 use Rattle.mddocument_editing.proofs.PackedParts.{behind-fits, front-fits, parts-fit}
 use Rattle.mddocument_editing.proofs.PutChanged.{ArePutIn, below, then-change, then-document, then-kept}
 use Rattle.mddocument_editing.proofs.PutOthers.{read-documents}

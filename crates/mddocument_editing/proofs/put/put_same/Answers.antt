@@ -1,12 +1,4 @@
-use Rattle.std.proofs.Common.{◌≡◌, ℕ, ◌+◌, Bool, ◌++◌, List, length, take, drop, subst, sym, ap, ◌∙◌, arith}
-use Rattle.std.proofs.lemmas.List.{length-map}
-use Rattle.std.proofs.lemmas.Result.{err_from_is_err_and}
-use Rattle.std.specs.List.{AllByRecursion}
-use Rattle.mdinline_labels.specs.Defined.{defines}
-use Rattle.mddocument_parts.specs.BothDocuments.{events_by}
-use Rattle.mddocument_editing.specs.Divided.{Divided, is_label_of}
-use Rattle.mddocument_editing.specs.Edits.{IsChange}
-use Rattle.mddocument_editing.specs.Kept.{IsRead, bytes_of_parts, bytes_of_sections, divided_of, recut_document}
+use Rattle.mddocument_editing.proofs.Prelude.{◌≡◌, ℕ, ◌+◌, Bool, ◌++◌, List, length, take, drop, subst, sym, ap, ◌∙◌, arith, length-map, err_from_is_err_and, AllByRecursion, defines, events_by, Divided, is_label_of, IsChange, IsRead, bytes_of_parts, bytes_of_sections, divided_of, recut_document}
 use Rattle.mddocument_editing.proofs.PackedParts.{parts-fit}
 use Rattle.mddocument_editing.proofs.PutSections.{bytes-put, change-alone, every-put, kept-as, parts-within, spliced}
 use Rattle.mddocument_editing.proofs.put.put_same.Goals.{In_ok-splice}

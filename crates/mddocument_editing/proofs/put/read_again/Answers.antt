@@ -1,13 +1,7 @@
-use Rattle.std.proofs.Common.{◌<◌, length, subst, sym, arith}
-use Rattle.std.proofs.lemmas.Result.{err_from_is_err_and}
-use Rattle.mdinline_labels.specs.Defined.{defines}
-use Rattle.mddocument_parts.specs.BothDocuments.{events_by}
+use Rattle.mddocument_editing.proofs.Prelude.{◌<◌, length, subst, sym, arith, err_from_is_err_and, defines, events_by, IsPackable, IsReadDocument, Section}
 use Rattle.mddocument_editing.proofs.put.read_again.Goals as goal
 use Rattle.mddocument_editing.proofs.Rereads.{rereads-found}
 use Rattle.mddocument_editing.proofs.SectionBytes.{every-at}
-use Rattle.mddocument_editing.specs.Kept.{IsPackable}
-use Rattle.mddocument_editing.specs.Put.{IsReadDocument}
-use Rattle.mddocument_editing.specs.declared.section.Section.{Section}
 
 pub new_events-requires : goal.new_events-requires
 new_events-requires c =

@@ -1,7 +1,4 @@
-use Rattle.std.proofs.Common.{take}
-use Rattle.mdinline_labels.specs.Defined.{defines}
-use Rattle.mddocument_parts.specs.BothDocuments.{events_by}
-use Rattle.mddocument_editing.specs.Put.{AreReread}
+use Rattle.mddocument_editing.proofs.Prelude.{take, defines, events_by, AreReread}
 use Rattle.mddocument_editing.proofs.put.read_again.Given as goal
 
 abbrev pub invariant-loop-index : goal.invariant-loop-index

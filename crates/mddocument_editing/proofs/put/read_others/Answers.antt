@@ -1,13 +1,6 @@
-use Rattle.std.proofs.Common.{◌≡◌, ◌+◌, ◌-◌, ◌++◌, length, take, drop, refl, subst, sym, arith}
-use Rattle.std.proofs.lemmas.List.{length-drop, length-take-le, take_all}
-use Rattle.std.specs.List.{AllByRecursion}
-use Rattle.markdown_base.proofs.Common.{every-drop, every-map, every-take}
-use Rattle.mdinline_labels.specs.Defined.{defines}
-use Rattle.mddocument_parts.specs.BothDocuments.{events_by}
+use Rattle.mddocument_editing.proofs.Prelude.{◌≡◌, ◌+◌, ◌-◌, ◌++◌, length, take, drop, refl, subst, sym, arith, length-drop, length-take-le, take_all, AllByRecursion, every-drop, every-map, every-take, defines, events_by, IsRead, AreReread, HasEvents, IsReadDocument}
 use Rattle.mddocument_editing.proofs.Rereads.{rereads-three}
 use Rattle.mddocument_editing.proofs.put.read_others.Goals as goal
-use Rattle.mddocument_editing.specs.Kept.{IsRead}
-use Rattle.mddocument_editing.specs.Put.{AreReread, HasEvents, IsReadDocument}
 
 pub read_side-requires-clause-read : goal.read_side-requires-clause-read
 read_side-requires-clause-read c =

@@ -1,7 +1,4 @@
-use Rattle.std.proofs.Common.{◌<◌, ◌++◌, length, take, sym, ap, ◌∙◌, arith, append_assoc}
-use Rattle.mddocument_parts.specs.Sections.{document_of}
-use Rattle.mddocument_editing.specs.declared.section.Section.{Section}
-use Rattle.mddocument_editing.specs.Kept.{bytes_of_sections}
+use Rattle.mddocument_editing.proofs.Prelude.{◌<◌, ◌++◌, length, take, sym, ap, ◌∙◌, arith, append_assoc, document_of, Section, bytes_of_sections}
 use Rattle.mddocument_editing.proofs.SectionSizes.{bytes-more}
 use Rattle.mddocument_editing.proofs.recut.append_sections.Goals as goal
 

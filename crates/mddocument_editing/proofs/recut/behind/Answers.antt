@@ -1,5 +1,4 @@
-use Rattle.std.proofs.Common.{◌+◌, arith}
-use Rattle.mddocument_editing.specs.Kept.{bytes_of_sections}
+use Rattle.mddocument_editing.proofs.Prelude.{◌+◌, arith, bytes_of_sections}
 use Rattle.mddocument_editing.proofs.SectionPlaces.{start-behind, start-within}
 use Rattle.mddocument_editing.proofs.recut.behind.Goals as goal
 

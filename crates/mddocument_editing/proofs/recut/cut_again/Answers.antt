@@ -1,6 +1,4 @@
-use Rattle.std.proofs.Common.{ap, ◌∙◌, sym, subst}
-use Rattle.markdown_base.specs.Virtual.{IsWithinLimit}
-use Rattle.mddocument_parts.specs.Sections.{document_of}
+use Rattle.mddocument_editing.proofs.Prelude.{ap, ◌∙◌, sym, subst, IsWithinLimit, document_of}
 use Rattle.mddocument_editing.proofs.PutKept.{short-kept, touched-bytes, touched-seam, touched-within}
 use Rattle.mddocument_editing.proofs.recut.cut_again.Goals as goal
 

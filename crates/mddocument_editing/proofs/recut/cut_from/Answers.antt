@@ -1,9 +1,4 @@
-use Rattle.std.proofs.Common.{◌≡◌, ℕ, length, take, sym, ap, ◌∙◌, arith}
-use Rattle.std.proofs.lemmas.List.{take-map}
-use Rattle.std.specs.declared.alloc.Global.{Global}
-use Rattle.std.specs.declared.vec.Vec.{Vec}
-use Rattle.mddocument_parts.specs.Sections.{document_of}
-use Rattle.mddocument_editing.specs.FirstRest.{items_of}
+use Rattle.mddocument_editing.proofs.Prelude.{◌≡◌, ℕ, length, take, sym, ap, ◌∙◌, arith, take-map, Global, Vec, document_of, items_of}
 use Rattle.mddocument_editing.proofs.PutKept.{looked-more, looked-size, put-all, put-met}
 use Rattle.mddocument_editing.proofs.recut.cut_from.Goals as goal
 

@@ -1,6 +1,4 @@
-use Rattle.std.proofs.Common.{◌≡◌, ◌++◌, ◌≤◌, ◌-◌, length, take, drop}
-use Rattle.mddocument_parts.specs.Sections.{document_of}
-use Rattle.mddocument_editing.specs.Kept.{bytes_of_sections}
+use Rattle.mddocument_editing.proofs.Prelude.{◌≡◌, ◌++◌, ◌≤◌, ◌-◌, length, take, drop, document_of, bytes_of_sections}
 use Rattle.mddocument_editing.proofs.recut.cut_from.Given as goal
 
 abbrev pub invariant-loop-text : goal.invariant-loop-text

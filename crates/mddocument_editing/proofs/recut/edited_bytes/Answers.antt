@@ -1,7 +1,4 @@
-use Rattle.std.proofs.Common.{◌≡◌, ◌-◌, ◌++◌, length, take, drop, ap, ◌∙◌, append_assoc}
-use Rattle.std.proofs.lemmas.List.{take_rest}
-use Rattle.mddocument_parts.specs.Sections.{document_of}
-use Rattle.mddocument_editing.specs.Kept.{bytes_of_sections}
+use Rattle.mddocument_editing.proofs.Prelude.{◌≡◌, ◌-◌, ◌++◌, length, take, drop, ap, ◌∙◌, append_assoc, take_rest, document_of, bytes_of_sections}
 use Rattle.mddocument_editing.proofs.recut.edited_bytes.Goals as goal
 
 pub returns : goal.returns

@@ -1,9 +1,4 @@
-use Rattle.std.proofs.Common.{◌≡◌, ◌-◌, ◌≤◌, length, take, get_or, true, sym, ap, ◌∙◌, arith, inr}
-use Rattle.std.proofs.lemmas.List.{length-take}
-use Rattle.mddocument_parts.specs.Sections.{document_of}
-use Rattle.mddocument_editing.specs.declared.section.Section.{Section}
-use Rattle.mddocument_editing.specs.Kept.{bytes_of_sections}
-use Rattle.mddocument_editing.specs.Settled.{is_settled}
+use Rattle.mddocument_editing.proofs.Prelude.{◌≡◌, ◌-◌, ◌≤◌, length, take, get_or, true, sym, ap, ◌∙◌, arith, inr, length-take, document_of, Section, bytes_of_sections, is_settled}
 use Rattle.mddocument_editing.proofs.SectionPlaces.{count-bytes, start-front, start-next}
 use Rattle.mddocument_editing.proofs.SectionSizes.{bytes-inside, bytes-outside}
 use Rattle.mddocument_editing.proofs.SettledBytes.{settled-more}

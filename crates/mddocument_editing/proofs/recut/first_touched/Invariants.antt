@@ -1,6 +1,4 @@
-use Rattle.std.proofs.Common.{◌≡◌, ◌≤◌, length, take}
-use Rattle.mddocument_parts.specs.Sections.{document_of}
-use Rattle.mddocument_editing.specs.Kept.{bytes_of_sections}
+use Rattle.mddocument_editing.proofs.Prelude.{◌≡◌, ◌≤◌, length, take, document_of, bytes_of_sections}
 use Rattle.mddocument_editing.proofs.recut.first_touched.Given as goal
 
 abbrev pub invariant-loop-index : goal.invariant-loop-index

@@ -1,5 +1,4 @@
-use Rattle.std.proofs.Common.{◌≡◌, ◌-◌, length, drop}
-use Rattle.mddocument_editing.specs.Settled.{is_settled}
+use Rattle.mddocument_editing.proofs.Prelude.{◌≡◌, ◌-◌, length, drop, is_settled}
 use Rattle.mddocument_editing.proofs.recut.is_settled.Given as goal
 
 abbrev pub invariant-loop-index : goal.invariant-loop-index

@@ -1,8 +1,4 @@
-use Rattle.std.proofs.Common.{ℕ, ◌+◌, ◌<◌, length, arith}
-use Rattle.std.specs.declared.alloc.Global.{Global}
-use Rattle.std.specs.declared.vec.Vec.{Vec}
-use Rattle.mddocument_editing.specs.FirstRest.{items_of}
-use Rattle.mddocument_editing.specs.Kept.{bytes_of_sections}
+use Rattle.mddocument_editing.proofs.Prelude.{ℕ, ◌+◌, ◌<◌, length, arith, Global, Vec, items_of, bytes_of_sections}
 use Rattle.mddocument_editing.proofs.SectionPlaces.{start-behind, start-within}
 use Rattle.mddocument_editing.proofs.SectionSizes.{size-front, size-more}
 use Rattle.mddocument_editing.proofs.recut.meeting.Goals as goal

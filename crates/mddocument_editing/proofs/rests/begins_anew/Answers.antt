@@ -1,7 +1,4 @@
-use Rattle.std.proofs.Common.{◌≡◌, ◌∙◌, ◌&&◌, ap, refl, sym}
-use Rattle.mdblock_leaf_blocks.specs.LeafBlocks.{text_of}
-use Rattle.mdblock_leaf_blocks.specs.LineKinds.{line_kind}
-use Rattle.mddocument_parts.specs.Rests.{begins_near}
+use Rattle.mddocument_editing.proofs.Prelude.{◌≡◌, ◌∙◌, ◌&&◌, ap, refl, sym, text_of, line_kind, begins_near}
 use Rattle.mddocument_editing.proofs.Anew.{anew-is}
 use Rattle.mddocument_editing.proofs.rests.begins_anew.Goals as goal
 

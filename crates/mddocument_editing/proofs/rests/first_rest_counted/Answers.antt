@@ -1,8 +1,6 @@
-use Rattle.std.proofs.Common.{◌≡◌, ◌<◌, ◌≤◌, ◌∙◌, false, drop, take, map, arith}
-use Rattle.mdblock_containers.specs.Views.{open_of}
+use Rattle.mddocument_editing.proofs.Prelude.{◌≡◌, ◌<◌, ◌≤◌, ◌∙◌, false, drop, take, map, arith, open_of, is_rest}
 use Rattle.mdblock_containers.proofs.CostLemmas.{began_sizes}
 use Rattle.mdblock_containers.proofs.OverLemmas.{began_before}
-use Rattle.mddocument_parts.specs.BothDocuments.{is_rest}
 use Rattle.mddocument_editing.proofs.RestLines.{asked, at-next, began-next, known_of, none-before-next}
 use Rattle.mddocument_editing.proofs.rests.first_rest_counted.Goals.{else-start-gt0-via-then-start-gt0+else-begins_anew, else-start-gt0-via-else-start-gt0}
 use Rattle.mddocument_editing.proofs.rests.first_rest_counted.Goals as goal

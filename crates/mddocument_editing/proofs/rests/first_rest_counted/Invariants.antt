@@ -1,9 +1,5 @@
-use Rattle.std.proofs.Common.{◌<◌, ◌≤◌, ◌+◌, ◌-◌, length}
-use Rattle.std.specs.List.{AllByRecursion}
+use Rattle.mddocument_editing.proofs.Prelude.{◌<◌, ◌≤◌, ◌+◌, ◌-◌, length, AllByRecursion, before_of, BeganBefore, HasNoRestBefore}
 use Rattle.mdblock_containers.specs.Over.{AreOver}
-use Rattle.mdblock_containers.specs.Views.{before_of}
-use Rattle.mdblock_containers.proofs.RowFacts.{BeganBefore}
-use Rattle.mddocument_editing.specs.FirstRest.{HasNoRestBefore}
 use Rattle.mddocument_editing.proofs.RestLines.{IsAtLine}
 use Rattle.mddocument_editing.proofs.rests.first_rest_counted.Given as goal
 

@@ -1,9 +1,4 @@
-use Rattle.std.proofs.Common.{◌≡◌, ◌++◌, length}
-use Rattle.std.specs.List.{AllByRecursion}
-use Rattle.std.specs.Vec.Iter.{into_iter_items, into_iter_len}
-use Rattle.markdown_base.specs.Virtual.{IsWithinLimit}
-use Rattle.mddocument_editing.specs.FirstRest.{items_of}
-use Rattle.mddocument_editing.specs.Kept.{IsLabelled, bytes_of_parts}
+use Rattle.mddocument_editing.proofs.Prelude.{◌≡◌, ◌++◌, length, AllByRecursion, into_iter_items, into_iter_len, IsWithinLimit, items_of, IsLabelled, bytes_of_parts}
 use Rattle.mddocument_editing.proofs.section.parts_of.Given as goal
 
 abbrev pub invariant-loop-bytes : goal.invariant-loop-bytes

@@ -1,10 +1,4 @@
-use Rattle.std.proofs.Common.{◌≡◌, ap, subst, sym, ◌∙◌}
-use Rattle.std.proofs.lemmas.Result.{err_from_is_err_and}
-use Rattle.mdinline_labels.specs.Defined.{defines}
-use Rattle.mddocument_parts.specs.BothDocuments.{events_by}
-use Rattle.mddocument_editing.specs.declared.packed.PackError.TheVariants.{TooLong}
-use Rattle.mddocument_editing.specs.Kept.{IsPackable, has_end}
-use Rattle.mddocument_editing.specs.PositionParts.{endings}
+use Rattle.mddocument_editing.proofs.Prelude.{◌≡◌, ap, subst, sym, ◌∙◌, err_from_is_err_and, defines, events_by, TooLong, IsPackable, has_end, endings}
 use Rattle.mddocument_editing.proofs.section.section_of.Goals as goal
 
 pub returns-clause-read : goal.returns-clause-read

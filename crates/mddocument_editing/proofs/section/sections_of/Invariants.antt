@@ -1,9 +1,4 @@
-use Rattle.std.proofs.Common.{◌≡◌, ◌++◌, length}
-use Rattle.std.specs.List.{AllByRecursion}
-use Rattle.std.specs.Vec.Iter.{into_iter_items, into_iter_len}
-use Rattle.markdown_base.specs.Virtual.{IsWithinLimit}
-use Rattle.mdinline_labels.specs.Defined.{defines}
-use Rattle.mddocument_editing.specs.Kept.{IsLabelled, IsPackable, IsRead, bytes_of_parts, bytes_of_sections}
+use Rattle.mddocument_editing.proofs.Prelude.{◌≡◌, ◌++◌, length, AllByRecursion, into_iter_items, into_iter_len, IsWithinLimit, defines, IsLabelled, IsPackable, IsRead, bytes_of_parts, bytes_of_sections}
 use Rattle.mddocument_editing.proofs.section.sections_of.Given as goal
 
 abbrev pub invariant-loop-part : goal.invariant-loop-part

@@ -1,6 +1,4 @@
-use Rattle.std.proofs.Common.{◌≡◌, ◌-◌, ◌++◌, length, drop}
-use Rattle.mddocument_editing.specs.FirstRest.{items_of}
-use Rattle.mddocument_editing.specs.Kept.{bytes_of_sections}
+use Rattle.mddocument_editing.proofs.Prelude.{◌≡◌, ◌-◌, ◌++◌, length, drop, items_of, bytes_of_sections}
 use Rattle.mddocument_editing.proofs.trim.stay_behind.Given as goal
 
 abbrev pub invariant-loop-count : goal.invariant-loop-count

@@ -1,6 +1,4 @@
-use Rattle.std.proofs.Common.{◌≡◌, ◌+◌, ◌++◌, take}
-use Rattle.mddocument_editing.specs.FirstRest.{items_of}
-use Rattle.mddocument_editing.specs.Kept.{bytes_of_sections}
+use Rattle.mddocument_editing.proofs.Prelude.{◌≡◌, ◌+◌, ◌++◌, take, items_of, bytes_of_sections}
 use Rattle.mddocument_editing.proofs.trim.stay_in_front.Given as goal
 
 abbrev pub invariant-loop-count : goal.invariant-loop-count

@@ -1,12 +1,4 @@
-use Rattle.std.proofs.Common.{◌≡◌, ◌+◌, ◌-◌, ◌≤◌, ◌++◌, ℕ, length, take, drop, subst, sym, ap, ◌∙◌, arith}
-use Rattle.std.proofs.lemmas.List.{drop-map, length-map, take-map}
-use Rattle.std.specs.declared.alloc.Global.{Global}
-use Rattle.std.specs.declared.vec.Vec.{Vec}
-use Rattle.mddocument_editing.specs.Divided.{IsDivided}
-use Rattle.mddocument_editing.specs.FirstRest.{items_of}
-use Rattle.mddocument_editing.specs.Kept.{bytes_of_sections}
-use Rattle.mddocument_editing.specs.Trims.{StayBehind, StayInFront}
-use Rattle.mddocument_editing.specs.declared.section.Section.{Section}
+use Rattle.mddocument_editing.proofs.Prelude.{◌≡◌, ◌+◌, ◌-◌, ◌≤◌, ◌++◌, ℕ, length, take, drop, subst, sym, ap, ◌∙◌, arith, drop-map, length-map, take-map, Global, Vec, IsDivided, items_of, bytes_of_sections, StayBehind, StayInFront, Section}
 use Rattle.mddocument_editing.proofs.Trims.{left-order, left-same, left-trimmed, left-within}
 use Rattle.mddocument_editing.proofs.trim.trim.Goals as goal
 use Rattle.mddocument_editing.proofs.trim.trim.Goals.{After-truncate}

@@ -1,5 +1,4 @@
-use Rattle.std.proofs.Common.{subst}
-use Rattle.mddocument_editing.specs.Divided.{IsDivided}
+use Rattle.mddocument_editing.proofs.Prelude.{subst, IsDivided}
 use Rattle.mddocument_editing.proofs.sections.Sections.are_cut.Goals as goal
 
 pub returns : goal.returns

@@ -1,6 +1,4 @@
-use Rattle.std.proofs.Common.{IfOk, subst}
-use Rattle.mddocument.specs.Documents.{AreDocumentEvents}
-use Rattle.mddocument_editing.specs.Divided.{Divided, bytes_of}
+use Rattle.mddocument_editing.proofs.Prelude.{IfOk, subst, AreDocumentEvents, Divided, bytes_of}
 use Rattle.mddocument_editing.proofs.sections.Sections.events.Goals as goal
 
 pub returns : goal.returns

@@ -1,14 +1,4 @@
-use Rattle.std.proofs.Common.{◌≡◌, true, refl, subst, sym}
-use Rattle.std.proofs.lemmas.Result.{err_from_is_err_and}
-use Rattle.markdown_base.specs.Virtual.{IsWithinLimit}
-use Rattle.markdown_tokenizer.specs.Text.{IsDocument}
-use Rattle.mddocument.specs.DocumentEvents.{document_events}
-use Rattle.mddocument.specs.Documents.{document}
-use Rattle.mddocument_editing.specs.Divided.{Divided, bytes_of, is_label_of}
-use Rattle.mddocument_editing.specs.Edits.{edited}
-use Rattle.mddocument_editing.specs.FirstRest.{items_of}
-use Rattle.mddocument_editing.specs.Kept.{ArePackable, divided_of, recut_document}
-use Rattle.mddocument_editing.specs.Packed.{events_fit}
+use Rattle.mddocument_editing.proofs.Prelude.{◌≡◌, true, refl, subst, sym, err_from_is_err_and, IsWithinLimit, IsDocument, document_events, document, Divided, bytes_of, is_label_of, edited, items_of, ArePackable, divided_of, recut_document, events_fit}
 use Rattle.mddocument_editing.proofs.FitSections.{edited-document, sections-fit}
 use Rattle.mddocument_editing.proofs.sections.Sections.replace.Goals as goal
 
