@@ -6,6 +6,7 @@ pub mod Ends
 pub mod Either
 -- texts
 pub mod TextSteps
+pub mod NoSigns
 -- events
 pub mod EventSteps
 pub mod EventLoops

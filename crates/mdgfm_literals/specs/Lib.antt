@@ -3,6 +3,7 @@ pub mod Bytes
 pub mod Grammar
 -- texts
 pub mod Literals
+pub mod Signs
 -- events
 pub mod Stretches
 pub mod Places

@@ -5,7 +5,8 @@
 mod addresses;
 mod bytes;
 pub mod grammar;
-// texts: all literals of a text
+// texts: all literals of a text, and whether there can be any
+mod signs;
 pub mod texts;
 // events: stretches of text among them, places in a line, and the events with literals
 pub mod events;

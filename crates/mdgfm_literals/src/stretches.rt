@@ -4,6 +4,7 @@ ghost use Rattle.std.specs.Prelude.{ℕ, ◌≡◌, ◌+◌, ◌++◌, ◌==◌,
 ghost use Rattle.mdgfm_literals.specs.Stretches.{before_stretch, begins_line, byte_before, depth_behind, holds_none, is_fresh, is_plain, is_text, literals_between, literals_of, reach, span_end, span_size};
 
 use crate::bytes::slice;
+use crate::signs::has_sign;
 use crate::texts::{Literal, push_literals};
 use markdown_base::event::{Event, Kind, Name, Point};
 use std::alloc::{AllocError, Global};
@@ -166,8 +167,12 @@ fn push_between(
 ) -> Result<(), AllocError>
     ensures { OnOk result (all.new.items ≡ all.old.items ++ literals_between bytes.now fresh from to) }
 {
-    let before = before_stretch(bytes, fresh, from);
-    push_literals(all, before, from, slice(bytes, from, to))
+    let text = slice(bytes, from, to);
+    if has_sign(text) {
+        push_literals(all, before_stretch(bytes, fresh, from), from, text)
+    } else {
+        Ok(())
+    }
 }
 
 /// The literals of a document, by its events. It fails only if it runs out of memory.
