@@ -35,6 +35,7 @@ pub use Rattle.mdinline_text_machine.proofs.ParagraphTexts
 pub use Rattle.mdinline_text_machine.proofs.Paragraphs as TextParagraphs
 pub use Rattle.mdinline_text_machine.proofs.Plain
 pub use Rattle.mdinline_text_machine.proofs.Texts
+pub use Rattle.mdinline_labels.proofs.CaseSteps
 pub use Rattle.mdinline_labels.proofs.Folded
 pub use Rattle.mdinline_labels.proofs.Fronts as LabelFronts
 pub use Rattle.mdinline_labels.proofs.GivenBack

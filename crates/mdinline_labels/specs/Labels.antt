@@ -1,9 +1,9 @@
 -- Labels of links (CommonMark, "Links"): what one is, and when two are the same.
-use Rattle.std.specs.Prelude.{ℕ, ◌+◌, ◌==◌, ◌&&◌, ◌||◌, not, nat_le, nat_lt, Bool, true, false, cond, List, [], ◌∷◌, map}
+use Rattle.std.specs.Prelude.{ℕ, ◌+◌, ◌==◌, ◌&&◌, ◌||◌, not, nat_le, nat_lt, Bool, true, false, cond, List, [], ◌∷◌, map, flat_map, chars, encode_utf8_all}
 use Rattle.std.specs.Char.{to_ascii_uppercase}
+use Rattle.std.specs.Char.Unicode.ToLowercase.{to_lowercase}
+use Rattle.std.specs.Char.Unicode.ToUppercase.{to_uppercase}
 use Rattle.std.specs.Str.{is_utf8}
-use Rattle.std.specs.StrCase.Lower.{str_to_lowercase}
-use Rattle.std.specs.StrCase.Upper.{str_to_uppercase}
 
 -- white space in a label: a space, a tab, or a part of a line ending
 abbrev pub is_label_white : ℕ → Bool
@@ -51,7 +51,14 @@ collapsed_behind begun apart (b ∷ bs) =
 abbrev pub collapsed : List ℕ → List ℕ
 collapsed bytes = collapsed_behind false false bytes
 
--- The form by which labels are compared: white space collapsed, then lower case and then upper case, as the Rust crate does in place of
--- CommonMark's case folding. Of bytes that are no UTF-8 only ASCII letters change
+-- What Unicode's case folding makes of a character, in upper case: upper case of its lower case. But `ı` (U+0131) stays, though its upper case is `I`
+abbrev pub folded : ℕ → List ℕ
+folded c = cond (c == 0x131) (c ∷ []) (flat_map to_uppercase (to_lowercase c))
+
+-- a text with each character folded, as bytes
+unfoldable pub folded_text : List ℕ → List ℕ
+folded_text text = encode_utf8_all (flat_map folded (chars text))
+
+-- The form by which labels are compared: white space collapsed, then each character folded. Of bytes that are no UTF-8 only ASCII letters change
 abbrev pub normalised : List ℕ → List ℕ
-normalised bytes = let together = collapsed bytes in cond (is_utf8 together) (str_to_uppercase (str_to_lowercase together)) (map to_ascii_uppercase together)
+normalised bytes = let together = collapsed bytes in cond (is_utf8 together) (folded_text together) (map to_ascii_uppercase together)

@@ -5,6 +5,7 @@ ghost use Rattle.std.specs.Prelude.{◌≡◌, ◌+◌, ◌≤◌, ◌<◌, IfOk
 ghost use Rattle.mdinline_labels.specs.Labels.{is_label_white, begins_character, hides, is_bracket, is_label, collapsed, normalised};
 
 // labels: their normal form, a set of them
+mod folding;
 pub mod labels;
 
 // tails: sizes of labels, destinations, titles
@@ -14,6 +15,7 @@ pub mod tails;
 pub mod definitions;
 pub mod resources;
 
+use crate::folding::folded_text;
 use mdconstructs_loop_counts::Turns;
 use std::alloc::{AllocError, Global};
 use std::marker::Brand;
@@ -116,17 +118,16 @@ fn collapsed(alloc: Global, bytes: &[u8]) -> Result<Vec<u8>, AllocError>
     Ok(out)
 }
 
-/// The form of a label by which labels are compared: white space collapsed, then lower case and then upper case, as the Rust crate does.
-/// So `ẞ` and `SS` are the same. Of bytes that are no UTF-8 only ASCII letters change.
+/// The form of a label by which labels are compared: white space collapsed, then each character folded, as CommonMark compares them. So `ẞ` and
+/// `SS` are the same, and `ı` and `i` are not. Of bytes that are no UTF-8 only ASCII letters change.
 pub fn normalised(alloc: Global, bytes: &[u8]) -> Result<Vec<u8>, AllocError>
     ensures { IfOk result (λ out. out.items ≡ normalised bytes.now) }
 {
     let together = collapsed(alloc, bytes)?;
     match str::from_utf8(together.as_slice()) {
         Ok(text) => {
-            let lower = text.to_lowercase(alloc)?;
-            let upper = lower.as_str().to_uppercase(alloc)?;
-            Ok(upper.into_bytes())
+            let folded = folded_text(alloc, text)?;
+            Ok(folded.into_bytes())
         }
         Err(_) => together.as_slice().to_ascii_uppercase(alloc),
     }

@@ -15,13 +15,20 @@ use std::alloc::{AllocError, Global};
 use std::marker::Brand;
 use std::sync::ledger::{Blank, Ledger};
 
-/// Two labels, and whether one defines the other: case, white space, a letter whose upper case is two, and bytes that are no UTF-8.
+/// Two labels, and whether one defines the other: case, white space, letters that fold to two (`ẞ`, `İ`), or to one that another place of a word
+/// has (`ς`), or to none but themselves (`ı`), and bytes that are no UTF-8.
 const ALIKE: &[(&[u8], &[u8], bool)] = &[
     (b"Foo", b"fOO", true),
     (b"a  b", b"\ta\n b ", true),
     (b"ab", b"a b", false),
     (b"\xE1\xBA\x9E", b"ss", true),
     (b"\xCE\xB1", b"\xCE\x91", true),
+    (b"a\xCF\x82", b"A\xCE\xA3", true),
+    (b"\xC4\xB0", b"i\xCC\x87", true),
+    (b"\xC4\xB0", b"i", false),
+    (b"\xC4\xB1", b"\xC4\xB1", true),
+    (b"\xC4\xB1", b"i", false),
+    (b"I", b"\xC4\xB1", false),
     (b"a\xFF", b"A\xFF", true),
     (b"a", b"b", false),
     (b"a\\]", b"a]", false),

@@ -111,17 +111,19 @@ fn token(name: Name, is_in_heading: bool) -> Option<usize> {
     })
 }
 
-/// A label as it is compared: each run of white space is a space, none is at an end, and letters are in lower and then in upper case.
-/// The library compares labels so, and gives none back; tests compare both.
+/// A label as it is compared: each run of white space is a space, none is at an end, and letters are in lower and then in upper case, but for
+/// `ı`. The library compares labels so, and gives none back; tests compare both.
 pub fn normalised(label: &str) -> String {
     let words = label.split([' ', '\t', '\n', '\r']);
     let words: Vec<&str> = words.filter(|it| !it.is_empty()).collect();
-    let lower = words
-        .join(" ")
-        .chars()
-        .flat_map(char::to_lowercase)
-        .collect::<String>();
-    lower.chars().flat_map(char::to_uppercase).collect()
+    let mut normal = String::new();
+    for letter in words.join(" ").chars() {
+        match letter {
+            'ı' => normal.push(letter),
+            _ => normal.extend(letter.to_lowercase().flat_map(char::to_uppercase)),
+        }
+    }
+    normal
 }
 
 struct Reader<'a> {

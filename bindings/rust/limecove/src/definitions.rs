@@ -77,8 +77,8 @@ impl<'a> Node<'a> {
     }
 }
 
-/// A label as it is compared: each run of white space is a space, none is at an end, and letters are in lower and then in upper case. Of
-/// bytes that are no UTF-8 only ASCII letters change.
+/// A label as it is compared: each run of white space is a space, none is at an end, and letters are in lower and then in upper case,
+/// but for `ı`. Of bytes that are no UTF-8 only ASCII letters change.
 fn normalised(label: &Node<'_>) -> Result<Vec<u8>, Error> {
     let mut written = Text::new();
     written.add_written(label)?;
@@ -101,13 +101,21 @@ fn folded(written: &[u8]) -> Result<Vec<u8>, Error> {
         }
     };
     let mut folded = Text::new();
-    for upper in characters
-        .flat_map(char::to_lowercase)
-        .flat_map(char::to_uppercase)
-    {
-        folded.add_bytes(upper.encode_utf8(&mut [0; 4]).as_bytes())?;
+    for letter in characters {
+        match letter {
+            'ı' => add_letter(&mut folded, letter)?,
+            _ => {
+                for upper in letter.to_lowercase().flat_map(char::to_uppercase) {
+                    add_letter(&mut folded, upper)?;
+                }
+            }
+        }
     }
     Ok(folded.into_bytes())
+}
+
+fn add_letter(folded: &mut Text, letter: char) -> Result<(), Error> {
+    folded.add_bytes(letter.encode_utf8(&mut [0; 4]).as_bytes())
 }
 
 #[cfg(test)]

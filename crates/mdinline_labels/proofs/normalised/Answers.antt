@@ -1,4 +1,4 @@
-use Rattle.mdinline_labels.proofs.Prelude.{◌≡◌, IfOk, Ok, Err, map, ap, ◌∙◌, subst, IsUtf8, to_ascii_uppercase, str_to_uppercase, collapsed, normalised}
+use Rattle.mdinline_labels.proofs.Prelude.{◌≡◌, IfOk, Ok, Err, map, ap, ◌∙◌, subst, IsUtf8, to_ascii_uppercase, collapsed, normalised}
 use Rattle.mdinline_labels.proofs.Folded.{of-text, of-bytes}
 use Rattle.mdinline_labels.proofs.normalised.Goals as goal
 
@@ -7,8 +7,7 @@ returns-in-Ok c =
     let a = c.in-Ok.ensures.cases in
     let is = c.as_slice.ensures.value ∙ c.in_ok-together.ensures in
     ap (λ v. v.items) c.into_bytes.ensures.value
-    ∙ c.in_ok-upper-in-Ok.ensures.value
-    ∙ ap str_to_uppercase (c.as_str.ensures.value ∙ c.in_ok-lower-in-Ok.ensures.value)
+    ∙ c.in_ok-folded-in-Ok.ensures
     ∙ of-text (collapsed c.args.bytes.now) c.in-Ok.text.now (a.0 ∙ is) (subst IsUtf8 is a.1)
 
 pub returns : goal.returns
