@@ -1,5 +1,5 @@
 -- Labels of links (CommonMark, "Links"): what one is, and when two are the same.
-use Rattle.std.specs.Prelude.{ℕ, ◌+◌, ◌==◌, ◌&&◌, ◌||◌, not, nat_le, nat_lt, Bool, true, false, cond, List, [], ◌∷◌, map, flat_map, chars, encode_utf8_all}
+use Rattle.std.specs.Prelude.{ℕ, ◌+◌, ◌==◌, ◌&&◌, ◌||◌, not, nat_le, nat_lt, Bool, true, false, cond, List, [], ◌∷◌, ◌++◌, map, flat_map, chars, encode_utf8_all}
 use Rattle.std.specs.Char.{to_ascii_uppercase}
 use Rattle.std.specs.Char.Unicode.ToLowercase.{to_lowercase}
 use Rattle.std.specs.Char.Unicode.ToUppercase.{to_uppercase}
@@ -40,13 +40,17 @@ is_filled (b ∷ bs) = not (is_label_white b) || is_filled bs
 abbrev pub is_label : List ℕ → Bool
 is_label bytes = has_no_bracket false bytes && (nat_le (characters bytes) 999 && is_filled bytes)
 
--- white space collapsed: none at the ends, and one space for each stretch of it between. `begun`: a byte was written; `apart`: white space came
--- behind the last one
+-- "For security reasons, the Unicode character U+0000 must be replaced with the REPLACEMENT CHARACTER (U+FFFD)" (CommonMark 0.31, 2.3)
+abbrev pub shown_byte : ℕ → List ℕ
+shown_byte b = cond (b == 0) (239 ∷ 191 ∷ 189 ∷ []) (b ∷ [])
+
+-- white space collapsed: none at the ends, and one space for each stretch of it between; and U+FFFD in place of NUL. `begun`: a byte was written;
+-- `apart`: white space came behind the last one
 abbrev pub collapsed_behind : (begun apart : Bool) → List ℕ → List ℕ
 collapsed_behind begun apart [] = []
 collapsed_behind begun apart (b ∷ bs) =
     cond (is_label_white b) (collapsed_behind begun true bs)
-    (cond (begun && apart) (32 ∷ b ∷ collapsed_behind true false bs) (b ∷ collapsed_behind true false bs))
+    (cond (begun && apart) (32 ∷ (shown_byte b ++ collapsed_behind true false bs)) (shown_byte b ++ collapsed_behind true false bs))
 
 abbrev pub collapsed : List ℕ → List ℕ
 collapsed bytes = collapsed_behind false false bytes
@@ -59,6 +63,6 @@ folded c = cond (c == 0x131) (c ∷ []) (flat_map to_uppercase (to_lowercase c))
 unfoldable pub folded_text : List ℕ → List ℕ
 folded_text text = encode_utf8_all (flat_map folded (chars text))
 
--- The form by which labels are compared: white space collapsed, then each character folded. Of bytes that are no UTF-8 only ASCII letters change
+-- The form by which labels are compared: white space collapsed and NUL replaced, then each character folded. Of bytes that are no UTF-8 only ASCII letters change
 abbrev pub normalised : List ℕ → List ℕ
 normalised bytes = let together = collapsed bytes in cond (is_utf8 together) (folded_text together) (map to_ascii_uppercase together)

@@ -10,9 +10,9 @@ use Rattle.mdinline_labels.specs.Labels.{hides}
 abbrev pub is_white : ℕ → Bool
 is_white b = (b == 32) || (b == 9)
 
--- white space and control characters end a destination without marks
+-- white space and control characters end a destination without marks. NUL does not: it is U+FFFD (CommonMark 0.31, 2.3)
 abbrev pub ends_raw : ℕ → Bool
-ends_raw b = nat_le b 32 || (b == 127)
+ends_raw b = (nat_le 1 b && nat_le b 32) || (b == 127)
 
 -- a text begins with this byte
 abbrev pub begins_with : ℕ → List ℕ → Bool

@@ -1,8 +1,8 @@
 //! Labels of links, images and link reference definitions: what one is, when two are the same, and a set of them (CommonMark, "Links").
 #![tactic(auto)]
 
-ghost use Rattle.std.specs.Prelude.{◌≡◌, ◌+◌, ◌≤◌, ◌<◌, IfOk, length};
-ghost use Rattle.mdinline_labels.specs.Labels.{is_label_white, begins_character, hides, is_bracket, is_label, collapsed, normalised};
+ghost use Rattle.std.specs.Prelude.{◌≡◌, ◌+◌, ◌++◌, ◌≤◌, ◌<◌, IfOk, OnOk, length};
+ghost use Rattle.mdinline_labels.specs.Labels.{is_label_white, begins_character, hides, is_bracket, is_label, shown_byte, collapsed, normalised};
 
 // labels: their normal form, a set of them
 mod folding;
@@ -93,7 +93,19 @@ pub fn is_label(bytes: &[u8]) -> bool
     is_label_from::<Brand>(bytes, Blank::new(1))
 }
 
-/// The bytes with white space collapsed: none at the ends, and one space for each stretch of it between.
+/// Writes a byte of a label: U+FFFD in place of NUL.
+fn push_shown(out: &mut Vec<u8>, byte: u8) -> Result<(), AllocError>
+    ensures { OnOk result (out.new.items ≡ out.old.items ++ shown_byte byte) }
+{
+    if byte == 0 {
+        out.extend_from_slice(b"\xEF\xBF\xBD")?;
+    } else {
+        out.push(byte)?;
+    }
+    Ok(())
+}
+
+/// The bytes with white space collapsed: none at the ends, and one space for each stretch of it between; and U+FFFD in place of NUL.
 fn collapsed(alloc: Global, bytes: &[u8]) -> Result<Vec<u8>, AllocError>
     ensures { IfOk result (λ out. out.items ≡ collapsed bytes.now) }
 {
@@ -109,7 +121,7 @@ fn collapsed(alloc: Global, bytes: &[u8]) -> Result<Vec<u8>, AllocError>
             if begun && apart {
                 out.push(b' ')?;
             }
-            out.push(byte)?;
+            push_shown(&mut out, byte)?;
             begun = true;
             apart = false;
         }
@@ -118,8 +130,8 @@ fn collapsed(alloc: Global, bytes: &[u8]) -> Result<Vec<u8>, AllocError>
     Ok(out)
 }
 
-/// The form of a label by which labels are compared: white space collapsed, then each character folded, as CommonMark compares them. So `ẞ` and
-/// `SS` are the same, and `ı` and `i` are not. Of bytes that are no UTF-8 only ASCII letters change.
+/// The form of a label by which labels are compared: white space collapsed and NUL replaced, then each character folded, as CommonMark compares
+/// them. So `ẞ` and `SS` are the same, and `ı` and `i` are not. Of bytes that are no UTF-8 only ASCII letters change.
 pub fn normalised(alloc: Global, bytes: &[u8]) -> Result<Vec<u8>, AllocError>
     ensures { IfOk result (λ out. out.items ≡ normalised bytes.now) }
 {

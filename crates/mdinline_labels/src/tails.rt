@@ -18,11 +18,11 @@ fn is_white(byte: u8) -> bool
     byte == b' ' || byte == b'\t'
 }
 
-/// White space or a control character.
+/// White space or a control character, but not NUL, which is U+FFFD.
 fn ends_raw(byte: u8) -> bool
     ensures { result ≡ ends_raw byte }
 {
-    byte <= b' ' || byte == 127
+    byte >= 1 && byte <= b' ' || byte == 127
 }
 
 /// A byte is this one, and is not hidden.

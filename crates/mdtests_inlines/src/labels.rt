@@ -16,7 +16,7 @@ use std::marker::Brand;
 use std::sync::ledger::{Blank, Ledger};
 
 /// Two labels, and whether one defines the other: case, white space, letters that fold to two (`ẞ`, `İ`), or to one that another place of a word
-/// has (`ς`), or to none but themselves (`ı`), and bytes that are no UTF-8.
+/// has (`ς`), or to none but themselves (`ı`), NUL, which is U+FFFD, and bytes that are no UTF-8.
 const ALIKE: &[(&[u8], &[u8], bool)] = &[
     (b"Foo", b"fOO", true),
     (b"a  b", b"\ta\n b ", true),
@@ -29,6 +29,9 @@ const ALIKE: &[(&[u8], &[u8], bool)] = &[
     (b"\xC4\xB1", b"\xC4\xB1", true),
     (b"\xC4\xB1", b"i", false),
     (b"I", b"\xC4\xB1", false),
+    (b"a\x00", b"A\xEF\xBF\xBD", true),
+    (b"\x00\xFF", b"\xEF\xBF\xBD\xFF", true),
+    (b"a\x00", b"a", false),
     (b"a\xFF", b"A\xFF", true),
     (b"a", b"b", false),
     (b"a\\]", b"a]", false),
@@ -156,6 +159,8 @@ const SIZES: &[(&[u8], Sizes)] = &[
     (b"<a<b>", (None, None, None, 0)),
     (b"a(b)c d", (None, Some(5), None, 0)),
     (b"a)b", (None, Some(1), None, 0)),
+    (b"a\x00b c", (None, Some(3), None, 0)),
+    (b"a\x01b c", (None, Some(1), None, 0)),
     (b"a(b", (None, None, None, 0)),
     (b"'a' b", (None, Some(3), Some(3), 0)),
     (b"\"a\\\"\"", (None, Some(5), Some(5), 0)),

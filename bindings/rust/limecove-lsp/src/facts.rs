@@ -112,13 +112,14 @@ fn token(name: Name, is_in_heading: bool) -> Option<usize> {
 }
 
 /// A label as it is compared: each run of white space is a space, none is at an end, and letters are in lower and then in upper case, but for
-/// `ı`. The library compares labels so, and gives none back; tests compare both.
+/// `ı`, and NUL is U+FFFD. The library compares labels so, and gives none back; tests compare both.
 pub fn normalised(label: &str) -> String {
     let words = label.split([' ', '\t', '\n', '\r']);
     let words: Vec<&str> = words.filter(|it| !it.is_empty()).collect();
     let mut normal = String::new();
     for letter in words.join(" ").chars() {
         match letter {
+            '\0' => normal.push(char::REPLACEMENT_CHARACTER),
             'ı' => normal.push(letter),
             _ => normal.extend(letter.to_lowercase().flat_map(char::to_uppercase)),
         }

@@ -532,7 +532,7 @@ fn ask_all(client: &mut Client, uri: &str, text: &str, random: &mut Random) {
 fn labels_are_compared_as_the_library_does() {
     let labels = [
         "a", "A", " a\tb ", "A  B", "ß", "SS", "ẞ", "ΑΓΩ", "αγω", "ς", "σ", "Σ", "é", "É", "i",
-        "İ", "ı", "ﬁ", "FI", "ǆ", "ǅ",
+        "İ", "ı", "ﬁ", "FI", "ǆ", "ǅ", "\0", "\u{FFFD}",
     ];
     for one in labels {
         for other in labels {

@@ -78,7 +78,7 @@ impl<'a> Node<'a> {
 }
 
 /// A label as it is compared: each run of white space is a space, none is at an end, and letters are in lower and then in upper case,
-/// but for `ı`. Of bytes that are no UTF-8 only ASCII letters change.
+/// but for `ı`, and NUL is U+FFFD. Of bytes that are no UTF-8 only ASCII letters change.
 fn normalised(label: &Node<'_>) -> Result<Vec<u8>, Error> {
     let mut written = Text::new();
     written.add_written(label)?;
@@ -90,7 +90,10 @@ fn folded(written: &[u8]) -> Result<Vec<u8>, Error> {
     let words = written.split(|byte| matches!(byte, b' ' | b'\t' | b'\n' | b'\r'));
     for (at, word) in words.filter(|word| !word.is_empty()).enumerate() {
         collapsed.add_bytes(if at > 0 { b" " } else { b"" })?;
-        collapsed.add_bytes(word)?;
+        for (at, part) in word.split(|byte| *byte == 0).enumerate() {
+            collapsed.add_bytes(if at > 0 { b"\xEF\xBF\xBD" } else { b"" })?;
+            collapsed.add_bytes(part)?;
+        }
     }
     let mut collapsed = collapsed.into_bytes();
     let characters = match str::from_utf8(&collapsed) {
