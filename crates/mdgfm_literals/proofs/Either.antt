@@ -1,8 +1,8 @@
 -- What holds of literals that are there.
 use Rattle.std.proofs.Common.{◌≡◌, ℕ, ◌≤◌, Option, Some, None, arith}
 use Rattle.std.specs.Prelude.{IfSome}
-use Rattle.mdgfm_literals.specs.declared.grammar.Found.{Found}
-use Rattle.mdgfm_literals.specs.Grammar.{or_else}
+use Rattle.mdgfm_literals.specs.declared.found.Found.{Found}
+use Rattle.mdgfm_literals.specs.Found.{or_else}
 
 -- the first of two
 pub else-each : (P : Found → Type 0) (first other : Option Found) → IfSome first P → IfSome other P → IfSome (or_else first other) P

@@ -7,9 +7,10 @@ use Rattle.std.specs.List.{AllByRecursion}
 use Rattle.std.specs.Prelude.{◌==◌, ◌&&◌, codes, nat_le, not, slice_get}
 use Rattle.markdown_base.specs.declared.event.Name.{Name}
 use Rattle.markdown_base.specs.declared.event.Name.TheVariants.{GfmAutolinkLiteralEmail, GfmAutolinkLiteralMailto, GfmAutolinkLiteralProtocol, GfmAutolinkLiteralWww, GfmAutolinkLiteralXmpp}
-use Rattle.mdgfm_literals.specs.declared.grammar.Found.{Found}
+use Rattle.mdgfm_literals.specs.declared.found.Found.{Found}
 use Rattle.mdgfm_literals.specs.Bytes.{in_local, passes}
-use Rattle.mdgfm_literals.specs.Grammar.{address_size, begins_domain, email_at, found, is_address, is_www, literal_at, literal_size, mail_at, or_else, protocol_size, size_with, url_at, www_at}
+use Rattle.mdgfm_literals.specs.Found.{found, or_else}
+use Rattle.mdgfm_literals.specs.Grammar.{address_size, begins_domain, email_at, is_address, is_www, literal_at, literal_size, mail_at, protocol_size, size_with, url_at, www_at}
 use Rattle.mdgfm_literals.specs.Laws.{AreLiterals, LiteralsAreLiterals, literal_names}
 use Rattle.mdgfm_literals.specs.Literals.{literals_from, more_passed}
 

@@ -7,10 +7,11 @@ use Rattle.std.specs.Char.{is_ascii_alphabetic, is_ascii_alphanumeric}
 use Rattle.std.specs.List.{prefix_len}
 use Rattle.std.specs.Prelude.{◌==◌, ◌&&◌, ◌||◌, codes, nat_le, not, slice_get, slice_index}
 use Rattle.markdown_base.specs.declared.event.Name.TheVariants as name
-use Rattle.mdgfm_literals.specs.declared.grammar.Found.{Found}
+use Rattle.mdgfm_literals.specs.declared.found.Found.{Found}
 use Rattle.mdgfm_literals.specs.declared.texts.Literal.{Literal}
 use Rattle.mdgfm_literals.specs.Bytes.{begins_with, first_passes, in_host, in_local, is_wide, lower, passes}
-use Rattle.mdgfm_literals.specs.Grammar.{address_size, begins_domain, email_at, found, host_size, is_address, is_host, is_www, literal_at, literal_size, mail_at, may_be_before, or_else, protocol_size, size_with, url_at, www_at}
+use Rattle.mdgfm_literals.specs.Found.{found, or_else}
+use Rattle.mdgfm_literals.specs.Grammar.{address_size, begins_domain, email_at, host_size, is_address, is_host, is_www, literal_at, literal_size, mail_at, may_be_before, protocol_size, size_with, url_at, www_at}
 use Rattle.mdgfm_literals.specs.Literals.{literals_from, more_passed}
 use Rattle.mdgfm_literals.specs.Signs.{begins_both, begins_sign, has_sign}
 

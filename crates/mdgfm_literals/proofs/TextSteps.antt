@@ -2,7 +2,7 @@
 use Rattle.std.proofs.Common.{◌≡◌, ℕ, zero, suc, ◌+◌, ◌-◌, ◌<◌, ◌≤◌, ◌++◌, List, [], ◌∷◌, length, drop, Option, Some, None, refl, sym, ap, ◌∙◌, arith}
 use Rattle.std.proofs.lemmas.List.{append-nil, append_assoc, drop-drop, drop_all, length-drop}
 use Rattle.std.specs.Prelude.{slice_get}
-use Rattle.mdgfm_literals.specs.declared.grammar.Found.{Found}
+use Rattle.mdgfm_literals.specs.declared.found.Found.{Found}
 use Rattle.mdgfm_literals.specs.declared.texts.Literal.{Literal}
 use Rattle.mdgfm_literals.specs.Grammar.{literal_at}
 use Rattle.mdgfm_literals.specs.Literals.{literals_from, more_passed}

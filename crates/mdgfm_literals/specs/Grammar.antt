@@ -1,12 +1,13 @@
 -- Autolink literals (GFM, "Autolinks (extension)"): how long the literal at the front of a text is, if one is there, by the byte before it. Sizes are
 -- of bytes; 0 says that nothing is there. The definitions have no states.
-use Rattle.std.specs.Prelude.{◌≡◌, ◌≤◌, ℕ, zero, suc, ◌+◌, ◌-◌, ◌==◌, ◌&&◌, ◌||◌, not, nat_le, nat_lt, Bool, false, cond, List, [], ◌∷◌, codes, drop, take, length, slice_index, Option, Some, None}
+use Rattle.std.specs.Prelude.{◌≡◌, ◌≤◌, ℕ, zero, suc, ◌+◌, ◌-◌, ◌==◌, ◌&&◌, ◌||◌, not, nat_le, nat_lt, Bool, false, cond, List, [], ◌∷◌, codes, drop, take, length, slice_index, Option, None}
 use Rattle.std.specs.Char.{is_ascii_alphabetic, is_ascii_alphanumeric}
 use Rattle.std.specs.List.{prefix_len}
 use Rattle.markdown_base.specs.declared.event.Name.{Name}
 use Rattle.markdown_base.specs.declared.event.Name.TheVariants as name
-use Rattle.mdgfm_literals.specs.declared.grammar.Found.{Found}
+use Rattle.mdgfm_literals.specs.declared.found.Found.{Found}
 use Rattle.mdgfm_literals.specs.Bytes.{begins_with, count, ends_literal, first_passes, in_domain, in_host, in_local, is_space, is_trailing, is_wide, passes}
+use Rattle.mdgfm_literals.specs.Found.{found, or_else}
 
 -- ---- domains
 
@@ -77,15 +78,6 @@ abbrev pub literal_size : List ℕ → ℕ
 literal_size text = trimmed (take (prefix_len (λ b. not (ends_literal b)) text) text)
 
 -- ---- literals at the front of a text
-
--- a literal of a name, if it has bytes
-abbrev pub found : Name → (size : ℕ) → Option Found
-found name size = cond (size == 0) None (Some (record { size = size; name = name }))
-
--- the first of two that is there
-abbrev pub or_else : Option Found → Option Found → Option Found
-or_else None other = other
-or_else (Some f) other = Some f
 
 -- "at the beginning of a line, after whitespace, or any of the delimiting characters *, _, ~, and ("
 abbrev pub may_be_before : ℕ → Bool

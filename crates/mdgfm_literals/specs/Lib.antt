@@ -1,5 +1,6 @@
 -- grammar
 pub mod Bytes
+pub mod Found
 pub mod Grammar
 -- texts
 pub mod Literals

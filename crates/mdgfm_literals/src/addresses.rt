@@ -6,7 +6,7 @@ ghost use Rattle.mdgfm_literals.specs.Bytes.{first_passes, in_local, passes};
 ghost use Rattle.mdgfm_literals.specs.Grammar.{address_size, email_at, goes_on, host_size, is_host, mail_at, size_with};
 
 use crate::bytes::{begins_with, count, in_host, in_local, local_size};
-use crate::grammar::{Found, literal_of, or_else};
+use crate::found::{Found, literal_of, or_else};
 use markdown_base::event::Name;
 
 /// Whether a part of the domain of an address comes first.

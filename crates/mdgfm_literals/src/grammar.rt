@@ -4,22 +4,14 @@ ghost use Rattle.std.specs.Char.{is_ascii_alphabetic};
 ghost use Rattle.std.specs.List.{prefix_len};
 ghost use Rattle.std.specs.Prelude.{ℕ, ◌≡◌, ◌+◌, ◌-◌, ◌==◌, ◌≤◌, ◌<◌, ◌||◌, Bool, IfSome, length, true};
 ghost use Rattle.mdgfm_literals.specs.Bytes.{first_passes, in_host, is_wide, passes};
-ghost use Rattle.mdgfm_literals.specs.Grammar.{before_behind, closing_before, domain_of, found, is_address, is_www, last_behind, last_of, left, letters_before, literal_at, literal_size, may_be_before, name_before, near, off, or_else, protocol_size, trimmed, url_at, www_at};
+ghost use Rattle.mdgfm_literals.specs.Grammar.{before_behind, closing_before, domain_of, is_address, is_www, last_behind, last_of, left, letters_before, literal_at, literal_size, may_be_before, name_before, near, off, protocol_size, trimmed, url_at, www_at};
 
 use crate::addresses::{email_at, mail_at};
 use crate::bytes::{
     begins_with, count, domain_size, in_host, is_space, is_trailing, is_wide, run_size,
 };
+use crate::found::{Found, literal_of, or_else};
 use markdown_base::event::Name;
-
-/// A literal at the front of a text.
-#[derive(Clone, Copy, PartialEq, Eq, Debug)]
-pub struct Found {
-    /// How many bytes it has.
-    pub size: usize,
-    /// What it is.
-    pub name: Name,
-}
 
 /// The later of two ends of underscores, of which the first is in the segment before. 0 says that there is none.
 fn last_of(before: usize, last: usize) -> usize
@@ -156,29 +148,6 @@ fn literal_size(text: &[u8]) -> usize
     ensures within { result ≤ length text.now }
 {
     trimmed(&text[..run_size(text)])
-}
-
-/// A literal of a name, if it has bytes.
-pub(crate) fn literal_of(name: Name, size: usize) -> Option<Found>
-    ensures found { result ≡ found name size }
-    ensures some { IfSome result (λ f. 1 ≤ f.size) }
-    ensures size { IfSome result (λ f. f.size ≡ size) }
-{
-    if size == 0 {
-        None
-    } else {
-        Some(Found { size, name })
-    }
-}
-
-/// The first of two that is there.
-pub(crate) fn or_else(first: Option<Found>, other: Option<Found>) -> Option<Found>
-    ensures { result ≡ or_else first other }
-{
-    match first {
-        Some(found) => Some(found),
-        None => other,
-    }
 }
 
 /// Whether `www.` may begin behind a byte.

@@ -1,6 +1,6 @@
 use Rattle.std.proofs.Common.{◌≤◌, length, subst, sym}
 use Rattle.std.specs.Prelude.{IfSome}
-use Rattle.mdgfm_literals.specs.declared.grammar.Found.{Found}
+use Rattle.mdgfm_literals.specs.declared.found.Found.{Found}
 use Rattle.mdgfm_literals.proofs.Either.{else-each, size-within}
 use Rattle.mdgfm_literals.proofs.addresses.mail_at.Goals as goal
 

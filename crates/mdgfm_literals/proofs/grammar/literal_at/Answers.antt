@@ -1,7 +1,8 @@
 use Rattle.std.proofs.Common.{◌≤◌, ◌∙◌, length, subst, sym, ap}
 use Rattle.std.specs.Prelude.{IfSome}
-use Rattle.mdgfm_literals.specs.declared.grammar.Found.{Found}
-use Rattle.mdgfm_literals.specs.Grammar.{mail_at, or_else, url_at, www_at}
+use Rattle.mdgfm_literals.specs.declared.found.Found.{Found}
+use Rattle.mdgfm_literals.specs.Found.{or_else}
+use Rattle.mdgfm_literals.specs.Grammar.{mail_at, url_at, www_at}
 use Rattle.mdgfm_literals.proofs.Either.{else-each}
 use Rattle.mdgfm_literals.proofs.grammar.literal_at.Goals as goal
 
