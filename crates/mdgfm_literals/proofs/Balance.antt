@@ -1,5 +1,6 @@
 -- Balanced events: literals pass over them, and they stay balanced.
 use Rattle.std.proofs.Common.{◌≡◌, ℕ, zero, suc, ◌+◌, ◌-◌, ◌≤◌, ◌++◌, Bool, true, false, cond, List, [], ◌∷◌, length, drop, take, refl, sym, ap, subst, ◌∙◌, arith, ne_eqb}
+use Rattle.std.proofs.Math.Bool.{and-false}
 use Rattle.std.proofs.Math.Seq.{drop-append-add, take-append-add}
 use Rattle.std.proofs.lemmas.Bool.Decides.{nat_tests}
 use Rattle.std.proofs.lemmas.List.{append-nil, append_assoc, length-append}
@@ -75,11 +76,7 @@ end-over p n xs zs (span e f us vs is enters exits same bu bv) =
 
 -- no exit enters text
 pub exit-no-text : (depth : ℕ) (f : Event) → f.kind ≡ Exit → is_text depth f ≡ false
-exit-no-text depth f h = ap (λ k. (depth == 0) && (is_enter k && is_plain f.name)) h ∙ by (depth == 0)
-  where
-    by : (b : Bool) → (b && false) ≡ false
-    by true = refl
-    by false = refl
+exit-no-text depth f h = ap (λ k. (depth == 0) && (is_enter k && is_plain f.name)) h ∙ and-false (depth == 0)
 
 deep-no-text : (depth : ℕ) (e : Event) → 1 ≤ depth → is_text depth e ≡ false
 deep-no-text zero e h = absurd (omega (arith, h))

@@ -8,7 +8,7 @@ use Rattle.markdown_base.specs.declared.event.Name.{Name}
 use Rattle.markdown_base.specs.declared.event.Name.TheVariants.{Data}
 use Rattle.markdown_base.specs.declared.event.Point.{Point}
 use Rattle.markdown_base.specs.Virtual.{point}
-use Rattle.markdown_base.proofs.Common.{every-append}
+use Rattle.markdown_base.proofs.Common.{every-append, every-take}
 use Rattle.mdgfm_literals.specs.declared.found.Found.{Found}
 use Rattle.mdgfm_literals.specs.declared.texts.Literal.{Literal}
 use Rattle.mdgfm_literals.specs.Grammar.{literal_at}
@@ -18,11 +18,6 @@ use Rattle.mdgfm_literals.specs.Literals.{literals_from, more_passed}
 use Rattle.mdgfm_literals.specs.Places.{event, later, leaf}
 use Rattle.mdgfm_literals.specs.Stretches.{before_stretch, depth_behind, is_fresh, is_text, literals_between, literals_of, reach, span_end, span_size}
 use Rattle.mdgfm_literals.proofs.LiteralLaws.{literal-has}
-
-take-all : {A : Type 0} (P : A → Type 0) (n : ℕ) (xs : List A) → AllByRecursion P xs → AllByRecursion P (take n xs)
-take-all P zero xs h = tt
-take-all P (suc n) [] h = tt
-take-all P (suc n) (x ∷ xs) h = (h.0, take-all P n xs h.1)
 
 either-all : {A : Type 0} (P : A → Type 0) (b : Bool) (xs ys : List A) → AllByRecursion P xs → AllByRecursion P ys → AllByRecursion P (cond b xs ys)
 either-all P true xs ys h k = h
@@ -97,7 +92,7 @@ module _ (test : Name → Bool) (of_data : test Data ≡ true) (five : AllByRecu
         either-all Passes (is_text depth e) (w.events ++ (here ++ rest)) (e ∷ events_with tab bytes 0 (depth_behind depth e) place ls es)
         (every-append Passes w.events (here ++ rest) p.0
         (every-append Passes here rest
-        (either-all Passes (nat_le w.place.index e.point.index) (e ∷ take n es) (leaf Data w.place last) (k.0, take-all Passes n es k.1) (leaf-passes Data w.place last of_data))
+        (either-all Passes (nat_le w.place.index e.point.index) (e ∷ take n es) (leaf Data w.place last) (k.0, every-take Passes n es k.1) (leaf-passes Data w.place last of_data))
         (with-passes n depth w.place w.left es p.1 k.1)))
         (k.0, with-passes 0 (depth_behind depth e) place ls es h k.1)
 

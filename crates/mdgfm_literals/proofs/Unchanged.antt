@@ -1,5 +1,6 @@
 -- What literals leave as it was.
 use Rattle.std.proofs.Common.{◌≡◌, Bool, true, false, cond, List, [], ◌∷◌, ◌++◌, refl, ap, ◌∙◌, arith, sym}
+use Rattle.std.proofs.Math.Bool.{and-false}
 use Rattle.std.proofs.lemmas.Bool.{false≢true}
 use Rattle.std.specs.List.{list_any}
 use Rattle.std.specs.Prelude.{◌&&◌, ◌||◌}
@@ -48,11 +49,7 @@ fails test (m ∷ ms) n h k = by (same_name n m) refl h (test m) refl k (fails t
 
 -- a span that holds no literal is no text
 no-text : (e : Event) → holds_none e.name ≡ true → is_text 0 e ≡ false
-no-text e h = ap (λ b. is_enter e.kind && b) (fails is_plain (Link ∷ Image ∷ Definition ∷ CodeFencedFence ∷ Resource ∷ Reference ∷ GfmFootnoteCall ∷ GfmFootnoteDefinitionPrefix ∷ []) e.name h refl) ∙ by (is_enter e.kind)
-  where
-    by : (b : Bool) → (b && false) ≡ false
-    by true = refl
-    by false = refl
+no-text e h = ap (λ b. is_enter e.kind && b) (fails is_plain (Link ∷ Image ∷ Definition ∷ CodeFencedFence ∷ Resource ∷ Reference ∷ GfmFootnoteCall ∷ GfmFootnoteDefinitionPrefix ∷ []) e.name h refl) ∙ and-false (is_enter e.kind)
 
 pub links-stay : LinksStay
 links-stay tab bytes e f xs zs enters exits same holds balanced = (
