@@ -6,7 +6,7 @@ ghost use Rattle.mdblock_tables.specs.TablePieces.{cell_name, cell_pieces, conte
 ghost use Rattle.mdblock_tables.specs.Tables.{cut};
 
 use crate::pieces::{Piece, Step, push};
-use crate::tables::{cell_size, content, hyphens, one_if, trimmed};
+use crate::tables::{cell_size, hyphens, one_if, trimmed};
 use markdown_base::event::Name;
 use mdblock_lines::bytes::{behind, front, indent};
 use mdconstructs_loop_counts::Turns;
@@ -95,10 +95,10 @@ fn push_cell<L: Ledger>(
     requires divider { divider ≤ 1 }
     requires closing { closing ≤ 1 }
     ensures pieces { IfOk result (λ _. pieces.new.items ≡ pieces.old.items ++ told (cell_pieces kind divider cell.now closing)) }
-    ensures turns { turns.new ≤ turns.old + 3 * length cell.now + 2 }
+    ensures turns { turns.new ≤ turns.old + 2 * length cell.now + 1 }
 {
     let white = indent(cell, turns);
-    let text = content(cell, turns);
+    let text = trimmed(behind(cell, white), turns);
     let rest = cell.len() - (white + text.len());
     let size = divider + cell.len() + closing;
     push(pieces, Step::Enter, cell_name(kind), size)?;
@@ -132,7 +132,7 @@ fn push_cells<L: Ledger>(
 ) -> Result<(), AllocError>
     requires divider { divider ≤ 1 }
     ensures pieces { IfOk result (λ _. pieces.new.items ≡ pieces.old.items ++ told (row_cells kind divider (cut false row.now))) }
-    ensures turns { turns.new ≤ turns.old + 4 * length row.now + 4 }
+    ensures turns { turns.new ≤ turns.old + 3 * length row.now + 3 }
 {
     if row.is_empty() {
         return push(pieces, Step::Whole, Name::GfmTableCellDivider, divider);
@@ -165,7 +165,7 @@ pub fn row_pieces<L: Ledger>(
     turns: &mut Turns<L>,
 ) -> Result<Vec<Piece>, AllocError>
     ensures pieces { IfOk result (λ pieces. pieces.items ≡ told (row_pieces kind t.now)) }
-    ensures turns { turns.new ≤ turns.old + 5 * length t.now + 5 }
+    ensures turns { turns.new ≤ turns.old + 4 * length t.now + 4 }
 {
     let white = indent(t, turns);
     let line = behind(t, white);

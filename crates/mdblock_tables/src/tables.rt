@@ -75,7 +75,7 @@ pub(crate) fn trimmed<'a, L: Ledger>(t: &'a [u8], turns: &mut Turns<L>) -> &'a [
 }
 
 /// The content of a cell: what is between its dividers, without the white space at both ends.
-pub(crate) fn content<'a, L: Ledger>(t: &'a [u8], turns: &mut Turns<L>) -> &'a [u8]
+fn content<'a, L: Ledger>(t: &'a [u8], turns: &mut Turns<L>) -> &'a [u8]
     ensures value { result.now ≡ content t.now }
     ensures within { indent t.now + length result.now ≤ length t.now }
     ensures turns { turns.new ≤ turns.old + length t.now + 1 }

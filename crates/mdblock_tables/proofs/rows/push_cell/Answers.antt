@@ -1,9 +1,12 @@
-use Rattle.std.proofs.Common.{List, [], ◌∷◌, ◌++◌, ◌∙◌, ◌+◌, ◌-◌, length, ap}
+use Rattle.std.proofs.Common.{List, [], ◌∷◌, ◌++◌, ◌∙◌, ◌+◌, ◌-◌, ◌≡◌, drop, length, ap}
 use Rattle.markdown_base.specs.declared.event.Name.TheVariants as name
+use Rattle.mdconstructs_tables.specs.Breaks.{is_white}
+use Rattle.mdblock_leaf_blocks.specs.LineKinds.{trimmed}
 use Rattle.mdblock_tables.specs.declared.pieces.Piece.{Piece}
 use Rattle.mdblock_tables.specs.declared.pieces.Step.TheVariants.{Enter, Whole, Exit}
 use Rattle.mdblock_tables.specs.Pieces.{piece, told}
 use Rattle.mdblock_tables.specs.TablePieces.{content_within}
+use Rattle.mdblock_tables.specs.Tables.{content}
 use Rattle.mdblock_tables.proofs.PieceLemmas.{adds}
 use Rattle.mdblock_tables.proofs.RowLemmas.{cell_told}
 use Rattle.mdblock_tables.proofs.rows.push_cell.Goals as goal
@@ -16,7 +19,8 @@ returns-clause-pieces g c =
     let t = c.args.cell.now in
     let size = c.args.divider + length t + c.args.closing in
     let w = c.indent-white.result in
-    let text = c.content-text.result.now in
+    let text = c.trimmed-text.result.now in
+    let is : text ≡ content t = c.trimmed-text.ensures.value ∙ ap (trimmed is_white) (c.behind.ensures.value ∙ ap (λ n. drop n t) c.indent-white.ensures.value) in
     let d : List Piece = piece Whole name.GfmTableCellDivider c.args.divider ∷ [] in
     let r : List Piece = piece Whole name.SpaceOrTab (length t - (w + length text)) ∷ [] in
     let l : List Piece = piece Whole name.GfmTableCellDivider c.args.closing ∷ [] in
@@ -36,7 +40,7 @@ returns-clause-pieces g c =
     let back = exit_text ++ (r ++ (l ++ exit)) in
     adds all front (inner ++ back) s4 (adds c.push-4.new.pieces.items inner back c.in_ok-push_content.ensures.pieces s8)
     ∙ (λ i. c.args.pieces.now.items
-    ++ (piece Enter (c.cell_name.ensures i) size ∷ piece Whole name.GfmTableCellDivider c.args.divider ∷ piece Whole name.SpaceOrTab (c.indent-white.ensures.value i) ∷ piece Enter (c.content_name.ensures i) (length (c.content-text.ensures.value i))
-    ∷ (told (content_within k (c.content-text.ensures.value i)) ++ piece Exit (c.content_name-2.ensures i) (length (c.content-text.ensures.value i)) ∷ piece Whole name.SpaceOrTab (length t - (c.indent-white.ensures.value i + length (c.content-text.ensures.value i)))
+    ++ (piece Enter (c.cell_name.ensures i) size ∷ piece Whole name.GfmTableCellDivider c.args.divider ∷ piece Whole name.SpaceOrTab (c.indent-white.ensures.value i) ∷ piece Enter (c.content_name.ensures i) (length (is i))
+    ∷ (told (content_within k (is i)) ++ piece Exit (c.content_name-2.ensures i) (length (is i)) ∷ piece Whole name.SpaceOrTab (length t - (c.indent-white.ensures.value i + length (is i)))
     ∷ piece Whole name.GfmTableCellDivider c.args.closing ∷ piece Exit (c.cell_name-2.ensures i) size ∷ [])))
     ∙ ap (λ x. c.args.pieces.now.items ++ x) (cell_told k c.args.divider t c.args.closing)

@@ -10,7 +10,7 @@ invariant-loop-next g l = record {
   built : l.pieces.items ++ told (cells_pieces l.kind l.before (cut false (drop l.next l.row))) ≡ l.fn.pieces.items ++ told (cells_pieces l.kind l.divider (cut false l.row));
   divider : l.before ≤ 1;
   within : l.next ≤ length l.row + 1;
-  turns : l.turns ≤ l.fn.turns + 4 * l.next;
+  turns : l.turns ≤ l.fn.turns + 3 * l.next;
 }
 
 abbrev pub decreases-loop-next : goal.decreases-loop-next
