@@ -1,5 +1,5 @@
 -- Lemmas on the cells of a line: what is trimmed, and cells one after another.
-use Rattle.std.proofs.Common.{◌≡◌, ℕ, suc, ◌+◌, ◌-◌, ◌<◌, ◌≤◌, Bool, true, false, cond, List, [], ◌∷◌, ◌++◌, length, take, drop, get_or, reverse, refl, sym, ap, ◌∙◌, arith, length-append, length-drop}
+use Rattle.std.proofs.Common.{◌≡◌, ℕ, suc, ◌+◌, ◌-◌, ◌<◌, ◌≤◌, Bool, true, false, cond, List, [], ◌∷◌, ◌++◌, length, take, drop, get_or, reverse, refl, sym, ap, subst, ◌∙◌, arith, length-append, length-drop}
 use Rattle.std.specs.Prelude.{◌==◌, nat_lt}
 use Rattle.std.specs.List.{prefix_len}
 use Rattle.std.proofs.lemmas.Bool.{ltb-true, ltb-false}
@@ -92,6 +92,10 @@ pub record IsNext (t : List ℕ) (next size : ℕ) : Type 0 where
   pub inside : next < length t
   pub size_is : size ≡ cell_size false (drop next t)
   pub within : size ≤ length (drop next t)
+
+-- by the bytes that are left
+pub is_next : (t : List ℕ) (next size : ℕ) (rest : List ℕ) → next < length t → rest ≡ drop next t → size ≡ cell_size false rest → size ≤ length rest → IsNext t next size
+is_next t next size rest inside is size_is within = record { inside = inside; size_is = size_is ∙ ap (cell_size false) is; within = subst (λ l. size ≤ length l) is within }
 
 module _ (t : List ℕ) (next size : ℕ) (at : IsNext t next size) where
   abbrev xs : List ℕ

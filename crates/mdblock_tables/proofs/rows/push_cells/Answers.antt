@@ -1,11 +1,11 @@
-use Rattle.std.proofs.Common.{List, ◌++◌, ◌∙◌, ◌+◌, ◌≡◌, ◌≤◌, false, cond, length, take, drop, ap, sym, subst, arith, append-nil, append_assoc}
+use Rattle.std.proofs.Common.{List, ◌++◌, ◌∙◌, ◌+◌, ◌≡◌, false, cond, length, take, drop, ap, sym, subst, arith, append-nil, append_assoc}
 use Rattle.std.specs.Prelude.{◌==◌, IfOk, true}
 use Rattle.std.proofs.lemmas.List.{drop_all}
 use Rattle.mdblock_tables.specs.declared.pieces.Piece.{Piece}
 use Rattle.mdblock_tables.specs.Pieces.{told}
 use Rattle.mdblock_tables.specs.TablePieces.{cell_pieces, cells_pieces}
-use Rattle.mdblock_tables.specs.Tables.{cell_size, cut}
-use Rattle.mdblock_tables.proofs.CellLemmas.{IsNext}
+use Rattle.mdblock_tables.specs.Tables.{cut}
+use Rattle.mdblock_tables.proofs.CellLemmas.{is_next}
 use Rattle.mdblock_tables.proofs.RowLemmas.{cells_step, row_none, row_some}
 use Rattle.mdblock_tables.proofs.rows.push_cells.Goals as goal
 
@@ -21,12 +21,7 @@ loop-next-preserved g c =
     let next = c.loop-next.next in
     let before = c.loop-next.before in
     let size = c.cell_size-size.result in
-    let at : IsNext row next size =
-    record {
-      inside = omega arith;
-      size_is = c.cell_size-size.ensures.value ∙ ap (cell_size false) c.behind-rest.ensures.value;
-      within = subst (λ l. size ≤ length l) c.behind-rest.ensures.value c.cell_size-size.ensures.within;
-    } in
+    let at = is_next row next size _ (omega arith) c.behind-rest.ensures.value c.cell_size-size.ensures.value c.cell_size-size.ensures.within in
     let cell = c.front.ensures.value ∙ ap (take size) c.behind-rest.ensures.value in
     let end = c.closing.ensures.value ∙ ap (λ l. cond (size + 1 == length l) 1 0) c.behind-rest.ensures.value in
     let rest : List Piece = told (cells_pieces k 1 (cut false (drop (next + (size + 1)) row))) in

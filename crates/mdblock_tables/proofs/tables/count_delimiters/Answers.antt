@@ -1,6 +1,6 @@
-use Rattle.std.proofs.Common.{◌≡◌, ◌∙◌, ◌≤◌, ◌+◌, ℕ, List, ap, sym, arith, subst, take, drop, false, length}
-use Rattle.mdblock_tables.specs.Tables.{alignment_of, alignments_of, cell_size, content, contents, counted, cut}
-use Rattle.mdblock_tables.proofs.CellLemmas.{IsNext, contents_end, contents_step}
+use Rattle.std.proofs.Common.{◌≡◌, ◌∙◌, ◌+◌, ℕ, List, ap, sym, arith, take, drop, false}
+use Rattle.mdblock_tables.specs.Tables.{alignment_of, alignments_of, content, contents, counted, cut}
+use Rattle.mdblock_tables.proofs.CellLemmas.{contents_end, contents_step, is_next}
 use Rattle.mdblock_tables.proofs.DelimiterLemmas.{counted_more, counted_none}
 use Rattle.mdblock_tables.proofs.tables.count_delimiters.Goals as goal
 
@@ -9,12 +9,7 @@ loop-next-preserved g c =
     let row = c.args.row.now in
     let next = c.loop-next.next in
     let size = c.cell_size-size.result in
-    let at : IsNext row next size =
-    record {
-      inside = omega arith;
-      size_is = c.cell_size-size.ensures.value ∙ ap (cell_size false) c.behind-rest.ensures.value;
-      within = subst (λ l. size ≤ length l) c.behind-rest.ensures.value c.cell_size-size.ensures.within;
-    } in
+    let at = is_next row next size _ (omega arith) c.behind-rest.ensures.value c.cell_size-size.ensures.value c.cell_size-size.ensures.within in
     let cell = c.content-cell.ensures.value ∙ ap content (c.front.ensures.value ∙ ap (take size) c.behind-rest.ensures.value) in
     let is = ap alignment_of (sym cell) ∙ sym c.alignment_of.ensures.value ∙ c.in-Some.is in
     let more : List (List ℕ) = contents (cut false (drop (next + (size + 1)) row)) in
@@ -30,12 +25,7 @@ returns-in-None-clause-value g c =
     let row = c.args.row.now in
     let next = c.loop-next.next in
     let size = c.cell_size-size.result in
-    let at : IsNext row next size =
-    record {
-      inside = omega arith;
-      size_is = c.cell_size-size.ensures.value ∙ ap (cell_size false) c.behind-rest.ensures.value;
-      within = subst (λ l. size ≤ length l) c.behind-rest.ensures.value c.cell_size-size.ensures.within;
-    } in
+    let at = is_next row next size _ (omega arith) c.behind-rest.ensures.value c.cell_size-size.ensures.value c.cell_size-size.ensures.within in
     let cell = c.content-cell.ensures.value ∙ ap content (c.front.ensures.value ∙ ap (take size) c.behind-rest.ensures.value) in
     let is = ap alignment_of (sym cell) ∙ sym c.alignment_of.ensures.value ∙ c.in-None.is in
     let more : List (List ℕ) = contents (cut false (drop (next + (size + 1)) row)) in
