@@ -47,8 +47,8 @@ CITED = re.compile(r"Rattle\.(\w+)\.(specs|proofs)((?:\.\w+)*)")
 NAME = re.compile(r"[A-Za-z_][\w-]{2,}")
 # Sentences with numbers of wrong bodies
 COUNTED = {
-    "docs/maintaining/GATE.md": "`wrong-bodies/LIST` has all {all} wrong bodies: `rt ci` tries {gate}, `wrong-bodies/try.sh` {prover}, and `wrong-bodies/by_tests.py` {tests}. They break {promises} promises that have a name.",
-    "docs/READING.md": "{outside} more wrong bodies are tried outside the gate. `wrong-bodies/LIST` has the commit at which each was last rejected, or `-` if it was not since its code changed.",
+    "docs/maintaining/GATE.md": "`wrong-bodies/LIST` has all {all} wrong bodies: `wrong-bodies/try.sh` tries {prover}, and `wrong-bodies/by_tests.py` {tests}. They break {promises} promises that have a name.",
+    "docs/READING.md": "All {outside} wrong bodies are tried outside the gate, those of promises before each handing in. `wrong-bodies/LIST` has the commit at which each was last rejected, or `-` if it was not since its code changed.",
 }
 failed = []
 
