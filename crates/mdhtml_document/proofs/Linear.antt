@@ -1,7 +1,7 @@
 -- The HTML of a document is in proportion to it: events that go forward have no more room than the document has bytes, and no definition says more than
 -- it has room for.
 use Rattle.std.proofs.Common.{◌≡◌, ℕ, suc, ◌+◌, ◌-◌, ◌*◌, ◌<◌, ◌≤◌, List, [], ◌∷◌, ◌++◌, length, take, drop, ap, sym, refl, subst, ◌∙◌, arith, Option, None, Some}
-use Rattle.std.proofs.lemmas.Bool.{and_parts, false≢true}
+use Rattle.std.proofs.lemmas.Bool.{and_parts}
 use Rattle.std.proofs.lemmas.Bool.Decides.{nat_tests}
 use Rattle.std.proofs.lemmas.List.{append-nil, drop_at, length-append, length-drop, length-take-le}
 use Rattle.std.specs.Option.{option_map_or}
@@ -15,6 +15,7 @@ use Rattle.markdown_base.specs.declared.event.Kind.TheVariants.{Enter, Exit}
 use Rattle.markdown_base.specs.declared.event.Name.{Name}
 use Rattle.markdown_base.specs.declared.event.Name.TheVariants as name
 use Rattle.markdown_base.specs.Events.{IsBalanced, is_enter, same_name}
+use Rattle.markdown_base.proofs.Facts.Kinds.{enter-is}
 use Rattle.mddocument_link_targets.specs.declared.strings.Reading.TheVariants.{Decoded}
 use Rattle.mddocument_link_targets.specs.declared.targets.Parts.{Parts}
 use Rattle.mddocument_link_targets.specs.declared.targets.Target.{Target}
@@ -222,10 +223,6 @@ exit-at (Span d f s behind) zs (suc at) e es h there below enter =
     (λ k is more. exit-at behind zs k e es h.3 more (omega (arith, below, long, is)) enter)
 
 -- ---- definitions
-
-enter-is : (k : Kind) → is_enter k ≡ true → k ≡ Enter
-enter-is Enter h = refl
-enter-is Exit h = absurd (false≢true h)
 
 module _ (bytes : List ℕ) (tab : ℕ) (events : List Event) (balanced : IsBalanced events) (go : GoForward tab (length bytes) 0 events) where
   -- the parts of a definition, by the events behind its enter
