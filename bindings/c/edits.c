@@ -158,6 +158,8 @@ static size_t edit(struct limecove_document *document, size_t sections) {
         answer = limecove_document_replace(document, from, from - 1, with, with_len, &change);
         CHECK(answer.code == LIMECOVE_NO_SUCH_BYTES && memcmp(&change, &before, sizeof change) == 0);
     }
+    answer = limecove_document_replace(document, from, len + 1, with, with_len, &change);
+    CHECK(answer.code == LIMECOVE_NO_SUCH_BYTES && memcmp(&change, &before, sizeof change) == 0);
     struct section *old = sections_of(document, sections);
     CHECK(len - (to - from) + with_len <= room);
     memcpy(expected, bytes, from);
@@ -181,13 +183,15 @@ static void not_open(struct limecove_document *document) {
     struct limecove_record record;
     struct limecove_changed change;
     struct limecove_place place;
-    size_t number;
+    size_t number = 7;
     memset(&record, 0xa5, sizeof record);
+    memset(&change, 0xa5, sizeof change);
+    memset(&place, 0xa5, sizeof place);
     CHECK(document->is_open == 0);
-    CHECK(limecove_document_replace(document, 0, 0, NULL, 0, &change).code == LIMECOVE_NOT_OPEN);
+    CHECK(limecove_document_replace(document, 0, 0, NULL, 0, &change).code == LIMECOVE_NOT_OPEN && untouched(&change, sizeof change));
     CHECK(limecove_document_events(document, 0, 0, &record, 1).code == LIMECOVE_NOT_OPEN && untouched(&record, sizeof record));
-    CHECK(limecove_document_place(document, 0, 0, &place) == LIMECOVE_NOT_OPEN);
-    CHECK(limecove_document_index(document, 0, 0, 0, &number) == LIMECOVE_NOT_OPEN);
+    CHECK(limecove_document_place(document, 0, 0, &place) == LIMECOVE_NOT_OPEN && untouched(&place, sizeof place));
+    CHECK(limecove_document_index(document, 0, 0, 0, &number) == LIMECOVE_NOT_OPEN && number == 7);
     CHECK(limecove_document_others(document, 0, &number, 1) == 0);
     CHECK(limecove_document_section_at(document, 0) == 0 && limecove_document_start_of(document, 0) == 0);
     limecove_document_close(document);

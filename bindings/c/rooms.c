@@ -170,7 +170,8 @@ static int has(const char *document, uint64_t constructs, uint32_t name) {
     return 0;
 }
 
-/* Each construct has its bit: without it there is none, and with all there is one. */
+/* Each construct has its bit: without it there is none, and with all there is one. So there is with that of a quote, a list, a definition or
+ * strikethrough alone, and for a label with those of its start and its end. */
 static void constructs_have_bits(void) {
     static const struct {
         const char *document;
@@ -203,6 +204,12 @@ static void constructs_have_bits(void) {
     for (size_t i = 0; i < sizeof each / sizeof *each; i++) {
         CHECK(has(each[i].document, LIMECOVE_ALL_CONSTRUCTS, each[i].name));
         CHECK(!has(each[i].document, LIMECOVE_ALL_CONSTRUCTS - each[i].bit, each[i].name));
+        uint64_t alone = each[i].bit;
+        if (alone == LIMECOVE_LABEL_START_LINK || alone == LIMECOVE_LABEL_START_IMAGE)
+            alone += LIMECOVE_LABEL_END;
+        else if (alone == LIMECOVE_LABEL_END)
+            alone += LIMECOVE_LABEL_START_LINK;
+        CHECK(each[i].bit < LIMECOVE_BLOCK_QUOTE || has(each[i].document, alone, each[i].name));
         bits += each[i].bit;
     }
     CHECK(bits == LIMECOVE_ALL_CONSTRUCTS);

@@ -16,8 +16,6 @@ mod echo;
 
 // HTML: a document as HTML
 pub mod html;
-#[cfg(test)]
-mod html_tests;
 
 // records: events as records; the numbers of names; the loop that writes records
 mod record;
@@ -30,8 +28,6 @@ mod reading;
 // documents: documents that a caller edits
 pub mod document;
 pub mod editing;
-#[cfg(test)]
-mod editing_tests;
 pub mod edits;
 pub mod held;
 mod keeping;
