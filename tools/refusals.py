@@ -5,7 +5,7 @@ and so on, up to a given number. Prints a row for each: how many tests passed, a
 usage: tools/refusals.py [COUNT]     up to this number; without it, 20
 
 Some tests must pass whichever allocation fails: the modules no_memory, and the test that memory is no fault of the reader. The other
-tests of the program may fail, as they compare without showing. Any other test passes, ends in AllocError or Memory, or shows "out of
+tests of the program may fail, as they compare without showing. Any other test passes, ends for want of memory and says so, or shows "out of
 memory" in what it compares. The status is 1 if anything else is seen. Needs rt.
 """
 

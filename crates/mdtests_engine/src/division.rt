@@ -180,9 +180,8 @@ const PUT: &[(&[Row], &[u8], usize, &[Row], &str)] = &[
 ];
 
 #[test]
-fn child_is_divided_over_its_chunks(rt: HostRuntime) -> Result<(), AllocError> {
+fn child_is_divided_over_its_chunks(rt: HostRuntime) {
     for &(list, bytes, index, child, want) in PUT {
-        assert_shown(&rt, put(rt.alloc(), list, bytes, index, child), want)?;
+        assert_shown(&rt, put(rt.alloc(), list, bytes, index, child), want);
     }
-    Ok(())
 }

@@ -48,62 +48,33 @@ fn edited(alloc: Global, events: &mut Vec<Event>, map: &mut EditMap) -> Result<S
     Ok(text)
 }
 
-/// Three edits at index 2, of six events.
-fn three_edits(alloc: Global) -> Result<EditMap, AllocError>
+/// Edits of six events: three at index 2, one that is none, an addition in front of twenty-four that are there, and one at the end.
+fn small_edits(alloc: Global) -> Result<EditMap, AllocError>
     ensures { IfOk result (λ map. AreDisjoint 0 map 6) }
 {
     let mut map = EditMap::new(alloc);
     map.add(2, 2, vec![in alloc; event(91)]?)?;
     map.add(2, 0, vec![in alloc; event(92)]?)?;
     map.add_before(2, 0, vec![in alloc; event(93)]?)?;
+    map.add(0, 0, Vec::new(alloc))?;
+    map.add(5, 0, Vec::from_array(alloc, [event(9); 24])?)?;
+    map.add_before(5, 0, vec![in alloc; event(8)]?)?;
+    map.add(6, 0, vec![in alloc; event(94)]?)?;
     Ok(map)
 }
 
-/// Six events, with three edits at index 2.
-fn edits_at_one_index(alloc: Global) -> Result<String, AllocError> {
+/// Six events, with these edits.
+fn six_edited(alloc: Global) -> Result<String, AllocError> {
+    let mut map = small_edits(alloc)?;
     let events = [event(1), event(2), event(3), event(4), event(5), event(6)];
-    let mut map = three_edits(alloc)?;
     let mut events = Vec::from_array(alloc, events)?;
     edited(alloc, &mut events, &mut map)
 }
 
-/// An edit that is none, and an addition at the end, of two events.
-fn addition_at_end(alloc: Global) -> Result<EditMap, AllocError>
-    ensures { IfOk result (λ map. AreDisjoint 0 map 2) }
-{
-    let mut map = EditMap::new(alloc);
-    map.add(0, 0, Vec::new(alloc))?;
-    map.add(2, 0, vec![in alloc; event(91)]?)?;
-    Ok(map)
-}
-
-/// An addition in front of twenty-four that are there, of two events.
-fn addition_before_many(alloc: Global) -> Result<EditMap, AllocError>
-    ensures { IfOk result (λ map. AreDisjoint 0 map 2) }
-{
-    let mut map = EditMap::new(alloc);
-    map.add(1, 0, Vec::from_array(alloc, [event(9); 24])?)?;
-    map.add_before(1, 0, vec![in alloc; event(8)]?)?;
-    Ok(map)
-}
-
-/// Two events, with these edits.
-fn two_edited(alloc: Global, mut map: EditMap) -> Result<String, AllocError>
-    requires { AreDisjoint 0 map 2 }
-{
-    let mut events = Vec::from_array(alloc, [event(1), event(2)])?;
-    edited(alloc, &mut events, &mut map)
-}
-
 #[test]
-fn small_edits_are_made(rt: HostRuntime) -> Result<(), AllocError> {
-    let alloc = rt.alloc();
-    assert_shown(&rt, edits_at_one_index(alloc), "1 2 93 91 92 5 6 ")?;
-    let at_end = addition_at_end(alloc)?;
-    assert_shown(&rt, two_edited(alloc, at_end), "1 2 91 ")?;
-    let want = "1 8 9 9 9 9 9 9 9 9 9 9 9 9 9 9 9 9 9 9 9 9 9 9 9 9 2 ";
-    let before_many = addition_before_many(alloc)?;
-    assert_shown(&rt, two_edited(alloc, before_many), want)
+fn small_edits_are_made(rt: HostRuntime) {
+    let want = "1 2 93 91 92 5 8 9 9 9 9 9 9 9 9 9 9 9 9 9 9 9 9 9 9 9 9 9 9 9 9 6 94 ";
+    assert_shown(&rt, six_edited(rt.alloc()), want);
 }
 
 /// The enter of the span that is `apart` spans before span k.
@@ -146,35 +117,25 @@ fn chains(alloc: Global, count: usize, apart: usize) -> Result<Vec<Event>, Alloc
     Ok(events)
 }
 
-/// Two chains of two spans, one within the stretch of the other, with two events added in front of most.
-fn chains_moved(alloc: Global) -> Result<String, AllocError> {
-    let mut events = chains(alloc, 4, 2)?;
+/// Two chains of spans, one within the stretch of the other, with two events added in front of most, and without the fourth span.
+fn chains_edited(alloc: Global) -> Result<String, AllocError> {
+    let mut events = chains(alloc, 5, 2)?;
     let mut map = EditMap::new(alloc);
+    map.add(6, 2, Vec::new(alloc))?;
     map.add(1, 0, vec![in alloc; event(91), event(92)]?)?;
-    map.consume(&mut events)?;
-    shown(alloc, events.as_slice())
-}
-
-/// Two chunks in a chain; the second one is removed.
-fn end_removed(alloc: Global) -> Result<String, AllocError> {
-    let mut events = chains(alloc, 2, 1)?;
-    let mut map = EditMap::new(alloc);
-    map.add(2, 2, Vec::new(alloc))?;
     map.consume(&mut events)?;
     shown(alloc, events.as_slice())
 }
 
 /// Chains are moved, though they interleave; an end that is removed is none.
 #[test]
-fn ends_of_links_are_moved_or_removed(rt: HostRuntime) -> Result<(), AllocError> {
+fn ends_of_links_are_moved_or_removed(rt: HostRuntime) {
     let want =
         "enter Data 1:1 (0+0) Text None Some(6); enter Data 1:91 (0+0); enter Data 1:92 (0+0); \
-        enter Data 1:2 (0+0); enter Data 1:1 (0+0) Text None Some(8); enter Data 1:4 (0+0); \
-        enter Data 1:1 (0+0) Text Some(0) None; enter Data 1:6 (0+0); enter Data 1:1 (0+0) Text Some(4) None; \
-        enter Data 1:8 (0+0)";
-    assert_shown(&rt, chains_moved(rt.alloc()), want)?;
-    let want = "enter Data 1:1 (0+0) Text None None; enter Data 1:2 (0+0)";
-    assert_shown(&rt, end_removed(rt.alloc()), want)
+        enter Data 1:2 (0+0); enter Data 1:1 (0+0) Text None None; enter Data 1:4 (0+0); \
+        enter Data 1:1 (0+0) Text Some(0) Some(8); enter Data 1:6 (0+0); enter Data 1:1 (0+0) Text Some(6) None; \
+        enter Data 1:10 (0+0)";
+    assert_shown(&rt, chains_edited(rt.alloc()), want);
 }
 
 /// Two events are added in front of each span of a chain of a hundred, the last span first.
@@ -189,18 +150,25 @@ fn chain_edited(alloc: Global) -> Result<Vec<Event>, AllocError> {
     Ok(events)
 }
 
+/// Whether these are the events of such a chain: of four, the third one is linked to the third ones before and after it.
+fn are_edited(events: &[Event]) -> bool {
+    for (index, event) in events.iter().enumerate() {
+        let previous = index.checked_sub(4);
+        let next = index.checked_add(4).filter(|next| *next < 400);
+        let link = if index % 4 == 2 {
+            linked(previous, next).link
+        } else {
+            None
+        };
+        if event.point.column != [91, 92, 1, index / 2 + 1][index % 4] || event.link != link {
+            return false;
+        }
+    }
+    events.len() == 400
+}
+
 #[test]
 fn edits_from_the_last_to_the_first_are_made(rt: HostRuntime) {
     let events = chain_edited(rt.alloc()).expect(&rt, "memory");
-    assert!(rt; events.len() == 400);
-    for (index, event) in events.iter().enumerate() {
-        assert!(rt; event.point.column == [91, 92, 1, index / 2 + 1][index % 4]);
-        if index % 4 == 2 {
-            let previous = index.checked_sub(4);
-            let next = index.checked_add(4).filter(|next| *next < 400);
-            assert!(rt; event.link == linked(previous, next).link);
-        } else {
-            assert!(rt; event.link.is_none());
-        }
-    }
+    assert!(rt; are_edited(events.as_slice()));
 }

@@ -10,13 +10,13 @@ use markdown::util::location::Location;
 use markdown::util::slice::Slice;
 use std::alloc::Global;
 
-#[test]
-fn edits_that_are_none_take_no_memory(rt: HostRuntime) {
-    let mut map = EditMap::new(rt.alloc());
-    let mut events = Vec::new(rt.alloc());
-    assert!(rt; map.add(0, 0, Vec::new(rt.alloc())).is_ok());
-    assert!(rt; map.add_before(0, 0, Vec::new(rt.alloc())).is_ok());
-    assert!(rt; map.consume(&mut events).is_ok());
+/// Whether edits that are none are made.
+fn nothing_is_edited(alloc: Global) -> bool {
+    let mut map = EditMap::new(alloc);
+    let mut events = Vec::new(alloc);
+    map.add(0, 0, Vec::new(alloc)).is_ok()
+        && map.add_before(0, 0, Vec::new(alloc)).is_ok()
+        && map.consume(&mut events).is_ok()
 }
 
 /// Whether a place is found in the lines of a document, if there was memory for the lines.
@@ -31,8 +31,9 @@ fn finds_lines(alloc: Global) -> bool {
 }
 
 #[test]
-fn looking_at_what_is_there_takes_no_memory(rt: HostRuntime) {
+fn looking_and_editing_nothing_takes_no_memory(rt: HostRuntime) {
     let events = white_space_and_data();
+    assert!(rt; nothing_is_edited(rt.alloc()));
     assert!(rt; !at_first_paragraph_of_list_item(&events, 3, &Constructs::gfm()));
     assert!(rt; finds_lines(rt.alloc()));
     assert!(rt; Slice::from_indices(b"abc", 1, 3).len() == 2);

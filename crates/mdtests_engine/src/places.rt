@@ -1,9 +1,8 @@
 //! Places of small texts, their points and the slices between them, with tab sizes from 1 to 16, worked by hand.
 
-ghost use Rattle.markdown.specs.Virtual.{IsWithinLimit};
 ghost use Rattle.std.specs.Prelude.{◌≡◌, ◌≤◌, ◌*◌, ◌<◌, length};
 
-use crate::shown::assert_shown;
+use crate::shown::{assert_holds, assert_shown};
 use markdown::configuration::TabSize;
 use markdown::event::Point;
 use markdown::tokenizer::{cuts_every, point_at};
@@ -34,12 +33,6 @@ fn behind_the_tab(n: usize) -> Point
     Point::START.shift_to(b"a\tb", tab_size, 2)
 }
 
-#[test]
-fn points_move_to_tab_stops(rt: HostRuntime) {
-    assert!(rt; behind_the_tab(4) == at(1, 5, 2, 0) && behind_the_tab(8) == at(1, 9, 2, 0));
-    assert!(rt; TabSize::new(0).is_none() && every(16).get() == 16);
-}
-
 /// A document, the tab size, a place, and the line and the column of its point.
 const POINTS: &[(&[u8], usize, (usize, usize), Option<(usize, usize)>)] = &[
     (b"a\r\nb", 4, (1, 0), Some((1, 2))),
@@ -50,51 +43,58 @@ const POINTS: &[(&[u8], usize, (usize, usize), Option<(usize, usize)>)] = &[
     (b"a\tb", 8, (1, 6), Some((1, 8))),
 ];
 
-#[test]
-fn places_have_points(rt: HostRuntime) {
+/// Whether each of these places has its point.
+fn places_have_points() -> bool {
     for &(bytes, n, place, want) in POINTS {
-        assert!(rt; 1 <= n && n <= 16 && bytes.len() < 9);
-        assert!(rt; point_at(bytes, every(n), place) == point_of(place, want));
+        if n < 1 || n > 16 || point_at(bytes, every(n), place) != point_of(place, want) {
+            return false;
+        }
     }
+    true
 }
 
-/// The cuts of a text after each `n` virtual bytes.
-fn cuts(alloc: Global, bytes: &[u8], n: usize) -> Result<String, AllocError>
-    requires limit { IsWithinLimit 4 bytes.now }
-    requires some { 0 < n }
-{
-    let tab_size = TabSize::default();
-    let cuts = cuts_every(alloc, bytes, tab_size, n)?;
+#[test]
+fn points_move_to_tab_stops(rt: HostRuntime) {
+    assert!(rt; behind_the_tab(4) == at(1, 5, 2, 0) && behind_the_tab(8) == at(1, 9, 2, 0));
+    assert!(rt; TabSize::new(0).is_none() && every(16).get() == 16);
+    assert!(rt; places_have_points());
+}
+
+/// The cuts of a text of at most 9 bytes after each `n` virtual bytes, with this tab size.
+fn cuts(alloc: Global, bytes: &[u8], tab: usize, n: usize) -> Result<String, AllocError> {
+    if tab < 1 || tab > 16 || n == 0 || bytes.len() > 9 {
+        return Err(AllocError);
+    }
+    let cuts = cuts_every(alloc, bytes, every(tab), n)?;
     format!(in alloc; "{cuts:?}")
 }
 
-/// Bytes, after how many virtual bytes each they are cut, and the places of the cuts. The last row has a tab directly before a
-/// tab stop, which is one virtual byte.
-const CUTS: &[(&[u8], usize, &str)] = &[
+/// Bytes, the tab size, after how many virtual bytes each they are cut, and the places of the cuts. The last three rows have a tab directly
+/// before a tab stop, which is one virtual byte, and tabs of other sizes.
+const CUTS: &[(&[u8], usize, usize, &str)] = &[
     (
         b"a\tb\r\n\tc",
+        4,
         1,
         "[(1, 0), (1, 1), (1, 2), (2, 0), (4, 0), (5, 0), (5, 1), (5, 2), (5, 3), (6, 0)]",
     ),
-    (b"a\tb\r\n\tc", 3, "[(1, 2), (5, 0), (5, 3)]"),
-    (b"a\tb\r\n\tc", 11, "[]"),
-    (b"abc\td", 1, "[(1, 0), (2, 0), (3, 0), (4, 0)]"),
+    (b"a\tb\r\n\tc", 4, 3, "[(1, 2), (5, 0), (5, 3)]"),
+    (b"a\tb\r\n\tc", 4, 11, "[]"),
+    (b"abc\td", 4, 1, "[(1, 0), (2, 0), (3, 0), (4, 0)]"),
+    (b"a\tb", 1, 1, "[(1, 0), (2, 0)]"),
+    (
+        b"a\tb",
+        8,
+        1,
+        "[(1, 0), (1, 1), (1, 2), (1, 3), (1, 4), (1, 5), (1, 6), (2, 0)]",
+    ),
 ];
 
 #[test]
-fn texts_are_cut(rt: HostRuntime) -> Result<(), AllocError> {
-    for &(bytes, n, want) in CUTS {
-        assert!(rt; n > 0 && bytes.len() < 9);
-        assert_shown(&rt, cuts(rt.alloc(), bytes, n), want)?;
+fn texts_are_cut(rt: HostRuntime) {
+    for &(bytes, tab, n, want) in CUTS {
+        assert_shown(&rt, cuts(rt.alloc(), bytes, tab, n), want);
     }
-    Ok(())
-}
-
-#[test]
-fn tabs_are_cut_by_their_size(rt: HostRuntime) -> Result<(), AllocError> {
-    assert!(rt; cuts_every(rt.alloc(), b"a\tb", every(1), 1)?.len() == 2);
-    assert!(rt; cuts_every(rt.alloc(), b"a\tb", every(8), 1)?.len() == 8);
-    Ok(())
 }
 
 /// What a slice counts, its length, and what it is written as.
@@ -149,25 +149,20 @@ const BETWEEN: &[(&[u8], usize, (usize, usize), (usize, usize), &str)] = &[
 ];
 
 #[test]
-fn slices_lie_between_places(rt: HostRuntime) -> Result<(), AllocError> {
+fn slices_write_spaces_and_bytes(rt: HostRuntime) {
     for &(bytes, n, from, to, want) in BETWEEN {
         assert!(rt; 1 <= n && n <= 16 && bytes.len() < 10);
-        assert_shown(&rt, between(rt.alloc(), bytes, n, from, to), want)?;
+        assert_shown(&rt, between(rt.alloc(), bytes, n, from, to), want);
     }
-    Ok(())
-}
-
-#[test]
-fn slices_write_spaces_and_bytes(rt: HostRuntime) -> Result<(), AllocError> {
     let slice = Slice {
         bytes: "x\u{e9}".as_bytes(),
         before: 3,
         after: 2,
     };
     let want = "3 and 2 of 8: '   x\u{e9}  '";
-    assert_shown(&rt, seen(rt.alloc(), &slice), want)?;
+    assert_shown(&rt, seen(rt.alloc(), &slice), want);
     let slice = Slice::from_indices(b"abc", 1, 2);
-    assert_shown(&rt, seen(rt.alloc(), &slice), "0 and 0 of 1: 'b'")
+    assert_shown(&rt, seen(rt.alloc(), &slice), "0 and 0 of 1: 'b'");
 }
 
 /// The points of the offsets 0 to 5 of a document, those that it has.
@@ -190,28 +185,29 @@ const LOCATIONS: &[(&[u8], &str)] = &[
     (b"", " 1:1 (0)"),
 ];
 
-#[test]
-fn offsets_have_points(rt: HostRuntime) -> Result<(), AllocError> {
-    for &(bytes, want) in LOCATIONS {
-        assert_shown(&rt, points(rt.alloc(), bytes), want)?;
-    }
-    Ok(())
+/// Whether the last of many lines has its point.
+fn many_lines_have_points(alloc: Global) -> Result<bool, AllocError> {
+    let location = Location::new(alloc, &[b'\n'; 1000])?;
+    Ok(location.to_point(999) == Some(unist::Point::new(1000, 1, 999)))
 }
 
-#[test]
-fn many_lines_have_points(rt: HostRuntime) -> Result<(), AllocError> {
-    let location = Location::new(rt.alloc(), &[b'\n'; 1000])?;
-    assert!(rt; location.to_point(999) == Some(unist::Point::new(1000, 1, 999)));
-    Ok(())
-}
-
-#[test]
-fn parts_have_offsets_and_points(rt: HostRuntime) -> Result<(), AllocError> {
-    assert!(rt; Location::relative_to_absolute(&[], 0) == None);
-    assert!(rt; Location::relative_to_absolute(&[(0, 10), (3, 20)], 4) == Some(21));
-    let text = Location::new(rt.alloc(), b"> a\n> b")?;
+/// Whether offsets into parts of a document have offsets and points in it.
+fn parts_have_points(alloc: Global) -> Result<bool, AllocError> {
+    let text = Location::new(alloc, b"> a\n> b")?;
     let point = text.relative_to_point(&[(0, 2), (2, 6)], 2);
-    assert!(rt; point == Some(unist::Point::new(2, 3, 6)));
-    assert!(rt; text.relative_to_point(&[], 0) == None);
-    Ok(())
+    Ok(
+        point == Some(unist::Point::new(2, 3, 6))
+            && text.relative_to_point(&[], 0) == None
+            && Location::relative_to_absolute(&[], 0) == None
+            && Location::relative_to_absolute(&[(0, 10), (3, 20)], 4) == Some(21),
+    )
+}
+
+#[test]
+fn offsets_have_points(rt: HostRuntime) {
+    for &(bytes, want) in LOCATIONS {
+        assert_shown(&rt, points(rt.alloc(), bytes), want);
+    }
+    assert_holds(&rt, many_lines_have_points(rt.alloc()), "of many lines");
+    assert_holds(&rt, parts_have_points(rt.alloc()), "of parts");
 }

@@ -1,5 +1,6 @@
 //! Whether the chains of a list can be read, and whether one is in the first paragraph of a list item.
 
+use crate::shown::assert_holds;
 use markdown::configuration::{Constructs, TabSize};
 use markdown::event::{Content, Name};
 use markdown::subtokenize::{at_first_paragraph_of_list_item, ready};
@@ -34,15 +35,15 @@ const LISTS: &[(&[Row], Option<Content>, bool)] = &[
 ];
 
 #[test]
-fn chains_that_fit_can_be_read(rt: HostRuntime) -> Result<(), AllocError> {
+fn chains_that_fit_can_be_read(rt: HostRuntime) {
     for &(list, filter, want) in LISTS {
-        assert!(rt; is_ready(rt.alloc(), list, b"ab\ncd", filter)? == want);
+        let found = is_ready(rt.alloc(), list, b"ab\ncd", filter);
+        assert!(rt; found.expect(&rt, "memory") == want);
     }
-    Ok(())
 }
 
-/// `depth` nested spans of one name, and in the innermost one a chunk without text.
-fn nested(alloc: Global, depth: usize) -> Result<Vec<Row>, AllocError> {
+/// Whether `depth` nested spans of one name, and in the innermost one a chunk without text, are ready.
+fn nested_are_ready(alloc: Global, depth: usize) -> Result<bool, AllocError> {
     let mut rows = Vec::new(alloc);
     for _ in 0..depth {
         rows.push(Enter(Name::BlockQuote, START))?;
@@ -51,14 +52,16 @@ fn nested(alloc: Global, depth: usize) -> Result<Vec<Row>, AllocError> {
     for _ in 0..depth {
         rows.push(Exit(Name::BlockQuote, START))?;
     }
-    Ok(rows)
+    is_ready(alloc, rows.as_slice(), b"", None)
 }
 
 #[test]
-fn spans_may_be_deep(rt: HostRuntime) -> Result<(), AllocError> {
-    let rows = nested(rt.alloc(), 300)?;
-    assert!(rt; is_ready(rt.alloc(), rows.as_slice(), b"", None)?);
-    Ok(())
+fn spans_may_be_deep(rt: HostRuntime) {
+    assert_holds(
+        &rt,
+        nested_are_ready(rt.alloc(), 300),
+        "300 spans are ready",
+    );
 }
 
 /// Whether a chain is in the first paragraph of a list item. Returns `None` if the list is not balanced, or ends before the
@@ -101,9 +104,9 @@ const ITEMS: &[(&[Row], usize, bool, bool)] = &[
 ];
 
 #[test]
-fn first_paragraph_of_a_list_item_is_found(rt: HostRuntime) -> Result<(), AllocError> {
+fn first_paragraph_of_a_list_item_is_found(rt: HostRuntime) {
     for &(list, index, tasks, want) in ITEMS {
-        assert!(rt; first_paragraph(rt.alloc(), list, index, tasks)? == Some(want));
+        let found = first_paragraph(rt.alloc(), list, index, tasks);
+        assert!(rt; found.expect(&rt, "memory") == Some(want));
     }
-    Ok(())
 }

@@ -84,7 +84,7 @@ fn begun(alloc: Global, parse_state: &ParseState<Types>) -> Result<String, Alloc
 
 /// Spans and choices begin, and each resolver is registered once, in order.
 #[test]
-fn spans_choices_and_resolvers_begin(rt: HostRuntime) -> Result<(), AllocError> {
+fn spans_choices_and_resolvers_begin(rt: HostRuntime) {
     let options = ParseOptions::default();
     let parse_state = ParseState {
         bytes: b"a",
@@ -93,5 +93,5 @@ fn spans_choices_and_resolvers_begin(rt: HostRuntime) -> Result<(), AllocError> 
     };
     let want =
         "enter Paragraph 1:1 (0+0); enter Data 1:1 (0+0) Text None None; in order: true; 302 open, 50 resolvers";
-    assert_shown(&rt, begun(rt.alloc(), &parse_state), want)
+    assert_shown(&rt, begun(rt.alloc(), &parse_state), want);
 }

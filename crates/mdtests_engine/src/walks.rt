@@ -11,7 +11,6 @@ use markdown::subtokenize::{link, link_to};
 use markdown::util::skip::{opt, opt_back, to, to_back};
 use markdown::util::slice::Position;
 use mdtests_base::shown::{at, shown};
-use std::alloc::AllocError;
 
 fn event(kind: Kind, name: Name) -> Event
     ensures is { result.kind ≡ kind }
@@ -48,21 +47,16 @@ fn line_ending() -> [Event; 2]
     ]
 }
 
-#[test]
-fn spans_are_skipped_and_found(rt: HostRuntime) {
+/// Whether spans are skipped, forward and back, and found.
+fn spans_are_found() -> bool {
     let events = white_space_and_data();
-    let both = [Name::SpaceOrTab, Name::Data];
-    for (index, want) in [
-        (opt(&events, 0, &[Name::SpaceOrTab]), 2),
-        (opt_back(&events, 3, &[Name::Data]), 1),
-        (opt_back(&events, 3, &both), 0),
-        (opt_back(&line_ending(), 1, &[Name::LineEnding]), 0),
-        (to(&events, 0, &[Name::Data]), 2),
-        (to_back(&events, 3, &[Name::SpaceOrTab]), 1),
-        (to(&line_ending(), 0, &[Name::Data]), 2),
-    ] {
-        assert!(rt; index == want);
-    }
+    opt(&events, 0, &[Name::SpaceOrTab]) == 2
+        && opt_back(&events, 3, &[Name::Data]) == 1
+        && opt_back(&events, 3, &[Name::SpaceOrTab, Name::Data]) == 0
+        && opt_back(&line_ending(), 1, &[Name::LineEnding]) == 0
+        && to(&events, 0, &[Name::Data]) == 2
+        && to_back(&events, 3, &[Name::SpaceOrTab]) == 1
+        && to(&line_ending(), 0, &[Name::Data]) == 2
 }
 
 const ENTER: Event = Event {
@@ -82,23 +76,29 @@ const EXIT: Event = Event {
     ..ENTER
 };
 
-#[test]
-fn chunks_are_linked(rt: HostRuntime) -> Result<(), AllocError> {
-    let want =
-        "Data 1:1 (0+0) Text None Some(2) to 1:1 (0+0); Data 1:1 (0+0) Text Some(0) None to 1:1 (0+0)";
-    let mut events = [ENTER, EXIT, ENTER, EXIT];
-    link_to(&mut events, 0, 2);
-    assert_shown(&rt, shown(rt.alloc(), &events), want)?;
-    let mut events = [ENTER, EXIT, ENTER, EXIT];
-    link(&mut events, 2);
-    assert_shown(&rt, shown(rt.alloc(), &events), want)
-}
-
-#[test]
-fn exits_have_enters(rt: HostRuntime) {
+/// Whether an exit has the enter before it.
+fn exit_has_its_enter() -> bool {
     let end = Event {
         point: at(1, 3, 2, 0),
         ..EXIT
     };
-    assert!(rt; Position::from_exit_event(&[ENTER, end], 1).to_indices() == (0, 2));
+    Position::from_exit_event(&[ENTER, end], 1).to_indices() == (0, 2)
+}
+
+#[test]
+fn spans_are_walked_over(rt: HostRuntime) {
+    assert!(rt; spans_are_found());
+    assert!(rt; exit_has_its_enter());
+}
+
+#[test]
+fn chunks_are_linked(rt: HostRuntime) {
+    let want =
+        "Data 1:1 (0+0) Text None Some(2) to 1:1 (0+0); Data 1:1 (0+0) Text Some(0) None to 1:1 (0+0)";
+    let mut events = [ENTER, EXIT, ENTER, EXIT];
+    link_to(&mut events, 0, 2);
+    assert_shown(&rt, shown(rt.alloc(), &events), want);
+    let mut events = [ENTER, EXIT, ENTER, EXIT];
+    link(&mut events, 2);
+    assert_shown(&rt, shown(rt.alloc(), &events), want);
 }
