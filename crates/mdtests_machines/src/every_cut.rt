@@ -150,15 +150,28 @@ const READINGS: &[(&[Reader], &[u8], usize, &[usize])] = &[
     (READERS_OF_TEXT, b"a`<\\\n", 4, &[2, 25, 225, 1750, 3125]),
 ];
 
-#[test]
-fn no_cut_leaves_a_trace(rt: HostRuntime) -> Result<(), AllocError> {
-    for &(readers, letters, tab, readings) in READINGS {
-        let tab = TabSize::new(tab).ok_or(AllocError)?;
-        for (size, each) in readings.iter().enumerate() {
-            let same = same_of_size(rt.alloc(), readers, letters, tab, size)?;
-            let want = each.saturating_mul(readers.len());
-            assert_eq!(rt; same, want, "of size {size} with tabs of {tab:?}");
+/// The first size of which documents are not read as often as is said here, if there is one.
+fn wrong_size(
+    alloc: Global,
+    readers: &[Reader],
+    letters: &[u8],
+    tab: usize,
+    readings: &[usize],
+) -> Result<Option<usize>, AllocError> {
+    let tab = TabSize::new(tab).ok_or(AllocError)?;
+    for (size, each) in readings.iter().enumerate() {
+        let same = same_of_size(alloc, readers, letters, tab, size)?;
+        if same != each.saturating_mul(readers.len()) {
+            return Ok(Some(size));
         }
     }
-    Ok(())
+    Ok(None)
+}
+
+#[test]
+fn no_cut_leaves_a_trace(rt: HostRuntime) {
+    for &(readers, letters, tab, readings) in READINGS {
+        let wrong = wrong_size(rt.alloc(), readers, letters, tab, readings);
+        assert_eq!(rt; wrong.expect(&rt, "memory"), None, "with tabs of {tab}");
+    }
 }

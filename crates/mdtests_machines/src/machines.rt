@@ -4,7 +4,7 @@
 ghost use Rattle.markdown.specs.Virtual.{IsWithinLimit};
 ghost use Rattle.std.specs.Prelude.{◌+◌, ◌*◌, ◌<◌};
 
-use crate::shown::assert_shown;
+use crate::shown::{assert_holds, assert_shown};
 use markdown::configuration::ParseOptions;
 use markdown::state::Name;
 use markdown::tokenizer::cuts_every;
@@ -16,27 +16,27 @@ use mdtests_base::shown::shown;
 use std::alloc::{AllocError, Global};
 
 #[test]
-fn words_and_tags_are_data_or_refused(rt: HostRuntime) -> Result<(), AllocError> {
+fn words_and_tags_are_data_or_refused(rt: HostRuntime) {
     let start = Name::TextStart;
     let read = lines_by(rt.alloc(), &Words {}, start, b" a  #b", 99, false);
     let want =
         "SpaceOrTab 1:1 (0+0) to 1:2 (1+0); Data 1:2 (1+0) to 1:3 (2+0); SpaceOrTab 1:3 (2+0) to 1:5 (4+0); \
         HeadingAtxSequence 1:5 (4+0) to 1:6 (5+0); Data 1:6 (5+0) to 1:7 (6+0)";
-    assert_shown(&rt, read, want)?;
+    assert_shown(&rt, read, want);
     let read = lines_by(rt.alloc(), &Words {}, start, b"a   b", 99, false);
-    assert_shown(&rt, read, "a third blank in a row (limecove:words)")
+    assert_shown(&rt, read, "a third blank in a row (limecove:words)");
 }
 
 /// Resolvers wrap the data, if there is any, though the document is cut after each byte.
 #[test]
-fn data_is_wrapped(rt: HostRuntime) -> Result<(), AllocError> {
+fn data_is_wrapped(rt: HostRuntime) {
     let wrap = Wrap { refuse: false };
     let read = lines_by(rt.alloc(), &wrap, Name::TextStart, b"", 1, true);
-    assert_shown(&rt, read, "Paragraph 1:1 (0+0) to 1:1 (0+0)")?;
+    assert_shown(&rt, read, "Paragraph 1:1 (0+0) to 1:1 (0+0)");
     let read = lines_by(rt.alloc(), &wrap, Name::TextStart, b"ab", 1, true);
     let want =
         "enter Paragraph 1:1 (0+0); CodeTextData 1:1 (0+0) to 1:3 (2+0); exit Paragraph 1:3 (2+0)";
-    assert_shown(&rt, read, want)
+    assert_shown(&rt, read, want);
 }
 
 /// The events of a document that is read as text, cut after each `cut` virtual bytes.
@@ -52,23 +52,25 @@ fn lines_of_text(alloc: Global, bytes: &[u8], cut: usize) -> Result<String, Allo
     }
 }
 
-/// The events of a part, this many times, by the machine of words or as text.
-fn lines_of_many(
+/// Whether the events of a part, this many times, by the machine of words or as text, end so.
+fn many_end_so(
     alloc: Global,
     part: &[u8],
     count: usize,
     words: bool,
-) -> Result<String, AllocError> {
+    end: &str,
+) -> Result<bool, AllocError> {
     let text = repeated(alloc, b"", part, count)?;
     let bytes = text.as_slice();
     if bytes.len() > 9999 {
         return Err(AllocError);
     }
-    if words {
-        lines_by(alloc, &Words {}, Name::TextStart, bytes, 9999, false)
+    let made = if words {
+        lines_by(alloc, &Words {}, Name::TextStart, bytes, 9999, false)?
     } else {
-        lines_of_text(alloc, bytes, 9999)
-    }
+        lines_of_text(alloc, bytes, 9999)?
+    };
+    Ok(made.as_str().ends_with(end))
 }
 
 /// A part, how many times it is read, whether by the machine of words, and how its events end. An angle bracket that begins no
@@ -91,10 +93,8 @@ const MANY: &[(&[u8], usize, bool, &str)] = &[
 
 /// Texts may be long, and have many choices or tags.
 #[test]
-fn long_texts_are_read(rt: HostRuntime) -> Result<(), AllocError> {
+fn long_texts_are_read(rt: HostRuntime) {
     for &(part, count, words, end) in MANY {
-        let made = lines_of_many(rt.alloc(), part, count, words)?;
-        assert!(rt; made.as_str().ends_with(end));
+        assert_holds(&rt, many_end_so(rt.alloc(), part, count, words, end), end);
     }
-    Ok(())
 }

@@ -238,12 +238,11 @@ const LISTS: &[(&[Row], &[u8], Reader, &str)] = &[
 ];
 
 #[test]
-fn children_are_put_in_place_of_their_chunks(rt: HostRuntime) -> Result<(), AllocError> {
+fn children_are_put_in_place_of_their_chunks(rt: HostRuntime) {
     for &(list, bytes, reader, want) in LISTS {
         assert!(rt; bytes.len() < 9);
-        assert_shown(&rt, with_children(rt.alloc(), list, bytes, reader), want)?;
+        assert_shown(&rt, with_children(rt.alloc(), list, bytes, reader), want);
     }
-    Ok(())
 }
 
 /// A chunk of text and one of a string, one behind the other.
@@ -319,10 +318,10 @@ fn texts_and_strings(alloc: Global, list: &[Row], bytes: &[u8]) -> Result<String
 }
 
 #[test]
-fn strings_are_read_after_texts(rt: HostRuntime) -> Result<(), AllocError> {
+fn strings_are_read_after_texts(rt: HostRuntime) {
     let read = texts_and_strings(rt.alloc(), &TEXT_AND_STRING, b"`a`b");
     let want = "done: false, notes: 0, definitions:\n\
         enter CodeText 1:1 (0+0); CodeTextSequence 1:1 (0+0) to 1:2 (1+0); CodeTextData 1:2 (1+0) to 1:3 (2+0); \
         CodeTextSequence 1:3 (2+0) to 1:4 (3+0); exit CodeText 1:4 (3+0); Data 1:4 (3+0) to 1:5 (4+0)";
-    assert_shown(&rt, read, want)
+    assert_shown(&rt, read, want);
 }
