@@ -135,7 +135,7 @@ pub fn behind_takes_five_calls_a_byte()
 
 /// The data of a line of one byte is taken back, and its paragraph stays, however the document is cut.
 #[test]
-fn attempts_stand_behind_enters(rt: HostRuntime) -> Result<(), AllocError> {
+fn attempts_stand_behind_enters(rt: HostRuntime) {
     let want = "enter Paragraph 1:1 (0+0); Data 1:1 (0+0) to 1:2 (1+0); exit Paragraph 1:3 (2+0); \
         LineEnding 1:3 (2+0) to 2:1 (3+0); Paragraph 2:1 (3+0) to 2:2 (4+0)";
     for cut in 1..4 {
@@ -147,7 +147,6 @@ fn attempts_stand_behind_enters(rt: HostRuntime) -> Result<(), AllocError> {
             cut,
             false,
         );
-        assert_shown(&rt, read, want)?;
+        assert_shown(&rt, read, want);
     }
-    Ok(())
 }

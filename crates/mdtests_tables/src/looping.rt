@@ -96,10 +96,9 @@ pub fn looks_and_rounds_may_be_late()
 
 /// It comes to the end of each document, however that is cut.
 #[test]
-fn attempts_that_save_nothing_go_round(rt: HostRuntime) -> Result<(), AllocError> {
+fn attempts_that_save_nothing_go_round(rt: HostRuntime) {
     for cut in 1..4 {
         let read = lines_by(rt.alloc(), &Looping {}, Name::TextStart, b"abc", cut, false);
-        assert_shown(&rt, read, "")?;
+        assert_shown(&rt, read, "");
     }
-    Ok(())
 }

@@ -99,7 +99,7 @@ fn replace_all<'a>(
 /// The second resolver sees the paragraph of the first, so the block quote comes in its place. With the edit of the first still to
 /// be made it would see no event, and the block quote would come behind the paragraph.
 #[test]
-fn second_resolver_sees_the_edit_of_the_first(rt: HostRuntime) -> Result<(), AllocError> {
+fn second_resolver_sees_the_edit_of_the_first(rt: HostRuntime) {
     let read = lines_by(rt.alloc(), &Replacing {}, Name::TextStart, b"a", 1, true);
-    assert_shown(&rt, read, "BlockQuote 1:2 (1+0) to 1:2 (1+0)")
+    assert_shown(&rt, read, "BlockQuote 1:2 (1+0) to 1:2 (1+0)");
 }

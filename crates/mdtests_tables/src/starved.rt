@@ -91,7 +91,7 @@ const TWO_BYTES: &str = "Data 1:1 (0+0) to 1:2 (1+0); Data 1:2 (1+0) to 1:3 (2+0
 
 /// The third call meets the end.
 #[test]
-fn refused_state_ends_a_run(rt: HostRuntime) -> Result<(), AllocError> {
+fn refused_state_ends_a_run(rt: HostRuntime) {
     for at in 0..4 {
         let want = if at < 3 { "out of memory" } else { TWO_BYTES };
         let read = lines_by(
@@ -102,9 +102,8 @@ fn refused_state_ends_a_run(rt: HostRuntime) -> Result<(), AllocError> {
             99,
             false,
         );
-        assert_shown(&rt, read, want)?;
+        assert_shown(&rt, read, want);
     }
-    Ok(())
 }
 
 /// Reads all chains of a list, whatever their content. Returns the result, and then the list.
@@ -161,12 +160,11 @@ const READ: &str = "done: false, notes: 0, definitions:\n\
     Data 2:3 (6+0) to 2:4 (7+0); exit Paragraph 2:4 (7+0); exit BlockQuote 2:4 (7+0)";
 
 #[test]
-fn refused_child_leaves_the_list(rt: HostRuntime) -> Result<(), AllocError> {
+fn refused_child_leaves_the_list(rt: HostRuntime) {
     for at in 0..5 {
         let want = if at < 4 { AS_BEFORE } else { READ };
-        assert_shown(&rt, read(rt.alloc(), &QUOTE, b"> a\n> b", 4, at), want)?;
+        assert_shown(&rt, read(rt.alloc(), &QUOTE, b"> a\n> b", 4, at), want);
     }
-    Ok(())
 }
 
 /// A chain of each content.
@@ -206,9 +204,8 @@ const READS: &[(&[Row], &[u8], usize, &str)] = &[
 ];
 
 #[test]
-fn chains_of_all_contents_are_read(rt: HostRuntime) -> Result<(), AllocError> {
+fn chains_of_all_contents_are_read(rt: HostRuntime) {
     for &(list, bytes, tab, want) in READS {
-        assert_shown(&rt, read(rt.alloc(), list, bytes, tab, 99), want)?;
+        assert_shown(&rt, read(rt.alloc(), list, bytes, tab, 99), want);
     }
-    Ok(())
 }
