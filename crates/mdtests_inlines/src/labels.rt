@@ -37,22 +37,16 @@ const ALIKE: &[(&[u8], &[u8], bool)] = &[
     (b"a\\]", b"a]", false),
 ];
 
-#[test]
-fn labels_that_are_the_same_are_defined(rt: HostRuntime) -> Result<(), AllocError> {
-    let alloc = rt.alloc();
-    for (defined, asked, is_same) in ALIKE {
-        let mut labels = Labels::new(alloc);
-        labels.define(alloc, defined)?;
-        assert_eq!(rt; labels.contains(alloc, asked)?, *is_same);
-    }
-    Ok(())
+/// Whether a label defines another one.
+fn defines(alloc: Global, defined: &[u8], asked: &[u8]) -> Result<bool, AllocError> {
+    let mut labels = Labels::new(alloc);
+    labels.define(alloc, defined)?;
+    labels.contains(alloc, asked)
 }
 
-#[test]
-fn normal_forms_have_upper_case(rt: HostRuntime) -> Result<(), AllocError> {
-    let normal = normalised(rt.alloc(), b" one\n\ttwo ")?;
-    assert_eq!(rt; normal.as_slice(), b"ONE TWO".as_slice());
-    Ok(())
+/// Whether a label has this normal form.
+fn is_normal(alloc: Global, label: &[u8], want: &[u8]) -> Result<bool, AllocError> {
+    Ok(normalised(alloc, label)?.as_slice() == want)
 }
 
 /// Texts, how many definitions they begin with, and where what is left begins.
@@ -66,22 +60,19 @@ const FRONTS: &[(&[u8], usize, usize)] = &[
     (b"a\n[b]: /u", 0, 0),
 ];
 
-#[test]
-fn definitions_stand_at_the_front(rt: HostRuntime) {
-    for (text, count, end) in FRONTS {
-        let front = definitions_in(text);
-        assert_eq!(rt; front.count, *count);
-        assert_eq!(rt; front.end, *end);
-    }
+/// Whether a text begins with so many definitions, and what is left begins here.
+fn has_front(text: &[u8], count: usize, end: usize) -> bool {
+    let front = definitions_in(text);
+    front.count == count && front.end == end
 }
 
-/// A label with this many letters, each two bytes or one.
-fn letters(alloc: Global, letter: &[u8], count: usize) -> Result<Vec<u8>, AllocError> {
+/// Whether so many letters, each two bytes or one, are a label.
+fn are_label(alloc: Global, letter: &[u8], count: usize) -> Result<bool, AllocError> {
     let mut label = Vec::new(alloc);
     for _ in 0..count {
         label.extend_from_slice(letter)?;
     }
-    Ok(label)
+    Ok(is_label(label.as_slice()))
 }
 
 /// What may stand between the brackets of a label, and what may not: nothing, white space alone, a bracket that is not escaped.
@@ -98,22 +89,28 @@ const LABELS: &[(&[u8], bool)] = &[
     (b"\\\\]", false),
 ];
 
-/// A label has at most 999 characters.
+/// Letters, how many of them, and whether they are a label: it has at most 999 characters.
+const LONG: &[(&[u8], usize, bool)] = &[
+    (b"a", 999, true),
+    (b"a", 1000, false),
+    (b"\xC3\xA4", 999, true),
+    (b"\xC3\xA4", 1000, false),
+];
+
 #[test]
-fn labels_are_short_and_have_no_brackets(rt: HostRuntime) -> Result<(), AllocError> {
+fn labels_are_read_and_compared(rt: HostRuntime) {
+    let alloc = rt.alloc();
+    for (defined, asked, is_same) in ALIKE {
+        assert!(rt; defines(alloc, defined, asked).expect(&rt, "memory") == *is_same);
+    }
+    let normal = is_normal(alloc, b" one\n\ttwo ", b"ONE TWO");
+    assert!(rt; normal.expect(&rt, "memory"));
     for (bytes, is_one) in LABELS {
-        assert_eq!(rt; is_label(bytes), *is_one);
+        assert!(rt; is_label(bytes) == *is_one);
     }
-    for (letter, count, is_one) in [
-        (b"a".as_slice(), 999, true),
-        (b"a".as_slice(), 1000, false),
-        (b"\xC3\xA4".as_slice(), 999, true),
-        (b"\xC3\xA4".as_slice(), 1000, false),
-    ] {
-        let label = letters(rt.alloc(), letter, count)?;
-        assert_eq!(rt; is_label(label.as_slice()), is_one);
+    for (letter, count, is_one) in LONG {
+        assert!(rt; are_label(alloc, letter, *count).expect(&rt, "memory") == *is_one);
     }
-    Ok(())
 }
 
 /// The size of the label, the destination and the title that a text begins with, if it begins with one, and of white space.
@@ -171,13 +168,6 @@ const SIZES: &[(&[u8], Sizes)] = &[
     (b" \n b", (None, None, None, 3)),
     (b"\n\nb", (None, None, None, 1)),
 ];
-
-#[test]
-fn parts_of_links_have_their_sizes(rt: HostRuntime) {
-    for (text, want) in SIZES {
-        assert_eq!(rt; sizes(text), *want);
-    }
-}
 
 /// A stretch of a text, as tests write it: the index of its first byte, and its size.
 type Written = (usize, usize);
@@ -243,14 +233,23 @@ fn counted(bytes: &[u8]) -> Found {
     counted_from::<Brand>(bytes, Blank::new(1))
 }
 
+/// Whether a text begins with a definition of these parts, counted or not, and with no resource.
+fn has_definition(text: &[u8], want: Option<(Written, Written, Option<Written>, usize)>) -> bool {
+    let (definition, front, resource, is_label) = counted(text);
+    definition_at(text).map(parts_of) == want
+        && definition.map(parts_of) == want
+        && front.count == if want.is_some() { 1 } else { 0 }
+        && resource.is_none()
+        && !is_label
+}
+
 #[test]
 fn definitions_have_their_parts(rt: HostRuntime) {
+    for (text, count, end) in FRONTS {
+        assert!(rt; has_front(text, *count, *end));
+    }
     for (text, want) in DEFINITIONS {
-        assert_eq!(rt; definition_at(text).map(parts_of), *want);
-        let (definition, front, resource, is_label) = counted(text);
-        assert_eq!(rt; definition.map(parts_of), *want);
-        assert_eq!(rt; front.count, if want.is_some() { 1 } else { 0 });
-        assert!(rt; resource.is_none() && !is_label);
+        assert!(rt; has_definition(text, *want));
     }
 }
 
@@ -282,12 +281,21 @@ const RESOURCES: &[(&[u8], Option<(Option<Written>, Option<Written>, usize)>)] =
     (b" (/uri)", None),
 ];
 
+/// Whether a text begins with a resource of these parts, counted or not, and with no definition.
+fn has_resource(text: &[u8], want: Option<(Option<Written>, Option<Written>, usize)>) -> bool {
+    let (definition, front, resource, _) = counted(text);
+    resource_at(text).map(parts_within) == want
+        && resource.map(parts_within) == want
+        && definition.is_none()
+        && front.end == 0
+}
+
 #[test]
-fn resources_have_their_parts(rt: HostRuntime) {
+fn parts_of_links_are_found(rt: HostRuntime) {
+    for (text, want) in SIZES {
+        assert!(rt; sizes(text) == *want);
+    }
     for (text, want) in RESOURCES {
-        assert_eq!(rt; resource_at(text).map(parts_within), *want);
-        let (definition, front, resource, _) = counted(text);
-        assert_eq!(rt; resource.map(parts_within), *want);
-        assert!(rt; definition.is_none() && front.end == 0);
+        assert!(rt; has_resource(text, *want));
     }
 }

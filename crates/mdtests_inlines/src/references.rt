@@ -23,37 +23,35 @@ const NAMES: &[(&str, Option<(char, Option<char>)>)] = &[
     ("", None),
 ];
 
-#[test]
-fn names_are_found(rt: HostRuntime) {
-    for (name, characters) in NAMES {
-        assert_eq!(rt; find(name.as_bytes()), *characters);
-    }
-}
-
 /// Digits and their base, and the character of their number.
+const NUMBERS: &[(&str, u32, char)] = &[
+    ("35", 10, '#'),
+    ("1234", 10, '\u{4D2}'),
+    ("992", 10, '\u{3E0}'),
+    ("0", 10, '\u{FFFD}'),
+    ("0000000", 10, '\u{FFFD}'),
+    ("1114111", 10, '\u{10FFFF}'),
+    ("1114112", 10, '\u{FFFD}'),
+    ("9999999", 10, '\u{FFFD}'),
+    ("4294967331", 10, '\u{FFFD}'),
+    ("22", 16, '"'),
+    ("D06", 16, '\u{D06}'),
+    ("cab", 16, '\u{CAB}'),
+    ("0", 16, '\u{FFFD}'),
+    ("D7FF", 16, '\u{D7FF}'),
+    ("D800", 16, '\u{FFFD}'),
+    ("dfff", 16, '\u{FFFD}'),
+    ("E000", 16, '\u{E000}'),
+    ("10FFFF", 16, '\u{10FFFF}'),
+    ("FFFFFF", 16, '\u{FFFD}'),
+];
+
 #[test]
-fn numbers_are_characters(rt: HostRuntime) {
-    for (found, want) in [
-        (numeric("35", 10), '#'),
-        (numeric("1234", 10), '\u{4D2}'),
-        (numeric("992", 10), '\u{3E0}'),
-        (numeric("0", 10), '\u{FFFD}'),
-        (numeric("0000000", 10), '\u{FFFD}'),
-        (numeric("1114111", 10), '\u{10FFFF}'),
-        (numeric("1114112", 10), '\u{FFFD}'),
-        (numeric("9999999", 10), '\u{FFFD}'),
-        (numeric("4294967331", 10), '\u{FFFD}'),
-        (numeric("22", 16), '"'),
-        (numeric("D06", 16), '\u{D06}'),
-        (numeric("cab", 16), '\u{CAB}'),
-        (numeric("0", 16), '\u{FFFD}'),
-        (numeric("D7FF", 16), '\u{D7FF}'),
-        (numeric("D800", 16), '\u{FFFD}'),
-        (numeric("dfff", 16), '\u{FFFD}'),
-        (numeric("E000", 16), '\u{E000}'),
-        (numeric("10FFFF", 16), '\u{10FFFF}'),
-        (numeric("FFFFFF", 16), '\u{FFFD}'),
-    ] {
-        assert_eq!(rt; found, want);
+fn names_and_numbers_are_characters(rt: HostRuntime) {
+    for (name, characters) in NAMES {
+        assert!(rt; find(name.as_bytes()) == *characters);
+    }
+    for (digits, base, want) in NUMBERS {
+        assert!(rt; numeric(digits, *base) == *want);
     }
 }
