@@ -3,7 +3,7 @@
 ghost use Rattle.std.specs.Prelude.{◌≡◌, ◌≤◌, ◌+◌, ◌*◌, ◌<◌, ◌^◌, length};
 ghost use Rattle.markdown_base.specs.Virtual.{IsWithinLimit};
 
-use crate::shown::assert_shown;
+use crate::shown::{assert_holds, assert_shown};
 use markdown_base::configuration::{Constructs, TabSize};
 use markdown_base::event::{Content, Event, Name, Point};
 use mdblock_containers::ahead::{Ahead, aheads_of};
@@ -51,8 +51,8 @@ const ITEM: Container = Container {
     is_blank: false,
 };
 
-#[test]
-fn open_containers_are_cut(rt: HostRuntime) {
+/// Whether open containers are cut into first ones and others.
+fn containers_are_cut() -> bool {
     let stack = [
         Open {
             container: QUOTE,
@@ -64,11 +64,10 @@ fn open_containers_are_cut(rt: HostRuntime) {
         },
     ];
     let (first, rest) = (first_of(&stack, 1), rest_of(&stack, 1));
-    assert!(rt;
-        first.iter().all(|open| open.container.is_quote)
-            && rest.iter().all(|open| !open.container.is_quote)
-    );
-    assert_eq!(rt; (first.len(), rest.len()), (1, 1));
+    first.len() == 1
+        && rest.len() == 1
+        && first.iter().all(|open| open.container.is_quote)
+        && !rest.iter().any(|open| open.container.is_quote)
 }
 
 /// Lines, whether a paragraph may go on before each, how many containers begin in it, and the columns of their prefixes. A thematic break is no
@@ -119,29 +118,44 @@ fn begun_in(
     begun_from::<Brand>(number, in_paragraph, line, begun, Blank::new(1))
 }
 
-#[test]
-fn containers_begin_in_lines(rt: HostRuntime) -> Result<(), AllocError> {
-    let mut begun = Vec::new(rt.alloc());
-    for (line, in_paragraph, many, want) in BEGINNING {
-        let columns = begun_in(2, *in_paragraph, line, &mut begun)?;
-        assert_eq!(rt; (begun.len(), columns), (*many, *want));
-    }
-    Ok(())
+/// Whether so many containers begin with a line, with prefixes of these columns.
+fn begin_so(
+    alloc: Global,
+    line: &[u8],
+    in_paragraph: bool,
+    many: usize,
+    want: usize,
+) -> Result<bool, AllocError> {
+    let mut begun = Vec::new(alloc);
+    let columns = begun_in(2, in_paragraph, line, &mut begun)?;
+    Ok(begun.len() == many && columns == want)
 }
 
-/// An item goes on with the list of the item whose place it takes, if both have the same marker (CommonMark, 5.3).
-#[test]
-fn items_with_one_marker_are_a_list(rt: HostRuntime) -> Result<(), AllocError> {
+/// Lines behind an item of the list of line 7, and the list of the first container that begins with each. An item goes on with the list of the
+/// item whose place it takes, if both have the same marker (CommonMark, 5.3).
+const LISTS: &[(&[u8], usize)] = &[(b"- a", 7), (b"* a", 9), (b"> a", 9)];
+
+/// The list of the first container that begins with a line.
+fn list_of(alloc: Global, line: &[u8]) -> Result<usize, AllocError> {
     let before = [Open {
         container: ITEM,
         list: 7,
     }];
-    let mut begun = Vec::new(rt.alloc());
-    for (line, list) in [(b"- a", 7), (b"* a", 9), (b"> a", 9)] {
-        begun_in(9, false, line, &mut begun)?;
-        assert_eq!(rt; list_of_first(&before, 9, begun.as_slice()), list);
+    let mut begun = Vec::new(alloc);
+    begun_in(9, false, line, &mut begun)?;
+    Ok(list_of_first(&before, 9, begun.as_slice()))
+}
+
+#[test]
+fn containers_begin_in_lines(rt: HostRuntime) {
+    assert!(rt; containers_are_cut());
+    for (line, in_paragraph, many, want) in BEGINNING {
+        let found = begin_so(rt.alloc(), line, *in_paragraph, *many, *want);
+        assert_holds(&rt, found, "containers and columns");
     }
-    Ok(())
+    for (line, list) in LISTS {
+        assert!(rt; list_of(rt.alloc(), line).expect(&rt, "memory") == *list);
+    }
 }
 
 /// The leaf block that may go on: its first letter, or `-` if none may.
@@ -209,11 +223,10 @@ fn behind(leaf: Leaf, line: &[u8]) -> (Leaf, bool) {
 #[test]
 fn leaf_blocks_go_on_behind_lines(rt: HostRuntime) {
     for (leaf, line, want) in LEAVES {
-        assert_eq!(rt; letter_of(behind(*leaf, line).0), *want);
+        assert!(rt; letter_of(behind(*leaf, line).0) == *want);
     }
     for (leaf, want) in TRAITS {
-        let found = [is_paragraph(*leaf), is_raw(*leaf), holds_ending(*leaf)];
-        assert_eq!(rt; found, *want);
+        assert!(rt; [is_paragraph(*leaf), is_raw(*leaf), holds_ending(*leaf)] == *want);
     }
     assert!(rt; behind(Leaf::Paragraph, b"# a").1 && !behind(Leaf::Paragraph, b"    # a").1);
 }
@@ -264,28 +277,6 @@ fn lines_of(alloc: Global, bytes: &[u8]) -> Result<Lines, AllocError> {
     lines_from::<Brand>(alloc, bytes, Blank::new(1))
 }
 
-/// The lines of a document with their containers.
-fn lines_shown(alloc: Global, bytes: &[u8]) -> Result<String, AllocError> {
-    let lines = lines_of(alloc, bytes)?;
-    let mut text = String::new(alloc);
-    for at in &lines.rows {
-        push_row(&mut text, &at.row)?;
-    }
-    Ok(text)
-}
-
-/// A line goes on lazily with a paragraph; an item begins in the quote; behind a blank line the quote has ended.
-const ROWS: &str = "0 and 1, 2 columns\n\
-    0 and 0, 0 columns, lazy, stays\n\
-    1 and 1, 4 columns\n\
-    0 and 0, 0 columns, left blank\n\
-    0 and 0, 0 columns\n";
-
-#[test]
-fn lines_are_in_containers(rt: HostRuntime) -> Result<(), AllocError> {
-    assert_shown(&rt, lines_shown(rt.alloc(), b"> a\nb\n> - c\n\nd"), ROWS)
-}
-
 /// Appends where a line is: its number, its first byte, its line ending, the next line, and its columns.
 fn push_span(text: &mut String, span: Span) -> Result<(), AllocError> {
     let Span {
@@ -309,13 +300,24 @@ fn rows_shown(alloc: Global, bytes: &[u8]) -> Result<String, AllocError> {
     Ok(text)
 }
 
-#[test]
-fn documents_have_lines(rt: HostRuntime) -> Result<(), AllocError> {
-    let want = "1: 0 3 4, 3; 0 and 1, 2 columns\n\
+/// Documents, and their lines: a line goes on lazily with a paragraph; an item begins in the quote; behind a blank line the quote has ended. A line
+/// ending may have two bytes, and a tab has columns.
+const ROWS: &[(&[u8], &str)] = &[
+    (
+        b"> a\nb\n> - c\n\nd",
+        "1: 0 3 4, 3; 0 and 1, 2 columns\n\
+        2: 4 5 6, 1; 0 and 0, 0 columns, lazy, stays\n\
+        3: 6 11 12, 5; 1 and 1, 4 columns\n\
+        4: 12 12 13, 0; 0 and 0, 0 columns, left blank\n\
+        5: 13 14 14, 1; 0 and 0, 0 columns\n",
+    ),
+    (
+        b"> a\nb\r\n>\t- c",
+        "1: 0 3 4, 3; 0 and 1, 2 columns\n\
         2: 4 5 7, 1; 0 and 0, 0 columns, lazy, stays\n\
-        3: 7 12 12, 7; 1 and 1, 6 columns\n";
-    assert_shown(&rt, rows_shown(rt.alloc(), b"> a\nb\r\n>\t- c"), want)
-}
+        3: 7 12 12, 7; 1 and 1, 6 columns\n",
+    ),
+];
 
 /// Appends what is known of a line from those behind it: how many of them its stretch has, how many containers go on, and the list that does.
 fn push_ahead(text: &mut String, ahead: Ahead) -> Result<(), AllocError> {
@@ -336,21 +338,18 @@ fn aheads_shown(alloc: Global, bytes: &[u8]) -> Result<String, AllocError> {
     Ok(text)
 }
 
-/// A paragraph goes on with a lazy line, and with a line of its quote. An item goes on with the list of the first line, though there is a blank line between.
-#[test]
-fn lines_behind_tell_of_those_before(rt: HostRuntime) -> Result<(), AllocError> {
-    assert_shown(
-        &rt,
-        aheads_shown(rt.alloc(), b"> a\nb\n> c"),
-        "0 and 0\n1 and 1\n2 and 0\n",
-    )?;
-    let want = "0 and 0\n0 and 0, ListUnordered of 1\n0 and 0, ListUnordered of 1\n";
-    assert_shown(&rt, aheads_shown(rt.alloc(), b"- a\n\n- b"), want)
-}
+/// Documents, and what is known of each of their lines from those behind it, of the last line first. A paragraph goes on with a lazy line, and
+/// with a line of its quote. An item goes on with the list of the first line, though there is a blank line between.
+const AHEADS: &[(&[u8], &str)] = &[
+    (b"> a\nb\n> c", "0 and 0\n1 and 1\n2 and 0\n"),
+    (
+        b"- a\n\n- b",
+        "0 and 0\n0 and 0, ListUnordered of 1\n0 and 0, ListUnordered of 1\n",
+    ),
+];
 
-/// A line with a line ending of two bytes, and one at the end of the document.
-#[test]
-fn lines_have_places(rt: HostRuntime) {
+/// Whether a line with a line ending of two bytes, and one at the end of the document, have their places.
+fn lines_have_places() -> bool {
     let line = Span {
         number: 2,
         start: 4,
@@ -359,21 +358,28 @@ fn lines_have_places(rt: HostRuntime) {
         size: 3,
     };
     let last = Span { next: 7, ..line };
-    for (place, want) in [
-        (start_of(line), at(2, 1, 4, 0)),
-        (text_end_of(line), at(2, 4, 7, 0)),
-        (end_of(line), at(3, 1, 9, 0)),
-        (end_of(last), at(2, 4, 7, 0)),
-    ] {
-        assert_eq!(rt; place, want);
-    }
+    start_of(line) == at(2, 1, 4, 0)
+        && text_end_of(line) == at(2, 4, 7, 0)
+        && end_of(line) == at(3, 1, 9, 0)
+        && end_of(last) == at(2, 4, 7, 0)
+}
+
+/// Whether letters stand at the indices that are in the document.
+fn are_lettered(alloc: Global) -> Result<bool, AllocError> {
+    let lettered = with_letters(alloc, b"> a\n===", &[4, 99])?;
+    Ok(lettered.as_slice() == b"> a\na==".as_slice())
 }
 
 #[test]
-fn letters_stand_at_indices(rt: HostRuntime) -> Result<(), AllocError> {
-    let lettered = with_letters(rt.alloc(), b"> a\n===", &[4, 99])?;
-    assert_eq!(rt; lettered.as_slice(), b"> a\na==".as_slice());
-    Ok(())
+fn documents_have_lines(rt: HostRuntime) {
+    for (bytes, want) in ROWS {
+        assert_shown(&rt, rows_shown(rt.alloc(), bytes), want);
+    }
+    for (bytes, want) in AHEADS {
+        assert_shown(&rt, aheads_shown(rt.alloc(), bytes), want);
+    }
+    assert!(rt; lines_have_places());
+    assert_holds(&rt, are_lettered(rt.alloc()), "letters at indices");
 }
 
 /// Exits all spans but the outermost, counted from nothing.
@@ -412,12 +418,6 @@ fn exits_shown(alloc: Global) -> Result<String, AllocError> {
     Ok(text)
 }
 
-#[test]
-fn innermost_spans_are_exited_first(rt: HostRuntime) -> Result<(), AllocError> {
-    let want = "exit ListItem 1:6 (5+0); exit ListUnordered 1:6 (5+0); 1 left";
-    assert_shown(&rt, exits_shown(rt.alloc()), want)
-}
-
 /// Two chunks, the second linked to the first.
 fn chunks_shown(alloc: Global) -> Result<String, AllocError> {
     let mut events = Vec::new(alloc);
@@ -429,14 +429,7 @@ fn chunks_shown(alloc: Global) -> Result<String, AllocError> {
     shown(alloc, events.as_slice())
 }
 
-#[test]
-fn chunks_are_linked(rt: HostRuntime) -> Result<(), AllocError> {
-    let want =
-        "enter Data 1:1 (0+0) Content None Some(1); enter Data 1:1 (0+0) Content Some(0) None";
-    assert_shown(&rt, chunks_shown(rt.alloc()), want)
-}
-
-/// White space, and a span around nothing.
+/// White space, and a span around nothing. Then the prefixes of a quote and of an item, and those with which a quote begins and an item goes on.
 fn spans_written<L: Ledger>(events: &mut Vec<Event>, blank: Blank) -> Result<(), AllocError>
     requires name { blank.name ≡ L.name }
     requires parts { blank.parts ≡ L.parts }
@@ -447,25 +440,7 @@ fn spans_written<L: Ledger>(events: &mut Vec<Event>, blank: Blank) -> Result<(),
     let place = white(events, b" a", tab, Point::START, 1, &mut turns)?;
     enter(events, Name::Paragraph, place)?;
     span(events, b" a", tab, Name::Data, Point::START, 0, &mut turns)?;
-    exit(events, Name::Paragraph, place)
-}
-
-#[test]
-fn spans_are_written(rt: HostRuntime) -> Result<(), AllocError> {
-    let mut events = Vec::new(rt.alloc());
-    spans_written::<Brand>(&mut events, Blank::new(1))?;
-    let want = "SpaceOrTab 1:1 (0+0) to 1:2 (1+0); Paragraph 1:2 (1+0) to 1:2 (1+0)";
-    assert_shown(&rt, shown(rt.alloc(), events.as_slice()), want)
-}
-
-/// The prefixes with which a quote begins and goes on, and an item.
-fn prefixes_written<L: Ledger>(events: &mut Vec<Event>, blank: Blank) -> Result<(), AllocError>
-    requires name { blank.name ≡ L.name }
-    requires parts { blank.parts ≡ L.parts }
-    requires some { 0 < blank.parts }
-{
-    let tab = TabSize::default();
-    let mut turns = Turns::<L>::new(blank);
+    exit(events, Name::Paragraph, place)?;
     quote_prefix(events, b">a", tab, Point::START, b">", &mut turns)?;
     item_prefix(events, b"-", tab, Point::START, 0, b"-", &mut turns)?;
     begun_prefix(events, b">a", tab, Point::START, &QUOTE, b">", &mut turns)?;
@@ -473,16 +448,27 @@ fn prefixes_written<L: Ledger>(events: &mut Vec<Event>, blank: Blank) -> Result<
     Ok(())
 }
 
+/// Spans, and the prefixes of containers.
+fn spans_shown(alloc: Global) -> Result<String, AllocError> {
+    let mut events = Vec::new(alloc);
+    spans_written::<Brand>(&mut events, Blank::new(1))?;
+    shown(alloc, events.as_slice())
+}
+
 #[test]
-fn prefixes_are_written(rt: HostRuntime) -> Result<(), AllocError> {
-    let mut events = Vec::new(rt.alloc());
-    prefixes_written::<Brand>(&mut events, Blank::new(1))?;
-    let want =
-        "enter BlockQuotePrefix 1:1 (0+0); BlockQuoteMarker 1:1 (0+0) to 1:2 (1+0); exit BlockQuotePrefix 1:2 (1+0); \
+fn events_are_written(rt: HostRuntime) {
+    let alloc = rt.alloc();
+    let exits = "exit ListItem 1:6 (5+0); exit ListUnordered 1:6 (5+0); 1 left";
+    assert_shown(&rt, exits_shown(alloc), exits);
+    let chunks =
+        "enter Data 1:1 (0+0) Content None Some(1); enter Data 1:1 (0+0) Content Some(0) None";
+    assert_shown(&rt, chunks_shown(alloc), chunks);
+    let spans = "SpaceOrTab 1:1 (0+0) to 1:2 (1+0); Paragraph 1:2 (1+0) to 1:2 (1+0); \
+        enter BlockQuotePrefix 1:1 (0+0); BlockQuoteMarker 1:1 (0+0) to 1:2 (1+0); exit BlockQuotePrefix 1:2 (1+0); \
         enter ListItemPrefix 1:1 (0+0); ListItemMarker 1:1 (0+0) to 1:2 (1+0); exit ListItemPrefix 1:2 (1+0); \
         enter BlockQuotePrefix 1:1 (0+0); BlockQuoteMarker 1:1 (0+0) to 1:2 (1+0); exit BlockQuotePrefix 1:2 (1+0); \
         SpaceOrTab 1:1 (0+0) to 1:2 (1+0)";
-    assert_shown(&rt, shown(rt.alloc(), events.as_slice()), want)
+    assert_shown(&rt, spans_shown(alloc), spans);
 }
 
 /// The skeleton of a document, and the indices of its lazy underlines.
@@ -526,10 +512,9 @@ const SKELETONS: &[(&[u8], &str)] = &[
 ];
 
 #[test]
-fn documents_have_skeletons(rt: HostRuntime) -> Result<(), AllocError> {
+fn documents_have_skeletons(rt: HostRuntime) {
     for (bytes, want) in SKELETONS {
         assert!(rt; bytes.len() < 99);
-        assert_shown(&rt, skeleton_shown(rt.alloc(), bytes), want)?;
+        assert_shown(&rt, skeleton_shown(rt.alloc(), bytes), want);
     }
-    Ok(())
 }

@@ -3,6 +3,7 @@
 ghost use Rattle.std.specs.Prelude.{◌≡◌, ◌<◌, ℕ};
 ghost use Rattle.mdblock_leaf_blocks.specs.LineKinds.{indent, is_thematic_break, unindented};
 
+use crate::shown::assert_holds;
 use markdown_base::configuration::{Constructs, TabSize};
 use markdown_base::event::Point;
 use mdblock_lines::breaks::{Breaks, breaks_in};
@@ -15,7 +16,7 @@ use mdblock_lines::kinds::{
 };
 use mdblock_lines::places::{behind_ending, moved, read_line};
 use mdconstructs_loop_counts::Turns;
-use std::alloc::AllocError;
+use std::alloc::{AllocError, Global};
 use std::marker::Brand;
 use std::sync::ledger::{Blank, Ledger};
 use std::vec::Vec;
@@ -111,14 +112,6 @@ const KINDS: &[(&[u8], (char, usize))] = &[
     (b"===", ('t', 0)),
 ];
 
-#[test]
-fn lines_have_kinds(rt: HostRuntime) {
-    let on = Constructs::default();
-    for (line, kind) in KINDS {
-        assert_eq!(rt; shown_kind(asked(&on, line).kind), *kind);
-    }
-}
-
 /// Lines, the rank of each as an underline, and whether it closes a fence of four tildes.
 const UNDER: &[(&[u8], Option<u8>, bool)] = &[
     (b"=== ", Some(1), false),
@@ -128,58 +121,19 @@ const UNDER: &[(&[u8], Option<u8>, bool)] = &[
     (b"~~~", None, false),
 ];
 
-#[test]
-fn underlines_have_ranks_and_fences_close(rt: HostRuntime) {
-    let on = Constructs::default();
-    for (line, rank, closes) in UNDER {
-        let found = asked(&on, line);
-        assert_eq!(rt; (found.rank, found.closes), (*rank, *closes));
-    }
-}
+/// A quote that the first line begins.
+const QUOTE: Container = Container {
+    is_quote: true,
+    line: 1,
+    size: 0,
+    marker: b'>',
+    digits: 0,
+    is_blank: false,
+};
 
-/// Whether a container begins with a line, counted from nothing.
-fn begun_from<L: Ledger>(in_paragraph: bool, t: &[u8], is_break: bool, blank: Blank) -> bool
-    requires name { blank.name ≡ L.name }
-    requires parts { blank.parts ≡ L.parts }
-    requires some { 0 < blank.parts }
-    requires first { 0 ≡ indent t.now }
-    requires is_break { is_break ≡ is_thematic_break (unindented t.now) }
-{
-    let mut turns = Turns::<L>::new(blank);
-    let on = Constructs::default();
-    begins(&on, 1, in_paragraph, t, 0, is_break, &mut turns).is_some()
-}
-
-/// Whether a container begins with a line.
-fn begun(in_paragraph: bool, t: &[u8], is_break: bool) -> bool
-    requires first { 0 ≡ indent t.now }
-    requires is_break { is_break ≡ is_thematic_break (unindented t.now) }
-{
-    begun_from::<Brand>(in_paragraph, t, is_break, Blank::new(1))
-}
-
-#[test]
-fn containers_go_on_and_begin(rt: HostRuntime) {
-    let quote = Container {
-        is_quote: true,
-        line: 1,
-        size: 0,
-        marker: b'>',
-        digits: 0,
-        is_blank: false,
-    };
-    assert_eq!(rt;
-        [goes_on(&quote, 2, b"> a", 0), goes_on(&quote, 2, b"a", 0)],
-        [Some(2), None]
-    );
-    assert_eq!(rt;
-        [
-            begun(false, b"- a", false),
-            begun(true, b"2. a", false),
-            begun(false, b"---", true)
-        ],
-        [true, false, false]
-    );
+/// Whether a quote goes on with its marker alone.
+fn quotes_go_on() -> bool {
+    goes_on(&QUOTE, 2, b"> a", 0) == Some(2) && goes_on(&QUOTE, 2, b"a", 0).is_none()
 }
 
 /// The index of a line's ending, counted from nothing.
@@ -197,33 +151,38 @@ fn read_from<L: Ledger>(line: &mut Vec<u8>, bytes: &[u8], blank: Blank) -> Resul
     )
 }
 
-#[test]
-fn lines_are_read_with_their_tabs(rt: HostRuntime) -> Result<(), AllocError> {
-    let mut line = Vec::new(rt.alloc());
+/// Whether a line is read up to its ending, with a tab as its columns.
+fn is_line_read(alloc: Global) -> Result<bool, AllocError> {
+    let mut line = Vec::new(alloc);
     let end = read_from::<Brand>(&mut line, b"a\tb\r\nc", Blank::new(1))?;
-    assert_eq!(rt; end, 3);
-    assert_eq!(rt; line.as_slice(), b"a\t  b".as_slice());
-    Ok(())
+    Ok(end == 3 && line.as_slice() == b"a\t  b".as_slice())
 }
 
-/// The first column behind the marker of a quote that is no white space, and the place behind a letter, counted from nothing.
-fn walked_from<L: Ledger>(blank: Blank) -> (usize, Point)
+/// Whether a container begins with each of three lines, of which the second would interrupt a paragraph and the third is a thematic break;
+/// the first column behind the marker of a quote that is no white space; and the place behind a letter, counted from nothing.
+fn walked_from<L: Ledger>(blank: Blank) -> ([bool; 3], usize, Point)
     requires name { blank.name ≡ L.name }
     requires parts { blank.parts ≡ L.parts }
     requires some { 0 < blank.parts }
 {
     let mut turns = Turns::<L>::new(blank);
+    let on = Constructs::default();
+    let begun = [
+        begins(&on, 1, false, b"- a", 0, false, &mut turns).is_some(),
+        begins(&on, 1, true, b"2. a", 0, false, &mut turns).is_some(),
+        begins(&on, 1, false, b"---", 0, true, &mut turns).is_some(),
+    ];
     (
+        begun,
         first_from(b">  a", 0, 1, 0, &mut turns),
         moved(b"ab", TabSize::default(), Point::START, 1, &mut turns),
     )
 }
 
-#[test]
-fn places_move_over_columns(rt: HostRuntime) {
-    let (first, place) = walked_from::<Brand>(Blank::new(1));
-    assert_eq!(rt; first, 3);
-    assert_eq!(rt; (place.index, place.column), (1, 2));
+/// Whether containers begin where they may, and places move over columns.
+fn lines_are_walked() -> bool {
+    let (begun, first, place) = walked_from::<Brand>(Blank::new(1));
+    begun == [true, false, false] && first == 3 && place.index == 1 && place.column == 2
 }
 
 /// Of a line: the columns of white space before it, and what is behind these.
@@ -233,22 +192,6 @@ const INDENTS: &[(&[u8], usize, &[u8])] = &[
     (b"  \t a", 4, b"a"),
     (b" ", 1, b""),
 ];
-
-#[test]
-fn lines_begin_with_white_space(rt: HostRuntime) {
-    let on = Constructs::default();
-    for (line, columns, rest) in INDENTS {
-        let found = asked(&on, line);
-        assert_eq!(rt;
-            (found.columns, found.rest, found.is_blank),
-            (*columns, *rest, rest.is_empty())
-        );
-    }
-    assert_eq!(rt;
-        (front(b"abc", 1), behind(b"abc", 1)),
-        (b"a".as_slice(), b"bc".as_slice())
-    );
-}
 
 /// Lines without the white space before them, and whether each is a thematic break, an ATX heading, an underline of `=`, an opening fence of
 /// grave accents and one of tildes (CommonMark, 4.1 to 4.5).
@@ -270,41 +213,26 @@ const MARKED: &[(&[u8], [bool; 5])] = &[
     (b"~~", [false, false, false, false, false]),
 ];
 
-#[test]
-fn marks_say_what_a_line_is(rt: HostRuntime) {
-    let on = Constructs::default();
-    for (line, want) in MARKED {
-        assert_eq!(rt; asked(&on, line).marks, *want);
-    }
-}
-
-/// Four columns are too many, but not if there is no indented code.
-#[test]
-fn lines_may_be_too_far_to_the_right(rt: HostRuntime) {
+/// Whether four columns are too many, but not if there is no indented code. A fence is seen behind two columns.
+fn lines_may_be_far() -> bool {
     let on = Constructs::default();
     let off = Constructs {
         code_indented: false,
         ..on
     };
-    assert_eq!(rt;
-        [
-            asked(&on, b"   a").is_far,
-            asked(&on, b"    a").is_far,
-            asked(&off, b"    a").is_far
-        ],
-        [false, true, false]
+    let fence = matches!(
+        asked(&on, b"~~~~ a").behind_two,
+        LineKind::Fence(Fence {
+            byte: b'~',
+            size: 4,
+            indent: 2
+        })
     );
-    let kind = asked(&on, b"~~~~ a").behind_two;
-    assert!(rt;
-        matches!(
-            kind,
-            LineKind::Fence(Fence {
-                byte: b'~',
-                size: 4,
-                indent: 2
-            })
-        ) && matches!(asked(&on, b"a").behind_two, LineKind::Text)
-    );
+    fence
+        && matches!(asked(&on, b"a").behind_two, LineKind::Text)
+        && !asked(&on, b"   a").is_far
+        && asked(&on, b"    a").is_far
+        && !asked(&off, b"    a").is_far
 }
 
 /// Lines, and whether the rest of each from the columns 0, 2, 4 and 6 on is a thematic break: also behind the marker of an item, or of a quote.
@@ -313,13 +241,32 @@ const BREAKS: &[(&[u8], [bool; 4])] = &[
     (b"- * * * *", [false, true, true, false]),
 ];
 
+/// Of a line: where its rest is a thematic break.
+fn breaks_of(found: &Answered) -> [bool; 4] {
+    let breaks = found.breaks;
+    [breaks.has(0), breaks.has(2), breaks.has(4), breaks.has(6)]
+}
+
 #[test]
-fn thematic_breaks_are_found_behind_markers(rt: HostRuntime) {
+fn lines_are_what_they_are_asked_for(rt: HostRuntime) {
     let on = Constructs::default();
+    for (line, kind) in KINDS {
+        assert!(rt; shown_kind(asked(&on, line).kind) == *kind);
+    }
+    for (line, rank, closes) in UNDER {
+        let found = asked(&on, line);
+        assert!(rt; found.rank == *rank && found.closes == *closes);
+    }
+    for (line, columns, rest) in INDENTS {
+        let found = asked(&on, line);
+        assert!(rt; found.columns == *columns && found.rest == *rest);
+        assert!(rt; found.is_blank == rest.is_empty());
+    }
+    for (line, want) in MARKED {
+        assert!(rt; asked(&on, line).marks == *want);
+    }
     for (line, want) in BREAKS {
-        let breaks = asked(&on, line).breaks;
-        let found = [breaks.has(0), breaks.has(2), breaks.has(4), breaks.has(6)];
-        assert_eq!(rt; found, *want);
+        assert!(rt; breaks_of(&asked(&on, line)) == *want);
     }
 }
 
@@ -377,34 +324,43 @@ fn bounds(kind: HtmlKind, line: &[u8], last: &[u8]) -> (bool, bool) {
     bounds_from::<Brand>(kind, line, last, Blank::new(1))
 }
 
-#[test]
-fn html_begins_and_ends_by_its_kind(rt: HostRuntime) {
-    let on = Constructs::default();
-    for (line, kind) in HTML {
-        let found = asked(&on, line).html.map(condition);
-        let last = last_line(*kind);
-        assert_eq!(rt;
-            (found, waits_for_blank(*kind)),
-            (Some(condition(*kind)), last.is_empty())
-        );
-        assert_eq!(rt;
-            (bounds(*kind, line, last), bounds(*kind, line, b"a")),
-            ((true, !last.is_empty()), (true, false))
-        );
-    }
-    for line in [b"<a href='b'> c".as_slice(), b"<1>".as_slice()] {
-        assert!(rt; asked(&on, line).html.is_none());
-    }
+/// Whether a line begins HTML of a kind, which ends as it does.
+fn is_html(line: &[u8], kind: HtmlKind) -> bool {
+    let last = last_line(kind);
+    let found = asked(&Constructs::default(), line).html.map(condition);
+    found == Some(condition(kind))
+        && waits_for_blank(kind) == last.is_empty()
+        && bounds(kind, line, last) == (true, !last.is_empty())
+        && bounds(kind, line, b"a") == (true, false)
 }
 
-/// CR LF is one line ending.
+/// Whether a line begins no HTML.
+fn is_no_html(line: &[u8]) -> bool {
+    asked(&Constructs::default(), line).html.is_none()
+}
+
+/// Whether CR LF is one line ending, and others are of one byte.
+fn endings_have_sizes() -> bool {
+    behind_ending(b"a\r\nb", 1) == 3
+        && behind_ending(b"a\nb", 1) == 2
+        && behind_ending(b"a\r\r", 1) == 2
+        && behind_ending(b"a", 1) == 1
+}
+
 #[test]
-fn line_endings_have_one_byte_or_two(rt: HostRuntime) {
-    let found = [
-        behind_ending(b"a\r\nb", 1),
-        behind_ending(b"a\nb", 1),
-        behind_ending(b"a\r\r", 1),
-        behind_ending(b"a", 1),
-    ];
-    assert_eq!(rt; found, [3, 2, 2, 1]);
+fn html_begins_and_ends_by_its_kind(rt: HostRuntime) {
+    for (line, kind) in HTML {
+        assert!(rt; is_html(line, *kind));
+    }
+    assert!(rt; is_no_html(b"<a href='b'> c") && is_no_html(b"<1>"));
+}
+
+#[test]
+fn lines_go_on_and_are_read(rt: HostRuntime) {
+    assert!(rt; quotes_go_on());
+    assert!(rt; lines_are_walked());
+    assert!(rt; lines_may_be_far());
+    assert!(rt; endings_have_sizes());
+    assert!(rt; front(b"abc", 1) == b"a".as_slice() && behind(b"abc", 1) == b"bc".as_slice());
+    assert_holds(&rt, is_line_read(rt.alloc()), "a line is read");
 }
