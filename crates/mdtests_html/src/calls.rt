@@ -2,7 +2,7 @@
 
 use markdown_base::configuration::Options;
 use mdhtml_calls::html::{to_html, to_html_with_options};
-use std::alloc::AllocError;
+use std::alloc::{AllocError, Global};
 
 /// Documents, and their safe HTML.
 const SAFE: &[(&[u8], &[u8])] = &[
@@ -23,13 +23,9 @@ const SAFE: &[(&[u8], &[u8])] = &[
     ),
 ];
 
-#[test]
-fn documents_are_html(rt: HostRuntime) -> Result<(), AllocError> {
-    for &(document, wanted) in SAFE {
-        let html = to_html(rt.alloc(), document)?;
-        assert!(rt; html.as_slice() == wanted);
-    }
-    Ok(())
+/// Whether a document has this safe HTML.
+fn is_safe(alloc: Global, document: &[u8], wanted: &[u8]) -> Result<bool, AllocError> {
+    Ok(to_html(alloc, document)?.as_slice() == wanted)
 }
 
 /// What is let through of HTML, of addresses of any kind, and of addresses of images; and the HTML then of a document with these.
@@ -54,15 +50,30 @@ const LET_THROUGH: &[(bool, bool, bool, &[u8])] = &[
     ),
 ];
 
+/// Whether a document with HTML and addresses is written so, if this is let through.
+fn lets_through(
+    alloc: Global,
+    html: bool,
+    protocol: bool,
+    images: bool,
+    wanted: &[u8],
+) -> Result<bool, AllocError> {
+    let mut options = Options::default();
+    options.compile.allow_dangerous_html = html;
+    options.compile.allow_dangerous_protocol = protocol;
+    options.compile.allow_any_img_src = images;
+    let html = to_html_with_options(alloc, b"<b> [a](x:y) ![c](z:d)", &options)?;
+    Ok(html.as_slice() == wanted)
+}
+
 #[test]
-fn options_let_through(rt: HostRuntime) -> Result<(), AllocError> {
-    for &(html, protocol, images, wanted) in LET_THROUGH {
-        let mut options = Options::default();
-        options.compile.allow_dangerous_html = html;
-        options.compile.allow_dangerous_protocol = protocol;
-        options.compile.allow_any_img_src = images;
-        let html = to_html_with_options(rt.alloc(), b"<b> [a](x:y) ![c](z:d)", &options)?;
-        assert!(rt; html.as_slice() == wanted);
+fn documents_are_html(rt: HostRuntime) {
+    for &(document, wanted) in SAFE {
+        let found = is_safe(rt.alloc(), document, wanted);
+        assert!(rt; found.expect(&rt, "memory"), "{wanted:?}");
     }
-    Ok(())
+    for &(html, protocol, images, wanted) in LET_THROUGH {
+        let found = lets_through(rt.alloc(), html, protocol, images, wanted);
+        assert!(rt; found.expect(&rt, "memory"), "{wanted:?}");
+    }
 }

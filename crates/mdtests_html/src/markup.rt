@@ -3,79 +3,77 @@
 use mdhtml_markup::addresses::push_address;
 use mdhtml_markup::checks::is_safe_html;
 use mdhtml_markup::escape::{push_escaped, push_kept};
-use std::alloc::AllocError;
+use std::alloc::{AllocError, Global};
 
-/// Texts, and how they are written behind `x`: marks at the front, in the middle and at the end; NUL; the escape byte; what is an entity
-/// already; bytes that stay.
-const TEXTS: &[(&[u8], &[u8])] = &[
-    (b"", b"x"),
-    (b"abc", b"xabc"),
-    (b"a&b", b"xa&amp;b"),
-    (b"<a> \"b\"", b"x&lt;a&gt; &quot;b&quot;"),
-    (b"&amp;", b"x&amp;amp;"),
-    (b"it's", b"xit's"),
-    (b"\x00", b"x\xEF\xBF\xBD"),
-    (b"a\x1B$B", b"xa&#x1B;$B"),
-    (b"\xC3\xA4\xFF\n", b"x\xC3\xA4\xFF\n"),
-];
-
-#[test]
-fn texts_are_escaped(rt: HostRuntime) -> Result<(), AllocError> {
-    for (text, want) in TEXTS {
-        let mut out = Vec::new(rt.alloc());
-        out.push(b'x')?;
-        push_escaped(&mut out, text)?;
-        assert_eq!(rt; out.as_slice(), *want);
-    }
-    Ok(())
+/// How bytes are written.
+#[derive(Clone, Copy)]
+enum How {
+    Escaped,
+    Kept,
+    Address,
 }
 
-/// HTML, and what is kept of it behind `x`: all but NUL.
-const KEPT: &[(&[u8], &[u8])] = &[
-    (b"", b"x"),
-    (b"<b>&\"</b>", b"x<b>&\"</b>"),
+/// How bytes are written, bytes, and what is written behind `x`.
+const WRITTEN: &[(How, &[u8], &[u8])] = &[
+    // marks at the front, in the middle and at the end; NUL; the escape byte; what is an entity already; bytes that stay
+    (How::Escaped, b"", b"x"),
+    (How::Escaped, b"abc", b"xabc"),
+    (How::Escaped, b"a&b", b"xa&amp;b"),
+    (How::Escaped, b"<a> \"b\"", b"x&lt;a&gt; &quot;b&quot;"),
+    (How::Escaped, b"&amp;", b"x&amp;amp;"),
+    (How::Escaped, b"it's", b"xit's"),
+    (How::Escaped, b"\x00", b"x\xEF\xBF\xBD"),
+    (How::Escaped, b"a\x1B$B", b"xa&#x1B;$B"),
+    (How::Escaped, b"\xC3\xA4\xFF\n", b"x\xC3\xA4\xFF\n"),
+    // HTML of which all is kept but NUL
+    (How::Kept, b"", b"x"),
+    (How::Kept, b"<b>&\"</b>", b"x<b>&\"</b>"),
     (
+        How::Kept,
         b"\x00<i>\x00\x00</i>\x00",
         b"x\xEF\xBF\xBD<i>\xEF\xBF\xBD\xEF\xBF\xBD</i>\xEF\xBF\xBD",
     ),
-    (b"\x1B\xFF", b"x\x1B\xFF"),
+    (How::Kept, b"\x1B\xFF", b"x\x1B\xFF"),
+    // addresses: bytes that stand for themselves, also `%` before what is no number; entities; NUL; and bytes as two hexadecimal digits, at the
+    // limits of both
+    (How::Address, b"", b"x"),
+    (How::Address, b"http://a.b/c?d#e", b"xhttp://a.b/c?d#e"),
+    (
+        How::Address,
+        b"AZaz09-_.+!*(),%#@?=;:/$~",
+        b"xAZaz09-_.+!*(),%#@?=;:/$~",
+    ),
+    (How::Address, b"a b", b"xa%20b"),
+    (How::Address, b"?a=1&b='", b"x?a=1&amp;b=&#x27;"),
+    (
+        How::Address,
+        b"\"<>\\[]^`{|}",
+        b"x%22%3C%3E%5C%5B%5D%5E%60%7B%7C%7D",
+    ),
+    (How::Address, b"\x00", b"x%EF%BF%BD"),
+    (How::Address, b"\x01\x0A\x1F\x7F", b"x%01%0A%1F%7F"),
+    (How::Address, b"\xC3\xA4/\xFF", b"x%C3%A4/%FF"),
+    (How::Address, b"%41%zz", b"x%41%zz"),
 ];
 
-#[test]
-fn html_is_kept(rt: HostRuntime) -> Result<(), AllocError> {
-    for (html, want) in KEPT {
-        let mut out = Vec::new(rt.alloc());
-        out.push(b'x')?;
-        push_kept(&mut out, html)?;
-        assert_eq!(rt; out.as_slice(), *want);
+/// Whether this is written of bytes behind `x`.
+fn is_written(alloc: Global, how: How, bytes: &[u8], want: &[u8]) -> Result<bool, AllocError> {
+    let mut out = Vec::new(alloc);
+    out.push(b'x')?;
+    match how {
+        How::Escaped => push_escaped(&mut out, bytes)?,
+        How::Kept => push_kept(&mut out, bytes)?,
+        How::Address => push_address(&mut out, bytes)?,
     }
-    Ok(())
+    Ok(out.as_slice() == want)
 }
 
-/// Addresses, and how they are written behind `x`: bytes that stand for themselves, also `%` before what is no number; entities; NUL; and
-/// bytes as two hexadecimal digits, at the limits of both.
-const ADDRESSES: &[(&[u8], &[u8])] = &[
-    (b"", b"x"),
-    (b"http://a.b/c?d#e", b"xhttp://a.b/c?d#e"),
-    (b"AZaz09-_.+!*(),%#@?=;:/$~", b"xAZaz09-_.+!*(),%#@?=;:/$~"),
-    (b"a b", b"xa%20b"),
-    (b"?a=1&b='", b"x?a=1&amp;b=&#x27;"),
-    (b"\"<>\\[]^`{|}", b"x%22%3C%3E%5C%5B%5D%5E%60%7B%7C%7D"),
-    (b"\x00", b"x%EF%BF%BD"),
-    (b"\x01\x0A\x1F\x7F", b"x%01%0A%1F%7F"),
-    (b"\xC3\xA4/\xFF", b"x%C3%A4/%FF"),
-    (b"%41%zz", b"x%41%zz"),
-];
-
 #[test]
-fn addresses_are_written(rt: HostRuntime) -> Result<(), AllocError> {
-    for (url, want) in ADDRESSES {
-        let mut out = Vec::new(rt.alloc());
-        out.push(b'x')?;
-        push_address(&mut out, url)?;
-        assert_eq!(rt; out.as_slice(), *want);
+fn bytes_are_written(rt: HostRuntime) {
+    for &(how, bytes, want) in WRITTEN {
+        let found = is_written(rt.alloc(), how, bytes, want);
+        assert!(rt; found.expect(&rt, "memory"), "{want:?}");
     }
-    Ok(())
 }
 
 /// HTML, and whether it is safe: tags that are open, in other order, or not where they stand; attributes; addresses behind entities; marks.
@@ -104,9 +102,9 @@ const HTML: &[(&[u8], bool)] = &[
 ];
 
 #[test]
-fn safe_html_passes_and_no_other(rt: HostRuntime) -> Result<(), AllocError> {
+fn safe_html_passes_and_no_other(rt: HostRuntime) {
     for (html, want) in HTML {
-        assert_eq!(rt; is_safe_html(rt.alloc(), html)?, *want);
+        let found = is_safe_html(rt.alloc(), html);
+        assert!(rt; found.expect(&rt, "memory") == *want, "{html:?}");
     }
-    Ok(())
 }

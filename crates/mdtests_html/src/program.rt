@@ -72,28 +72,25 @@ fn does_what_the_words_choose(rt: HostRuntime) {
     }
 }
 
-/// Reads five bytes, one a read, and the end.
-#[test]
-fn each_read_fails_in_turn(rt: HostRuntime) {
-    for good in 0..6 {
-        let ended = call(rt.alloc(), &[b"mdhtml"], good, ErrorKind::Other, ALL, false);
-        assert!(rt; ended.is(1, b"", b"cannot read input\n"));
-    }
-    let ended = call(rt.alloc(), &[b"mdhtml"], 6, ErrorKind::Other, ALL, false);
-    assert!(rt; ended.is(0, SAFE, b""));
-}
+/// How many reads are good, the error of the one after them, the status, what is written, and what is shown. Of the document five bytes are read,
+/// one a read, and the end.
+const READS: &[(usize, ErrorKind, u8, &[u8], &[u8])] = &[
+    (0, ErrorKind::Other, 1, b"", b"cannot read input\n"),
+    (1, ErrorKind::Other, 1, b"", b"cannot read input\n"),
+    (2, ErrorKind::Other, 1, b"", b"cannot read input\n"),
+    (3, ErrorKind::Other, 1, b"", b"cannot read input\n"),
+    (4, ErrorKind::Other, 1, b"", b"cannot read input\n"),
+    (5, ErrorKind::Other, 1, b"", b"cannot read input\n"),
+    (6, ErrorKind::Other, 0, SAFE, b""),
+    (2, ErrorKind::OutOfMemory, 1, b"", b"out of memory\n"),
+];
 
 #[test]
-fn a_reader_may_run_out_of_memory(rt: HostRuntime) {
-    let ended = call(
-        rt.alloc(),
-        &[b"mdhtml"],
-        2,
-        ErrorKind::OutOfMemory,
-        ALL,
-        false,
-    );
-    assert!(rt; ended.is(1, b"", b"out of memory\n"));
+fn each_read_fails_in_turn(rt: HostRuntime) {
+    for &(good, error, status, written, shown) in READS {
+        let ended = call(rt.alloc(), &[b"mdhtml"], good, error, ALL, false);
+        assert!(rt; ended.is(status, written, shown));
+    }
 }
 
 /// A beginning is written, of a byte a write. A body that writes again after a failure succeeds too early.
