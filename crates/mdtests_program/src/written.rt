@@ -23,32 +23,40 @@ pub fn choice(cut: usize, deep: bool, machine: Which, tab: TabSize) -> Choice
     }
 }
 
-/// What is written for a beginning, and then a line, this many times.
-fn of_lines(
+/// A document that begins so, and then has a line this many times.
+type Repeated = (&'static [u8], &'static [u8], usize);
+
+/// Whether so many lines are written for such a document, from the first one to the last.
+fn are_written(
     alloc: Global,
-    before: &[u8],
-    line: &[u8],
-    count: usize,
+    given: Repeated,
     choice: &Choice,
-) -> Result<Vec<u8>, AllocError>
+    lines: usize,
+    first: &[u8],
+    last: &[u8],
+) -> Result<bool, AllocError>
     requires { CanCut choice.now }
 {
+    let (before, line, count) = given;
     let document = repeated(alloc, before, line, count)?;
     let mut reader = document.as_slice();
     let mut written = Vec::new(alloc);
-    match write_events(alloc, &mut reader, &mut written, choice) {
-        Ok(()) => Ok(written),
-        Err(_) => Err(AllocError),
+    if write_events(alloc, &mut reader, &mut written, choice).is_err() {
+        return Err(AllocError);
     }
+    let written = written.as_slice();
+    Ok(
+        written.iter().filter(|byte| **byte == b'\n').count() == lines
+            && written.starts_with(first)
+            && written.ends_with(last),
+    )
 }
 
 /// How a document begins, the line that it has then, and how many times; the machine that reads it, and whether its chunks are read
 /// too. Then how many lines are written, and the first and the last of these. A line may be long, and one chain is behind another one.
-const MANY: &[(&[u8], &[u8], usize, Which, bool, usize, &[u8], &[u8])] = &[
+const MANY: &[(Repeated, Which, bool, usize, &[u8], &[u8])] = &[
     (
-        b"",
-        b"\n",
-        50_000,
+        (b"", b"\n", 50_000),
         Which::Lines,
         false,
         100_000,
@@ -56,9 +64,7 @@ const MANY: &[(&[u8], &[u8], usize, Which, bool, usize, &[u8], &[u8])] = &[
         b"\nexit LineEnding 50001:1 (50000+0)\n",
     ),
     (
-        b"",
-        b"a",
-        100_001,
+        (b"", b"a", 100_001),
         Which::Lines,
         false,
         4,
@@ -66,9 +72,7 @@ const MANY: &[(&[u8], &[u8], usize, Which, bool, usize, &[u8], &[u8])] = &[
         b"\nexit Data 1:100002 (100001+0)\nexit Paragraph 1:100002 (100001+0)\n",
     ),
     (
-        b"a\n\n",
-        b">a\n",
-        3000,
+        (b"a\n\n", b">a\n", 3000),
         Which::Paragraphs,
         true,
         18_010,
@@ -78,16 +82,10 @@ const MANY: &[(&[u8], &[u8], usize, Which, bool, usize, &[u8], &[u8])] = &[
 ];
 
 #[test]
-fn writes_the_events_of_many_lines(rt: HostRuntime) -> Result<(), AllocError> {
-    for &(before, line, count, machine, deep, lines, first, last) in MANY {
+fn writes_the_events_of_many_lines(rt: HostRuntime) {
+    for &(given, machine, deep, lines, first, last) in MANY {
         let choice = choice(0, deep, machine, TabSize::default());
-        let written = of_lines(rt.alloc(), before, line, count, &choice)?;
-        let written = written.as_slice();
-        assert_eq!(rt;
-            written.iter().filter(|byte| **byte == b'\n').count(),
-            lines
-        );
-        assert!(rt; written.starts_with(first) && written.ends_with(last));
+        let found = are_written(rt.alloc(), given, &choice, lines, first, last);
+        assert!(rt; found.expect(&rt, "memory"));
     }
-    Ok(())
 }
