@@ -30,7 +30,7 @@ def tests():
     lines = docs.read(TESTS).split("\n")
     start = next(i for i, line in enumerate(lines) if line.startswith("fn headings_have_up_to_six_signs"))
     test = "\n".join(lines[start - 1 : lines.index("}", start) + 1])
-    test = re.sub(r"assert_shown\(\s*&rt,\s*made,\s*(.*?),\s*\)\n}", r"assert_eq!(rt; made?.as_str(), \1);\n    Ok(())\n}", test, flags=re.S)
+    test = re.sub(r"assert_shown\(\s*&rt,\s*made,\s*(.*?),\s*\);\n}", r'let made = made.expect(&rt, "memory");\n    assert_eq!(rt; made.as_str(), \1);\n}', test, flags=re.S)
     used = docs.taken(TESTS, ["lines_of", "refused", "lines"]).rstrip("\n")
     used = used.replace("use markdown::", "use crate::headings::Headings;\nuse markdown::", 1)
     return f"//! Tests of headings, with expected lines worked by hand.\n\n{used}\n\n{test}\n"

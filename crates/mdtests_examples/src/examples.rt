@@ -31,20 +31,32 @@ fn spans_of(alloc: Global, bytes: &[u8], size: usize) -> Result<String, AllocErr
     }
 }
 
-/// The marker with which the first code span begins is dropped: two of 34 events.
-#[test]
-fn code_spans_are_listed_however_the_document_is_cut(rt: HostRuntime) -> Result<(), AllocError> {
-    let document = b"See `x`\nand\t``y`\nz``.\n";
-    for size in [1, 3, 100] {
-        let made = spans_of(rt.alloc(), document, size);
-        assert_shown(&rt, made, "1:5 to 1:8\n2:5 to 3:4\n32 events\n")?;
-    }
-    Ok(())
-}
+/// Documents, the size of the ranges, and the lines. The marker with which the first code span begins is dropped: two of 34 events.
+const SPANS: &[(&[u8], usize, &str)] = &[
+    (
+        b"See `x`\nand\t``y`\nz``.\n",
+        1,
+        "1:5 to 1:8\n2:5 to 3:4\n32 events\n",
+    ),
+    (
+        b"See `x`\nand\t``y`\nz``.\n",
+        3,
+        "1:5 to 1:8\n2:5 to 3:4\n32 events\n",
+    ),
+    (
+        b"See `x`\nand\t``y`\nz``.\n",
+        100,
+        "1:5 to 1:8\n2:5 to 3:4\n32 events\n",
+    ),
+    (b"", 1, "0 events\n"),
+];
 
 #[test]
-fn empty_document_has_no_code_spans(rt: HostRuntime) -> Result<(), AllocError> {
-    assert_shown(&rt, spans_of(rt.alloc(), b"", 1), "0 events\n")
+fn code_spans_are_listed_however_the_document_is_cut(rt: HostRuntime) {
+    for &(bytes, size, want) in SPANS {
+        assert!(rt; size > 0);
+        assert_shown(&rt, spans_of(rt.alloc(), bytes, size), want);
+    }
 }
 
 /// The texts of the code spans and autolinks of a document, a line each.
@@ -66,14 +78,14 @@ fn texts_of(alloc: Global, bytes: &[u8]) -> Result<String, AllocError>
 }
 
 #[test]
-fn texts_of_spans_have_their_markers(rt: HostRuntime) -> Result<(), AllocError> {
+fn texts_of_spans_have_their_markers(rt: HostRuntime) {
     let document = b"See `x` and\t``y` z`` at <http://a.b>.";
     assert!(rt; document.len() < 99);
     assert_shown(
         &rt,
         texts_of(rt.alloc(), document),
         "`x`\n``y` z``\n<http://a.b>\n",
-    )
+    );
 }
 
 /// The events of a document, a line each, as `enter Data 1:1`.
@@ -116,7 +128,7 @@ fn lines(alloc: Global, events: &[Event]) -> Result<String, AllocError> {
 }
 
 #[test]
-fn headings_have_up_to_six_signs(rt: HostRuntime) -> Result<(), AllocError> {
+fn headings_have_up_to_six_signs(rt: HostRuntime) {
     let made = lines_of(rt.alloc(), &Headings {}, Name::FlowStart, b"#a\n#######\nb");
     assert_shown(
         &rt,
@@ -139,29 +151,22 @@ fn headings_have_up_to_six_signs(rt: HostRuntime) -> Result<(), AllocError> {
         exit LineEnding 3:1\n\
         enter Data 3:1\n\
         exit Data 3:2\n",
-    )
+    );
 }
 
-#[test]
-fn labels_end_in_their_line(rt: HostRuntime) -> Result<(), AllocError> {
-    let made = lines_of(rt.alloc(), &Labels {}, Name::TextBefore, b"a[b]\n[c");
-    assert_shown(
-        &rt,
-        made,
-        "enter Data 1:1\n\
-        exit Data 1:2\n\
-        enter Label 1:2\n\
-        enter LabelMarker 1:2\n\
-        exit LabelMarker 1:3\n\
-        enter LabelMarker 1:4\n\
-        exit LabelMarker 1:5\n\
-        exit Label 1:5\n\
-        enter LineEnding 1:5\n\
-        exit LineEnding 2:1\n\
-        enter Data 2:1\n\
-        exit Data 2:3\n",
-    )
-}
+/// The events of `a[b]\n[c`.
+const LABELS: &str = "enter Data 1:1\n\
+    exit Data 1:2\n\
+    enter Label 1:2\n\
+    enter LabelMarker 1:2\n\
+    exit LabelMarker 1:3\n\
+    enter LabelMarker 1:4\n\
+    exit LabelMarker 1:5\n\
+    exit Label 1:5\n\
+    enter LineEnding 1:5\n\
+    exit LineEnding 2:1\n\
+    enter Data 2:1\n\
+    exit Data 2:3\n";
 
 /// The events of `a;|b,` where `;` and `|` divide it. A comma is data.
 const DIVIDED: &str = "enter Data 1:1\n\
@@ -173,19 +178,22 @@ const DIVIDED: &str = "enter Data 1:1\n\
     enter Data 1:4\n\
     exit Data 1:6\n";
 
+/// The events of `a;|b,` where the machine owns its dividers.
+fn owned_fields(alloc: Global) -> Result<String, AllocError> {
+    let dividers = Vec::from_array(alloc, [b';', b'|'])?;
+    lines_of(alloc, &Fields { dividers }, Name::TextStart, b"a;|b,")
+}
+
+/// Labels end in their line; dividers are bytes that the machine owns, or that it was lent.
 #[test]
-fn machines_have_bytes_of_their_own(rt: HostRuntime) -> Result<(), AllocError> {
-    let mut dividers = Vec::new(rt.alloc());
-    dividers.push(b';')?;
-    dividers.push(b'|')?;
-    let owned = lines_of(rt.alloc(), &Fields { dividers }, Name::TextStart, b"a;|b,");
-    assert_shown(&rt, owned, DIVIDED)?;
+fn labels_and_fields_are_read(rt: HostRuntime) {
+    let alloc = rt.alloc();
+    let made = lines_of(alloc, &Labels {}, Name::TextBefore, b"a[b]\n[c");
+    assert_shown(&rt, made, LABELS);
+    assert_shown(&rt, owned_fields(alloc), DIVIDED);
     let lent = LentFields { dividers: b"|;" };
-    assert_shown(
-        &rt,
-        lines_of(rt.alloc(), &lent, Name::TextStart, b"a;|b,"),
-        DIVIDED,
-    )
+    let made = lines_of(alloc, &lent, Name::TextStart, b"a;|b,");
+    assert_shown(&rt, made, DIVIDED);
 }
 
 /// The events of three lines, each read as text: a code span; and two lines in which a run of backticks has no other one in its line.
@@ -203,12 +211,12 @@ const CHUNKS: &str =
 
 /// A resolver reads the chunks of its machine by another machine, however the document is cut.
 #[test]
-fn lines_are_read_by_another_machine(rt: HostRuntime) -> Result<(), AllocError> {
+fn lines_are_read_by_another_machine(rt: HostRuntime) {
     let start = Name::FlowStart;
     for cut in [1, 5, 99] {
         let read = lines_by(rt.alloc(), &TextLines {}, start, b"`a`\n`b\nc`", cut, true);
-        assert_shown(&rt, read, TEXT_LINES)?;
+        assert_shown(&rt, read, TEXT_LINES);
     }
     let chunks = lines_by(rt.alloc(), &TextLines {}, start, b"`a`\n`b\nc`", 99, false);
-    assert_shown(&rt, chunks, CHUNKS)
+    assert_shown(&rt, chunks, CHUNKS);
 }
