@@ -13,29 +13,6 @@ use mdconstructs::{
 };
 use std::alloc::{AllocError, Global};
 
-/// The events of a document with its containers.
-fn nested(alloc: Global, bytes: &[u8]) -> Result<String, AllocError>
-    requires limit { IsWithinLimit 4 bytes.now }
-{
-    let events = read_document(alloc, bytes, &ParseOptions::default())?;
-    spans_of(alloc, bytes, events.as_slice())
-}
-
-/// CommonMark, 5.1 and 5.3: a quote with a heading and a paragraph, and two lists, as the marker changes.
-#[test]
-fn containers_have_leaf_blocks_in_them(rt: HostRuntime) -> Result<(), AllocError> {
-    let want = "BlockQuote[BlockQuotePrefix[BlockQuoteMarker\">\" SpaceOrTab\" \"] \
-        HeadingAtx[HeadingAtxSequence\"#\" SpaceOrTab\" \" HeadingAtxText[Data\"Foo\"]] LineEnding\"%0A\" \
-        BlockQuotePrefix[BlockQuoteMarker\">\" SpaceOrTab\" \"] Paragraph[Data\"bar\" LineEnding\"%0A\" \
-        BlockQuotePrefix[BlockQuoteMarker\">\" SpaceOrTab\" \"] Data\"baz\"]]";
-    assert_shown(&rt, nested(rt.alloc(), b"> # Foo\n> bar\n> baz"), want)?;
-    let want =
-        "ListUnordered[ListItem[ListItemPrefix[ListItemMarker\"-\" SpaceOrTab\" \"] Paragraph[Data\"foo\"]] LineEnding\"%0A\" \
-        ListItem[ListItemPrefix[ListItemMarker\"-\" SpaceOrTab\" \"] Paragraph[Data\"bar\"]]] LineEnding\"%0A\" \
-        ListUnordered[ListItem[ListItemPrefix[ListItemMarker\"+\" SpaceOrTab\" \"] Paragraph[Data\"baz\"]]]";
-    assert_shown(&rt, nested(rt.alloc(), b"- foo\n- bar\n+ baz"), want)
-}
-
 /// The events of a document with these constructs.
 fn nested_with(alloc: Global, bytes: &[u8], constructs: Constructs) -> Result<String, AllocError> {
     if bytes.len() > limit_of(TabSize::default()) {
@@ -45,6 +22,28 @@ fn nested_with(alloc: Global, bytes: &[u8], constructs: Constructs) -> Result<St
     let events = read_document(alloc, bytes, &options)?;
     spans_of(alloc, bytes, events.as_slice())
 }
+
+/// Documents as CommonMark has them. 5.1 and 5.3: a quote with a heading and a paragraph, and two lists, as the marker changes. Tildes are data, as
+/// strikethrough is off.
+const READ: &[(&[u8], &str)] = &[
+    (
+        b"> # Foo\n> bar\n> baz",
+        "BlockQuote[BlockQuotePrefix[BlockQuoteMarker\">\" SpaceOrTab\" \"] \
+        HeadingAtx[HeadingAtxSequence\"#\" SpaceOrTab\" \" HeadingAtxText[Data\"Foo\"]] LineEnding\"%0A\" \
+        BlockQuotePrefix[BlockQuoteMarker\">\" SpaceOrTab\" \"] Paragraph[Data\"bar\" LineEnding\"%0A\" \
+        BlockQuotePrefix[BlockQuoteMarker\">\" SpaceOrTab\" \"] Data\"baz\"]]",
+    ),
+    (
+        b"- foo\n- bar\n+ baz",
+        "ListUnordered[ListItem[ListItemPrefix[ListItemMarker\"-\" SpaceOrTab\" \"] Paragraph[Data\"foo\"]] LineEnding\"%0A\" \
+        ListItem[ListItemPrefix[ListItemMarker\"-\" SpaceOrTab\" \"] Paragraph[Data\"bar\"]]] LineEnding\"%0A\" \
+        ListUnordered[ListItem[ListItemPrefix[ListItemMarker\"+\" SpaceOrTab\" \"] Paragraph[Data\"baz\"]]]",
+    ),
+    (
+        b"*a* ~b~",
+        "Paragraph[Emphasis[EmphasisSequence\"*\" EmphasisText[Data\"a\"] EmphasisSequence\"*\"] Data\" ~b~\"]",
+    ),
+];
 
 /// Documents with strikethrough on, and their spans, worked by hand from GFM, 6.5: of one tilde and of two; runs of different lengths, of three, and
 /// behind an escape; beside letters and beside punctuation beyond ASCII; crossing stars, in them and around them; in a heading, in a link and around
@@ -125,14 +124,18 @@ const STRUCK: &[(&[u8], &str)] = &[
 
 /// Tildes are read by their option alone: without it they are data, and with it whether emphasis is on or not.
 #[test]
-fn tildes_strike_through_if_they_are_on(rt: HostRuntime) -> Result<(), AllocError> {
+fn documents_are_read_as_their_options_say(rt: HostRuntime) {
     let alloc = rt.alloc();
+    let off = Constructs::default();
     let on = Constructs {
         gfm_strikethrough: true,
-        ..Constructs::default()
+        ..off
     };
+    for row in READ {
+        assert_shown(&rt, nested_with(alloc, row.0, off), row.1);
+    }
     for row in STRUCK {
-        assert_shown(&rt, nested_with(alloc, row.0, on), row.1)?;
+        assert_shown(&rt, nested_with(alloc, row.0, on), row.1);
     }
     let alone = Constructs {
         attention: false,
@@ -140,10 +143,7 @@ fn tildes_strike_through_if_they_are_on(rt: HostRuntime) -> Result<(), AllocErro
     };
     let want =
         "Paragraph[Data\"*a* \" GfmStrikethrough[GfmStrikethroughSequence\"~\" GfmStrikethroughText[Data\"b\"] GfmStrikethroughSequence\"~\"]]";
-    assert_shown(&rt, nested_with(alloc, b"*a* ~b~", alone), want)?;
-    let want =
-        "Paragraph[Emphasis[EmphasisSequence\"*\" EmphasisText[Data\"a\"] EmphasisSequence\"*\"] Data\" ~b~\"]";
-    assert_shown(&rt, nested(alloc, b"*a* ~b~"), want)
+    assert_shown(&rt, nested_with(alloc, b"*a* ~b~", alone), want);
 }
 
 /// The events of a document without containers.
@@ -152,15 +152,6 @@ fn leaf_blocks(alloc: Global, bytes: &[u8]) -> Result<String, AllocError>
 {
     let events = read_leaf_blocks(alloc, bytes, &ParseOptions::default(), &[])?;
     spans_of(alloc, bytes, events.as_slice())
-}
-
-/// Emphasis stands in its block. Where containers are not read, a quote's marker is text.
-#[test]
-fn leaf_blocks_have_inline_text_in_them(rt: HostRuntime) -> Result<(), AllocError> {
-    let want =
-        "HeadingSetext[HeadingSetextText[Emphasis[EmphasisSequence\"*\" EmphasisText[Data\"a\"] EmphasisSequence\"*\"]] \
-        LineEnding\"%0A\" HeadingSetextUnderline[HeadingSetextUnderlineSequence\"=\"]] LineEnding\"%0A\" Paragraph[Data\"> b\"]";
-    assert_shown(&rt, leaf_blocks(rt.alloc(), b"*a*\n=\n> b"), want)
 }
 
 /// The events of a document that is read as one text.
@@ -183,38 +174,52 @@ fn text_in(alloc: Global, bytes: &[u8], ranges: &[ByteRange]) -> Result<String, 
     spans_of(alloc, bytes, events.as_slice())
 }
 
-/// A code span over two lines, and over two lines of a quote, whose prefixes are in no range.
+/// Ranges of a quote that are no text: what is left out does not begin a line; one begins in another; and one ends behind the document.
+const NO_RANGES: [[ByteRange; 2]; 3] = [
+    [ByteRange { from: 2, to: 4 }, ByteRange { from: 7, to: 9 }],
+    [ByteRange { from: 2, to: 5 }, ByteRange { from: 4, to: 9 }],
+    [ByteRange { from: 2, to: 5 }, ByteRange { from: 7, to: 10 }],
+];
+
+/// Emphasis stands in its block. Where containers are not read, a quote's marker is text. A code span is read over two lines, and over two lines of a
+/// quote, whose prefixes are in no range.
 #[test]
-fn texts_are_read_in_ranges(rt: HostRuntime) -> Result<(), AllocError> {
+fn leaf_blocks_and_ranges_are_read(rt: HostRuntime) {
+    let alloc = rt.alloc();
+    let want =
+        "HeadingSetext[HeadingSetextText[Emphasis[EmphasisSequence\"*\" EmphasisText[Data\"a\"] EmphasisSequence\"*\"]] \
+        LineEnding\"%0A\" HeadingSetextUnderline[HeadingSetextUnderlineSequence\"=\"]] LineEnding\"%0A\" Paragraph[Data\"> b\"]";
+    assert_shown(&rt, leaf_blocks(alloc, b"*a*\n=\n> b"), want);
     let want =
         "CodeText[CodeTextSequence\"`\" CodeTextData\"a\" LineEnding\"%0A\" CodeTextData\"b\" CodeTextSequence\"`\"]";
-    assert_shown(&rt, text(rt.alloc(), b"`a\nb`"), want)?;
+    assert_shown(&rt, text(alloc, b"`a\nb`"), want);
     let quoted = b"> `a\n> b`";
     let ranges = [ByteRange { from: 2, to: 5 }, ByteRange { from: 7, to: 9 }];
-    assert_shown(&rt, text_in(rt.alloc(), quoted, &ranges), want)?;
-    assert_shown(&rt, text_in(rt.alloc(), quoted, &[]), "")?;
-    for ranges in [
-        [ByteRange { from: 2, to: 4 }, ByteRange { from: 7, to: 9 }],
-        [ByteRange { from: 2, to: 5 }, ByteRange { from: 4, to: 9 }],
-        [ByteRange { from: 2, to: 5 }, ByteRange { from: 7, to: 10 }],
-    ] {
-        assert_shown(&rt, text_in(rt.alloc(), quoted, &ranges), "no ranges")?;
+    assert_shown(&rt, text_in(alloc, quoted, &ranges), want);
+    assert_shown(&rt, text_in(alloc, quoted, &[]), "");
+    for ranges in &NO_RANGES {
+        assert_shown(&rt, text_in(alloc, quoted, ranges), "no ranges");
     }
-    Ok(())
 }
 
-/// Four machines link their chunks of text, and the limit is less the wider a tab is.
+/// Machines, and whether each links its chunks of text.
+const LINKING: &[(Which, bool)] = &[
+    (Which::Paragraphs, true),
+    (Which::Text, true),
+    (Which::Flow, true),
+    (Which::Document, true),
+    (Which::Lines, false),
+    (Which::Peek, false),
+    (Which::Deep, false),
+    (Which::Back, false),
+    (Which::Save, false),
+];
+
+/// Four machines link their chunks of text. The longest document by tab stops at every four columns.
 #[test]
 fn choices_are_known_before_reading(rt: HostRuntime) {
-    let linking = [Which::Paragraphs, Which::Text, Which::Flow, Which::Document];
-    assert!(rt; linking.iter().all(|machine| links_text(*machine)));
-    let others = [
-        Which::Lines,
-        Which::Peek,
-        Which::Deep,
-        Which::Back,
-        Which::Save,
-    ];
-    assert!(rt; !others.iter().any(|machine| links_text(*machine)));
-    assert_eq!(rt; limit_of(TabSize::default()), 4_611_686_018_427_387_903);
+    for (machine, links) in LINKING {
+        assert!(rt; links_text(*machine) == *links);
+    }
+    assert!(rt; limit_of(TabSize::default()) == 4_611_686_018_427_387_903);
 }

@@ -1,5 +1,6 @@
 //! Documents that are edited: each edit leaves what reading the new bytes gives.
 
+use crate::shown::assert_holds;
 use markdown::configuration::ParseOptions;
 use mdconstructs::edit::{Edit, Refused};
 use mdconstructs::positions::{Encoding, Position};
@@ -147,154 +148,185 @@ fn all_are_right(alloc: Global, count: usize, most: usize) -> Result<bool, Alloc
 
 /// Each edit by up to two bytes, in each document of up to two; and each by up to one byte, in each document of three.
 #[test]
-fn short_edits_of_short_documents(rt: HostRuntime) -> Result<(), AllocError> {
+fn short_edits_of_short_documents(rt: HostRuntime) {
     for (count, most) in [(0, 2), (1, 2), (2, 2), (3, 1)] {
-        assert!(rt; all_are_right(rt.alloc(), count, most)?);
+        let found = all_are_right(rt.alloc(), count, most);
+        assert_holds(&rt, found, "edits leave what reading gives");
     }
-    Ok(())
 }
 
 /// Four sections: a paragraph, a list, a paragraph with a reference, and its definition.
 const SECTIONS: &[u8] = b"a\n\n- x\n- y\n\nb [l]\n\n[l]: u\n";
 
-/// Sections, bytes and lines are looked up, at their beginnings and ends, and behind the document.
-#[test]
-fn sections_are_looked_up(rt: HostRuntime) -> Result<(), AllocError> {
-    let sections = sections_of(rt.alloc(), SECTIONS)?;
-    assert_eq!(rt; sections.count(), 4);
-    assert_eq!(rt; sections.len(), 26);
-    for (section, start) in [(0, 0), (1, 3), (2, 12), (3, 19), (4, 26)] {
-        if section <= sections.count() {
-            assert_eq!(rt; sections.start_of(section), start);
+/// Sections, and the byte that each starts with; bytes, and the section that has each; and lines. Also behind the document.
+const STARTS: &[(usize, usize)] = &[(0, 0), (1, 3), (2, 12), (3, 19), (4, 26)];
+
+const BYTES_IN: &[(usize, usize)] = &[
+    (0, 0),
+    (2, 0),
+    (3, 1),
+    (11, 1),
+    (12, 2),
+    (18, 2),
+    (19, 3),
+    (25, 3),
+    (26, 4),
+    (99, 4),
+];
+
+const LINES_IN: &[(usize, usize)] = &[
+    (0, 0),
+    (1, 0),
+    (2, 1),
+    (4, 1),
+    (5, 2),
+    (7, 3),
+    (8, 4),
+    (9, 4),
+];
+
+/// Whether sections, bytes and lines are looked up, at their beginnings and ends.
+fn are_looked_up(sections: &Sections) -> bool {
+    for (section, start) in STARTS {
+        if *section > sections.count() || sections.start_of(*section) != *start {
+            return false;
         }
     }
-    for (byte, section) in [
-        (0, 0),
-        (2, 0),
-        (3, 1),
-        (11, 1),
-        (12, 2),
-        (18, 2),
-        (19, 3),
-        (25, 3),
-        (26, 4),
-        (99, 4),
-    ] {
-        assert_eq!(rt; sections.section_at(byte), section);
+    for (byte, section) in BYTES_IN {
+        if sections.section_at(*byte) != *section {
+            return false;
+        }
     }
-    for (line, section) in [
-        (0, 0),
-        (1, 0),
-        (2, 1),
-        (4, 1),
-        (5, 2),
-        (7, 3),
-        (8, 4),
-        (9, 4),
-    ] {
-        assert_eq!(rt; sections.section_at_line(line), section);
+    for (line, section) in LINES_IN {
+        if sections.section_at_line(*line) != *section {
+            return false;
+        }
     }
-    if sections.count() == 4 {
-        assert_eq!(rt; sections.section(1), b"- x\n- y\n\n".as_slice());
-    }
+    true
+}
+
+/// Whether a section has its bytes, and a place in it leads to a byte and back.
+fn has_places(sections: &Sections) -> bool {
     let position = Position {
         line: 5,
         character: 1,
     };
-    assert_eq!(rt; sections.position_of(13, Encoding::Utf16), Some(position));
-    assert_eq!(rt; sections.offset_of(position, Encoding::Utf16), Some(13));
-    Ok(())
+    sections.count() == 4
+        && sections.len() == 26
+        && sections.section(1) == b"- x\n- y\n\n".as_slice()
+        && sections.position_of(13, Encoding::Utf16) == Some(position)
+        && sections.offset_of(position, Encoding::Utf16) == Some(13)
 }
 
-/// The events of some sections, and those of the others, are the events of the document.
-#[test]
-fn events_are_those_of_the_sections(rt: HostRuntime) -> Result<(), AllocError> {
-    let sections = sections_of(rt.alloc(), SECTIONS)?;
-    if sections.count() == 4 {
-        let mut events = sections.events_in(rt.alloc(), 0, 2)?;
-        events.extend_from_slice(sections.events_in(rt.alloc(), 2, 4)?.as_slice())?;
-        assert_eq!(rt; events.as_slice(), sections.events(rt.alloc())?.as_slice());
+/// Whether the events of some sections, and those of the others, are the events of the document.
+fn has_events(alloc: Global, sections: &Sections) -> Result<bool, AllocError> {
+    if sections.count() != 4 {
+        return Ok(false);
     }
-    Ok(())
+    let mut events = sections.events_in(alloc, 0, 2)?;
+    events.extend_from_slice(sections.events_in(alloc, 2, 4)?.as_slice())?;
+    Ok(events.as_slice() == sections.events(alloc)?.as_slice())
 }
 
-/// If a definition goes, the section that refers to it is read again, though it is far.
+/// Whether all this is so of the four sections.
+fn sections_are_found(alloc: Global) -> Result<bool, AllocError> {
+    let sections = sections_of(alloc, SECTIONS)?;
+    Ok(are_looked_up(&sections) && has_places(&sections) && has_events(alloc, &sections)?)
+}
+
 #[test]
-fn references_are_read_again(rt: HostRuntime) -> Result<(), AllocError> {
-    let mut sections = sections_of(rt.alloc(), b"[l]\n\nx\n\ny\n\n[l]: u\n")?;
-    let edit = Edit {
-        from: 11,
-        to: 18,
-        with: b"",
-    };
-    match sections.replace(rt.alloc(), &edit) {
-        Ok(change) => {
-            assert_eq!(rt; (change.from, change.old_to, change.new_to), (3, 4, 3));
-            assert_eq!(rt; change.others.as_slice(), [0].as_slice());
-        }
-        Err(error) => assert_eq!(rt; error, Refused::Memory),
+fn sections_are_looked_up(rt: HostRuntime) {
+    assert_holds(&rt, sections_are_found(rt.alloc()), "what sections have");
+}
+
+/// What an edit changes: the sections that are replaced and those that come, and the others that are read again.
+type Changes = ((usize, usize, usize), &'static [usize]);
+
+/// Documents, the range of which nothing stays, what that changes, and what is left. If a definition goes, the sections that may refer to it are
+/// read again, though they are far: one with its label, however it is written, and one in which a line ends behind a `[`; and none with another
+/// label.
+const GONE: &[(&[u8], (usize, usize), Changes, &[u8])] = &[
+    (
+        b"[l]\n\nx\n\ny\n\n[l]: u\n",
+        (11, 18),
+        ((3, 4, 3), &[0]),
+        b"[l]\n\nx\n\ny\n\n",
+    ),
+    (
+        b"x [\nl]\n\n[ L ]\n\n[m]\n\ny\n\n[l]: u\n",
+        (23, 30),
+        ((4, 5, 4), &[0, 1]),
+        b"x [\nl]\n\n[ L ]\n\n[m]\n\ny\n\n",
+    ),
+];
+
+/// Whether bytes of a document that go change this, and leave what reading what is left gives.
+fn changes_so(
+    alloc: Global,
+    bytes: &[u8],
+    (from, to): (usize, usize),
+    (numbers, others): Changes,
+    left: &[u8],
+) -> Result<bool, AllocError> {
+    let mut sections = sections_of(alloc, bytes)?;
+    let with = b"";
+    match sections.replace(alloc, &Edit { from, to, with }) {
+        Ok(change) => Ok(
+            (change.from, change.old_to, change.new_to) == numbers
+                && change.others.as_slice() == others
+                && is_as_read(alloc, &sections, left)?,
+        ),
+        Err(Refused::Memory) => Err(AllocError),
+        Err(_) => Ok(false),
     }
-    Ok(())
 }
 
-/// If a definition goes, those sections alone are read again that may refer to it: one with its label, however it is written, and one in which a line ends
-/// behind a `[`; and none with another label.
 #[test]
-fn other_references_are_not_read_again(rt: HostRuntime) -> Result<(), AllocError> {
-    let document = b"x [\nl]\n\n[ L ]\n\n[m]\n\ny\n\n[l]: u\n";
-    let mut sections = sections_of(rt.alloc(), document)?;
-    let edit = Edit {
-        from: 23,
-        to: 30,
-        with: b"",
-    };
-    match sections.replace(rt.alloc(), &edit) {
-        Ok(change) => {
-            assert_eq!(rt; (change.from, change.old_to, change.new_to), (4, 5, 4));
-            assert_eq!(rt; change.others.as_slice(), [0, 1].as_slice());
-            assert!(rt; is_as_read(rt.alloc(), &sections, &document[..23])?);
-        }
-        Err(error) => assert_eq!(rt; error, Refused::Memory),
+fn references_are_read_again(rt: HostRuntime) {
+    for &(bytes, range, changes, left) in GONE {
+        let found = changes_so(rt.alloc(), bytes, range, changes, left);
+        assert_holds(&rt, found, "what may refer is read again");
     }
-    Ok(())
 }
 
-/// Bytes that are none of the document are not replaced.
-#[test]
-fn other_ranges_are_refused(rt: HostRuntime) -> Result<(), AllocError> {
-    let mut sections = sections_of(rt.alloc(), SECTIONS)?;
-    for (from, to) in [(5, 4), (26, 27), (27, 27)] {
-        let done = sections.replace(
-            rt.alloc(),
-            &Edit {
-                from,
-                to,
-                with: b"x",
-            },
-        );
-        assert!(rt; done.is_err_and(|error| error == Refused::Range));
+/// Ranges that are none of the four sections'.
+const OTHERS: &[(usize, usize)] = &[(5, 4), (26, 27), (27, 27)];
+
+/// Whether a range that is none of the document is refused, and the document is as it was.
+fn is_other(alloc: Global, from: usize, to: usize) -> Result<bool, AllocError> {
+    let mut sections = sections_of(alloc, SECTIONS)?;
+    let with = b"x";
+    match sections.replace(alloc, &Edit { from, to, with }) {
+        Err(Refused::Range) => is_as_read(alloc, &sections, SECTIONS),
+        Err(Refused::Memory) => Err(AllocError),
+        _ => Ok(false),
     }
-    assert!(rt; is_as_read(rt.alloc(), &sections, SECTIONS)?);
-    Ok(())
 }
 
-/// If memory runs out in an edit, the document is as it was. `rt try --test --fail-alloc N` makes an allocation fail.
 #[test]
-fn refused_edits_change_nothing(rt: HostRuntime) -> Result<(), AllocError> {
-    let mut sections = sections_of(rt.alloc(), SECTIONS)?;
+fn other_ranges_are_refused(rt: HostRuntime) {
+    for &(from, to) in OTHERS {
+        assert_holds(&rt, is_other(rt.alloc(), from, to), "it is refused");
+    }
+}
+
+/// Whether a document is as it was if memory runs out in an edit, and else has new bytes.
+fn is_whole_or_as_before(alloc: Global) -> Result<bool, AllocError> {
+    let mut sections = sections_of(alloc, SECTIONS)?;
     let edit = Edit {
         from: 19,
         to: 26,
         with: b"> q\n",
     };
-    match sections.replace(rt.alloc(), &edit) {
-        Ok(_) => {
-            assert!(rt; is_as_read(rt.alloc(), &sections, b"a\n\n- x\n- y\n\nb [l]\n\n> q\n")?);
-        }
-        Err(error) => {
-            assert_eq!(rt; error, Refused::Memory);
-            assert!(rt; is_as_read(rt.alloc(), &sections, SECTIONS)?);
-        }
+    match sections.replace(alloc, &edit) {
+        Ok(_) => is_as_read(alloc, &sections, b"a\n\n- x\n- y\n\nb [l]\n\n> q\n"),
+        Err(Refused::Memory) => is_as_read(alloc, &sections, SECTIONS),
+        Err(_) => Ok(false),
     }
-    Ok(())
+}
+
+/// If memory runs out in an edit, the document is as it was. `rt try --test --fail-alloc N` makes an allocation fail.
+#[test]
+fn refused_edits_change_nothing(rt: HostRuntime) {
+    assert_holds(&rt, is_whole_or_as_before(rt.alloc()), "nothing changed");
 }

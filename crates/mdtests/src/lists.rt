@@ -1,5 +1,6 @@
 //! Lists of whole documents: whether they are loose, the kind of their markers and the numbers that they start with, worked by hand.
 
+use crate::shown::assert_holds;
 use markdown::configuration::ParseOptions;
 use markdown::event::Event;
 use mdconstructs::list_shapes::{ListShape, lists_of};
@@ -142,60 +143,75 @@ const DOCUMENTS: &[(&[u8], &[Said], &[bool])] = &[
     ),
 ];
 
-#[test]
-fn lists_are_as_worked_by_hand(rt: HostRuntime) -> Result<(), AllocError> {
-    let alloc = rt.alloc();
-    for &(document, lists, items) in DOCUMENTS {
-        let events = events_of(alloc, document)?;
-        let said = said_of(alloc, document, events.as_slice())?;
-        assert!(rt; said.as_slice() == lists);
-        let shapes = lists_of(alloc, document, events.as_slice())?;
-        let Some(at_once) = said_at_once(alloc, events.as_slice(), shapes.as_slice())? else {
-            assert!(rt; false);
-            continue;
-        };
-        assert!(rt; at_once.as_slice() == lists);
-        assert!(rt; items_of(alloc, events.as_slice())?.as_slice() == items);
-    }
-    Ok(())
-}
-
-#[test]
-fn only_an_enter_of_a_list_says_something(rt: HostRuntime) -> Result<(), AllocError> {
-    let document = b"- a";
-    let events = events_of(rt.alloc(), document)?;
-    let events = events.as_slice();
-    assert!(rt; is_loose(events, 0) == Some(false));
-    for at in 1..events.len() + 1 {
-        assert!(rt; is_loose(events, at).is_none());
-        assert!(rt; list_spread(events, at).is_none());
-        assert!(rt; marker_of(document, events, at).is_none());
-        assert!(rt; start_of(document, events, at).is_none());
-    }
-    assert!(rt; item_spread(events, 0).is_none());
-    Ok(())
-}
-
-#[test]
-fn shapes_say_where_lists_are(rt: HostRuntime) -> Result<(), AllocError> {
-    let alloc = rt.alloc();
-    let document = b"> 3. - a";
+/// Whether this is said of a document's lists, one by one and at once, and this of its items.
+fn are_said(
+    alloc: Global,
+    document: &[u8],
+    lists: &[Said],
+    items: &[bool],
+) -> Result<bool, AllocError> {
     let events = events_of(alloc, document)?;
-    let shapes = lists_of(alloc, document, events.as_slice())?;
-    let outer = ListShape {
+    let events = events.as_slice();
+    let said = said_of(alloc, document, events)?;
+    let shapes = lists_of(alloc, document, events)?;
+    let Some(at_once) = said_at_once(alloc, events, shapes.as_slice())? else {
+        return Ok(false);
+    };
+    Ok(
+        said.as_slice() == lists
+            && at_once.as_slice() == lists
+            && items_of(alloc, events)?.as_slice() == items,
+    )
+}
+
+/// Whether the first event alone says something of a list.
+fn first_alone_says(alloc: Global) -> Result<bool, AllocError> {
+    let document = b"- a";
+    let events = events_of(alloc, document)?;
+    let events = events.as_slice();
+    for at in 1..events.len() + 1 {
+        if is_loose(events, at).is_some()
+            || list_spread(events, at).is_some()
+            || marker_of(document, events, at).is_some()
+            || start_of(document, events, at).is_some()
+        {
+            return Ok(false);
+        }
+    }
+    Ok(is_loose(events, 0) == Some(false) && item_spread(events, 0).is_none())
+}
+
+/// The lists of `> 3. - a`.
+const NESTED: [ListShape; 2] = [
+    ListShape {
         at: 7,
         is_loose: false,
         is_spread: false,
         marker: Some(Period),
         start: Some(3),
-    };
-    let inner = ListShape {
+    },
+    ListShape {
         at: 17,
         is_loose: false,
         is_spread: false,
         marker: Some(Dash),
         start: None,
-    };
-    assert!(rt; shapes.as_slice() == [outer, inner].as_slice());
-    Ok(())
+    },
+];
+
+/// Whether shapes say where lists are.
+fn shapes_have_places(alloc: Global) -> Result<bool, AllocError> {
+    let document = b"> 3. - a";
+    let events = events_of(alloc, document)?;
+    Ok(lists_of(alloc, document, events.as_slice())?.as_slice() == NESTED.as_slice())
+}
+
+#[test]
+fn lists_are_as_worked_by_hand(rt: HostRuntime) {
+    for &(document, lists, items) in DOCUMENTS {
+        let found = are_said(rt.alloc(), document, lists, items);
+        assert!(rt; found.expect(&rt, "memory"), "of {document:?}");
+    }
+    assert_holds(&rt, first_alone_says(rt.alloc()), "of other events");
+    assert_holds(&rt, shapes_have_places(rt.alloc()), "where lists are");
 }

@@ -1,16 +1,15 @@
-//! A text that was made, as tests compare it.
+//! What was made, as tests compare it. So the code that owns a text, and ends a test as memory runs out, is proved once, and not in each test.
 
 use std::alloc::AllocError;
 use std::process::Abort;
 
-/// Asserts that a text was made, and is this one. So the code that owns and compares a text is proved once, and not in each
-/// test.
-pub(crate) fn assert_shown(
-    rt: &impl Abort,
-    made: Result<String, AllocError>,
-    want: &str,
-) -> Result<(), AllocError> {
-    let made = made?;
+/// Asserts that a text was made, and is this one.
+pub(crate) fn assert_shown(rt: &impl Abort, made: Result<String, AllocError>, want: &str) {
+    let made = made.expect(rt, "memory");
     assert_eq!(rt; made.as_str(), want);
-    Ok(())
+}
+
+/// Asserts that this was found out, and holds.
+pub(crate) fn assert_holds(rt: &impl Abort, found: Result<bool, AllocError>, what: &str) {
+    assert!(rt; found.expect(rt, "memory"), "{what}");
 }
