@@ -85,7 +85,11 @@ enum limecove_construct {
     LIMECOVE_DEFINITION = 524288,         /* link reference definitions */
     LIMECOVE_COMMONMARK = 1048575,        /* all of these: the constructs of CommonMark */
     LIMECOVE_GFM_STRIKETHROUGH = 1048576, /* strikethrough of GFM, which is on only if it is asked for */
-    LIMECOVE_ALL_CONSTRUCTS = 2097151
+    LIMECOVE_ALL_CONSTRUCTS = 2097151,
+    /* of GFM, for limecove_html alone: elsewhere there is no such construct. Off unless it is asked for */
+    LIMECOVE_GFM_AUTOLINK_LITERAL = 2097152, /* autolink literals */
+    LIMECOVE_GFM_TASK_LIST_ITEM = 4194304,   /* checks of task list items */
+    LIMECOVE_HTML_CONSTRUCTS = 8388607       /* all that limecove_html takes */
 };
 
 /* What HTML may let through, as bits. If none is set, the HTML is safe, whatever the document is. */

@@ -137,6 +137,13 @@ static void documents_are_html(void) {
     is_html("*a*", &options, "<p>*a*</p>\n");
     options.tab_size = 2;
     is_html("\ta", &options, "<p>a</p>\n");
+    options = limecove_default_html_options();
+    document = "- [x] a@b.c";
+    is_html(document, &options, "<ul>\n<li>[x] a@b.c</li>\n</ul>\n");
+    options.constructs = LIMECOVE_COMMONMARK + LIMECOVE_GFM_AUTOLINK_LITERAL;
+    is_html(document, &options, "<ul>\n<li>[x] <a href=\"mailto:a@b.c\">a@b.c</a></li>\n</ul>\n");
+    options.constructs = LIMECOVE_COMMONMARK + LIMECOVE_GFM_TASK_LIST_ITEM;
+    is_html(document, &options, "<ul>\n<li><input type=\"checkbox\" checked=\"\" disabled=\"\" /> a@b.c</li>\n</ul>\n");
 }
 
 /* Options of HTML that choose nothing: the code says why, and nothing is written. */
@@ -149,7 +156,7 @@ static void html_is_refused(void) {
         options[i] = limecove_default_html_options();
     options[0].size = 24;
     options[1].tab_size = 17;
-    options[2].constructs = LIMECOVE_ALL_CONSTRUCTS + 1;
+    options[2].constructs = LIMECOVE_HTML_CONSTRUCTS + 1;
     options[2].allow = options[3].allow = LIMECOVE_ALLOW_ALL + 1;
     for (size_t i = 0; i < 4; i++) {
         struct limecove_answer answer = limecove_html((const uint8_t *)"a", 1, &options[i], out, sizeof out);

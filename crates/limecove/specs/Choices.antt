@@ -38,6 +38,10 @@ is_yes n = not (nat_eq n 0)
 abbrev pub are_constructs : ℕ → Bool
 are_constructs bits = nat_lt bits 2097152
 
+-- the same of those that HTML has
+abbrev pub are_html_constructs : ℕ → Bool
+are_html_constructs bits = nat_lt bits 8388608
+
 -- why options choose nothing, as codes
 abbrev pub other_size : ℕ
 other_size = 3
@@ -85,7 +89,7 @@ are_permissions bits = nat_lt bits 8
 abbrev pub html_choice_of : HtmlOptions → Result ℕ ℕ
 html_choice_of options =
     cond (nat_eq options.size 32)
-    (option_map_or (λ t. cond (are_constructs options.constructs) (cond (are_permissions options.allow) (Ok t) (Err no_such_permission)) (Err no_such_construct))
+    (option_map_or (λ t. cond (are_html_constructs options.constructs) (cond (are_permissions options.allow) (Ok t) (Err no_such_permission)) (Err no_such_construct))
     (tab_of options.tab_size) (Err no_such_tab_size))
     (Err other_size)
 
@@ -105,7 +109,9 @@ constructs_of bits = record default_constructs {
   code_indented = has_bit bits 512;
   code_text = has_bit bits 1;
   definition = has_bit bits 524288;
+  gfm_autolink_literal = has_bit bits 2097152;
   gfm_strikethrough = has_bit bits 1048576;
+  gfm_task_list_item = has_bit bits 4194304;
   hard_break_escape = has_bit bits 32;
   hard_break_trailing = has_bit bits 64;
   heading_atx = has_bit bits 1024;
@@ -119,9 +125,12 @@ constructs_of bits = record default_constructs {
   thematic_break = has_bit bits 8192;
 }
 
--- the constructs that have a bit: CommonMark's, and GFM's strikethrough
+-- the constructs that have a bit: CommonMark's, and GFM's strikethrough; in HTML its literals and checks too
 abbrev pub constructs_with_bits : Constructs
 constructs_with_bits = record default_constructs { gfm_strikethrough = true }
+
+abbrev pub constructs_of_html : Constructs
+constructs_of_html = record constructs_with_bits { gfm_autolink_literal = true; gfm_task_list_item = true }
 
 -- a document that is read as text with these constructs and this tab size
 abbrev pub text_document : (bits tab : ℕ) → List ℕ → Given

@@ -55,8 +55,14 @@ pub const DEFINITION: u64 = 524288;
 pub const COMMONMARK: u64 = 1048575;
 /// The bit of strikethrough, which is GFM's.
 pub const GFM_STRIKETHROUGH: u64 = 1048576;
-/// The bits of all constructs.
+/// The bits of all constructs that events have.
 pub const ALL_CONSTRUCTS: u64 = 2097151;
+/// The bit of autolink literals, which are GFM's, in HTML alone.
+pub const GFM_AUTOLINK_LITERAL: u64 = 2097152;
+/// The bit of checks of task list items, which are GFM's, in HTML alone.
+pub const GFM_TASK_LIST_ITEM: u64 = 4194304;
+/// The bits of all constructs that HTML has.
+pub const HTML_CONSTRUCTS: u64 = 8388607;
 
 /// The bit of HTML in the document, which is kept as HTML. Without it, it is shown as text.
 pub const ALLOW_DANGEROUS_HTML: u64 = 1;
@@ -114,7 +120,7 @@ pub struct HtmlOptions {
     pub size: usize,
     /// The distance from one tab stop to the next, from 1 to 16 columns. 0 is 4.
     pub tab_size: usize,
-    /// The constructs that are on: the sum of their bits.
+    /// The constructs that are on: the sum of their bits, of [`HTML_CONSTRUCTS`].
     pub constructs: u64,
     /// What the HTML may let through: the sum of the bits. If it is 0, the HTML is safe.
     pub allow: u64,
@@ -183,7 +189,7 @@ pub(crate) fn choose_html(options: &HtmlOptions) -> Result<TabSize, u32>
     let Some(tab) = tab_of(options.tab_size) else {
         return Err(NO_SUCH_TAB_SIZE);
     };
-    if options.constructs > ALL_CONSTRUCTS {
+    if options.constructs > HTML_CONSTRUCTS {
         return Err(NO_SUCH_CONSTRUCT);
     }
     if options.allow > ALLOW_ALL {
@@ -206,7 +212,9 @@ pub(crate) fn constructs_of(bits: u64) -> Constructs
         code_indented: bits & CODE_INDENTED != 0,
         code_text: bits & CODE_TEXT != 0,
         definition: bits & DEFINITION != 0,
+        gfm_autolink_literal: bits & GFM_AUTOLINK_LITERAL != 0,
         gfm_strikethrough: bits & GFM_STRIKETHROUGH != 0,
+        gfm_task_list_item: bits & GFM_TASK_LIST_ITEM != 0,
         hard_break_escape: bits & HARD_BREAK_ESCAPE != 0,
         hard_break_trailing: bits & HARD_BREAK_TRAILING != 0,
         heading_atx: bits & HEADING_ATX != 0,

@@ -87,6 +87,12 @@ pub const GFM_STRIKETHROUGH: u64 = 1048576;
 /// The bits of all constructs. Up to version 3 they were 16383, and those from [`BLOCK_QUOTE`] on were on without bits. They grow with each construct
 /// that is added; [`COMMONMARK`] stays.
 pub const ALL_CONSTRUCTS: u64 = 2097151;
+/// The bit of autolink literals of GFM, in HTML alone.
+pub const GFM_AUTOLINK_LITERAL: u64 = 2097152;
+/// The bit of checks of task list items of GFM, in HTML alone.
+pub const GFM_TASK_LIST_ITEM: u64 = 4194304;
+/// The bits of all constructs that HTML has.
+pub const HTML_CONSTRUCTS: u64 = 8388607;
 
 /// The bit of HTML in the document, which is kept as HTML. Without it, it is shown as text.
 pub const ALLOW_DANGEROUS_HTML: u64 = 1;
@@ -150,7 +156,7 @@ pub struct HtmlOptions {
     pub size: usize,
     /// The distance from one tab stop to the next, from 1 to 16 columns. 0 is 4.
     pub tab_size: usize,
-    /// The constructs that are on: the sum of their bits.
+    /// The constructs that are on: the sum of their bits, of [`HTML_CONSTRUCTS`].
     pub constructs: u64,
     /// What the HTML may let through: the sum of the bits. If it is 0, the HTML is safe.
     pub allow: u64,

@@ -4,7 +4,7 @@ use limecove_sys::{
     limecove_close, limecove_copy, limecove_echo, limecove_echo_html, limecove_echo_range,
     limecove_html, limecove_open_text, limecove_read_text_in, limecove_version, Answer, ByteRange,
     HtmlOptions, Options, Reading, Record, TextOptions, ALLOW_DANGEROUS_HTML, ALL_CONSTRUCTS,
-    NO_READING, READ, VERSION,
+    HTML_CONSTRUCTS, NO_READING, READ, VERSION,
 };
 use std::mem::size_of;
 
@@ -141,7 +141,7 @@ fn html_crosses() {
     let html = HtmlOptions {
         size: size_of::<HtmlOptions>(),
         tab_size: 0,
-        constructs: ALL_CONSTRUCTS,
+        constructs: HTML_CONSTRUCTS,
         allow: ALLOW_DANGEROUS_HTML,
     };
     let mut out = [0xa5; 12];

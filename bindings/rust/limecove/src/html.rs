@@ -18,6 +18,7 @@ use std::mem::size_of;
 #[derive(Clone, Copy, Debug, Default, PartialEq, Eq, Hash)]
 pub struct HtmlOptions {
     parse: Options,
+    extensions: u64,
     allow: u64,
 }
 
@@ -27,6 +28,36 @@ impl HtmlOptions {
     pub const fn parse(mut self, parse: Options) -> HtmlOptions {
         self.parse = parse;
         self
+    }
+
+    /// The same, with or without autolink literals of GFM: `www.a.b`, `https://a.b` and `a@b.c` in a text are links. The default is without.
+    ///
+    /// ```
+    /// use limecove::{to_html_with_options, HtmlOptions};
+    ///
+    /// let options = HtmlOptions::default().gfm_autolink_literal(true);
+    /// let html = to_html_with_options("www.a.b", &options)?;
+    /// assert_eq!(html, "<p><a href=\"http://www.a.b\">www.a.b</a></p>\n");
+    /// # Ok::<(), limecove::Error>(())
+    /// ```
+    #[must_use]
+    pub const fn gfm_autolink_literal(self, is_on: bool) -> HtmlOptions {
+        self.extended(limecove_sys::GFM_AUTOLINK_LITERAL, is_on)
+    }
+
+    /// The same, with or without task list items of GFM: `[ ]` and `[x]` in front of an item are checkboxes. The default is without.
+    ///
+    /// ```
+    /// use limecove::{to_html_with_options, HtmlOptions};
+    ///
+    /// let options = HtmlOptions::default().gfm_task_list_item(true);
+    /// let html = to_html_with_options("- [ ] a", &options)?;
+    /// assert_eq!(html, "<ul>\n<li><input type=\"checkbox\" disabled=\"\" /> a</li>\n</ul>\n");
+    /// # Ok::<(), limecove::Error>(())
+    /// ```
+    #[must_use]
+    pub const fn gfm_task_list_item(self, is_on: bool) -> HtmlOptions {
+        self.extended(limecove_sys::GFM_TASK_LIST_ITEM, is_on)
     }
 
     /// The same, with HTML in the document kept as HTML, or shown as text.
@@ -45,6 +76,16 @@ impl HtmlOptions {
     #[must_use]
     pub const fn allow_any_img_src(self, is_on: bool) -> HtmlOptions {
         self.with(limecove_sys::ALLOW_ANY_IMG_SRC, is_on)
+    }
+
+    /// The same, with an extension on or off.
+    const fn extended(mut self, bit: u64, is_on: bool) -> HtmlOptions {
+        self.extensions = if is_on {
+            self.extensions | bit
+        } else {
+            self.extensions & !bit
+        };
+        self
     }
 
     /// The same, with something let through or not.
@@ -109,7 +150,7 @@ pub fn to_html_bytes(document: impl AsRef<[u8]>, options: &HtmlOptions) -> Resul
     let options = limecove_sys::HtmlOptions {
         size: size_of::<limecove_sys::HtmlOptions>(),
         tab_size: text.tab_size.get(),
-        constructs: text.constructs | options.parse.blocks,
+        constructs: text.constructs | options.parse.blocks | options.extensions,
         allow: options.allow,
     };
     let mut html = Vec::new();

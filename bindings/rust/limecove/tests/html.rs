@@ -90,6 +90,33 @@ fn documents_are_read_as_the_options_say() {
     assert_eq!(html.as_deref(), Ok("<p>a</p>\n"));
 }
 
+/// Extensions of GFM are on only if they are asked for.
+#[test]
+fn extensions_can_be_on() {
+    let none = HtmlOptions::default();
+    let (literal, check) = (
+        "<a href=\"mailto:a@b.c\">a@b.c</a>",
+        "<input type=\"checkbox\" checked=\"\" disabled=\"\" />",
+    );
+    for (options, want) in [
+        (none, ["[x]", "a@b.c"]),
+        (none.gfm_autolink_literal(true), ["[x]", literal]),
+        (none.gfm_task_list_item(true), [check, "a@b.c"]),
+        (
+            none.gfm_task_list_item(true).gfm_autolink_literal(true),
+            [check, literal],
+        ),
+        (
+            none.gfm_autolink_literal(true).gfm_autolink_literal(false),
+            ["[x]", "a@b.c"],
+        ),
+    ] {
+        let html = to_html_with_options("- [x] a@b.c", &options);
+        let want = format!("<ul>\n<li>{}</li>\n</ul>\n", want.join(" "));
+        assert_eq!(html.as_deref(), Ok(want.as_str()), "{:?}", options);
+    }
+}
+
 /// HTML that is longer than the room that is taken at first.
 #[test]
 fn long_html_is_all_there() {
