@@ -5,9 +5,10 @@ all places that a document has for them, and others by themselves; and, if they 
 
 The status is 1 if the HTML of a document is not safe, or there is none; it is shown.
 
-usage: tools/safe_html.py PROGRAM [--spec SPEC] [--real DIR] [--random COUNT] [--seed S]
+usage: tools/safe_html.py PROGRAM [--gfm] [--spec SPEC] [--real DIR] [--random COUNT] [--seed S]
        tools/safe_html.py --self-test
-  PROGRAM         mdhtml, or what writes HTML as it does
+  PROGRAM         mdhtml, or what writes HTML as it does; or the C library, if it ends in .so: its limecove_html is called, some ten times as fast
+  --gfm           with all of GFM that the library has; no program
   --spec SPEC     a spec.json, whose examples are documents too. tools/commonmark.py says where there is one
   --real DIR      a folder, whose files that end in .md or .markdown are documents too. `tools/real_files.py --fetch DIR` fetches 695, into DIR/files
   --random COUNT  so many random documents, of parts of attacks and marks
@@ -15,6 +16,7 @@ usage: tools/safe_html.py PROGRAM [--spec SPEC] [--real DIR] [--random COUNT] [-
   --self-test     strings that the grammar takes and strings that it does not, all by hand; no PROGRAM
 """
 
+import ctypes
 import json
 import os
 import random
@@ -147,22 +149,69 @@ def attacks():
 
 
 def random_attacks(count, seed):
-    """Random documents of parts of attacks and marks, and of bytes that are no UTF-8."""
+    """Yields random documents of parts of attacks and marks, and of bytes that are no UTF-8."""
     generator = random.Random(seed)
     parts = attacks() + [it.encode() for it in MARKS] * 20 + [b"\xff", b"\xc3"] * 20
-    return [b"".join(generator.choice(parts) for _ in range(generator.randint(1, 12))) for _ in range(count)]
+    for _ in range(count):
+        yield b"".join(generator.choice(parts) for _ in range(generator.randint(1, 12)))
 
 
-def fault_by(program, document):
-    """Why the program's HTML of a document is not safe; None if it is."""
-    ran = subprocess.run([program], input=document, capture_output=True, check=False)
-    return fault_of(ran.stdout) if ran.returncode == 0 else f"status {ran.returncode}: {ran.stderr!r}"
+class Options(ctypes.Structure):
+    """`struct limecove_html_options` of `bindings/limecove.h`."""
+
+    _fields_ = [("size", ctypes.c_size_t), ("tab_size", ctypes.c_size_t), ("constructs", ctypes.c_uint64), ("allow", ctypes.c_uint64)]
 
 
-def is_one_unsafe(name, documents, program):
+class Answer(ctypes.Structure):
+    """`struct limecove_answer` of `bindings/limecove.h`."""
+
+    _fields_ = [("code", ctypes.c_uint32), ("version", ctypes.c_uint32), ("count", ctypes.c_size_t)]
+
+
+class Library:
+    """The C library, with default options, which let nothing through."""
+
+    COMMONMARK, HTML_CONSTRUCTS, VERSION = 1048575, 8388607, 4
+
+    def __init__(self, path, gfm):
+        library = ctypes.CDLL(os.path.abspath(path))
+        if library.limecove_version() != self.VERSION:
+            sys.exit(f"{path} has another version than {self.VERSION}")
+        self.call = library.limecove_html
+        self.call.argtypes = [ctypes.c_char_p, ctypes.c_size_t, ctypes.POINTER(Options), ctypes.c_char_p, ctypes.c_size_t]
+        self.call.restype = Answer
+        self.options = Options(ctypes.sizeof(Options), 0, self.HTML_CONSTRUCTS if gfm else self.COMMONMARK, 0)
+        self.room = ctypes.create_string_buffer(1 << 16)
+
+    def fault(self, document):
+        """Why the HTML of a document is not safe; None if it is."""
+        answer = self.call(document, len(document), ctypes.byref(self.options), self.room, len(self.room))
+        if answer.code == 0 and answer.count > len(self.room):
+            self.room = ctypes.create_string_buffer(answer.count)
+            return self.fault(document)
+        return fault_of(self.room.raw[: answer.count]) if answer.code == 0 else f"code {answer.code}"
+
+
+class Program:
+    """A program that writes HTML."""
+
+    def __init__(self, path):
+        self.path = path
+
+    def fault(self, document):
+        """Why the HTML of a document is not safe; None if it is."""
+        ran = subprocess.run([self.path], input=document, capture_output=True, check=False)
+        return fault_of(ran.stdout) if ran.returncode == 0 else f"status {ran.returncode}: {ran.stderr!r}"
+
+
+def is_one_unsafe(name, documents, written):
     """Checks documents. Returns whether the HTML of one is not safe."""
-    faults = [(document, fault) for document in documents if (fault := fault_by(program, document))]
-    print(f"{name}: {len(documents) - len(faults)} of {len(documents)} are safe", flush=True)
+    count, faults = 0, []
+    for document in documents:
+        count += 1
+        if fault := written.fault(document):
+            faults.append((document, fault))
+    print(f"{name}: {count - len(faults)} of {count} are safe", flush=True)
     for document, fault in faults[:20]:
         print(f"  {document[:200]!r}: {fault}")
     return bool(faults)
@@ -198,24 +247,29 @@ def main():
     parser.add_argument("--real")
     parser.add_argument("--random", type=int, default=0)
     parser.add_argument("--seed", type=int, default=1)
+    parser.add_argument("--gfm", action="store_true")
     parser.add_argument("--self-test", action="store_true")
     words = parser.parse_args()
     if words.self_test:
         sys.exit(self_test())
     if not words.program:
         parser.error("PROGRAM is needed, or --self-test")
-    failed = [is_one_unsafe("attacks", attacks(), words.program)]
+    is_library = words.program.endswith(".so")
+    if words.gfm and not is_library:
+        parser.error("--gfm is for the library")
+    written = Library(words.program, words.gfm) if is_library else Program(words.program)
+    failed = [is_one_unsafe("attacks", attacks(), written)]
     if words.spec:
         with open(words.spec, encoding="utf-8") as file:
-            failed.append(is_one_unsafe("examples", [it["markdown"].encode() for it in json.load(file)], words.program))
+            failed.append(is_one_unsafe("examples", [it["markdown"].encode() for it in json.load(file)], written))
     if words.real:
         documents = []
         for path in real_files.files_in(words.real):
             with open(path, "rb") as it:
                 documents.append(it.read())
-        failed.append(is_one_unsafe("real files", documents, words.program))
+        failed.append(is_one_unsafe("real files", documents, written))
     if words.random:
-        failed.append(is_one_unsafe("random attacks", random_attacks(words.random, words.seed), words.program))
+        failed.append(is_one_unsafe("random attacks", random_attacks(words.random, words.seed), written))
     sys.exit(any(failed))
 
 
