@@ -1,5 +1,6 @@
 -- HTML of events is the same by options that let the same through.
 use Rattle.std.proofs.Common.{◌≡◌, ◌∙◌, ◌++◌, ap, refl, ℕ, Bool, true, false, List, Option, None, Some}
+use Rattle.std.specs.Prelude.{cond}
 use Rattle.markdown_base.specs.declared.configuration.CompileOptions.{CompileOptions}
 use Rattle.markdown_base.specs.declared.event.Event.{Event}
 use Rattle.markdown_base.specs.declared.event.Name.{Name}
@@ -11,7 +12,7 @@ use Rattle.mdhtml_document.specs.declared.names.Inline.{Inline}
 use Rattle.mdhtml_document.specs.declared.names.Inline.TheVariants as inline
 use Rattle.mdhtml_document.specs.declared.shapes.Mode.{Mode}
 use Rattle.mdhtml_document.specs.declared.shapes.Mode.TheVariants as mode
-use Rattle.mdhtml_document.specs.Html.{Shape, block_shape, html_by, inline_shape, link_to, image_of, parts_in_link, pieces, shape, shape_by}
+use Rattle.mdhtml_document.specs.Html.{Shape, block_shape, check, html_by, inline_shape, is_check, is_checked, link_to, image_of, parts_in_link, pieces, shape, shape_by}
 use Rattle.mdhtml_document.specs.Names.{block_of, inline_of}
 use Rattle.mdhtml_document.specs.Spans.{Nothing, Span, Spans, spans_of}
 use Rattle.mdhtml_markup.specs.Pieces.{Piece, html}
@@ -58,6 +59,7 @@ module _ (options : CompileOptions) (bytes : List ℕ) (lookup : (label : List �
   inline-same inline.Www es said alt = refl
   inline-same inline.Email es said alt = refl
   inline-same inline.Address es said alt = refl
+  inline-same inline.Check es said alt = refl
   inline-same inline.Link es said alt = link-same options (parts_in_link bytes lookup es)
   inline-same inline.Image es said alt = image-same options alt (parts_in_link bytes lookup es)
   inline-same inline.Tail es said alt = refl
@@ -70,6 +72,7 @@ module _ (options : CompileOptions) (bytes : List ℕ) (lookup : (label : List �
   by-name mode.LooseItems n es loose start said alt = refl
   by-name mode.TightItems n es loose start said alt = refl
   by-name mode.Heading n es loose start said alt = refl
+  by-name mode.Paragraph n es loose start said alt = ap (λ s. cond (is_check (inline_of n)) (check (is_checked es)) s) (inline-same (inline_of n) es said alt)
   by-name mode.Text n es loose start said alt = inline-same (inline_of n) es said alt
   by-name mode.Nothing n es loose start said alt = refl
 

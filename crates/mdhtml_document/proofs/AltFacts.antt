@@ -34,6 +34,7 @@ module _ (bytes : List ℕ) where
   alt-parts inline.Www es own alt = sym (ap (λ x. x ++ alt) (append-nil own))
   alt-parts inline.Email es own alt = sym (ap (λ x. x ++ alt) (append-nil own))
   alt-parts inline.Address es own alt = sym (ap (λ x. x ++ alt) (append-nil own))
+  alt-parts inline.Check es own alt = sym (ap (λ x. x ++ alt) (append-nil own))
   alt-parts inline.Link es own alt = sym (ap (λ x. x ++ alt) (append-nil own))
   alt-parts inline.Image es own alt = sym (ap (λ x. x ++ alt) (append-nil own))
   alt-parts inline.Tail es own alt = refl
@@ -106,6 +107,7 @@ module _ (bytes : List ℕ) where
   other-alt inline.Www es own h = refl
   other-alt inline.Email es own h = refl
   other-alt inline.Address es own h = refl
+  other-alt inline.Check es own h = refl
   other-alt inline.Link es own h = refl
   other-alt inline.Image es own h = refl
   other-alt inline.Tail es own h = cc
@@ -124,6 +126,7 @@ module _ (bytes : List ℕ) where
   none-passed inline.Www a b c d e = refl
   none-passed inline.Email a b c d e = refl
   none-passed inline.Address a b c d e = refl
+  none-passed inline.Check a b c d e = refl
   none-passed inline.Link a b c d e = refl
   none-passed inline.Image a b c d e = refl
   none-passed inline.Tail a b c d e = absurd (e refl)
@@ -162,6 +165,7 @@ module _ (bytes : List ℕ) (size : (label : List ℕ) → ℕ) where
   parts-of-references inline.Www es inner = omega arith
   parts-of-references inline.Email es inner = omega arith
   parts-of-references inline.Address es inner = omega arith
+  parts-of-references inline.Check es inner = omega arith
   parts-of-references inline.Link es inner = omega arith
   parts-of-references inline.Image es inner = omega arith
   parts-of-references inline.Tail es inner = omega arith
@@ -223,6 +227,7 @@ module _ (bytes : List ℕ) (size : (label : List ℕ) → ℕ) where
   none-referred inline.Www es a b = (refl, refl)
   none-referred inline.Email es a b = (refl, refl)
   none-referred inline.Address es a b = (refl, refl)
+  none-referred inline.Check es a b = (refl, refl)
   none-referred inline.Link es a b = absurd (a refl)
   none-referred inline.Image es a b = absurd (b refl)
   none-referred inline.Tail es a b = (refl, refl)

@@ -127,6 +127,7 @@ module _ (options : CompileOptions) (bytes : List â„•) (lookup : (label : List â
   unlisted mode.LooseItems n es l m s t said alt h = refl
   unlisted mode.TightItems n es l m s t said alt h = refl
   unlisted mode.Heading n es l m s t said alt h = refl
+  unlisted mode.Paragraph n es l m s t said alt h = refl
   unlisted mode.Text n es l m s t said alt h = refl
   unlisted mode.Nothing n es l m s t said alt h = refl
 

@@ -15,7 +15,7 @@ use Rattle.mdhtml_document.specs.declared.names.Inline.{Inline}
 use Rattle.mdhtml_document.specs.declared.names.Inline.TheVariants as inline
 use Rattle.mdhtml_document.specs.declared.shapes.Mode.{Mode}
 use Rattle.mdhtml_document.specs.declared.shapes.Mode.TheVariants as mode
-use Rattle.mdhtml_document.specs.Html.{Shape, address_at, address_link, alone, autolink, block_shape, blocks, code, container, heading, heading_shape, image_of, inline_shape, item_shape, items, language, length_of_first, line, link_to, literal, ordered, parts_in_link, pieces, raw, setext_rank, shape, shape_by, through, titled, told, within_line}
+use Rattle.mdhtml_document.specs.Html.{Shape, address_at, address_link, alone, autolink, block_shape, blocks, check, code, container, heading, heading_shape, image_of, inline_shape, is_check, is_checked, item_shape, items, language, length_of_first, line, link_to, literal, ordered, paragraph_shape, parts_in_link, pieces, raw, setext_rank, shape, shape_by, through, titled, told, within_line}
 use Rattle.mdhtml_document.specs.HtmlLaws.{AreSafeOptions, HtmlIsFlow, are_apart, has_links, has_links_by, is_linked}
 use Rattle.mdhtml_document.specs.Names.{block_of, inline_of}
 use Rattle.mdhtml_document.specs.Spans.{Nothing, Span, Spans, events_of, spans_of}
@@ -24,11 +24,11 @@ use Rattle.mdhtml_document.proofs.Safe.{email-is, href-is, language-is, moved, s
 use Rattle.mdhtml_markup.specs.declared.addresses.Place.TheVariants as place
 use Rattle.mdhtml_markup.specs.declared.elements.AttributeName.{AttributeName}
 use Rattle.mdhtml_markup.specs.declared.elements.Element.{Element}
-use Rattle.mdhtml_markup.specs.declared.elements.Element.TheVariants.{Anchor, BlockQuote, Break, Code, Deleted, Emphasis, Heading1, Heading2, Heading3, Heading4, Heading5, Heading6, Image, ListItem, OrderedList, Paragraph, Preformatted, Strong, ThematicBreak, UnorderedList}
+use Rattle.mdhtml_markup.specs.declared.elements.Element.TheVariants.{Anchor, BlockQuote, Break, Checkbox, Code, Deleted, Emphasis, Heading1, Heading2, Heading3, Heading4, Heading5, Heading6, Image, ListItem, OrderedList, Paragraph, Preformatted, Strong, ThematicBreak, UnorderedList}
 use Rattle.mdhtml_markup.specs.Escapes.{escaped}
 use Rattle.mdhtml_markup.specs.Flow as flow
 use Rattle.mdhtml_markup.specs.Flow.{AreGiven, BeforeCode, BehindCode, Blocks, IsContent, Items, Model, Phrases, Words, after, inside, may_be_missing, may_end, may_say, may_stand}
-use Rattle.mdhtml_markup.specs.Pieces.{Alt, Attribute, Close, Feed, Fresh, Href, Kept, Language, Open, Piece, Src, Start, Text, Title, Void, attribute, html_from, is_fresh, written}
+use Rattle.mdhtml_markup.specs.Pieces.{Alt, Attribute, Checked, Close, Disabled, Feed, Fresh, Href, InputType, Kept, Language, Open, Piece, Src, Start, Text, Title, Void, attribute, html_from, is_fresh, written}
 use Rattle.mdhtml_markup.specs.SafeHtml.{attributes_of, is_allowed, is_text, is_text_byte, is_void, open_tag, void_tag}
 use Rattle.mdhtml_markup.specs.SafePieces.{IsAllowed, name_of_attribute}
 use Rattle.mdhtml_markup.proofs.FlowSafe.{text-more}
@@ -132,6 +132,13 @@ IsText Blocks = ⊤
 IsText (Phrases in_link) = ⊤
 IsText m = ⊥
 
+-- and in no link
+abbrev IsFree : Model → Type 0
+IsFree Blocks = ⊤
+IsFree (Phrases true) = ⊥
+IsFree (Phrases false) = ⊤
+IsFree m = ⊥
+
 -- where spans of a mode stand
 abbrev Suits : Mode → Model → Type 0
 Suits mode.Flow m = m ≡ Blocks
@@ -139,6 +146,7 @@ Suits mode.Tight m = m ≡ Blocks
 Suits mode.LooseItems m = m ≡ Items
 Suits mode.TightItems m = m ≡ Items
 Suits mode.Heading m = m ≡ Phrases false
+Suits mode.Paragraph m = IsFree m
 Suits mode.Text m = IsText m
 Suits mode.Nothing m = ⊤
 
@@ -153,6 +161,7 @@ IsApart mode.Tight m linked = in_link m ≡ true → linked ≡ false
 IsApart mode.LooseItems m linked = in_link m ≡ true → linked ≡ false
 IsApart mode.TightItems m linked = in_link m ≡ true → linked ≡ false
 IsApart mode.Heading m linked = in_link m ≡ true → linked ≡ false
+IsApart mode.Paragraph m linked = in_link m ≡ true → linked ≡ false
 IsApart mode.Text m linked = in_link m ≡ true → linked ≡ false
 IsApart mode.Nothing m linked = ⊤
 
@@ -162,6 +171,7 @@ apart-first mode.Tight m a b h = λ e. (or_parts a b (h e)).0
 apart-first mode.LooseItems m a b h = λ e. (or_parts a b (h e)).0
 apart-first mode.TightItems m a b h = λ e. (or_parts a b (h e)).0
 apart-first mode.Heading m a b h = λ e. (or_parts a b (h e)).0
+apart-first mode.Paragraph m a b h = λ e. (or_parts a b (h e)).0
 apart-first mode.Text m a b h = λ e. (or_parts a b (h e)).0
 apart-first mode.Nothing m a b h = tt
 
@@ -171,6 +181,7 @@ apart-rest mode.Tight m a b h = λ e. (or_parts a b (h e)).1
 apart-rest mode.LooseItems m a b h = λ e. (or_parts a b (h e)).1
 apart-rest mode.TightItems m a b h = λ e. (or_parts a b (h e)).1
 apart-rest mode.Heading m a b h = λ e. (or_parts a b (h e)).1
+apart-rest mode.Paragraph m a b h = λ e. (or_parts a b (h e)).1
 apart-rest mode.Text m a b h = λ e. (or_parts a b (h e)).1
 apart-rest mode.Nothing m a b h = tt
 
@@ -388,9 +399,48 @@ module _ (options : CompileOptions) (bytes : List ℕ) (lookup : (label : List �
   inline-around m inline.Address es said alt linked t h a = literal-around m [] said linked t h
   inline-around m inline.Link es said alt linked t h a = link-around m (parts_in_link bytes lookup es) linked t h a
   inline-around m inline.Image es said alt linked t h a = image-around m alt (parts_in_link bytes lookup es) linked t
+  inline-around m inline.Check es said alt linked t h a = nothing-around m linked
   inline-around m inline.Tail es said alt linked t h a = nothing-around m linked
   inline-around m inline.Other es said alt linked t h a =
       record { model = m; suits = t; apart = h; around = λ inner k fronted rest. text-of m said (inner ++ k) (speaks m t) (fronted.front k rest) }
+
+  -- a box stands in text that is in no link
+  free-text : (m : Model) → IsFree m → IsText m
+  free-text Blocks t = tt
+  free-text (Phrases true) t = absurd t
+  free-text (Phrases false) t = tt
+  free-text Items t = absurd t
+  free-text BeforeCode t = absurd t
+  free-text BehindCode t = absurd t
+  free-text Words t = absurd t
+
+  box-stands : (m : Model) → IsFree m → may_stand m Checkbox ≡ true
+  box-stands Blocks t = refl
+  box-stands (Phrases true) t = absurd t
+  box-stands (Phrases false) t = refl
+  box-stands Items t = absurd t
+  box-stands BeforeCode t = absurd t
+  box-stands BehindCode t = absurd t
+  box-stands Words t = absurd t
+
+  box-given : (checked : Bool) → AreGiven (attributes_of Checkbox) (flat_map attribute (InputType ∷ cond checked (Checked ∷ Disabled ∷ []) (Disabled ∷ [])))
+  box-given true = first-given InputType _ _ tt (first-given Checked _ _ tt (first-given Disabled [] [] tt flow.AreGiven.none))
+  box-given false = first-given InputType _ _ tt (flow.AreGiven.missing _ _ refl (first-given Disabled [] [] tt flow.AreGiven.none))
+
+  check-around : (m : Model) (checked : Bool) (linked : Bool) → IsFree m → Around m (check checked) linked
+  check-around m checked linked t =
+      alone-around m _ linked
+      (void-front m Checkbox (InputType ∷ cond checked (Checked ∷ Disabled ∷ []) (Disabled ∷ [])) (free-text m t) refl (box-stands m t) (box-given checked))
+
+  around-by : (m : Model) (c : Bool) (s t : Shape) (linked : Bool) → Around m s linked → Around m t linked → Around m (cond c s t) linked
+  around-by m true s t linked h k = h
+  around-by m false s t linked h k = k
+
+  paragraph-around : (m : Model) (i : Inline) (es : List Event) (said alt : List ℕ) (linked : Bool) → IsFree m → (in_link m ≡ true → has_links_by i linked ≡ false)
+      → is_linked i linked ≡ false → Around m (paragraph_shape options bytes lookup tab i es said alt) linked
+  paragraph-around m i es said alt linked t h a =
+      around-by m (is_check i) (check (is_checked es)) (inline_shape options bytes lookup tab i es said alt) linked (check-around m (is_checked es) linked t)
+      (inline-around m i es said alt linked (free-text m t) h a)
 
   blocks-suit : (tight : Bool) → Suits (blocks tight) Blocks
   blocks-suit true = refl
@@ -410,8 +460,8 @@ module _ (options : CompileOptions) (bytes : List ℕ) (lookup : (label : List �
 
   block-around : (tight : Bool) (b : Block) (es : List Event) (loose : Bool) (start : Option ℕ) (linked : Bool)
       → Around Blocks (block_shape options bytes lookup tab tight b es loose start) linked
-  block-around true block.Paragraph es loose start linked = through-around Blocks mode.Text linked tt (λ e. absurd (false≢true e))
-  block-around false block.Paragraph es loose start linked = line-around Paragraph mode.Text (Phrases false) linked refl refl refl refl refl tt (λ e. absurd (false≢true e))
+  block-around true block.Paragraph es loose start linked = through-around Blocks mode.Paragraph linked tt (λ e. absurd (false≢true e))
+  block-around false block.Paragraph es loose start linked = line-around Paragraph mode.Paragraph (Phrases false) linked refl refl refl refl refl tt (λ e. absurd (false≢true e))
   block-around tight block.HeadingAtx es loose start linked = heading-around (length_of_first name.HeadingAtxSequence es) linked
   block-around tight block.HeadingSetext es loose start linked = heading-around (setext_rank bytes es) linked
   block-around tight block.HeadingText es loose start linked = nothing-around Blocks linked
@@ -488,6 +538,7 @@ module _ (options : CompileOptions) (bytes : List ℕ) (lookup : (label : List �
   shape-around mode.LooseItems m n linked es loose start said alt s a l = items-at false m n linked s
   shape-around mode.TightItems m n linked es loose start said alt s a l = items-at true m n linked s
   shape-around mode.Heading m n linked es loose start said alt s a l = subst (λ x. Around x (heading_shape (block_of n)) linked) (sym s) (headings-around (block_of n) linked)
+  shape-around mode.Paragraph m n linked es loose start said alt s a l = paragraph-around m (inline_of n) es said alt linked s a l
   shape-around mode.Text m n linked es loose start said alt s a l = inline-around m (inline_of n) es said alt linked s a l
   shape-around mode.Nothing m n linked es loose start said alt s a l = nothing-around m linked
 

@@ -285,6 +285,7 @@ module _ (bytes : List ℕ) (size more : (label : List ℕ) → ℕ) (less : (la
   referred-less inline.Www es a b h = h
   referred-less inline.Email es a b h = h
   referred-less inline.Address es a b h = h
+  referred-less inline.Check es a b h = h
   referred-less inline.Link es a b h = let t = target-less (target_in bytes es) in omega (arith, t, h)
   referred-less inline.Image es a b h = target-less (target_in bytes es)
   referred-less inline.Tail es a b h = h
@@ -315,6 +316,7 @@ module _ (bytes : List ℕ) where
   referred-none inline.Www es a h = h
   referred-none inline.Email es a h = h
   referred-none inline.Address es a h = h
+  referred-none inline.Check es a h = h
   referred-none inline.Link es a h = let t = target-none (target_in bytes es) in omega (arith, t, h)
   referred-none inline.Image es a h = target-none (target_in bytes es)
   referred-none inline.Tail es a h = h

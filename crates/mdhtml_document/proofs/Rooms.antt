@@ -336,6 +336,7 @@ module _ (bytes : List ℕ) (tab : ℕ) where
   alt-by-le inline.Www es own alt u o p a = let l = length-append own alt in omega (arith, o, a, l)
   alt-by-le inline.Email es own alt u o p a = let l = length-append own alt in omega (arith, o, a, l)
   alt-by-le inline.Address es own alt u o p a = let l = length-append own alt in omega (arith, o, a, l)
+  alt-by-le inline.Check es own alt u o p a = let l = length-append own alt in omega (arith, o, a, l)
   alt-by-le inline.Link es own alt u o p a = let l = length-append own alt in omega (arith, o, a, l)
   alt-by-le inline.Image es own alt u o p a = let l = length-append own alt in omega (arith, o, a, l)
   alt-by-le inline.Other es own alt u o p a = let l = length-append own alt in omega (arith, o, a, l)

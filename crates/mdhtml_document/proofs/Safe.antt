@@ -15,7 +15,7 @@ use Rattle.mdhtml_document.specs.declared.names.Inline.{Inline}
 use Rattle.mdhtml_document.specs.declared.names.Inline.TheVariants as inline
 use Rattle.mdhtml_document.specs.declared.shapes.Mode.{Mode}
 use Rattle.mdhtml_document.specs.declared.shapes.Mode.TheVariants as mode
-use Rattle.mdhtml_document.specs.Html.{Shape, address_at, address_link, autolink, block_shape, blocks, code, container, heading, heading_shape, image_of, inline_shape, item_shape, items, language, length_of_first, line, link_to, literal, ordered, parts_in_link, pieces, raw, setext_rank, shape, shape_by, through, titled, told, alone, within_line}
+use Rattle.mdhtml_document.specs.Html.{Shape, address_at, address_link, autolink, block_shape, blocks, check, code, container, heading, heading_shape, image_of, inline_shape, is_check, is_checked, item_shape, items, language, length_of_first, line, link_to, literal, ordered, parts_in_link, pieces, raw, setext_rank, shape, shape_by, through, titled, told, alone, within_line}
 use Rattle.mdhtml_document.specs.HtmlLaws.{AreSafeOptions, HtmlIsSafe, HtmlKeepsText}
 use Rattle.mdhtml_document.specs.Names.{block_of, inline_of}
 use Rattle.mdhtml_document.specs.Spans.{Nothing, Span, Spans, events_of, spans_of}
@@ -41,6 +41,7 @@ Stands mode.Tight tags = holds_blocks tags ≡ true
 Stands mode.LooseItems tags = holds_items tags ≡ true
 Stands mode.TightItems tags = holds_items tags ≡ true
 Stands mode.Heading tags = ⊤
+Stands mode.Paragraph tags = ⊤
 Stands mode.Text tags = ⊤
 Stands mode.Nothing tags = ⊤
 
@@ -110,6 +111,22 @@ block-heading rank =
     (block-by (rank == 3) _ _ (record { kind = refl; stands = λ tags. refl })
     (block-by (rank == 4) _ _ (record { kind = refl; stands = λ tags. refl })
     (block-by (rank == 5) _ _ (record { kind = refl; stands = λ tags. refl }) (record { kind = refl; stands = λ tags. refl })))))
+
+-- an element that needs no attributes
+record IsBare (e : Element) : Type 0 where
+  none : AreAllowed e []
+
+bare-by : (c : Bool) (d e : Element) → IsBare d → IsBare e → IsBare (cond c d e)
+bare-by true d e p q = p
+bare-by false d e p q = q
+
+bare-heading : (rank : ℕ) → IsBare (heading rank)
+bare-heading rank =
+    bare-by (rank == 1) _ _ (record { none = tt })
+    (bare-by (rank == 2) _ _ (record { none = tt })
+    (bare-by (rank == 3) _ _ (record { none = tt })
+    (bare-by (rank == 4) _ _ (record { none = tt })
+    (bare-by (rank == 5) _ _ (record { none = tt }) (record { none = tt })))))
 
 -- ---- modes
 
@@ -211,14 +228,14 @@ module _ (options : CompileOptions) (bytes : List ℕ) (lookup : (label : List �
 
   block-keeps : (m : Mode) (tight : Bool) (b : Block) (es : List Event) (loose : Bool) (start : Option ℕ) → ((tags : List Element) → Stands m tags → holds_blocks tags ≡ true)
       → KeepsShape m (block_shape options bytes lookup tab tight b es loose start)
-  block-keeps m true block.Paragraph es loose start stands = through-keeps m mode.Text (λ tags s. tt)
+  block-keeps m true block.Paragraph es loose start stands = through-keeps m mode.Paragraph (λ tags s. tt)
   block-keeps m false block.Paragraph es loose start stands =
-      line-keeps m Paragraph mode.Text (λ tags s. block-tag Paragraph [] tags (record { kind = refl; stands = λ tags. refl }) tt (stands tags s)) (λ tags. tt)
+      line-keeps m Paragraph mode.Paragraph (λ tags s. block-tag Paragraph [] tags (record { kind = refl; stands = λ tags. refl }) tt (stands tags s)) (λ tags. tt)
   block-keeps m tight block.HeadingAtx es loose start stands =
       let rank = length_of_first name.HeadingAtxSequence es in
-      line-keeps m (heading rank) mode.Heading (λ tags s. block-tag (heading rank) [] tags (block-heading rank) tt (stands tags s)) (λ tags. tt)
+      line-keeps m (heading rank) mode.Heading (λ tags s. block-tag (heading rank) [] tags (block-heading rank) (bare-heading rank).none (stands tags s)) (λ tags. tt)
   block-keeps m tight block.HeadingSetext es loose start stands =
-      let rank = setext_rank bytes es in line-keeps m (heading rank) mode.Heading (λ tags s. block-tag (heading rank) [] tags (block-heading rank) tt (stands tags s)) (λ tags. tt)
+      let rank = setext_rank bytes es in line-keeps m (heading rank) mode.Heading (λ tags s. block-tag (heading rank) [] tags (block-heading rank) (bare-heading rank).none (stands tags s)) (λ tags. tt)
   block-keeps m tight block.HeadingText es loose start stands = nothing-keeps m
   block-keeps m tight block.Quote es loose start stands =
       container-keeps m BlockQuote [] mode.Flow (λ tags s. block-tag BlockQuote [] tags (record { kind = refl; stands = λ tags. refl }) tt (stands tags s)) (λ tags. refl)
@@ -280,8 +297,17 @@ module _ (options : CompileOptions) (bytes : List ℕ) (lookup : (label : List �
   inline-keeps m inline.Address es said alt = literal-keeps m [] said
   inline-keeps m inline.Link es said alt = link-keeps m (parts_in_link bytes lookup es)
   inline-keeps m inline.Image es said alt = image-keeps m alt (parts_in_link bytes lookup es)
+  inline-keeps m inline.Check es said alt = nothing-keeps m
   inline-keeps m inline.Tail es said alt = nothing-keeps m
   inline-keeps m inline.Other es said alt = told-keeps m said
+
+  check-keeps : (m : Mode) (checked : Bool) → KeepsShape m (check checked)
+  check-keeps m true = alone-keeps m _ (record { keep = λ tags k s h. (record { kind = refl; stands = refl; allowed = (tt, (tt, (tt, tt))) }, h) })
+  check-keeps m false = alone-keeps m _ (record { keep = λ tags k s h. (record { kind = refl; stands = refl; allowed = (tt, (tt, tt)) }, h) })
+
+  keeps-by : (m : Mode) (c : Bool) (s t : Shape) → KeepsShape m s → KeepsShape m t → KeepsShape m (cond c s t)
+  keeps-by m true s t h k = h
+  keeps-by m false s t h k = k
 
   shape-keeps : (m : Mode) (n : Name) (es : List Event) (loose : Bool) (start : Option ℕ) (said alt : List ℕ) → KeepsShape m (shape_by options bytes lookup tab m n es loose start said alt)
   shape-keeps mode.Flow n es loose start said alt = block-keeps mode.Flow false (block_of n) es loose start (λ tags s. s)
@@ -289,6 +315,9 @@ module _ (options : CompileOptions) (bytes : List ℕ) (lookup : (label : List �
   shape-keeps mode.LooseItems n es loose start said alt = item-keeps mode.LooseItems false (block_of n) (λ tags s. s)
   shape-keeps mode.TightItems n es loose start said alt = item-keeps mode.TightItems true (block_of n) (λ tags s. s)
   shape-keeps mode.Heading n es loose start said alt = heading-keeps mode.Heading (block_of n)
+  shape-keeps mode.Paragraph n es loose start said alt =
+      let i = inline_of n in
+      keeps-by mode.Paragraph (is_check i) (check (is_checked es)) (inline_shape options bytes lookup tab i es said alt) (check-keeps mode.Paragraph (is_checked es)) (inline-keeps mode.Paragraph i es said alt)
   shape-keeps mode.Text n es loose start said alt = inline-keeps mode.Text (inline_of n) es said alt
   shape-keeps mode.Nothing n es loose start said alt = nothing-keeps mode.Nothing
 

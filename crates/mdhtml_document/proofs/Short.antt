@@ -8,7 +8,7 @@ use Rattle.std.specs.Char.{is_ascii_whitespace}
 use Rattle.std.specs.Fmt.{decimal}
 use Rattle.std.specs.List.{flat_map, list_all, prefix_len, take_while}
 use Rattle.std.specs.Option.{option_map_or}
-use Rattle.std.specs.Prelude.{zero, ◌==◌, ◌&&◌, ◌||◌, not, Bool, true, false, cond, codes, nat_le, option_and_then}
+use Rattle.std.specs.Prelude.{zero, ⊤, ◌==◌, ◌&&◌, ◌||◌, not, Bool, true, false, cond, codes, nat_le, option_and_then}
 use denote.Enum.Bare.{same_true}
 use Rattle.markdown_base.specs.contracts.event.Name.{the_type}
 use Rattle.markdown_base.specs.declared.configuration.CompileOptions.{CompileOptions}
@@ -30,7 +30,7 @@ use Rattle.mdhtml_document.specs.declared.names.Inline.{Inline}
 use Rattle.mdhtml_document.specs.declared.names.Inline.TheVariants as inline
 use Rattle.mdhtml_document.specs.declared.shapes.Mode.{Mode}
 use Rattle.mdhtml_document.specs.declared.shapes.Mode.TheVariants as mode
-use Rattle.mdhtml_document.specs.Html.{Shape, address_at, address_link, alone, autolink, block_shape, blocks, code, container, heading, heading_shape, image_of, inline_shape, item_shape, items, language, length_of_first, line, link_to, literal, ordered, parts_in_link, pieces, raw, references, referred, setext_rank, shape, shape_by, size_of_target, through, titled, told, within_line}
+use Rattle.mdhtml_document.specs.Html.{Shape, address_at, address_link, alone, autolink, block_shape, blocks, check, code, container, heading, heading_shape, image_of, inline_shape, is_check, is_checked, item_shape, items, language, length_of_first, line, link_to, literal, ordered, parts_in_link, pieces, raw, references, referred, setext_rank, shape, shape_by, size_of_target, through, titled, told, within_line}
 use Rattle.mdhtml_document.specs.HtmlLaws.{HtmlIsShort, ahead, are_apart, has_links, has_links_by, is_linked, length_of_parts, room}
 use Rattle.mdhtml_document.specs.Names.{block_of, blocks_by_name, inline_of}
 use Rattle.mdhtml_document.specs.Spans.{Nothing, Span, Spans, events_of, spans_of}
@@ -110,33 +110,42 @@ at-short options place.Src url =
 
 -- ---- attributes
 
-quoted-short : (a : AttributeName) (value : List ℕ) → length (quoted a value) ≤ length value + 9
-quoted-short attr.Alt value = let l = length-append value (codes "\"") in omega (arith, l)
-quoted-short attr.Class value = let l = length-append value (codes "\"") in omega (arith, l)
-quoted-short attr.Href value = let l = length-append value (codes "\"") in omega (arith, l)
-quoted-short attr.Src value = let l = length-append value (codes "\"") in omega (arith, l)
-quoted-short attr.Start value = let l = length-append value (codes "\"") in omega (arith, l)
-quoted-short attr.Title value = let l = length-append value (codes "\"") in omega (arith, l)
+-- a name of five letters at most; the others have a constant value
+abbrev IsBrief : AttributeName → Type 0
+IsBrief attr.Checked = ⊥
+IsBrief attr.Disabled = ⊥
+IsBrief a = ⊤
+
+quoted-short : (a : AttributeName) (value : List ℕ) → IsBrief a → length (quoted a value) ≤ length value + 9
+quoted-short attr.Alt value brief = let l = length-append value (codes "\"") in omega (arith, l)
+quoted-short attr.Checked value brief = absurd brief
+quoted-short attr.Class value brief = let l = length-append value (codes "\"") in omega (arith, l)
+quoted-short attr.Disabled value brief = absurd brief
+quoted-short attr.Href value brief = let l = length-append value (codes "\"") in omega (arith, l)
+quoted-short attr.InputType value brief = let l = length-append value (codes "\"") in omega (arith, l)
+quoted-short attr.Src value brief = let l = length-append value (codes "\"") in omega (arith, l)
+quoted-short attr.Start value brief = let l = length-append value (codes "\"") in omega (arith, l)
+quoted-short attr.Title value brief = let l = length-append value (codes "\"") in omega (arith, l)
 
 -- an attribute in front of others
 first-short : (a : Attribute) (more : List Attribute) → length (flat_map attribute (a ∷ more)) ≡ length (attribute a) + length (flat_map attribute more)
 first-short a more = length-append (attribute a) (flat_map attribute more)
 
-address-short : (options : CompileOptions) (at : Place) (a : AttributeName) (url : List ℕ) → length (quoted a (written_address (address_at options at url))) ≤ 9 * length url + 9
-address-short options at a url =
-    let q = quoted-short a (written_address (address_at options at url)) in
+address-short : (options : CompileOptions) (at : Place) (a : AttributeName) (url : List ℕ) → IsBrief a → length (quoted a (written_address (address_at options at url))) ≤ 9 * length url + 9
+address-short options at a url brief =
+    let q = quoted-short a (written_address (address_at options at url)) brief in
     let chosen = at-short options at url in
     let short = addresses-short url in
     omega (arith, q, chosen, short)
 
-text-short : (a : AttributeName) (t : List ℕ) → length (quoted a (escaped t)) ≤ 6 * length t + 9
-text-short a t = let q = quoted-short a (escaped t) in let short = escaped-short t in omega (arith, q, short)
+text-short : (a : AttributeName) (t : List ℕ) → IsBrief a → length (quoted a (escaped t)) ≤ 6 * length t + 9
+text-short a t brief = let q = quoted-short a (escaped t) brief in let short = escaped-short t in omega (arith, q, short)
 
 titled-short : (title : Option (List ℕ)) → length (flat_map attribute (titled title)) ≤ 6 * option_map_or length title 0 + 9
 titled-short None = omega arith
 titled-short (Some t) =
     let all = first-short (Title (title_from false t)) [] in
-    let short = text-short attr.Title (title_from false t) in
+    let short = text-short attr.Title (title_from false t) tt in
     let less = title-le false t in
     omega (arith, all, short, less)
 
@@ -147,7 +156,7 @@ cost_of parts = option_map_or (λ p. 9 * length p.destination + 6 * option_map_o
 link-attributes : (options : CompileOptions) (p : Parts) → length (flat_map attribute (Href (address_at options place.Href p.destination) ∷ titled p.title)) ≤ cost_of (Some p) + 18
 link-attributes options p =
     let all = first-short (Href (address_at options place.Href p.destination)) (titled p.title) in
-    let here = address-short options place.Href attr.Href p.destination in
+    let here = address-short options place.Href attr.Href p.destination tt in
     let rest = titled-short p.title in
     omega (arith, all, here, rest)
 
@@ -156,8 +165,8 @@ image-attributes : (options : CompileOptions) (alt : List ℕ) (p : Parts)
 image-attributes options alt p =
     let all = first-short (Src (address_at options place.Src p.destination)) (Alt alt ∷ titled p.title) in
     let more = first-short (Alt alt) (titled p.title) in
-    let here = address-short options place.Src attr.Src p.destination in
-    let described = text-short attr.Alt alt in
+    let here = address-short options place.Src attr.Src p.destination tt in
+    let described = text-short attr.Alt alt tt in
     let rest = titled-short p.title in
     omega (arith, all, more, here, described, rest)
 
@@ -187,7 +196,7 @@ start-by : (one : Bool) (n : ℕ) → n < 1000000000 → length (flat_map attrib
 start-by true n h = omega arith
 start-by false n h =
     let all = first-short (Start n) [] in
-    let q = quoted-short attr.Start (decimal n) in
+    let q = quoted-short attr.Start (decimal n) tt in
     let few : length (decimal n) ≤ 9 = length-decimal-le 9 n (lit< tt) (omega (arith, h)) (omega (arith, h)) in
     omega (arith, all, q, few)
 
@@ -297,7 +306,7 @@ raw-short options h = raw-by options.allow_dangerous_html h
 address-link-short : (url t : List ℕ) → longs (address_link url t).opened ≤ (length (written_address url) + 6 * length t) + 16
 address-link-short url t =
     let all = first-short (Href url) [] in
-    let q = quoted-short attr.Href (written_address url) in
+    let q = quoted-short attr.Href (written_address url) tt in
     let tag = tag-long Anchor (flat_map attribute (Href url ∷ [])) in
     let short = escaped-short t in
     omega (arith, all, q, tag, short)
@@ -426,6 +435,7 @@ unlinked inline.Www inner left h = absurd (false≢true (sym h))
 unlinked inline.Email inner left h = absurd (false≢true (sym h))
 unlinked inline.Address inner left h = absurd (false≢true (sym h))
 unlinked inline.Link inner left h = absurd (false≢true (sym h))
+unlinked inline.Check inner left h = h
 unlinked inline.Image inner left h = absurd (false≢true (sym left))
 unlinked inline.Tail inner left h = h
 unlinked inline.Other inner left h = h
@@ -448,6 +458,7 @@ module _ (options : CompileOptions) (bytes : List ℕ) (lookup : (label : List �
   referred-inner inline.Www es inner left = omega arith
   referred-inner inline.Email es inner left = omega arith
   referred-inner inline.Address es inner left = omega arith
+  referred-inner inline.Check es inner left = omega arith
   referred-inner inline.Link es inner left = omega arith
   referred-inner inline.Image es inner left = absurd (false≢true (sym left))
   referred-inner inline.Tail es inner left = omega arith
@@ -465,6 +476,7 @@ module _ (options : CompileOptions) (bytes : List ℕ) (lookup : (label : List �
   referred-own inline.Www es inner = omega arith
   referred-own inline.Email es inner = omega arith
   referred-own inline.Address es inner = omega arith
+  referred-own inline.Check es inner = omega arith
   referred-own inline.Link es inner = omega arith
   referred-own inline.Image es inner = omega arith
   referred-own inline.Tail es inner = omega arith
@@ -508,7 +520,7 @@ module _ (options : CompileOptions) (bytes : List ℕ) (lookup : (label : List �
       let t = decoded bytes info in
       let word = take_while (λ b. not (is_ascii_whitespace b)) t in
       let all = first-short (Language word) [] in
-      let q = quoted-short attr.Class (codes "language-" ++ escaped word) in
+      let q = quoted-short attr.Class (codes "language-" ++ escaped word) tt in
       let l = length-append (codes "language-") (escaped word) in
       let short = escaped-short word in
       let less = take-le (prefix_len (λ b. not (is_ascii_whitespace b)) t) t in
@@ -524,7 +536,7 @@ module _ (options : CompileOptions) (bytes : List ℕ) (lookup : (label : List �
   block-short : (i : Inline) (tight : Bool) (b : Block) (es : List Event) (loose : Bool) (start : Option ℕ) (few all own : ℕ) → is_left i ≡ false
       → length (flat_map attribute (ordered start)) ≤ 18 → room tab es + 1 ≤ all → IsShort i (block_shape options bytes lookup tab tight b es loose start) few all own
   block-short i true block.Paragraph es loose start few all own left s r = thin left (omega arith)
-  block-short i false block.Paragraph es loose start few all own left s r = let h = line-short Paragraph mode.Text (omega arith) (omega arith) in thin left (omega (arith, h))
+  block-short i false block.Paragraph es loose start few all own left s r = let h = line-short Paragraph mode.Paragraph (omega arith) (omega arith) in thin left (omega (arith, h))
   block-short i tight block.HeadingAtx es loose start few all own left s r = let h = heading-short (length_of_first name.HeadingAtxSequence es) mode.Heading in thin left (omega (arith, h))
   block-short i tight block.HeadingSetext es loose start few all own left s r = let h = heading-short (setext_rank bytes es) mode.Heading in thin left (omega (arith, h))
   block-short i tight block.HeadingText es loose start few all own left s r = nothing-short i few all own
@@ -593,8 +605,18 @@ module _ (options : CompileOptions) (bytes : List ℕ) (lookup : (label : List �
       let h = image-short options alt p in
       let most = leads es in
       whole (image-inside options alt p) (omega (arith, h, most, r, a))
+  inline-short inline.Check es said alt few all t f r a = whole refl (omega arith)
   inline-short inline.Tail es said alt few all t f r a = whole refl (omega arith)
   inline-short inline.Other es said alt few all t f r a = let short = escaped-short said in thin refl (omega (arith, short, t))
+
+  -- a box is 48 bytes
+  check-by : (checked : Bool) (i : Inline) (few all own : ℕ) → 1 ≤ all → IsShort i (check checked) few all own
+  check-by true i few all own r = whole refl (omega (arith, r))
+  check-by false i few all own r = whole refl (omega (arith, r))
+
+  paragraph-by : (is checked : Bool) (i : Inline) (s : Shape) (few all own : ℕ) → 1 ≤ all → IsShort i s few all own → IsShort i (cond is (check checked) s) few all own
+  paragraph-by true checked i s few all own r h = check-by checked i few all own r
+  paragraph-by false checked i s few all own r h = h
 
   by-name-short : (m : Mode) (n : Name) (es : List Event) (loose : Bool) (start : Option ℕ) (said alt : List ℕ) (few all : ℕ) → length (flat_map attribute (ordered start)) ≤ 18 → length said ≤ few → few ≤ all
       → room tab es + 1 ≤ all → length alt ≤ all → IsShort (inline_of n) (shape_by options bytes lookup tab m n es loose start said alt) few all (referred bytes size (inline_of n) es 0)
@@ -618,6 +640,9 @@ module _ (options : CompileOptions) (bytes : List ℕ) (lookup : (label : List �
       let i = inline_of n in
       let own = referred bytes size i es 0 in
       each-block (λ b. IsShort i (heading_shape b) few all own) n (λ b left. title-of-heading i b few all own left) (nothing-short i few all own)
+  by-name-short mode.Paragraph n es loose start said alt few all s t f r a =
+      let i = inline_of n in
+      paragraph-by (is_check i) (is_checked es) i (inline_shape options bytes lookup tab i es said alt) few all (referred bytes size i es 0) (omega (arith, r)) (inline-short i es said alt few all t f r a)
   by-name-short mode.Text n es loose start said alt few all s t f r a = inline-short (inline_of n) es said alt few all t f r a
   by-name-short mode.Nothing n es loose start said alt few all s t f r a = nothing-short (inline_of n) few all (referred bytes size (inline_of n) es 0)
 

@@ -1,5 +1,5 @@
 -- HTML of a document, by its events. The definition has no states: it goes down the tree of the document's spans.
-use Rattle.std.specs.List.{take_while}
+use Rattle.std.specs.List.{list_any, take_while}
 use Rattle.std.specs.Char.{is_ascii_whitespace}
 use Rattle.std.specs.Option.{option_map_or}
 use Rattle.std.specs.Prelude.{ℕ, ◌+◌, ◌-◌, ◌==◌, ◌||◌, max, nat_lt, not, Bool, true, false, cond, List, [], ◌∷◌, ◌++◌, codes, drop, length, slice_get, Option, None, Some, option_and_then}
@@ -21,8 +21,8 @@ use Rattle.mdhtml_markup.specs.Addresses.{allowed}
 use Rattle.mdhtml_markup.specs.declared.addresses.Place.{Place}
 use Rattle.mdhtml_markup.specs.declared.addresses.Place.TheVariants as place
 use Rattle.mdhtml_markup.specs.declared.elements.Element.{Element}
-use Rattle.mdhtml_markup.specs.declared.elements.Element.TheVariants.{Anchor, BlockQuote, Break, Code, Deleted, Emphasis, Heading1, Heading2, Heading3, Heading4, Heading5, Heading6, Image, ListItem, OrderedList, Paragraph, Preformatted, Strong, ThematicBreak, UnorderedList}
-use Rattle.mdhtml_markup.specs.Pieces.{Alt, Attribute, Close, Feed, Fresh, Href, Kept, Language, Open, Piece, Src, Start, Text, Title, Void, html}
+use Rattle.mdhtml_markup.specs.declared.elements.Element.TheVariants.{Anchor, BlockQuote, Break, Checkbox, Code, Deleted, Emphasis, Heading1, Heading2, Heading3, Heading4, Heading5, Heading6, Image, ListItem, OrderedList, Paragraph, Preformatted, Strong, ThematicBreak, UnorderedList}
+use Rattle.mdhtml_markup.specs.Pieces.{Alt, Attribute, Checked, Close, Disabled, Feed, Fresh, Href, InputType, Kept, Language, Open, Piece, Src, Start, Text, Title, Void, html}
 use Rattle.mddocument_link_targets.specs.declared.targets.Parts.{Parts}
 use Rattle.mddocument_link_targets.specs.declared.targets.Target.{Target}
 use Rattle.mddocument_link_targets.specs.declared.targets.Target.TheVariants as target
@@ -144,6 +144,23 @@ autolink options bytes es =
 abbrev pub literal : CompileOptions → (scheme text : List ℕ) → Shape
 literal options scheme text = address_link (address_at options place.Href (scheme ++ text)) text
 
+-- ---- tasks
+
+-- A check of a task says that it is done: its value has no space (GFM 0.29, 5.3)
+abbrev pub is_checked : List Event → Bool
+is_checked es = list_any (enters name.GfmTaskListItemValueChecked) es
+
+abbrev pub is_check : Inline → Bool
+is_check inline.Check = true
+is_check _ = false
+
+-- the box of a task; the white space behind it is text
+abbrev pub task_box : (checked : Bool) → Piece
+task_box checked = Void Checkbox (InputType ∷ cond checked (Checked ∷ Disabled ∷ []) (Disabled ∷ []))
+
+abbrev pub check : (checked : Bool) → Shape
+check checked = alone (task_box checked ∷ [])
+
 -- ---- spans
 
 -- a span directly in a list
@@ -161,7 +178,7 @@ module _ (options : CompileOptions) (bytes : List ℕ) (lookup : (label : List �
   -- A span among blocks, by what it is, the events in it, and what is said of it if it is a list. The blocks of an item of a tight list are tight:
   -- paragraphs are text alone. An item has tags in a list alone, and a heading's text is written in a heading alone
   abbrev pub block_shape : (tight : Bool) → Block → List Event → (is_loose : Bool) → (start : Option ℕ) → Shape
-  block_shape tight block.Paragraph es loose start = cond tight (through mode.Text) (line Paragraph mode.Text)
+  block_shape tight block.Paragraph es loose start = cond tight (through mode.Paragraph) (line Paragraph mode.Paragraph)
   block_shape tight block.HeadingAtx es loose start = line (heading (length_of_first name.HeadingAtxSequence es)) mode.Heading
   block_shape tight block.HeadingSetext es loose start = line (heading (setext_rank bytes es)) mode.Heading
   block_shape tight block.HeadingText es loose start = alone []
@@ -190,8 +207,13 @@ module _ (options : CompileOptions) (bytes : List ℕ) (lookup : (label : List �
   inline_shape inline.Address es said alt = literal options [] said
   inline_shape inline.Link es said alt = link_to options (parts_in_link bytes lookup es)
   inline_shape inline.Image es said alt = image_of options alt (parts_in_link bytes lookup es)
+  inline_shape inline.Check es said alt = alone []
   inline_shape inline.Tail es said alt = alone []
   inline_shape inline.Other es said alt = told said
+
+  -- and directly in a paragraph: there a check of a task is a box
+  abbrev pub paragraph_shape : Inline → List Event → (said alt : List ℕ) → Shape
+  paragraph_shape i es said alt = cond (is_check i) (check (is_checked es)) (inline_shape i es said alt)
 
   abbrev pub shape_by : Mode → Name → List Event → (is_loose : Bool) → (start : Option ℕ) → (said alt : List ℕ) → Shape
   shape_by mode.Flow n es loose start said alt = block_shape false (block_of n) es loose start
@@ -199,6 +221,7 @@ module _ (options : CompileOptions) (bytes : List ℕ) (lookup : (label : List �
   shape_by mode.LooseItems n es loose start said alt = item_shape false (block_of n)
   shape_by mode.TightItems n es loose start said alt = item_shape true (block_of n)
   shape_by mode.Heading n es loose start said alt = heading_shape (block_of n)
+  shape_by mode.Paragraph n es loose start said alt = paragraph_shape (inline_of n) es said alt
   shape_by mode.Text n es loose start said alt = inline_shape (inline_of n) es said alt
   shape_by mode.Nothing n es loose start said alt = alone []
 

@@ -1,5 +1,5 @@
 -- HTML of some documents, with their events.
-use Rattle.std.specs.Prelude.{ℕ, List, [], ◌∷◌, None, codes}
+use Rattle.std.specs.Prelude.{ℕ, suc, ◌+◌, ◌-◌, List, [], ◌∷◌, ◌++◌, None, codes}
 use Rattle.markdown_base.specs.declared.event.Event.{Event}
 use Rattle.markdown_base.specs.declared.event.Kind.{Kind}
 use Rattle.markdown_base.specs.declared.event.Kind.TheVariants.{Enter, Exit}
@@ -11,6 +11,22 @@ use Rattle.mdhtml_document.specs.Html.{html_of_events}
 abbrev pub event : Kind → Name → (line column index : ℕ) → Event
 event kind n line column index = record { kind = kind; name = n; point = record { line = line; column = column; index = index; vs = 0 }; link = None }
 
+-- an innermost span of a line that starts at an index; and a span with others in it
+abbrev pub leaf : Name → (line start from to : ℕ) → List Event
+leaf n line start i j = event Enter n line (suc (i - start)) i ∷ event Exit n line (suc (j - start)) j ∷ []
+
+abbrev pub around : Name → (line start from to : ℕ) → List Event → List Event
+around n line start i j es = event Enter n line (suc (i - start)) i ∷ (es ++ event Exit n line (suc (j - start)) j ∷ [])
+
+-- the prefix of an item with a bullet, and the check of a task
+abbrev pub bullet : (line start : ℕ) → List Event
+bullet line i = around name.ListItemPrefix line i i (i + 2) (leaf name.ListItemMarker line i i (i + 1) ++ leaf name.SpaceOrTab line i (i + 1) (i + 2))
+
+abbrev pub check : Name → (line start from : ℕ) → List Event
+check value line start i =
+    around name.GfmTaskListItemCheck line start i (i + 3)
+    (leaf name.GfmTaskListItemMarker line start i (i + 1) ++ (leaf value line start (i + 1) (i + 2) ++ leaf name.GfmTaskListItemMarker line start (i + 2) (i + 3)))
+
 -- A document, its events, and its HTML with the default options
 pub record HtmlExample : Type 0 where
   pub document : List ℕ
@@ -21,7 +37,7 @@ abbrev pub html_of : HtmlExample → HtmlExample
 html_of e = record e { html = html_of_events default_compile_options e.document 4 e.events }
 
 -- A heading; a list with HTML, which is shown, and a quote; an address that is not allowed, with a title, and an image; fenced code. And of GFM: text
--- that is struck through, and literals; and an image that such text describes
+-- that is struck through, and literals; an image that such text describes; and tasks
 abbrev pub html_examples : List HtmlExample
 html_examples =
     record {
@@ -313,5 +329,20 @@ html_examples =
           ∷ event Exit name.Paragraph 1 12 11
           ∷ [];
       html = codes "<p><img src=\"c\" alt=\"a b\" /></p>\n";
+    } ∷
+    record {
+      document = codes "- [x] a\n- [ ] *b*";
+      events =
+          around name.ListUnordered 1 0 0 17
+          (around name.ListItem 1 0 0 7 (bullet 1 0 ++ around name.Paragraph 1 0 2 7 (check name.GfmTaskListItemValueChecked 1 0 2 ++ leaf name.Data 1 0 5 7))
+          ++ (leaf name.LineEnding 1 0 7 8
+          ++ around name.ListItem 2 8 8 17
+          (bullet 2 8
+          ++ around name.Paragraph 2 8 10 17
+          (check name.GfmTaskListItemValueUnchecked 2 8 10
+          ++ (leaf name.Data 2 8 13 14
+          ++ around name.Emphasis 2 8 14 17
+          (leaf name.EmphasisSequence 2 8 14 15 ++ (around name.EmphasisText 2 8 15 16 (leaf name.Data 2 8 15 16) ++ leaf name.EmphasisSequence 2 8 16 17)))))));
+      html = codes "<ul>\n<li><input type=\"checkbox\" checked=\"\" disabled=\"\" /> a</li>\n<li><input type=\"checkbox\" disabled=\"\" /> <em>b</em></li>\n</ul>\n";
     } ∷
     []

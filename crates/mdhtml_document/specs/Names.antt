@@ -53,6 +53,7 @@ inlines_by_name =
     ∷ (name.GfmAutolinkLiteralXmpp, inline.Address)
     ∷ (name.Link, inline.Link)
     ∷ (name.Image, inline.Image)
+    ∷ (name.GfmTaskListItemCheck, inline.Check)
     ∷ (name.Resource, inline.Tail)
     ∷ (name.Reference, inline.Tail)
     ∷ []

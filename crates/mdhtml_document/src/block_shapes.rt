@@ -311,12 +311,12 @@ fn rule(out: &mut Vec<u8>) -> Result<Frame, AllocError>
 
 /// Begins a paragraph.
 fn paragraph(out: &mut Vec<u8>, is_tight: bool) -> Result<Frame, AllocError>
-    ensures { IfOk result (λ frame. Opens (cond is_tight (through mode.Text) (line element.Paragraph mode.Text)) out.old.items out.new.items frame) }
+    ensures { IfOk result (λ frame. Opens (cond is_tight (through mode.Paragraph) (line element.Paragraph mode.Paragraph)) out.old.items out.new.items frame) }
 {
     if is_tight {
-        Ok(through(Mode::Text))
+        Ok(through(Mode::Paragraph))
     } else {
-        open_line(out, Element::Paragraph, Mode::Text)
+        open_line(out, Element::Paragraph, Mode::Paragraph)
     }
 }
 

@@ -67,6 +67,8 @@ pub enum Inline {
     Link,
     /// An image.
     Image,
+    /// A check of a task.
+    Check,
     /// What is behind the label of a link or an image.
     Tail,
     /// Anything else: what it says itself, and what is in it.
@@ -114,6 +116,7 @@ pub(crate) fn inline_of(name: Name) -> Inline
         | Name::GfmAutolinkLiteralXmpp => Inline::Address,
         Name::Link => Inline::Link,
         Name::Image => Inline::Image,
+        Name::GfmTaskListItemCheck => Inline::Check,
         Name::Resource | Name::Reference => Inline::Tail,
         _ => Inline::Other,
     }

@@ -23,6 +23,8 @@ pub enum Mode {
     TightItems,
     /// The text of a heading.
     Heading,
+    /// Inline text that is a paragraph's.
+    Paragraph,
     /// Inline text.
     Text,
     /// Nothing.
@@ -97,6 +99,7 @@ pub(crate) fn open_tag(element: Element) -> &'static [u8]
         Element::Anchor => b"<a>",
         Element::BlockQuote => b"<blockquote>",
         Element::Break => b"<br>",
+        Element::Checkbox => b"<input>",
         Element::Code => b"<code>",
         Element::Deleted => b"<del>",
         Element::Emphasis => b"<em>",
@@ -125,6 +128,7 @@ pub(crate) fn close_tag(element: Element) -> &'static [u8]
         Element::Anchor => b"</a>",
         Element::BlockQuote => b"</blockquote>",
         Element::Break => b"</br>",
+        Element::Checkbox => b"</input>",
         Element::Code => b"</code>",
         Element::Deleted => b"</del>",
         Element::Emphasis => b"</em>",

@@ -1,12 +1,12 @@
 //! Beginnings of spans of inline text.
 
-ghost use Rattle.std.specs.Prelude.{◌≡◌, ◌∷◌, [], IfOk};
+ghost use Rattle.std.specs.Prelude.{◌≡◌, ◌∷◌, [], IfOk, true};
 ghost use Rattle.mddocument_link_targets.specs.Spans.{inside};
 ghost use Rattle.mdhtml_document.specs.Frames.{Opens, lookup_of};
-ghost use Rattle.mdhtml_document.specs.Html.{alone, inline_shape, literal, raw, told};
+ghost use Rattle.mdhtml_document.specs.Html.{alone, task_box, check, inline_shape, is_check, is_checked, literal, paragraph_shape, raw, told};
 ghost use Rattle.mdhtml_document.specs.Values.{code_text, html_text};
 ghost use Rattle.mdhtml_document.specs.Walks.{alt_from, said_at};
-ghost use Rattle.mdhtml_markup.specs.Pieces.{Close, Open, Text};
+ghost use Rattle.mdhtml_markup.specs.Pieces.{Close, Open, Text, written};
 ghost use Rattle.mdhtml_markup.specs.declared.elements.Element.TheVariants as element;
 
 use crate::block_shapes::push_raw;
@@ -15,7 +15,8 @@ use crate::links::{Whole, autolink, image, literal, open_link};
 use crate::names::Inline;
 use crate::shapes::{DONE, Frame, Mode, open_within_line, through};
 use crate::spans::{inside, push_said};
-use markdown_base::event::Event;
+use markdown_base::event::{Event, Name};
+use mddocument_link_targets::spans::enters;
 use mdhtml_markup::elements::Element;
 use mdhtml_markup::escape::push_escaped;
 use std::alloc::{AllocError, Global};
@@ -113,7 +114,60 @@ pub(crate) fn open_inline(
         Inline::Address => open_literal(alloc, out, whole, b"", event, behind),
         Inline::Link => open_link(alloc, out, whole, inside(behind)),
         Inline::Image => image(alloc, out, whole, inside(behind)),
-        Inline::Tail => Ok(DONE),
+        Inline::Check | Inline::Tail => Ok(DONE),
         Inline::Other => told(alloc, out, whole.bytes, event, behind),
+    }
+}
+
+/// Whether a check of a task says that it is done, by the events in it.
+fn is_checked(inner: &[Event]) -> bool
+    ensures { result ≡ is_checked inner.now }
+{
+    inner
+        .iter()
+        .any(|event| enters(event, Name::GfmTaskListItemValueChecked))
+}
+
+/// Whether a span is a check of a task.
+fn is_check(inline: Inline) -> bool
+    ensures { result ≡ is_check inline }
+{
+    matches!(inline, Inline::Check)
+}
+
+/// The tag of the box of a task.
+fn box_of(is_checked: bool) -> &'static [u8]
+    ensures { result.now ≡ written true (task_box is_checked) }
+{
+    if is_checked {
+        b"<input type=\"checkbox\" checked=\"\" disabled=\"\" />"
+    } else {
+        b"<input type=\"checkbox\" disabled=\"\" />"
+    }
+}
+
+/// Writes the box of a task.
+fn check(out: &mut Vec<u8>, is_checked: bool) -> Result<Frame, AllocError>
+    ensures { IfOk result (λ frame. Opens (check is_checked) out.old.items out.new.items frame) }
+{
+    out.extend_from_slice(box_of(is_checked))?;
+    Ok(DONE)
+}
+
+/// Begins a span directly in a paragraph, by what it is, the event that enters it and those behind that.
+pub(crate) fn open_in_paragraph(
+    alloc: Global,
+    out: &mut Vec<u8>,
+    whole: &Whole<'_>,
+    inline: Inline,
+    event: &Event,
+    behind: &[Event],
+) -> Result<Frame, AllocError>
+    ensures { IfOk result (λ frame. Opens (paragraph_shape whole.now.options.now whole.now.bytes.now (lookup_of whole.now) whole.now.tab inline (inside behind.now) (said_at whole.now.bytes.now event.now behind.now) (alt_from whole.now.bytes.now 0 (inside behind.now))) out.old.items out.new.items frame) }
+{
+    if is_check(inline) {
+        check(out, is_checked(inside(behind)))
+    } else {
+        open_inline(alloc, out, whole, inline, event, behind)
     }
 }

@@ -10,7 +10,7 @@ use crate::block_shapes::{open_block, open_in_heading, open_item};
 use crate::links::Whole;
 use crate::names::{block_of, inline_of};
 use crate::shapes::{DONE, End, Frame, Mode, push_end};
-use crate::text_shapes::open_inline;
+use crate::text_shapes::{open_in_paragraph, open_inline};
 use markdown_base::event::{Event, Kind, Name};
 use mdblock_containers::list_shapes::ListShape;
 use std::alloc::{AllocError, Global};
@@ -33,6 +33,14 @@ fn open(
         Mode::LooseItems => open_item(out, false, block_of(event.name)),
         Mode::TightItems => open_item(out, true, block_of(event.name)),
         Mode::Heading => Ok(open_in_heading(block_of(event.name))),
+        Mode::Paragraph => open_in_paragraph(
+            alloc,
+            out,
+            whole,
+            inline_of(event.name),
+            event,
+            behind,
+        ),
         Mode::Text => open_inline(alloc, out, whole, inline_of(event.name), event, behind),
         Mode::Nothing => Ok(DONE),
     }

@@ -14,10 +14,10 @@ use Rattle.mdhtml_markup.specs.declared.addresses.Place.TheVariants as place
 use Rattle.mdhtml_markup.specs.declared.elements.AttributeName.{AttributeName}
 use Rattle.mdhtml_markup.specs.declared.elements.AttributeName.TheVariants as name
 use Rattle.mdhtml_markup.specs.declared.elements.Element.{Element}
-use Rattle.mdhtml_markup.specs.declared.elements.Element.TheVariants.{Anchor, BlockQuote, Break, Code, Deleted, Emphasis, Heading1, Heading2, Heading3, Heading4, Heading5, Heading6, Image, ListItem, OrderedList, Paragraph, Preformatted, Strong, ThematicBreak, UnorderedList}
+use Rattle.mdhtml_markup.specs.declared.elements.Element.TheVariants.{Anchor, BlockQuote, Break, Checkbox, Code, Deleted, Emphasis, Heading1, Heading2, Heading3, Heading4, Heading5, Heading6, Image, ListItem, OrderedList, Paragraph, Preformatted, Strong, ThematicBreak, UnorderedList}
 use Rattle.mdhtml_markup.specs.SafeChecks.{behind_attribute, behind_attributes, behind_name, behind_value, elements, front_of, named, tag_end}
 use Rattle.mdhtml_markup.specs.SafeHtml as safe
-use Rattle.mdhtml_markup.specs.SafeHtml.{AreAttributes, attribute_name, attributes_of, behind, entity_at, is_address_byte, is_allowed, is_language, is_mark, is_safe_address, is_text, is_text_byte, is_value, is_void, name_of, quoted, undone}
+use Rattle.mdhtml_markup.specs.SafeHtml.{AreAttributes, attribute_name, attributes_of, behind, entity_at, is_address_byte, is_allowed, is_language, is_mark, is_safe_address, is_text, is_text_byte, is_value, is_void, must_be_given, name_of, quoted, undone}
 use Rattle.mdhtml_markup.proofs.Bools.{Then, is-other, other-by}
 
 -- ---- fronts
@@ -84,10 +84,16 @@ language-others v (Some word) e h =
 address-others : (at : Place) (v : List ℕ) → is_safe_address at v ≡ true → list_all other v ≡ true
 address-others at v h = text-others v (and_parts (is_text v) (list_all is_address_byte (undone v) && is_allowed at (undone v)) h).0
 
+constant-others : (v w : List ℕ) → bytes_eq v w ≡ true → list_all other w ≡ true → list_all other v ≡ true
+constant-others v w h e = ap (list_all other) ((bytes_eq-Decides v w).0 h) ∙ e
+
 value-others : (a : AttributeName) (v : List ℕ) → is_value a v ≡ true → list_all other v ≡ true
 value-others name.Alt v h = text-others v h
+value-others name.Checked v h = constant-others v [] h refl
 value-others name.Class v h = language-others v (behind (codes "language-") v) refl h
+value-others name.Disabled v h = constant-others v [] h refl
 value-others name.Href v h = address-others place.Href v h
+value-others name.InputType v h = constant-others v (codes "checkbox") h refl
 value-others name.Src v h = address-others place.Src v h
 value-others name.Start v h = digits-others v h
 value-others name.Title v h = text-others v h
@@ -166,12 +172,17 @@ given-by (Some m) a names l value P e k h more =
       holds = it.holds;
     }
 
-attribute-by : (o : Option (List ℕ)) (a : AttributeName) (names : List AttributeName) (l : List ℕ) (P : List ℕ → Type 0) → behind (front_of a) l ≡ o
-    → Then (option_and_then (behind_attributes names) (elim o as (λ _. Option (List ℕ)) [ None ↦ Some l | Some value ↦ behind_value a value ])) P
-    → ((m : List ℕ) → Then (behind_attributes names m) P → Attributed names m P) → Attributed (a ∷ names) l P
-attribute-by None a names l P e h more =
+missing-then : (need : Bool) (a : AttributeName) (names : List AttributeName) (l : List ℕ) (P : List ℕ → Type 0) → must_be_given a ≡ need
+    → Then (option_and_then (behind_attributes names) (cond need None (Some l))) P → ((m : List ℕ) → Then (behind_attributes names m) P → Attributed names m P) → Attributed (a ∷ names) l P
+missing-then true a names l P k h more = absurd h
+missing-then false a names l P k h more =
     let it = more l h in
-    record { attributes = it.attributes; rest = it.rest; same = it.same; are = safe.AreAttributes.missing a names it.are; holds = it.holds }
+    record { attributes = it.attributes; rest = it.rest; same = it.same; are = safe.AreAttributes.missing a names k it.are; holds = it.holds }
+
+attribute-by : (o : Option (List ℕ)) (a : AttributeName) (names : List AttributeName) (l : List ℕ) (P : List ℕ → Type 0) → behind (front_of a) l ≡ o
+    → Then (option_and_then (behind_attributes names) (elim o as (λ _. Option (List ℕ)) [ None ↦ cond (must_be_given a) None (Some l) | Some value ↦ behind_value a value ])) P
+    → ((m : List ℕ) → Then (behind_attributes names m) P → Attributed names m P) → Attributed (a ∷ names) l P
+attribute-by None a names l P e h more = missing-then (must_be_given a) a names l P refl h more
 attribute-by (Some value) a names l P e h more = given-by (behind_value a value) a names l value P (behind-is (front_of a) l value e) refl h more
 
 pub attributes-then : (names : List AttributeName) (l : List ℕ) (P : List ℕ → Type 0) → Then (behind_attributes names l) P → Attributed names l P
@@ -185,7 +196,7 @@ Each (a ∷ names) P = ((x : List ℕ) → P (front_of a ++ x)) × Each names P
 
 begins-so : (P : List ℕ → Type 0) (names : List AttributeName) (attributes tail : List ℕ) → AreAttributes names attributes → Each names P → P tail → P (attributes ++ tail)
 begins-so P names attributes tail safe.none each h = h
-begins-so P names attributes tail (safe.missing a more it) each h = begins-so P more attributes tail it each.1 h
+begins-so P names attributes tail (safe.missing a more k it) each h = begins-so P more attributes tail it each.1 h
 begins-so P names attributes tail (safe.given a more value rest e v it) each h =
     subst P (sym (ap (λ (x : List ℕ). x ++ tail) e ∙ append_assoc (quoted a value) rest tail ∙ quoted-assoc a value (rest ++ tail))) (each.0 (value ++ (codes "\"" ++ (rest ++ tail))))
 
@@ -199,6 +210,7 @@ Distinct (a ∷ names) = Each names (Apart a) × Distinct names
 
 distinct : (e : Element) → Distinct (attributes_of e)
 distinct Anchor = (((λ x. refl), tt), (tt, tt))
+distinct Checkbox = (((λ x. refl), ((λ x. refl), tt)), (((λ x. refl), tt), (tt, tt)))
 distinct Code = (tt, tt)
 distinct Image = (((λ x. refl), ((λ x. refl), tt)), (((λ x. refl), tt), (tt, tt)))
 distinct OrderedList = (tt, tt)
@@ -207,26 +219,31 @@ distinct e = tt
 end-apart : (v : Bool) (a : AttributeName) (h : List ℕ) → Apart a (cond v (codes " />") (codes ">") ++ h)
 end-apart false a h = refl
 end-apart true name.Alt h = refl
+end-apart true name.Checked h = refl
 end-apart true name.Class h = refl
+end-apart true name.Disabled h = refl
 end-apart true name.Href h = refl
+end-apart true name.InputType h = refl
 end-apart true name.Src h = refl
 end-apart true name.Start h = refl
 end-apart true name.Title h = refl
 
-missing-by : (o : Option (List ℕ)) (a : AttributeName) (l : List ℕ) → o ≡ None → elim o as (λ _. Option (List ℕ)) [ None ↦ Some l | Some value ↦ behind_value a value ] ≡ Some l
-missing-by o a l e = ap (λ x. elim x as (λ _. Option (List ℕ)) [ None ↦ Some l | Some value ↦ behind_value a value ]) e
+missing-by : (o : Option (List ℕ)) (a : AttributeName) (l : List ℕ) → o ≡ None → must_be_given a ≡ false
+    → elim o as (λ _. Option (List ℕ)) [ None ↦ cond (must_be_given a) None (Some l) | Some value ↦ behind_value a value ] ≡ Some l
+missing-by o a l e k =
+    ap (λ x. elim x as (λ _. Option (List ℕ)) [ None ↦ cond (must_be_given a) None (Some l) | Some value ↦ behind_value a value ]) e ∙ ap (λ (c : Bool). cond c None (Some l)) k
 
 given-read : (a : AttributeName) (value r : List ℕ) → is_value a value ≡ true → behind_attribute a (front_of a ++ (value ++ (codes "\"" ++ r))) ≡ Some r
 given-read a value r v =
     let l = front_of a ++ (value ++ (codes "\"" ++ r)) in
-    ap (λ x. elim x as (λ _. Option (List ℕ)) [ None ↦ Some l | Some more ↦ behind_value a more ]) (behind-front (front_of a) (value ++ (codes "\"" ++ r))) ∙ value-read a value r v
+    ap (λ x. elim x as (λ _. Option (List ℕ)) [ None ↦ cond (must_be_given a) None (Some l) | Some more ↦ behind_value a more ]) (behind-front (front_of a) (value ++ (codes "\"" ++ r))) ∙ value-read a value r v
 
 attributes-read : (names : List AttributeName) (attributes : List ℕ) (void : Bool) (h : List ℕ) → AreAttributes names attributes → Distinct names
     → let tail : List ℕ = cond void (codes " />") (codes ">") ++ h in behind_attributes names (attributes ++ tail) ≡ Some tail
 attributes-read names attributes void h safe.none d = refl
-attributes-read names attributes void h (safe.missing a more it) d =
+attributes-read names attributes void h (safe.missing a more k it) d =
     let tail = cond void (codes " />") (codes ">") ++ h in
-    ap (option_and_then (behind_attributes more)) (missing-by (behind (front_of a) (attributes ++ tail)) a (attributes ++ tail) (begins-so (Apart a) more attributes tail it d.0 (end-apart void a h)))
+    ap (option_and_then (behind_attributes more)) (missing-by (behind (front_of a) (attributes ++ tail)) a (attributes ++ tail) (begins-so (Apart a) more attributes tail it d.0 (end-apart void a h)) k)
     ∙ attributes-read more attributes void h it d.1
 attributes-read names attributes void h (safe.given a more value rest e v it) d =
     let tail = cond void (codes " />") (codes ">") ++ h in
@@ -298,6 +315,7 @@ pub named-read : (e : Element) → named elements (name_of e) ≡ Some e
 named-read Anchor = refl
 named-read BlockQuote = refl
 named-read Break = refl
+named-read Checkbox = refl
 named-read Code = refl
 named-read Deleted = refl
 named-read Emphasis = refl
@@ -320,6 +338,7 @@ pub name-letters : (e : Element) → list_all is_ascii_alphanumeric (name_of e) 
 name-letters Anchor = refl
 name-letters BlockQuote = refl
 name-letters Break = refl
+name-letters Checkbox = refl
 name-letters Code = refl
 name-letters Deleted = refl
 name-letters Emphasis = refl

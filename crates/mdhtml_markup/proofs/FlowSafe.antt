@@ -3,13 +3,14 @@ use Rattle.std.proofs.Common.{◌≡◌, ℕ, List, [], ◌∷◌, ◌++◌, ap,
 use Rattle.std.specs.Prelude.{◌==◌, not, ⊤, Bool, true, false, cond, is_some}
 use Rattle.std.proofs.lemmas.Bool.{false≢true}
 use Rattle.mdhtml_markup.specs.declared.elements.AttributeName.{AttributeName}
+use Rattle.mdhtml_markup.specs.declared.elements.AttributeName.TheVariants as name
 use Rattle.mdhtml_markup.specs.declared.elements.Element.{Element}
-use Rattle.mdhtml_markup.specs.declared.elements.Element.TheVariants.{Anchor, BlockQuote, Break, Code, Deleted, Emphasis, Heading1, Heading2, Heading3, Heading4, Heading5, Heading6, Image, ListItem, OrderedList, Paragraph, Preformatted, Strong, ThematicBreak, UnorderedList}
+use Rattle.mdhtml_markup.specs.declared.elements.Element.TheVariants.{Anchor, BlockQuote, Break, Checkbox, Code, Deleted, Emphasis, Heading1, Heading2, Heading3, Heading4, Heading5, Heading6, Image, ListItem, OrderedList, Paragraph, Preformatted, Strong, ThematicBreak, UnorderedList}
 use Rattle.mdhtml_markup.specs.Flow as flow
-use Rattle.mdhtml_markup.specs.Flow.{AreGiven, BeforeCode, BehindCode, Blocks, IsContent, Items, Model, Phrases, Words, after, inside, may_stand, phrases_in}
+use Rattle.mdhtml_markup.specs.Flow.{AreGiven, BeforeCode, BehindCode, Blocks, IsContent, Items, Model, Phrases, Words, after, inside, may_be_missing, may_stand, phrases_in}
 use Rattle.mdhtml_markup.specs.Laws.{FlowIsSafe}
 use Rattle.mdhtml_markup.specs.SafeHtml as safe
-use Rattle.mdhtml_markup.specs.SafeHtml.{AreAttributes, Entity, IsSafeHtml, attributes_of, behind, close_tag, entities, entity_among, entity_at, holds_blocks, holds_items, is_mark, is_text_byte, open_tag, stands_in, void_tag}
+use Rattle.mdhtml_markup.specs.SafeHtml.{AreAttributes, Entity, IsSafeHtml, attributes_of, behind, close_tag, entities, entity_among, entity_at, holds_blocks, holds_items, is_mark, is_text_byte, must_be_given, open_tag, stands_in, void_tag}
 
 -- ---- text stays text in front of more
 
@@ -73,6 +74,7 @@ stands : (m : Model) (e : Element) (tags : List Element) → may_stand m e ≡ t
 stands m Anchor tags h f = refl
 stands m BlockQuote tags h f = block-stands m BlockQuote tags refl refl refl refl h f
 stands m Break tags h f = refl
+stands m Checkbox tags h f = refl
 stands m Code tags h f = refl
 stands m Deleted tags h f = refl
 stands m Emphasis tags h f = refl
@@ -103,6 +105,7 @@ inside-fits : (m : Model) (e : Element) (tags : List Element) → Fits (inside m
 inside-fits m Anchor tags = tt
 inside-fits m BlockQuote tags = refl
 inside-fits m Break tags = tt
+inside-fits m Checkbox tags = tt
 inside-fits m Code tags = tt
 inside-fits m Deleted tags = phrases-fit m (Deleted ∷ tags)
 inside-fits m Emphasis tags = phrases-fit m (Emphasis ∷ tags)
@@ -129,9 +132,20 @@ after-fits BeforeCode tags f = tt
 after-fits BehindCode tags f = tt
 after-fits Words tags f = tt
 
+free-missing : (a : AttributeName) → may_be_missing a ≡ true → must_be_given a ≡ false
+free-missing name.Alt h = refl
+free-missing name.Checked h = refl
+free-missing name.Class h = refl
+free-missing name.Disabled h = absurd (false≢true h)
+free-missing name.Href h = refl
+free-missing name.InputType h = absurd (false≢true h)
+free-missing name.Src h = refl
+free-missing name.Start h = refl
+free-missing name.Title h = refl
+
 given-are : (names : List AttributeName) (l : List ℕ) → AreGiven names l → AreAttributes names l
 given-are names l flow.AreGiven.none = safe.AreAttributes.none
-given-are names l (flow.AreGiven.missing a more m it) = safe.AreAttributes.missing a more (given-are more l it)
+given-are names l (flow.AreGiven.missing a more m it) = safe.AreAttributes.missing a more (free-missing a m) (given-are more l it)
 given-are names l (flow.AreGiven.given a more value rest e v it) = safe.AreAttributes.given a more value rest e v (given-are more rest it)
 
 content-safe : (m : Model) (l : List ℕ) → IsContent m l → (tags : List Element) → Fits m tags → (r : List ℕ) → IsSafeHtml tags r → IsSafeHtml tags (l ++ r)

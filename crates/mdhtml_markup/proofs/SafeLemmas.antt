@@ -4,7 +4,8 @@ use Rattle.std.specs.Char.{is_ascii_whitespace}
 use Rattle.std.specs.Fmt.{decimal}
 use Rattle.std.specs.List.{flat_map, list_all}
 use Rattle.std.specs.Prelude.{Bool, true, false, not, cond, bytes_eq, codes}
-use Rattle.std.proofs.lemmas.Bool.{and_from, false≢true}
+use Rattle.std.proofs.lemmas.Bool.{and_from}
+use Rattle.std.proofs.lemmas.Slice.Eq.{bytes_eq-Decides}
 use Rattle.mdhtml_markup.specs.Addresses.{written_address}
 use Rattle.mdhtml_markup.specs.declared.addresses.Place.TheVariants as place
 use Rattle.mdhtml_markup.specs.declared.elements.AttributeName.{AttributeName}
@@ -12,10 +13,10 @@ use Rattle.mdhtml_markup.specs.declared.elements.AttributeName.TheVariants as na
 use Rattle.mdhtml_markup.specs.declared.elements.Element.{Element}
 use Rattle.mdhtml_markup.specs.Escapes.{escaped}
 use Rattle.mdhtml_markup.specs.Laws.{SafePiecesAreSafeHtml}
-use Rattle.mdhtml_markup.specs.Pieces.{Alt, Attribute, Close, Feed, Fresh, Href, Kept, Language, Open, Piece, Src, Start, Text, Title, Void, attribute, html_from, written}
+use Rattle.mdhtml_markup.specs.Pieces.{Alt, Attribute, Checked, Close, Disabled, Feed, Fresh, Href, InputType, Kept, Language, Open, Piece, Src, Start, Text, Title, Void, attribute, html_from, written}
 use Rattle.mdhtml_markup.specs.SafeHtml as safe
-use Rattle.mdhtml_markup.specs.SafeHtml.{AreAttributes, IsSafeHtml, attribute_name, attributes_of, is_language, is_text, is_value, quoted}
-use Rattle.mdhtml_markup.specs.SafePieces.{AreAllowedBy, AreSafe, Closes, IsAllowed, later, name_of_attribute}
+use Rattle.mdhtml_markup.specs.SafeHtml.{AreAttributes, IsSafeHtml, attribute_name, attributes_of, is_language, is_text, is_value, must_be_given, quoted}
+use Rattle.mdhtml_markup.specs.SafePieces.{AreAllowedBy, AreFree, AreSafe, Closes, IsAllowed, later, name_of_attribute}
 use Rattle.mdhtml_markup.proofs.AddressLemmas.{addresses-safe}
 use Rattle.mdhtml_markup.proofs.Bools.{Then}
 use Rattle.mdhtml_markup.proofs.Texts.{decimal-digits, escaped-first, escaped-solid, escaped-text}
@@ -23,7 +24,10 @@ use Rattle.mdhtml_markup.proofs.Texts.{decimal-digits, escaped-first, escaped-so
 -- an attribute by its name and value
 abbrev pub value_of : Attribute → List ℕ
 value_of (Alt t) = escaped t
+value_of Checked = []
+value_of Disabled = []
 value_of (Href url) = written_address url
+value_of InputType = codes "checkbox"
 value_of (Language t) = codes "language-" ++ escaped t
 value_of (Src url) = written_address url
 value_of (Start n) = decimal n
@@ -31,7 +35,10 @@ value_of (Title t) = escaped t
 
 pub attribute-quoted : (a : Attribute) → attribute a ≡ quoted (name_of_attribute a) (value_of a)
 attribute-quoted (Alt t) = refl
+attribute-quoted Checked = refl
+attribute-quoted Disabled = refl
 attribute-quoted (Href url) = refl
+attribute-quoted InputType = refl
 attribute-quoted (Language t) = refl
 attribute-quoted (Src url) = refl
 attribute-quoted (Start n) = refl
@@ -39,38 +46,64 @@ attribute-quoted (Title t) = refl
 
 pub value-is : (a : Attribute) → IsAllowed a → is_value (name_of_attribute a) (value_of a) ≡ true
 value-is (Alt t) h = escaped-text t
+value-is Checked h = refl
+value-is Disabled h = refl
 value-is (Href url) h = addresses-safe place.Href url h
+value-is InputType h = refl
 value-is (Language t) h = and_from (is_text (escaped t)) (list_all (λ b. not (is_ascii_whitespace b)) (escaped t)) (escaped-text t) (escaped-solid t h)
 value-is (Src url) h = addresses-safe place.Src url h
 value-is (Start n) h = decimal-digits n
 value-is (Title t) h = escaped-text t
 
+-- the name that is written so
+abbrev among : List AttributeName → List ℕ → Option AttributeName
+among [] w = None
+among (n ∷ names) w = cond (bytes_eq w (attribute_name n)) (Some n) (among names w)
+
+abbrev all-names : List AttributeName
+all-names = name.Alt ∷ name.Checked ∷ name.Class ∷ name.Disabled ∷ name.Href ∷ name.InputType ∷ name.Src ∷ name.Start ∷ name.Title ∷ []
+
+name-read : (n : AttributeName) → among all-names (attribute_name n) ≡ Some n
+name-read name.Alt = refl
+name-read name.Checked = refl
+name-read name.Class = refl
+name-read name.Disabled = refl
+name-read name.Href = refl
+name-read name.InputType = refl
+name-read name.Src = refl
+name-read name.Start = refl
+name-read name.Title = refl
+
+some-name : (n m : AttributeName) → Some n ≡ Some m → n ≡ m
+some-name n m h = ap (λ o. elim o as (λ (_ : Option AttributeName). AttributeName) [ None ↦ n | Some x ↦ x ]) h
+
 -- names that are written the same are the same
 pub same-name : (n m : AttributeName) → bytes_eq (attribute_name n) (attribute_name m) ≡ true → n ≡ m
-same-name name.Alt m h = elim m as (λ x. (bytes_eq (attribute_name name.Alt) (attribute_name x) ≡ true) → name.Alt ≡ x) [ name.Alt ↦ λ e. refl | name.Class ↦ λ e. absurd (false≢true e) | name.Href ↦ λ e. absurd (false≢true e) | name.Src ↦ λ e. absurd (false≢true e) | name.Start ↦ λ e. absurd (false≢true e) | name.Title ↦ λ e. absurd (false≢true e) ] h
-same-name name.Class m h = elim m as (λ x. (bytes_eq (attribute_name name.Class) (attribute_name x) ≡ true) → name.Class ≡ x) [ name.Alt ↦ λ e. absurd (false≢true e) | name.Class ↦ λ e. refl | name.Href ↦ λ e. absurd (false≢true e) | name.Src ↦ λ e. absurd (false≢true e) | name.Start ↦ λ e. absurd (false≢true e) | name.Title ↦ λ e. absurd (false≢true e) ] h
-same-name name.Href m h = elim m as (λ x. (bytes_eq (attribute_name name.Href) (attribute_name x) ≡ true) → name.Href ≡ x) [ name.Alt ↦ λ e. absurd (false≢true e) | name.Class ↦ λ e. absurd (false≢true e) | name.Href ↦ λ e. refl | name.Src ↦ λ e. absurd (false≢true e) | name.Start ↦ λ e. absurd (false≢true e) | name.Title ↦ λ e. absurd (false≢true e) ] h
-same-name name.Src m h = elim m as (λ x. (bytes_eq (attribute_name name.Src) (attribute_name x) ≡ true) → name.Src ≡ x) [ name.Alt ↦ λ e. absurd (false≢true e) | name.Class ↦ λ e. absurd (false≢true e) | name.Href ↦ λ e. absurd (false≢true e) | name.Src ↦ λ e. refl | name.Start ↦ λ e. absurd (false≢true e) | name.Title ↦ λ e. absurd (false≢true e) ] h
-same-name name.Start m h = elim m as (λ x. (bytes_eq (attribute_name name.Start) (attribute_name x) ≡ true) → name.Start ≡ x) [ name.Alt ↦ λ e. absurd (false≢true e) | name.Class ↦ λ e. absurd (false≢true e) | name.Href ↦ λ e. absurd (false≢true e) | name.Src ↦ λ e. absurd (false≢true e) | name.Start ↦ λ e. refl | name.Title ↦ λ e. absurd (false≢true e) ] h
-same-name name.Title m h = elim m as (λ x. (bytes_eq (attribute_name name.Title) (attribute_name x) ≡ true) → name.Title ≡ x) [ name.Alt ↦ λ e. absurd (false≢true e) | name.Class ↦ λ e. absurd (false≢true e) | name.Href ↦ λ e. absurd (false≢true e) | name.Src ↦ λ e. absurd (false≢true e) | name.Start ↦ λ e. absurd (false≢true e) | name.Title ↦ λ e. refl ] h
+same-name n m h = some-name n m (sym (name-read n) ∙ ap (among all-names) ((bytes_eq-Decides (attribute_name n) (attribute_name m)).0 h) ∙ name-read m)
 
-all-missing : (names : List AttributeName) → AreAttributes names []
-all-missing [] = safe.AreAttributes.none
-all-missing (n ∷ names) = safe.AreAttributes.missing n names (all-missing names)
+free-by : (need : Bool) (n : AttributeName) (names : List AttributeName) → must_be_given n ≡ need → elim need as (λ _. Type 0) [ true ↦ ⊥ | false ↦ AreFree names ]
+    → (AreFree names → AreAttributes names []) → AreAttributes (n ∷ names) []
+free-by true n names e h rest = absurd h
+free-by false n names e h rest = safe.AreAttributes.missing n names e (rest h)
+
+all-missing : (names : List AttributeName) → AreFree names → AreAttributes names []
+all-missing [] h = safe.AreAttributes.none
+all-missing (n ∷ names) h = free-by (must_be_given n) n names refl h (all-missing names)
 
 -- an attribute of a name that is one of these, and attributes of later names
-first-by : (n m : AttributeName) (names : List AttributeName) (value more : List ℕ) (same : Bool) → is_value n value ≡ true → bytes_eq (attribute_name n) (attribute_name m) ≡ same
-    → Then (cond same (Some names) (later n names)) (λ o. AreAttributes o more) → (Then (later n names) (λ o. AreAttributes o more) → AreAttributes names (quoted n value ++ more))
+first-by : (n m : AttributeName) (names : List AttributeName) (value more : List ℕ) (same need : Bool) → is_value n value ≡ true → bytes_eq (attribute_name n) (attribute_name m) ≡ same
+    → must_be_given m ≡ need → Then (cond same (Some names) (cond need None (later n names))) (λ o. AreAttributes o more) → (Then (later n names) (λ o. AreAttributes o more) → AreAttributes names (quoted n value ++ more))
     → AreAttributes (m ∷ names) (quoted n value ++ more)
-first-by n m names value more true v e h rest =
+first-by n m names value more true need v e k h rest =
     let is = same-name n m e in
     safe.AreAttributes.given m names value more (ap (λ x. quoted x value ++ more) is) (ap (λ x. is_value x value) (sym is) ∙ v) h
-first-by n m names value more false v e h rest = safe.AreAttributes.missing m names (rest h)
+first-by n m names value more false true v e k h rest = absurd h
+first-by n m names value more false false v e k h rest = safe.AreAttributes.missing m names k (rest h)
 
 first-given : (n : AttributeName) (names : List AttributeName) (value more : List ℕ) → is_value n value ≡ true → Then (later n names) (λ o. AreAttributes o more)
     → AreAttributes names (quoted n value ++ more)
 first-given n [] value more v h = absurd h
-first-given n (m ∷ names) value more v h = first-by n m names value more (bytes_eq (attribute_name n) (attribute_name m)) v refl h (first-given n names value more v)
+first-given n (m ∷ names) value more v h = first-by n m names value more (bytes_eq (attribute_name n) (attribute_name m)) (must_be_given m) v refl refl h (first-given n names value more v)
 
 -- what is allowed of an attribute and of those behind it
 allowed-by : (o : Option (List AttributeName)) (a : Attribute) (attributes : List Attribute)
@@ -81,7 +114,7 @@ allowed-by None a attributes h rest = absurd h
 allowed-by (Some more) a attributes h rest = (h.0, rest more h.1)
 
 pub attributes-are : (attributes : List Attribute) (names : List AttributeName) → AreAllowedBy names attributes → AreAttributes names (flat_map attribute attributes)
-attributes-are [] names h = all-missing names
+attributes-are [] names h = all-missing names h
 attributes-are (a ∷ attributes) names h =
     let both = allowed-by (later (name_of_attribute a) names) a attributes h (attributes-are attributes) in
     subst (λ w. AreAttributes names (w ++ flat_map attribute attributes)) (sym (attribute-quoted a))

@@ -4,8 +4,9 @@ use Rattle.std.proofs.lemmas.Bool.{and_from, and_parts, false≢true}
 use Rattle.std.proofs.lemmas.Bool.Decides.{Decides-eqb}
 use Rattle.std.specs.Char.{is_ascii_alphanumeric, is_ascii_digit, is_ascii_whitespace}
 use Rattle.std.specs.List.{flat_map, list_all}
-use Rattle.std.specs.Prelude.{◌==◌, ◌&&◌, not, Bool, true, false, cond, codes}
+use Rattle.std.specs.Prelude.{◌==◌, ◌&&◌, not, Bool, true, false, bytes_eq, cond, codes}
 use Rattle.std.proofs.lemmas.List.Folds.{list_all-append}
+use Rattle.std.proofs.lemmas.Slice.Eq.{bytes_eq-Decides}
 use Rattle.mdhtml_markup.specs.declared.addresses.Place.{Place}
 use Rattle.mdhtml_markup.specs.declared.addresses.Place.TheVariants as place
 use Rattle.mdhtml_markup.specs.declared.elements.AttributeName.{AttributeName}
@@ -59,18 +60,27 @@ language-ends v (Some word) e h =
 address-ends : (at : Place) (v : List ℕ) → is_safe_address at v ≡ true → list_all ends v ≡ true
 address-ends at v h = text-all ends text-ends v ((and_parts (is_text v) (list_all is_address_byte (undone v) && is_allowed at (undone v)) h).0)
 
+constant-ends : (v w : List ℕ) → bytes_eq v w ≡ true → list_all ends w ≡ true → list_all ends v ≡ true
+constant-ends v w h e = ap (list_all ends) ((bytes_eq-Decides v w).0 h) ∙ e
+
 value-ends : (a : AttributeName) (v : List ℕ) → is_value a v ≡ true → list_all ends v ≡ true
 value-ends name.Alt v h = text-all ends text-ends v h
+value-ends name.Checked v h = constant-ends v [] h refl
 value-ends name.Class v h = language-ends v (behind (codes "language-") v) refl h
+value-ends name.Disabled v h = constant-ends v [] h refl
 value-ends name.Href v h = address-ends place.Href v h
+value-ends name.InputType v h = constant-ends v (codes "checkbox") h refl
 value-ends name.Src v h = address-ends place.Src v h
 value-ends name.Start v h = class-ends is_ascii_digit refl v h
 value-ends name.Title v h = text-all ends text-ends v h
 
 name-ends : (a : AttributeName) → list_all ends (codes " " ++ attribute_name a) ≡ true
 name-ends name.Alt = refl
+name-ends name.Checked = refl
 name-ends name.Class = refl
+name-ends name.Disabled = refl
 name-ends name.Href = refl
+name-ends name.InputType = refl
 name-ends name.Src = refl
 name-ends name.Start = refl
 name-ends name.Title = refl
@@ -89,7 +99,7 @@ in-attribute a v h e =
 
 in-attributes : (names : List AttributeName) (l h : List ℕ) → AreAttributes names l → untagged true (l ++ h) ≡ untagged true h
 in-attributes names l h safe.AreAttributes.none = refl
-in-attributes names l h (safe.AreAttributes.missing a more it) = in-attributes more l h it
+in-attributes names l h (safe.AreAttributes.missing a more k it) = in-attributes more l h it
 in-attributes names l h (safe.AreAttributes.given a more value rest e v it) =
     ap (λ (x : List ℕ). untagged true (x ++ h)) e ∙ ap (untagged true) (append_assoc (quoted a value) rest h) ∙ in-attribute a value (rest ++ h) v ∙ in-attributes more rest h it
 

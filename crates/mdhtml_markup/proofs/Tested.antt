@@ -7,7 +7,7 @@ use Rattle.std.proofs.lemmas.Bool.{and_from, and_parts, false≢true}
 use Rattle.std.proofs.lemmas.Bool.Decides.{Decides-eqb, same_from_decides}
 use Rattle.std.proofs.lemmas.List.{length-append, take-append-drop}
 use Rattle.mdhtml_markup.specs.declared.elements.Element.{Element}
-use Rattle.mdhtml_markup.specs.declared.elements.Element.TheVariants.{Anchor, BlockQuote, Break, Code, Deleted, Emphasis, Heading1, Heading2, Heading3, Heading4, Heading5, Heading6, Image, ListItem, OrderedList, Paragraph, Preformatted, Strong, ThematicBreak, UnorderedList}
+use Rattle.mdhtml_markup.specs.declared.elements.Element.TheVariants.{Anchor, BlockQuote, Break, Checkbox, Code, Deleted, Emphasis, Heading1, Heading2, Heading3, Heading4, Heading5, Heading6, Image, ListItem, OrderedList, Paragraph, Preformatted, Strong, ThematicBreak, UnorderedList}
 use Rattle.mdhtml_markup.specs.Laws.{SafeHtmlIsTested}
 use Rattle.mdhtml_markup.specs.SafeChecks.{is_safe_behind, Rest, behind_close, behind_element, behind_mark, behind_name, elements, is_safe_below, named, tag_end}
 use Rattle.mdhtml_markup.specs.SafeHtml as safe
@@ -130,6 +130,7 @@ name-no-close : (e : Element) (r : List ℕ) → behind (codes "/") (name_of e +
 name-no-close Anchor r = refl
 name-no-close BlockQuote r = refl
 name-no-close Break r = refl
+name-no-close Checkbox r = refl
 name-no-close Code r = refl
 name-no-close Deleted r = refl
 name-no-close Emphasis r = refl

@@ -4,7 +4,7 @@ use Rattle.std.specs.Prelude.{◌≡◌, ℕ, ◌==◌, Bool, true, false, List,
 use Rattle.mdhtml_markup.specs.declared.elements.AttributeName.{AttributeName}
 use Rattle.mdhtml_markup.specs.declared.elements.AttributeName.TheVariants as name
 use Rattle.mdhtml_markup.specs.declared.elements.Element.{Element}
-use Rattle.mdhtml_markup.specs.declared.elements.Element.TheVariants.{Anchor, BlockQuote, Break, Code, Deleted, Emphasis, Image, ListItem, OrderedList, Preformatted, Strong, UnorderedList}
+use Rattle.mdhtml_markup.specs.declared.elements.Element.TheVariants.{Anchor, BlockQuote, Break, Checkbox, Code, Deleted, Emphasis, Image, ListItem, OrderedList, Preformatted, Strong, UnorderedList}
 use Rattle.mdhtml_markup.specs.SafeHtml.{attributes_of, close_tag, is_text_byte, is_value, is_void, open_tag, quoted, void_tag}
 
 -- Where one stands: among blocks (and the text of tight items), among text (in a link or not), among the items of a list, in a `pre` before and behind its
@@ -16,7 +16,7 @@ pub data Model : Type 0 where
   BeforeCode BehindCode : Model
   Words : Model
 
--- the elements of text, in a link or not
+-- The elements of text, in a link or not: in a link there are no links and no controls
 abbrev pub is_phrase : (in_link : Bool) → Element → Bool
 is_phrase in_link Break = true
 is_phrase in_link Code = true
@@ -26,6 +26,8 @@ is_phrase in_link Image = true
 is_phrase in_link Strong = true
 is_phrase true Anchor = false
 is_phrase false Anchor = true
+is_phrase true Checkbox = false
+is_phrase false Checkbox = true
 is_phrase in_link e = false
 
 -- an element may stand here
@@ -77,6 +79,7 @@ may_say m b = true
 
 -- the attributes that an element need not have
 abbrev pub may_be_missing : AttributeName → Bool
+may_be_missing name.Checked = true
 may_be_missing name.Class = true
 may_be_missing name.Start = true
 may_be_missing name.Title = true

@@ -11,7 +11,10 @@ use Rattle.mdhtml_markup.specs.SafeHtml.{close_tag, open_tag, quoted, void_tag}
 -- the attributes that are written, each with what it says
 pub data Attribute : Type 0 where
   Alt : List ℕ → Attribute
+  Checked : Attribute
+  Disabled : Attribute
   Href : List ℕ → Attribute
+  InputType : Attribute
   Language : List ℕ → Attribute
   Src : List ℕ → Attribute
   Start : ℕ → Attribute
@@ -19,7 +22,10 @@ pub data Attribute : Type 0 where
 
 abbrev pub attribute : Attribute → List ℕ
 attribute (Alt t) = quoted name.Alt (escaped t)
+attribute Checked = quoted name.Checked []
+attribute Disabled = quoted name.Disabled []
 attribute (Href url) = quoted name.Href (written_address url)
+attribute InputType = quoted name.InputType (codes "checkbox")
 attribute (Language t) = quoted name.Class (codes "language-" ++ escaped t)
 attribute (Src url) = quoted name.Src (written_address url)
 attribute (Start n) = quoted name.Start (decimal n)

@@ -4,13 +4,13 @@ use Rattle.std.specs.List.{prefix_len, take_while}
 use Rattle.std.specs.Prelude.{ℕ, zero, suc, ◌==◌, ◌&&◌, not, Bool, true, false, cond, List, [], ◌∷◌, ◌++◌, drop, length, Option, None, Some, option_and_then, option_map, bytes_eq, codes}
 use Rattle.mdhtml_markup.specs.declared.elements.AttributeName.{AttributeName}
 use Rattle.mdhtml_markup.specs.declared.elements.Element.{Element}
-use Rattle.mdhtml_markup.specs.declared.elements.Element.TheVariants.{Anchor, BlockQuote, Break, Code, Deleted, Emphasis, Heading1, Heading2, Heading3, Heading4, Heading5, Heading6, Image, ListItem, OrderedList, Paragraph, Preformatted, Strong, ThematicBreak, UnorderedList}
-use Rattle.mdhtml_markup.specs.SafeHtml.{attribute_name, attributes_of, behind, is_text_byte, is_value, is_void, name_of, stands_in}
+use Rattle.mdhtml_markup.specs.declared.elements.Element.TheVariants.{Anchor, BlockQuote, Break, Checkbox, Code, Deleted, Emphasis, Heading1, Heading2, Heading3, Heading4, Heading5, Heading6, Image, ListItem, OrderedList, Paragraph, Preformatted, Strong, ThematicBreak, UnorderedList}
+use Rattle.mdhtml_markup.specs.SafeHtml.{attribute_name, attributes_of, behind, is_text_byte, is_value, is_void, must_be_given, name_of, stands_in}
 
 -- the element of a name
 abbrev pub elements : List Element
 elements =
-    Anchor ∷ BlockQuote ∷ Break ∷ Code ∷ Deleted ∷ Emphasis ∷ Heading1 ∷ Heading2 ∷ Heading3 ∷ Heading4 ∷ Heading5 ∷ Heading6 ∷ Image ∷ ListItem ∷ OrderedList ∷ Paragraph ∷ Preformatted
+    Anchor ∷ BlockQuote ∷ Break ∷ Checkbox ∷ Code ∷ Deleted ∷ Emphasis ∷ Heading1 ∷ Heading2 ∷ Heading3 ∷ Heading4 ∷ Heading5 ∷ Heading6 ∷ Image ∷ ListItem ∷ OrderedList ∷ Paragraph ∷ Preformatted
     ∷ Strong ∷ ThematicBreak ∷ UnorderedList ∷ []
 
 abbrev pub named : List Element → List ℕ → Option Element
@@ -25,9 +25,9 @@ front_of a = (codes " " ++ attribute_name a) ++ codes "=\""
 abbrev pub behind_value : AttributeName → List ℕ → Option (List ℕ)
 behind_value a l = cond (is_value a (take_while (λ b. not (b == 34)) l)) (behind (codes "\"") (drop (prefix_len (λ b. not (b == 34)) l) l)) None
 
--- what is behind an attribute, if there is one of this name, and behind attributes
+-- what is behind an attribute, if there is one of this name or need be none, and behind attributes
 abbrev pub behind_attribute : AttributeName → List ℕ → Option (List ℕ)
-behind_attribute a l = elim (behind (front_of a) l) [ None ↦ Some l | Some value ↦ behind_value a value ]
+behind_attribute a l = elim (behind (front_of a) l) [ None ↦ cond (must_be_given a) None (Some l) | Some value ↦ behind_value a value ]
 
 abbrev pub behind_attributes : List AttributeName → List ℕ → Option (List ℕ)
 behind_attributes [] l = Some l

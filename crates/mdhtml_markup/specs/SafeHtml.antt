@@ -18,7 +18,7 @@ use Rattle.mdhtml_markup.specs.declared.addresses.Place.TheVariants as place
 use Rattle.mdhtml_markup.specs.declared.elements.AttributeName.{AttributeName}
 use Rattle.mdhtml_markup.specs.declared.elements.AttributeName.TheVariants as name
 use Rattle.mdhtml_markup.specs.declared.elements.Element.{Element}
-use Rattle.mdhtml_markup.specs.declared.elements.Element.TheVariants.{Anchor, BlockQuote, Break, Code, Deleted, Emphasis, Heading1, Heading2, Heading3, Heading4, Heading5, Heading6, Image, ListItem, OrderedList, Paragraph, Preformatted, Strong, ThematicBreak, UnorderedList}
+use Rattle.mdhtml_markup.specs.declared.elements.Element.TheVariants.{Anchor, BlockQuote, Break, Checkbox, Code, Deleted, Emphasis, Heading1, Heading2, Heading3, Heading4, Heading5, Heading6, Image, ListItem, OrderedList, Paragraph, Preformatted, Strong, ThematicBreak, UnorderedList}
 
 -- ---- elements
 
@@ -27,6 +27,7 @@ abbrev pub name_of : Element → List ℕ
 name_of Anchor = codes "a"
 name_of BlockQuote = codes "blockquote"
 name_of Break = codes "br"
+name_of Checkbox = codes "input"
 name_of Code = codes "code"
 name_of Deleted = codes "del"
 name_of Emphasis = codes "em"
@@ -48,6 +49,7 @@ name_of UnorderedList = codes "ul"
 -- The elements that hold nothing and are not closed. Of each other one a browser takes `<em />` for `<em>`, which stays open
 abbrev pub is_void : Element → Bool
 is_void Break = true
+is_void Checkbox = true
 is_void Image = true
 is_void ThematicBreak = true
 is_void e = false
@@ -71,6 +73,7 @@ abbrev pub stands_in : Element → (tags : List Element) → Bool
 stands_in ListItem tags = holds_items tags
 stands_in Anchor tags = true
 stands_in Break tags = true
+stands_in Checkbox tags = true
 stands_in Code tags = true
 stands_in Deleted tags = true
 stands_in Emphasis tags = true
@@ -82,8 +85,11 @@ stands_in e tags = holds_blocks tags
 
 abbrev pub attribute_name : AttributeName → List ℕ
 attribute_name name.Alt = codes "alt"
+attribute_name name.Checked = codes "checked"
 attribute_name name.Class = codes "class"
+attribute_name name.Disabled = codes "disabled"
 attribute_name name.Href = codes "href"
+attribute_name name.InputType = codes "type"
 attribute_name name.Src = codes "src"
 attribute_name name.Start = codes "start"
 attribute_name name.Title = codes "title"
@@ -91,10 +97,18 @@ attribute_name name.Title = codes "title"
 -- the attributes that an element may have, in this order
 abbrev pub attributes_of : Element → List AttributeName
 attributes_of Anchor = name.Href ∷ name.Title ∷ []
+attributes_of Checkbox = name.InputType ∷ name.Checked ∷ name.Disabled ∷ []
 attributes_of Code = name.Class ∷ []
 attributes_of Image = name.Src ∷ name.Alt ∷ name.Title ∷ []
 attributes_of OrderedList = name.Start ∷ []
 attributes_of e = []
+
+-- The attributes that an element must have of these: an `input` of another type sends what is typed, or fetches an image, and one that is not disabled is a
+-- control of the page's form
+abbrev pub must_be_given : AttributeName → Bool
+must_be_given name.InputType = true
+must_be_given name.Disabled = true
+must_be_given a = false
 
 -- ---- text
 
@@ -188,8 +202,11 @@ is_language value = elim (behind (codes "language-") value) [ None ↦ false | S
 
 abbrev pub is_value : AttributeName → List ℕ → Bool
 is_value name.Alt value = is_text value
+is_value name.Checked value = bytes_eq value []
 is_value name.Class value = is_language value
+is_value name.Disabled value = bytes_eq value []
 is_value name.Href value = is_safe_address place.Href value
+is_value name.InputType value = bytes_eq value (codes "checkbox")
 is_value name.Src value = is_safe_address place.Src value
 is_value name.Start value = list_all is_ascii_digit value
 is_value name.Title value = is_text value
@@ -198,10 +215,10 @@ is_value name.Title value = is_text value
 abbrev pub quoted : AttributeName → (value : List ℕ) → List ℕ
 quoted a value = (codes " " ++ attribute_name a) ++ (codes "=\"" ++ (value ++ codes "\""))
 
--- attributes of these names, in this order: each once, or not at all
+-- attributes of these names, in this order: each once, or not at all unless it must be given
 pub data AreAttributes : List AttributeName → List ℕ → Type 0 where
   none : AreAttributes [] []
-  missing : (a : AttributeName) (names : List AttributeName) {l : List ℕ} → AreAttributes names l → AreAttributes (a ∷ names) l
+  missing : (a : AttributeName) (names : List AttributeName) {l : List ℕ} → must_be_given a ≡ false → AreAttributes names l → AreAttributes (a ∷ names) l
   given : (a : AttributeName) (names : List AttributeName) (value more : List ℕ) {l : List ℕ} → l ≡ quoted a value ++ more → is_value a value ≡ true
       → AreAttributes names more → AreAttributes (a ∷ names) l
 

@@ -6,13 +6,16 @@ use Rattle.mdhtml_markup.specs.declared.addresses.Place.TheVariants as place
 use Rattle.mdhtml_markup.specs.declared.elements.AttributeName.{AttributeName}
 use Rattle.mdhtml_markup.specs.declared.elements.AttributeName.TheVariants as name
 use Rattle.mdhtml_markup.specs.declared.elements.Element.{Element}
-use Rattle.mdhtml_markup.specs.Pieces.{Alt, Attribute, Close, Feed, Fresh, Href, Kept, Language, Open, Piece, Src, Start, Text, Title, Void}
-use Rattle.mdhtml_markup.specs.SafeHtml.{attribute_name, attributes_of, is_allowed, is_void, stands_in}
+use Rattle.mdhtml_markup.specs.Pieces.{Alt, Attribute, Checked, Close, Disabled, Feed, Fresh, Href, InputType, Kept, Language, Open, Piece, Src, Start, Text, Title, Void}
+use Rattle.mdhtml_markup.specs.SafeHtml.{attribute_name, attributes_of, is_allowed, is_void, must_be_given, stands_in}
 
 -- an attribute by what it says: an address is allowed, a language has no white space
 abbrev pub IsAllowed : Attribute → Type 0
 IsAllowed (Alt t) = ⊤
+IsAllowed Checked = ⊤
+IsAllowed Disabled = ⊤
 IsAllowed (Href url) = is_allowed place.Href url ≡ true
+IsAllowed InputType = ⊤
 IsAllowed (Language t) = list_all (λ b. not (is_ascii_whitespace b)) t ≡ true
 IsAllowed (Src url) = is_allowed place.Src url ≡ true
 IsAllowed (Start n) = ⊤
@@ -20,20 +23,28 @@ IsAllowed (Title t) = ⊤
 
 abbrev pub name_of_attribute : Attribute → AttributeName
 name_of_attribute (Alt t) = name.Alt
+name_of_attribute Checked = name.Checked
+name_of_attribute Disabled = name.Disabled
 name_of_attribute (Href url) = name.Href
+name_of_attribute InputType = name.InputType
 name_of_attribute (Language t) = name.Class
 name_of_attribute (Src url) = name.Src
 name_of_attribute (Start n) = name.Start
 name_of_attribute (Title t) = name.Title
 
--- the names behind a name, if it is one of them
+-- the names behind a name, if it is one of them and none before it must be given
 abbrev pub later : AttributeName → List AttributeName → Option (List AttributeName)
 later a [] = None
-later a (n ∷ names) = cond (bytes_eq (attribute_name a) (attribute_name n)) (Some names) (later a names)
+later a (n ∷ names) = cond (bytes_eq (attribute_name a) (attribute_name n)) (Some names) (cond (must_be_given n) None (later a names))
 
--- attributes of these names, in this order, each once at most; and allowed
+-- none of these need be given
+abbrev pub AreFree : List AttributeName → Type 0
+AreFree [] = ⊤
+AreFree (n ∷ names) = elim (must_be_given n) [ true ↦ ⊥ | false ↦ AreFree names ]
+
+-- attributes of these names, in this order, each once at most, and all that must be given; and allowed
 abbrev pub AreAllowedBy : List AttributeName → List Attribute → Type 0
-AreAllowedBy names [] = ⊤
+AreAllowedBy names [] = AreFree names
 AreAllowedBy names (a ∷ attributes) =
     elim (later (name_of_attribute a) names) [ None ↦ ⊥ | Some more ↦ IsAllowed a × AreAllowedBy more attributes ]
 

@@ -4,7 +4,7 @@ ghost use Rattle.std.specs.Char.{is_ascii_alphanumeric, is_ascii_digit, is_ascii
 ghost use Rattle.std.specs.List.{list_all, prefix_len};
 ghost use Rattle.std.specs.Prelude.{◌≡◌, ◌↔◌, ◌∷◌, ◌+◌, ◌<◌, ◌≤◌, ◌==◌, [], IfOk, MatchOption, None, Some, drop, is_some, length, not, option_map, reverse, slice_index, true};
 ghost use Rattle.mdhtml_markup.specs.SafeChecks.{behind_attribute, behind_attributes, behind_close, behind_element, behind_mark, behind_name, behind_value, elements, front_of, is_safe_html, named, tag_end};
-ghost use Rattle.mdhtml_markup.specs.SafeHtml.{IsSafeHtml, attributes_of, behind, entity_at, holds_blocks, holds_items, is_address_byte, is_language, is_mark, is_safe_address, is_text, is_text_byte, is_value, stands_in, undone};
+ghost use Rattle.mdhtml_markup.specs.SafeHtml.{IsSafeHtml, attributes_of, behind, entity_at, holds_blocks, holds_items, is_address_byte, is_language, is_mark, is_safe_address, is_text, is_text_byte, is_value, must_be_given, stands_in, undone};
 
 use crate::addresses::{Place, is_allowed, is_plain};
 use crate::elements::{AttributeName, Element};
@@ -177,14 +177,23 @@ fn is_language(value: &[u8]) -> bool
     }
 }
 
+/// Whether an element must have an attribute that is one of its names.
+fn must_be_given(name: AttributeName) -> bool
+    ensures { result ≡ must_be_given name }
+{
+    matches!(name, AttributeName::Disabled | AttributeName::InputType)
+}
+
 /// Whether an attribute may have a value.
 fn is_value(alloc: Global, name: AttributeName, value: &[u8]) -> Result<bool, AllocError>
     ensures { IfOk result (λ b. b ≡ is_value name value.now) }
 {
     match name {
         AttributeName::Alt => Ok(is_text(value)),
+        AttributeName::Checked | AttributeName::Disabled => Ok(value == b"".as_slice()),
         AttributeName::Class => Ok(is_language(value)),
         AttributeName::Href => is_safe_address(alloc, Place::Href, value),
+        AttributeName::InputType => Ok(value == b"checkbox".as_slice()),
         AttributeName::Src => is_safe_address(alloc, Place::Src, value),
         AttributeName::Start => Ok(are_digits(value)),
         AttributeName::Title => Ok(is_text(value)),
@@ -225,15 +234,18 @@ fn front_of(name: AttributeName) -> &'static [u8]
 {
     match name {
         AttributeName::Alt => b" alt=\"",
+        AttributeName::Checked => b" checked=\"",
         AttributeName::Class => b" class=\"",
+        AttributeName::Disabled => b" disabled=\"",
         AttributeName::Href => b" href=\"",
+        AttributeName::InputType => b" type=\"",
         AttributeName::Src => b" src=\"",
         AttributeName::Start => b" start=\"",
         AttributeName::Title => b" title=\"",
     }
 }
 
-/// What is behind an attribute of a name, if there is one.
+/// What is behind an attribute of a name, if there is one or need be none.
 fn behind_attribute<'a>(
     alloc: Global,
     name: AttributeName,
@@ -242,7 +254,13 @@ fn behind_attribute<'a>(
     ensures { IfOk result (λ next. MatchOption next (behind_attribute name bytes.now ≡ None) (λ rest. behind_attribute name bytes.now ≡ Some rest.now)) }
 {
     match behind(bytes, front_of(name)) {
-        None => Ok(Some(bytes)),
+        None => {
+            if must_be_given(name) {
+                Ok(None)
+            } else {
+                Ok(Some(bytes))
+            }
+        }
         Some(value) => behind_value(alloc, name, value),
     }
 }
@@ -272,6 +290,10 @@ fn behind_attributes<'a>(
 {
     match element {
         Element::Anchor => behind_two(alloc, AttributeName::Href, AttributeName::Title, bytes),
+        Element::Checkbox => match behind_attribute(alloc, AttributeName::InputType, bytes)? {
+            None => Ok(None),
+            Some(rest) => behind_two(alloc, AttributeName::Checked, AttributeName::Disabled, rest),
+        },
         Element::Code => behind_attribute(alloc, AttributeName::Class, bytes),
         Element::Image => match behind_attribute(alloc, AttributeName::Src, bytes)? {
             None => Ok(None),
@@ -315,6 +337,9 @@ fn element_of(name: &[u8]) -> Option<Element>
     }
     if name == b"br".as_slice() {
         return Some(Element::Break);
+    }
+    if name == b"input".as_slice() {
+        return Some(Element::Checkbox);
     }
     if name == b"code".as_slice() {
         return Some(Element::Code);
@@ -398,6 +423,7 @@ fn stands_in(element: Element, tags: &Vec<Element>) -> bool
         Element::ListItem => holds_items(tags),
         Element::Anchor
         | Element::Break
+        | Element::Checkbox
         | Element::Code
         | Element::Deleted
         | Element::Emphasis

@@ -12,6 +12,8 @@ pub enum Element {
     BlockQuote,
     /// A line break: `br`.
     Break,
+    /// The box of a task, which nobody can check: `input`.
+    Checkbox,
     /// Code: `code`.
     Code,
     /// Text that is struck through: `del`.
@@ -57,6 +59,7 @@ impl Element {
             Element::Anchor => b"a",
             Element::BlockQuote => b"blockquote",
             Element::Break => b"br",
+            Element::Checkbox => b"input",
             Element::Code => b"code",
             Element::Deleted => b"del",
             Element::Emphasis => b"em",
@@ -83,7 +86,7 @@ impl Element {
     {
         matches!(
             self,
-            Element::Break | Element::Image | Element::ThematicBreak
+            Element::Break | Element::Checkbox | Element::Image | Element::ThematicBreak
         )
     }
 }
@@ -93,10 +96,16 @@ impl Element {
 pub enum AttributeName {
     /// What stands in place of an image: `alt`.
     Alt,
+    /// That a box is checked: `checked`.
+    Checked,
     /// The language of code: `class`.
     Class,
+    /// That nobody can change a box: `disabled`.
+    Disabled,
     /// Where a link leads: `href`.
     Href,
+    /// What an `input` is: `type`.
+    InputType,
     /// Where an image is: `src`.
     Src,
     /// The number of the first item: `start`.

@@ -4,6 +4,9 @@
 // calls: documents as HTML, by options
 #[cfg(test)]
 mod calls;
+// events: HTML of lists of them
+#[cfg(test)]
+mod events;
 
 // bytes: text, addresses and safe HTML
 #[cfg(test)]

@@ -99,6 +99,12 @@ const HTML: &[(&[u8], bool)] = &[
     (b"a & b", false),
     (b"a\x1B", false),
     (b"<script>a</script>", false),
+    (
+        b"<p><input type=\"checkbox\" checked=\"\" disabled=\"\" /> a</p>",
+        true,
+    ),
+    (b"<p><input type=\"checkbox\" /> a</p>", false),
+    (b"<p><input type=\"image\" disabled=\"\" /> a</p>", false),
 ];
 
 #[test]
