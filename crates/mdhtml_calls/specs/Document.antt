@@ -6,11 +6,12 @@ use Rattle.markdown_base.specs.declared.event.Event.{Event}
 use Rattle.mddocument.specs.DocumentEvents.{document_events}
 use Rattle.mddocument.specs.Documents.{document}
 use Rattle.mdgfm_literals.specs.LiteralEvents.{literal_events}
+use Rattle.mdgfm_tasks.specs.TaskEvents.{task_events}
 use Rattle.mdhtml_document.specs.Html.{html_of_events}
 
--- the events that are written: the document's, with autolink literals if these are on
+-- the events that are written: the document's, with checks of task list items and with autolink literals, if these are on
 abbrev pub written_events : ParseOptions → List ℕ → List Event
-written_events options bytes = literal_events options bytes (document_events (document options bytes))
+written_events options bytes = literal_events options bytes (task_events options bytes (document_events (document options bytes)))
 
 abbrev pub html_of_document : Options → List ℕ → List ℕ
 html_of_document options bytes = html_of_events options.compile bytes options.parse.tab_size (written_events options.parse bytes)

@@ -10,6 +10,7 @@ ghost use Rattle.mdhtml_markup.specs.SafeHtml.{IsSafeHtml};
 use markdown_base::configuration::Options;
 use mddocument::documents::read_document;
 use mdgfm_literals::events::with_literals;
+use mdgfm_tasks::events::with_tasks;
 use mdhtml_document::html::html_of_events;
 use std::alloc::{AllocError, Global};
 
@@ -33,7 +34,8 @@ pub fn to_html_with_options(
     ensures safe { IfOk result (λ html. AreSafeOptions options.now.compile → IsSafeHtml [] html.items) }
 {
     let read = read_document(alloc, bytes, &options.parse)?;
-    let events = with_literals(alloc, bytes, &options.parse, read)?;
+    let tasks = with_tasks(alloc, bytes, &options.parse, read)?;
+    let events = with_literals(alloc, bytes, &options.parse, tasks)?;
     html_of_events(
         alloc,
         bytes,

@@ -14,3 +14,6 @@ mod markup;
 // program: arguments, what is written, and reads and writes that fail
 #[cfg(test)]
 mod program;
+// tasks: checks of task list items
+#[cfg(test)]
+mod tasks;

@@ -5,6 +5,8 @@ use Rattle.markdown_base.specs.declared.event.Event.{Event}
 use Rattle.markdown_base.specs.Events.{IsBalanced}
 use Rattle.mdgfm_literals.proofs.Unchanged.{balance-kept}
 use Rattle.mdgfm_literals.specs.LiteralEvents.{literal_events}
+use Rattle.mdgfm_tasks.proofs.Balance.{balance-kept as tasks-balanced}
+use Rattle.mdgfm_tasks.specs.TaskEvents.{task_events}
 use Rattle.mdhtml_calls.proofs.html.to_html_with_options.Goals as goal
 use Rattle.mdhtml_calls.specs.Document.{html_of_document, written_events}
 use Rattle.mdhtml_document.proofs.Safe.{html-safe}
@@ -25,12 +27,17 @@ module _ (options : Options) (bytes html : List ℕ) where
 
 module _ (c : goal.After-drop-events) where
   are : c.as_slice.result.now ≡ written_events c.args.options.now.parse c.args.bytes.now
-  are = c.as_slice.ensures.value ∙ c.in_ok-events.ensures.events ∙ ap (literal_events c.args.options.now.parse c.args.bytes.now) c.in_ok-read.ensures.events
+  are =
+      let options = c.args.options.now.parse in
+      let bytes = c.args.bytes.now in
+      c.as_slice.ensures.value ∙ c.in_ok-events.ensures.events ∙ ap (literal_events options bytes) (c.in_ok-tasks.ensures.events ∙ ap (task_events options bytes) c.in_ok-read.ensures.events)
 
   balanced : IsBalanced c.as_slice.result.now
   balanced =
+      let options = c.args.options.now.parse in
+      let bytes = c.args.bytes.now in
       subst IsBalanced (sym (c.as_slice.ensures.value ∙ c.in_ok-events.ensures.events))
-      (balance-kept c.args.options.now.parse c.args.bytes.now _ c.in_ok-read.ensures.formed.balanced)
+      (balance-kept options bytes _ (subst IsBalanced (sym c.in_ok-tasks.ensures.events) (tasks-balanced options bytes _ c.in_ok-read.ensures.formed.balanced)))
 
 pub returns-clause-html : goal.returns-clause-html
 returns-clause-html c = IfOk-weaker c.html_of_events.result _
