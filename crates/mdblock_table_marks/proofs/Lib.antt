@@ -1,0 +1,14 @@
+-- tables
+pub mod LineLemmas
+pub mod TableCuts
+pub mod TableMoves
+pub mod TableShapes
+pub mod TableSpans
+pub mod TableWriting
+-- rows
+pub mod PieceCounts
+pub mod PieceLemmas
+-- cells
+pub mod CellLemmas
+-- laws
+mod Examples

@@ -1,0 +1,5 @@
+use Rattle.mdblock_table_marks.proofs.TableShapes.{tables_are_void_tight}
+use Rattle.mdblock_table_marks.proofs.laws.tables_are_void_tight.Goals as goal
+
+pub returns : goal.returns
+returns c = tables_are_void_tight

@@ -1,0 +1,10 @@
+-- tables
+pub mod Lines
+pub mod TableCuts
+pub mod TableMarks
+-- rows
+pub mod PiecePlaces
+-- cells
+pub mod Cells
+-- laws
+pub mod Laws
