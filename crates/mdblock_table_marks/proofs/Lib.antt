@@ -9,6 +9,7 @@ pub mod TableWriting
 pub mod PieceCounts
 pub mod PieceLemmas
 -- cells
+pub mod CellData
 pub mod CellLemmas
 -- laws
 mod Examples

@@ -1,5 +1,5 @@
 -- The marks of tables: whole spans over the virtual bytes of their lines, behind the prefixes of the first one, without links.
-use Rattle.std.proofs.Common.{◌≡◌, ℕ, suc, ◌+◌, ◌-◌, false, cond, List, [], ◌∷◌, ◌++◌, append-nil, arith, drop, refl, sym, ap, subst, take, ◌∙◌}
+use Rattle.std.proofs.Common.{◌≡◌, ℕ, suc, ◌+◌, false, cond, List, [], ◌∷◌, ◌++◌, append-nil, arith, drop, refl, sym, ap, subst, take, ◌∙◌}
 use Rattle.std.specs.Prelude.{Some, None}
 use Rattle.std.specs.List.{AllByRecursion}
 use Rattle.std.proofs.lemmas.List.{map-append, take-append-drop}

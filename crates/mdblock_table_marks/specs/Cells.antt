@@ -1,9 +1,10 @@
 -- The texts of cells are texts of their own: "arbitrary text, in which inlines are parsed" (GFM 0.29, 4.10). It changes links alone: no event comes,
 -- goes or moves.
-use Rattle.std.specs.Prelude.{◌&&◌, Bool, false, cond, List, [], ◌∷◌, None, Some}
+use Rattle.std.specs.Prelude.{◌≡◌, ◌&&◌, Bool, true, false, cond, List, [], ◌∷◌, None, Some}
 use Rattle.markdown_base.specs.declared.configuration.Constructs.{Constructs}
 use Rattle.markdown_base.specs.declared.event.Content.TheVariants as content
 use Rattle.markdown_base.specs.declared.event.Event.{Event}
+use Rattle.markdown_base.specs.declared.event.Kind.TheVariants.{Enter, Exit}
 use Rattle.markdown_base.specs.declared.event.Name.TheVariants as name
 use Rattle.markdown_base.specs.Events.{is_enter, same_name}
 
@@ -23,3 +24,14 @@ celled is_cell (e ∷ es) = cond is_cell (as_text e) e ∷ celled (enters_cell e
 -- where tables are on
 abbrev pub with_cells : Constructs → List Event → List Event
 with_cells on events = cond on.gfm_table (celled false events) events
+
+-- a span of data, with nothing in it, comes first
+abbrev pub BeginsWithData : List Event → Type 0
+BeginsWithData [] = ⊥
+BeginsWithData (e ∷ []) = ⊥
+BeginsWithData (e ∷ f ∷ es) = (e.kind ≡ Enter) × (e.name ≡ name.Data) × (f.kind ≡ Exit) × (f.name ≡ name.Data)
+
+-- behind the enter of each cell's text
+abbrev pub CellsHaveData : List Event → Type 0
+CellsHaveData [] = Unit {0}
+CellsHaveData (e ∷ es) = (enters_cell e ≡ true → BeginsWithData es) × CellsHaveData es

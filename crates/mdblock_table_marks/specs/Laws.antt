@@ -17,7 +17,7 @@ use Rattle.mdblock_containers.specs.Rows.{Row}
 use Rattle.mdblock_containers.specs.SeatPlaces.{events_of}
 use Rattle.mdblock_containers.specs.Skeleton.{prefixes_marks}
 use Rattle.mdblock_containers.specs.Written.{NoChunk}
-use Rattle.mdblock_table_marks.specs.Cells.{with_cells}
+use Rattle.mdblock_table_marks.specs.Cells.{CellsHaveData, with_cells}
 use Rattle.mdblock_table_marks.specs.TableCuts.{Cut, cut_at_tables, tabled, untabled}
 use Rattle.mdblock_table_marks.specs.TableMarks.{rows_marks, rows_seats}
 
@@ -38,6 +38,10 @@ TablesAreVoidTight = (bytes : List ℕ) (header : Row) (rows : List Row) → IsV
 -- No mark begins a chunk
 abbrev pub TablesHaveNoChunks : Type 0
 TablesHaveNoChunks = (bytes : List ℕ) (header : Row) (rows : List Row) → NoChunk (rows_marks bytes header rows)
+
+-- What comes to be a chain is data, with nothing in it
+abbrev pub TablesHaveCellData : Type 0
+TablesHaveCellData = (bytes : List ℕ) (header : Row) (rows : List Row) → CellsHaveData (events_of (rows_marks bytes header rows))
 
 -- ---- where places move
 

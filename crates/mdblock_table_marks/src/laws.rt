@@ -1,6 +1,6 @@
 //! Laws about tables. Each is a function that does nothing; its contract is the law.
 
-ghost use Rattle.mdblock_table_marks.specs.Laws.{CellsCanBeOff, CellsKeepEvents, CutsHoldLines, CutsNeedTables, RowsHaveFewPieces, TablesAccount, TablesAreBalanced, TablesAreVoidTight, TablesHaveNoChunks, TablesMove};
+ghost use Rattle.mdblock_table_marks.specs.Laws.{CellsCanBeOff, CellsKeepEvents, CutsHoldLines, CutsNeedTables, RowsHaveFewPieces, TablesAccount, TablesAreBalanced, TablesAreVoidTight, TablesHaveCellData, TablesHaveNoChunks, TablesMove};
 
 /// Each virtual byte of a table's lines, behind the prefixes of the first, is in exactly one innermost span.
 pub fn tables_account()
@@ -20,6 +20,11 @@ pub fn tables_are_void_tight()
 /// Nothing in a table is a chunk yet: the texts of its cells come to be chains later.
 pub fn tables_have_no_chunks()
     ensures { TablesHaveNoChunks }
+{}
+
+/// In a table the text of each cell has data, with nothing in it: that comes to be a chain.
+pub fn tables_have_cell_data()
+    ensures { TablesHaveCellData }
 {}
 
 /// Where the places of lines move, the marks of their table move.

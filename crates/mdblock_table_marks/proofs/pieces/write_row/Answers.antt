@@ -1,4 +1,4 @@
-use Rattle.std.proofs.Common.{◌+◌, ◌-◌, ◌++◌, List, length, ap, sym, ◌∙◌, subst, arith}
+use Rattle.std.proofs.Common.{◌++◌, List, length, ap, sym, ◌∙◌, subst, arith}
 use Rattle.mdblock_lines.specs.Lines.{place_after}
 use Rattle.mdblock_tables.specs.declared.pieces.Piece.{Piece}
 use Rattle.mdblock_containers.specs.PlaceEvents.{HasColumns}

@@ -1,4 +1,4 @@
-use Rattle.std.proofs.Common.{◌≡◌, ◌<◌, ◌+◌, ◌-◌, ◌++◌, ℕ, List, arith, drop, length, sym, ap, ◌∙◌, subst}
+use Rattle.std.proofs.Common.{◌≡◌, ◌<◌, ◌-◌, ◌++◌, ℕ, List, arith, drop, length, sym, ap, ◌∙◌, subst}
 use Rattle.mdblock_lines.specs.Lines.{place_after}
 use Rattle.mdblock_tables.specs.Pieces.{placed}
 use Rattle.mdblock_tables.specs.TablePieces.{row_pieces}
