@@ -1,5 +1,7 @@
 //! Documents as HTML, by options.
 
+ghost use Rattle.markdown_base.specs.Virtual.{IsWithinLimit};
+
 use markdown_base::configuration::Options;
 use mdhtml_calls::html::{to_html, to_html_with_options};
 use std::alloc::{AllocError, Global};
@@ -24,7 +26,9 @@ const SAFE: &[(&[u8], &[u8])] = &[
 ];
 
 /// Whether a document has this safe HTML.
-fn is_safe(alloc: Global, document: &[u8], wanted: &[u8]) -> Result<bool, AllocError> {
+fn is_safe(alloc: Global, document: &[u8], wanted: &[u8]) -> Result<bool, AllocError>
+    requires { IsWithinLimit 4 document.now }
+{
     Ok(to_html(alloc, document)?.as_slice() == wanted)
 }
 
