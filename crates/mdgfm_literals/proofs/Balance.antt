@@ -31,7 +31,7 @@ size-exit n e es h =
     ∙ ap (λ t. cond t 1 (span_size (n + 1 - 1) es + 1)) inner
     ∙ ap (λ k. span_size k es + 1) one
 
-size-last : (e : Event) (es : List Event) → e.kind ≡ Exit → span_size 0 (e ∷ es) ≡ 1
+pub size-last : (e : Event) (es : List Event) → e.kind ≡ Exit → span_size 0 (e ∷ es) ≡ 1
 size-last e es h = ap (λ k. cond (is_enter k) (span_size (0 + 1) es + 1) (cond (0 == 0) 1 (span_size (0 - 1) es + 1))) h
 
 end-enter : (p : Point) (n : ℕ) (e : Event) (es : List Event) → e.kind ≡ Enter → span_end p n (e ∷ es) ≡ span_end p (n + 1) es
@@ -45,15 +45,15 @@ end-exit p n e es h =
     ∙ ap (λ t. cond t e.point (span_end p (n + 1 - 1) es)) inner
     ∙ ap (λ k. span_end p k es) one
 
-end-last : (p : Point) (e : Event) (es : List Event) → e.kind ≡ Exit → span_end p 0 (e ∷ es) ≡ e.point
+pub end-last : (p : Point) (e : Event) (es : List Event) → e.kind ≡ Exit → span_end p 0 (e ∷ es) ≡ e.point
 end-last p e es h = ap (λ k. cond (is_enter k) (span_end p (0 + 1) es) (cond (0 == 0) e.point (span_end p (0 - 1) es))) h
 
 -- a list of a span, as its parts
-split : (e f : Event) (us vs : List Event) {xs : List Event} (zs : List Event) → xs ≡ e ∷ (us ++ f ∷ vs) → xs ++ zs ≡ e ∷ (us ++ f ∷ (vs ++ zs))
+pub split : (e f : Event) (us vs : List Event) {xs : List Event} (zs : List Event) → xs ≡ e ∷ (us ++ f ∷ vs) → xs ++ zs ≡ e ∷ (us ++ f ∷ (vs ++ zs))
 split e f us vs zs is = ap (λ (ts : List Event). ts ++ zs) is ∙ ap (λ (ts : List Event). e ∷ ts) (append_assoc us (f ∷ vs) zs)
 
 -- balanced events are passed over
-size-over : (n : ℕ) (xs zs : List Event) → IsBalanced xs → span_size n (xs ++ zs) ≡ length xs + span_size n zs
+pub size-over : (n : ℕ) (xs zs : List Event) → IsBalanced xs → span_size n (xs ++ zs) ≡ length xs + span_size n zs
 size-over n xs zs empty = omega arith
 size-over n xs zs (span e f us vs is enters exits same bu bv) =
     let long : length xs ≡ suc (length us + suc (length vs)) = ap length is ∙ ap suc (length-append us (f ∷ vs)) in
@@ -63,7 +63,7 @@ size-over n xs zs (span e f us vs is enters exits same bu bv) =
     let outer = size-over n vs zs bv in
     omega (arith, long, first, inner, last, outer)
 
-end-over : (p : Point) (n : ℕ) (xs zs : List Event) → IsBalanced xs → span_end p n (xs ++ zs) ≡ span_end p n zs
+pub end-over : (p : Point) (n : ℕ) (xs zs : List Event) → IsBalanced xs → span_end p n (xs ++ zs) ≡ span_end p n zs
 end-over p n xs zs empty = refl
 end-over p n xs zs (span e f us vs is enters exits same bu bv) =
     ap (span_end p n) (split e f us vs zs is)

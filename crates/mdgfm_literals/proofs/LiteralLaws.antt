@@ -14,20 +14,24 @@ use Rattle.mdgfm_literals.specs.Grammar.{address_size, begins_domain, email_at, 
 use Rattle.mdgfm_literals.specs.Laws.{AreLiterals, LiteralsAreLiterals, literal_names}
 use Rattle.mdgfm_literals.specs.Literals.{literals_from, more_passed}
 
--- what holds of each literal that has bytes, by its name
+-- what holds of each literal that has bytes
 module _ (Q : Found → Type 0) where
   abbrev pub Has : Option Found → Type 0
   Has o = (f : Found) → o ≡ Some f → Q f
 
-  abbrev pub HasAll : Name → Type 0
-  HasAll name = (size : ℕ) → 1 ≤ size → Q (record { size = size; name = name })
+  -- a name with a size, if that is not 0
+  abbrev pub HasSize : Name → (size : ℕ) → Type 0
+  HasSize name size = 1 ≤ size → Q (record { size = size; name = name })
 
-  found-has : (name : Name) (size : ℕ) → HasAll name → Has (found name size)
+  abbrev pub HasAll : Name → Type 0
+  HasAll name = (size : ℕ) → HasSize name size
+
+  found-has : (name : Name) (size : ℕ) → HasSize name size → Has (found name size)
   found-has name zero q f e = absurd (none-some f e)
   found-has name (suc n) q f e =
       let some : (suc n == 0) ≡ false = ne_eqb (suc n) 0 (λ z. omega (arith, z)) in
       let there : Some (record { size = suc n; name = name }) ≡ Some f = sym (ap (λ t. cond t None (Some (record { size = suc n; name = name }))) some) ∙ e in
-      subst Q (same_Some (record { size = suc n; name = name }) f there) (q (suc n) (omega arith))
+      subst Q (same_Some (record { size = suc n; name = name }) f there) (q (omega arith))
 
   none-has : Has None
   none-has f e = absurd (none-some f e)
@@ -40,9 +44,12 @@ module _ (Q : Found → Type 0) where
   else-has None p h k = k
   else-has (Some g) p h k = h
 
-  -- then it holds of the literal at a place
-  pub literal-has : (before : Option ℕ) (text : List ℕ) → AllByRecursion HasAll literal_names → Has (literal_at before text)
-  literal-has before text (email, (mailto, (protocol, (www, (xmpp, _))))) =
+  -- then it holds of the literal at a place: by how each is found
+  pub literal-by : (before : Option ℕ) (text : List ℕ)
+      → HasSize GfmAutolinkLiteralWww (literal_size text) → HasSize GfmAutolinkLiteralProtocol (literal_size text)
+      → HasSize GfmAutolinkLiteralMailto (size_with (codes "mailto:") text) → HasSize GfmAutolinkLiteralXmpp (size_with (codes "xmpp:") text)
+      → HasSize GfmAutolinkLiteralEmail (address_size text) → Has (literal_at before text)
+  literal-by before text www protocol mailto xmpp email =
       else-has (www_at before text) (or_else (url_at before text) (or_else (mail_at before text) (email_at before text)))
       (either-has (is_www before text && begins_domain text) (found GfmAutolinkLiteralWww (literal_size text)) None (found-has GfmAutolinkLiteralWww (literal_size text) www) none-has)
       (else-has (url_at before text) (or_else (mail_at before text) (email_at before text))
@@ -53,6 +60,11 @@ module _ (Q : Found → Type 0) where
       (else-has (found GfmAutolinkLiteralMailto (size_with (codes "mailto:") text)) (found GfmAutolinkLiteralXmpp (size_with (codes "xmpp:") text))
       (found-has GfmAutolinkLiteralMailto (size_with (codes "mailto:") text) mailto) (found-has GfmAutolinkLiteralXmpp (size_with (codes "xmpp:") text) xmpp)))
       (either-has (passes in_local before) None (found GfmAutolinkLiteralEmail (address_size text)) none-has (found-has GfmAutolinkLiteralEmail (address_size text) email))))
+
+  -- or by its name alone
+  pub literal-has : (before : Option ℕ) (text : List ℕ) → AllByRecursion HasAll literal_names → Has (literal_at before text)
+  literal-has before text (email, (mailto, (protocol, (www, (xmpp, _))))) =
+      literal-by before text (www (literal_size text)) (protocol (literal_size text)) (mailto (size_with (codes "mailto:") text)) (xmpp (size_with (codes "xmpp:") text)) (email (address_size text))
 
 pub literal-bytes : (before : Option ℕ) (text : List ℕ) (f : Found) → literal_at before text ≡ Some f → 1 ≤ f.size
 literal-bytes before text = literal-has (λ f. 1 ≤ f.size) before text ((λ n h. h), ((λ n h. h), ((λ n h. h), ((λ n h. h), ((λ n h. h), tt)))))

@@ -19,7 +19,7 @@ use Rattle.mdgfm_literals.specs.Places.{event, later, leaf}
 use Rattle.mdgfm_literals.specs.Stretches.{before_stretch, depth_behind, is_fresh, is_text, literals_between, literals_of, reach, span_end, span_size}
 use Rattle.mdgfm_literals.proofs.LiteralLaws.{literal-has}
 
-either-all : {A : Type 0} (P : A → Type 0) (b : Bool) (xs ys : List A) → AllByRecursion P xs → AllByRecursion P ys → AllByRecursion P (cond b xs ys)
+pub either-all : {A : Type 0} (P : A → Type 0) (b : Bool) (xs ys : List A) → AllByRecursion P xs → AllByRecursion P ys → AllByRecursion P (cond b xs ys)
 either-all P true xs ys h k = h
 either-all P false xs ys h k = k
 

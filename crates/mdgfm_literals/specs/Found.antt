@@ -1,4 +1,4 @@
--- A literal that was found at the front of a text, or none.
+-- Literals that are found, or none.
 use Rattle.std.specs.Prelude.{ℕ, ◌==◌, cond, Option, Some, None}
 use Rattle.markdown_base.specs.declared.event.Name.{Name}
 use Rattle.mdgfm_literals.specs.declared.found.Found.{Found}

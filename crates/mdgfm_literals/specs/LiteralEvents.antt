@@ -1,4 +1,4 @@
--- The events of a document with autolink literals in place of the data that they cover.
+-- Events with autolink literals in place of the data that they cover.
 use Rattle.std.specs.Prelude.{ℕ, zero, suc, nat_le, nat_lt, true, cond, List, [], ◌∷◌, ◌++◌, take}
 use Rattle.markdown_base.specs.declared.configuration.ParseOptions.{ParseOptions}
 use Rattle.markdown_base.specs.declared.event.Event.{Event}

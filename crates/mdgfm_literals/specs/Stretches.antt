@@ -1,4 +1,4 @@
--- Which bytes of a document are searched for literals: stretches of text. A stretch is spans of data, character references and character escapes, of
+-- Which bytes are searched for literals: stretches of text. A stretch is spans of data, character references and character escapes, of
 -- which each begins where the one before it ends, in no span that holds no literal. Its bytes are those of the document between its ends.
 use Rattle.std.specs.Prelude.{ℕ, zero, suc, ◌+◌, ◌-◌, ◌==◌, ◌&&◌, ◌||◌, Bool, false, cond, List, [], ◌∷◌, ◌++◌, slice_get, slice_range, Option, None}
 use Rattle.std.specs.List.{list_any}

@@ -2,7 +2,7 @@
 
 ghost use Rattle.std.specs.Prelude.{◌≡◌};
 ghost use Rattle.mdgfm_literals.specs.Examples.{lines, lines_told, lines_with, literals, of_emails, of_ends, of_escapes, of_protocols, of_www, told};
-ghost use Rattle.mdgfm_literals.specs.Laws.{BalanceIsKept, LinksStay, LiteralsAreLiterals, NamesAreKept, NoLiteralChangesNothing, OffChangesNothing};
+ghost use Rattle.mdgfm_literals.specs.Laws.{BalanceIsKept, BytesBehindDoNothing, EventsStayFew, LinksStay, LiteralsAreLiterals, LiteralsMove, LiteralsOfBoth, LiteralsOfParts, NamesAreKept, NoLiteralChangesNothing, OffChangesNothing, OrderIsKept, TilesAreKept};
 
 /// The literals of some texts, on each side of each rule, and events with literals.
 pub fn literals_of_texts()
@@ -23,6 +23,33 @@ pub fn no_literals_change_nothing()
 /// Balanced events stay balanced.
 pub fn literals_keep_balance()
     ensures { BalanceIsKept }
+{}
+
+/// Events stay in order of place.
+pub fn literals_keep_order()
+    ensures { OrderIsKept }
+{}
+
+/// The bytes of innermost spans tile what they did.
+pub fn literals_keep_tiles()
+    ensures { TilesAreKept }
+{}
+
+/// Literals make few events.
+pub fn literals_are_few()
+    ensures { EventsStayFew }
+{}
+
+/// The literals of both of two parts are those of the one and of the other.
+pub fn literals_of_both()
+    ensures { LiteralsOfBoth }
+{}
+
+/// Literals of a part of a document are those of the document there.
+pub fn literals_of_parts()
+    ensures moved { LiteralsMove }
+    ensures behind { BytesBehindDoNothing }
+    ensures parts { LiteralsOfParts }
 {}
 
 /// In a link, an image, and each other span that holds no literal, nothing changes.
