@@ -1,5 +1,6 @@
 -- Pairs that make strikethrough are of two runs of tildes, of one size, and take all of both.
 use Rattle.std.proofs.Common.{◌≡◌, ◌⊎◌, ℕ, zero, suc, ◌+◌, ◌-◌, ◌<◌, ◌≤◌, ◌==◌, Bool, true, false, List, [], ◌∷◌, Option, Some, None, inl, inr, refl, sym, ap, ◌∙◌, subst, arith}
+use Rattle.std.proofs.Math.Bool.{or-true}
 use Rattle.std.proofs.lemmas.Bool.{and_parts, cases_Bool, cond_both, false≢true, leb-true, or_cases}
 use Rattle.std.proofs.lemmas.List.Elements.{All-from_recursion, recursion_from_All}
 use Rattle.std.proofs.lemmas.List.Sorted.{All-permutation, IsPermutation-sym}
@@ -146,10 +147,6 @@ module _ (all : List Run) where
         opener = none_first;
         closer = none_second;
       }
-    where
-      or-true : (b : Bool) → (b || true) ≡ true
-      or-true true = refl
-      or-true false = refl
 
   close-of : (n : ℕ) (d : Delimiter) (stack : List Delimiter) → AreOpeners stack → IsDone d → AreOf (close_pairs n d stack).1 × AreOpeners (close_pairs n d stack).0
   close-of n d stack = by-pairs
