@@ -13,8 +13,9 @@ pub mod RowNames
 pub mod RunNames
 pub mod SkeletonNames
 pub mod SpanNames
--- walks: what holds of single marks holds of skeletons and leaf blocks
+-- walks: what holds of single marks holds of skeletons and leaf blocks, and what holds of spans holds of links
 pub mod BlockWalk
+pub mod LinkWalk
 pub mod MarksWalk
 pub mod SkeletonWalk
 -- beginnings

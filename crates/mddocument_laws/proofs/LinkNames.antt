@@ -3,11 +3,10 @@ use Rattle.std.proofs.Common.{◌≡◌, Bool, ℕ, zero, suc, ◌+◌, ◌==◌
 use Rattle.std.proofs.lemmas.Bool.{and_parts, cond_both, false≢true, or_cases, or_left, or_right, cases_Bool}
 use Rattle.std.specs.List.{AllByRecursion}
 use Rattle.std.specs.Prelude.{◌&&◌, ◌||◌, slice_get}
-use Rattle.markdown_base.proofs.Common.{every-append}
 use Rattle.markdown_base.specs.declared.configuration.Constructs.{Constructs}
 use Rattle.markdown_base.specs.declared.event.Event.{Event}
 use Rattle.markdown_base.specs.declared.event.Name.{Name}
-use Rattle.markdown_base.specs.declared.event.Name.TheVariants.{AttentionSequence, Image, Label, LabelEnd, LabelImage, LabelLink, LabelMarker, LabelText, Link, Reference, Resource}
+use Rattle.markdown_base.specs.declared.event.Name.TheVariants.{AttentionSequence, Image, Label, LabelEnd, LabelImage, LabelLink, LabelText, Link, Reference, Resource}
 use Rattle.markdown_base.specs.declared.event.Point.{Point}
 use Rattle.markdown_base.specs.Events.{is_enter, same_name}
 use Rattle.markdown_edits.proofs.Balanced.{same_name-true}
@@ -15,9 +14,9 @@ use Rattle.mdinline_emphasis.specs.declared.pairs.Marker.{Marker}
 use Rattle.mdinline_emphasis.specs.declared.pairs.Marker.TheVariants.{Asterisk, Underscore, Tilde}
 use Rattle.mdinline_emphasis.specs.Emphasis.{Run, have_two, style_by, style_of}
 use Rattle.mdinline_emphasis.specs.Runs.{depth_after, index_of_event, is_sequence, marker_from, run_at, runs_from, runs_in}
-use Rattle.mdinline_links.specs.Linked.{Part, SoFar, Waiting, added, all_parts, around, as_data, emphasised_parts, ended, events, failed, is_bracket, is_named, is_run, is_tail, label_text, last_place, linked_from, made, opened, outermost_spans, part_of, run, runs_of_parts, spanning, spans_in, taken, text_before, text_behind, with_links}
+use Rattle.mdinline_links.specs.Linked.{Part, around, as_data, emphasised_parts, events, is_bracket, is_named, is_run, is_tail, label_text, last_place, linked_parts, made, opened, outermost_spans, part_of, run, runs_of_parts, spanning, spans_in, text_before, text_behind, with_links}
 use Rattle.mddocument_laws.specs.Names.{has_labels}
-use Rattle.mddocument_laws.proofs.Emphasis.LinkSpans.{every-part}
+use Rattle.mddocument_laws.proofs.LinkWalk.{AreParts, IsPart, IsWalk, before-is, behind-is, parts-are, runs-of}
 use Rattle.mddocument_laws.proofs.EmphasisEvents.{IsOfStyle, IsRun, as-data-are, emphasis-are, spanning-are}
 use Rattle.mddocument_laws.proofs.Inside.{stands_inside}
 use Rattle.mddocument_laws.proofs.PlainNames.{plain-inside}
@@ -108,31 +107,15 @@ module _ (on : Constructs) where
       (λ other. runs-on bytes (i + 1) (depth_after e.kind depth) (Some e.point.index) (f ∷ es) h.1)
 
   -- ---- parts
-  abbrev IsPart : Part → Type 0
-  IsPart (run r) = IsRunOn r
-  IsPart (events es) = Are es
+  abbrev AreNamed : List Part → Type 0
+  AreNamed ps = AreParts Are IsRunOn ps
 
-  abbrev AreParts : List Part → Type 0
-  AreParts ps = AllByRecursion IsPart ps
+  together : (xs ys : List Event) → Are xs → Are ys → Are (xs ++ ys)
+  together xs ys h k = and h k
 
-  runs-of : (ps : List Part) → AreParts ps → AllByRecursion IsRunOn (runs_of_parts ps)
-  runs-of [] h = tt
-  runs-of (run r ∷ ps) h = (h.0, runs-of ps h.1)
-  runs-of (events es ∷ ps) h = runs-of ps h.1
-
-  before-named : (since : List Event) (ps : List Part) (index : ℕ) → Are since → AreParts ps → Are (text_before since ps index)
-  before-named since [] index b h = no-events
-  before-named since (run r ∷ ps) index b h = cond_both (r.index == index) since (text_before [] ps index) Are (λ e. b) (λ e. before-named [] ps index no-events h.1)
-  before-named since (events es ∷ ps) index b h = before-named (since ++ es) ps index (and b h.0) h.1
-
-  behind-named : (since : List Event) (ps : List Part) → Are since → AreParts ps → Are (text_behind since ps)
-  behind-named since [] b h = b
-  behind-named since (run r ∷ ps) b h = behind-named [] ps no-events h.1
-  behind-named since (events es ∷ ps) b h = behind-named (since ++ es) ps (and b h.0) h.1
-
-  parts-named : (ps : List Part) → AreParts ps → Are (emphasised_parts ps)
+  parts-named : (ps : List Part) → AreNamed ps → Are (emphasised_parts ps)
   parts-named ps h = record {
-    all = emphasis-are IsNamed May (λ e p. p) refl (IsMarkerOn on) pair-is (text_before [] ps) (runs_of_parts ps) (text_behind [] ps) (λ k. (before-named [] ps k no-events h).all) (runs-of ps h) (behind-named [] ps no-events h).all;
+    all = emphasis-are IsNamed May (λ e p. p) refl (IsMarkerOn on) pair-is (text_before [] ps) (runs_of_parts ps) (text_behind [] ps) (λ k. (before-is Are IsRunOn no-events together [] ps k no-events h).all) (runs-of Are IsRunOn ps h) (behind-is Are IsRunOn no-events together [] ps no-events h).all;
   }
 
   -- ---- links and images
@@ -146,7 +129,7 @@ module _ (on : Constructs) where
   data-of-it : (es : List Event) → Named May (as_data es)
   data-of-it es = record { all = as-data-are IsNamed May (λ e q. q) refl es }
 
-  label-text-named : (opener close : List Event) (ps : List Part) → has_labels on ≡ true → AreParts ps → Are (label_text opener close ps)
+  label-text-named : (opener close : List Event) (ps : List Part) → has_labels on ≡ true → AreNamed ps → Are (label_text opener close ps)
   label-text-named [] close ps l h = no-events
   label-text-named (e ∷ es) [] ps l h = no-events
   label-text-named (e ∷ es) (f ∷ fs) [] l h = no-events
@@ -159,7 +142,7 @@ module _ (on : Constructs) where
     | inr image ↦ absurd (false≢true (sym other ∙ image))
   ])
 
-  is-made : (opener : List Event) (ps : List Part) (close tail : List Event) → (on.label_end ≡ true → Are opener) → is_bracket opener ≡ true → AreParts ps → Are close → is_named LabelEnd close ≡ true → Are tail → Are (made opener ps close tail)
+  is-made : (opener : List Event) (ps : List Part) (close tail : List Event) → (on.label_end ≡ true → Are opener) → is_bracket opener ≡ true → AreNamed ps → Are close → is_named LabelEnd close ≡ true → Are tail → Are (made opener ps close tail)
   is-made opener ps close tail o b t c e l =
       let labels : has_labels on ≡ true = has-name LabelEnd close e c in
       let named = o (and_parts on.label_end _ labels).0 in
@@ -167,98 +150,47 @@ module _ (on : Constructs) where
       around-named (cond (is_named LabelImage opener) Image Link) (around Label (opener ++ (label_text opener close ps ++ close)) ++ tail) (whole-name opener named b)
       (and (around-named Label (opener ++ (label_text opener close ps ++ close)) labels inside) l)
 
-  -- ---- the fold over spans
-  record IsWaiting (w : Waiting) : Type 0 where
-    opener : on.label_end ≡ true → Are w.opener
-    bracket : is_bracket w.opener ≡ true
-    before : AreParts w.before
+  -- ---- the walk over spans
+  -- a run is left for each of these spans that is one
+  abbrev Left : List (List Event) → List Run → Type 0
+  Left spans rs = AllByRecursion IsRunOn rs × (runs_among spans ≤ length rs)
 
-  -- what a fold over spans has so far, before these spans: a run is left for each of them that is one
-  record IsSoFar (spans : List (List Event)) (z : SoFar) : Type 0 where
-    waits : AllByRecursion IsWaiting z.waiting
-    behind : AreParts z.behind
-    runs : AllByRecursion IsRunOn z.runs
-    few : runs_among spans ≤ length z.runs
+  -- the part that a span is, and the runs behind it
+  abbrev IsNext : List (List Event) → Part × List Run → Type 0
+  IsNext spans p = IsPart Are IsRunOn p.0 × Left spans p.1
 
-  abbrev Left : List (List Event) → Part × List Run → Type 0
-  Left spans p = IsPart p.0 × AllByRecursion IsRunOn p.1 × (runs_among spans ≤ length p.1)
-
-  is-part : (span : List Event) (spans : List (List Event)) (rs : List Run) → IsFine on span → is_bracket span ≡ false → AllByRecursion IsRunOn rs → runs_among (span ∷ spans) ≤ length rs → Left spans (part_of span rs)
-  is-part span spans [] f o h few = elim (cases_Bool (is_run span)) [
-    | inl is ↦ (let one : cond {A = ℕ} (is_run span) 1 0 ≡ 1 = ap (λ b. cond {A = ℕ} b 1 0) is in absurd (omega (arith, few, one)))
-    | inr other ↦ (plain-named span o other f, tt, omega (arith, few))
+  is-part : (span : List Event) (spans : List (List Event)) (rs : List Run) → IsFine on span → is_bracket span ≡ false → Left (span ∷ spans) rs → IsNext spans (part_of span rs)
+  is-part span spans [] f o h = elim (cases_Bool (is_run span)) [
+    | inl is ↦ (let one : cond {A = ℕ} (is_run span) 1 0 ≡ 1 = ap (λ b. cond {A = ℕ} b 1 0) is in absurd (omega (arith, h.1, one)))
+    | inr other ↦ (plain-named span o other f, (tt, omega (arith, h.1)))
   ]
-  is-part span spans (r ∷ rs) f o h few = elim (cases_Bool (is_run span)) [
+  is-part span spans (r ∷ rs) f o h = elim (cases_Bool (is_run span)) [
     | inl is ↦
         let one : cond {A = ℕ} (is_run span) 1 0 ≡ 1 = ap (λ b. cond {A = ℕ} b 1 0) is in
-        subst (λ b. Left spans (cond b (run r, rs) (events span, r ∷ rs))) (sym is) (h.0, h.1, omega (arith, few, one))
-    | inr other ↦ subst (λ b. Left spans (cond b (run r, rs) (events span, r ∷ rs))) (sym other) (plain-named span o other f, h, omega (arith, few))
+        subst (λ b. IsNext spans (cond b (run r, rs) (events span, r ∷ rs))) (sym is) (h.0.0, (h.0.1, omega (arith, h.1, one)))
+    | inr other ↦ subst (λ b. IsNext spans (cond b (run r, rs) (events span, r ∷ rs))) (sym other) (plain-named span o other f, (h.0, omega (arith, h.1)))
   ]
 
-  is-added : (span : List Event) (spans : List (List Event)) (z : SoFar) → IsFine on span → is_bracket span ≡ false → IsSoFar (span ∷ spans) z → IsSoFar spans (added span z)
-  is-added span spans z f o h =
-      let p = is-part span spans z.runs f o h.runs h.few in
-      record { waits = h.waits; behind = every-append IsPart z.behind ((part_of span z.runs).0 ∷ []) h.behind (p.0, tt); runs = p.1; few = p.2 }
-
-  is-failed : (span : List Event) (spans : List (List Event)) (ws : List Waiting) (z : SoFar) → AllByRecursion IsWaiting ws → IsSoFar (span ∷ spans) z → IsSoFar spans (failed span ws z)
-  is-failed span spans [] z w h = record {
-    waits = h.waits;
-    behind = every-append IsPart z.behind (events (as_data span) ∷ []) h.behind (data-of-it span, tt);
-    runs = h.runs;
-    few = (let few = h.few in omega (arith, few));
+  walk : IsWalk Are (λ opener. (on.label_end ≡ true → Are opener) × (is_bracket opener ≡ true)) (λ close. Are close × (is_named LabelEnd close ≡ true)) Are (IsFine on) IsRunOn Left
+  walk = record {
+    data_of_it = data-of-it;
+    no_tail = no-events;
+    alone = λ close tail c l. and c.0 l;
+    is_made = λ opener ps close tail o t c l. is-made opener ps close tail o.0 o.1 t c.0 c.1 l;
+    opens = λ span f e. ((λ l. weaker (plain-inside on) span (f.named e l)), e);
+    closes = λ span f e. (other-named LabelEnd span refl refl e f, e);
+    follows = λ span f t. tail-named span t f;
+    is_part = is-part;
+    goes_on = λ span spans rs h. (h.0, omega (arith, h.1));
   }
-  is-failed span spans (w ∷ ws) z a h = record {
-    waits = a.1;
-    behind =
-        every-append IsPart w.before (events (as_data w.opener) ∷ (z.behind ++ events (as_data span) ∷ [])) a.0.before
-        (data-of-it w.opener, every-append IsPart z.behind (events (as_data span) ∷ []) h.behind (data-of-it span, tt));
-    runs = h.runs;
-    few = (let few = h.few in omega (arith, few));
-  }
-
-  is-ended : (span tail : List Event) (spans : List (List Event)) (ws : List Waiting) (z : SoFar) → Are span → is_named LabelEnd span ≡ true → Are tail → AllByRecursion IsWaiting ws → IsSoFar spans z → IsSoFar spans (ended span tail ws z)
-  is-ended span tail spans [] z b e l w h = record { waits = h.waits; behind = every-append IsPart z.behind (events (span ++ tail) ∷ []) h.behind (and b l, tt); runs = h.runs; few = h.few }
-  is-ended span tail spans (w ∷ ws) z b e l a h = record {
-    waits = a.1;
-    behind = every-append IsPart w.before (events (made w.opener z.behind span tail) ∷ []) a.0.before (is-made w.opener z.behind span tail a.0.opener a.0.bracket h.behind b e l, tt);
-    runs = h.runs;
-    few = h.few;
-  }
-
-  is-taken : (span : List Event) (spans : List (List Event)) (z : SoFar) → IsFine on span → IsSoFar (span ∷ spans) z → IsSoFar spans (taken span z)
-  is-taken span spans z f h =
-      let few = h.few in
-      cond_both (is_bracket span) (opened span z) (cond (is_named LabelMarker span) (failed span z.waiting z) (added span z)) (IsSoFar spans)
-      (λ e. record { waits = (record { opener = λ l. weaker (plain-inside on) span (f.named e l); bracket = e; before = h.behind }, h.waits); behind = tt; runs = h.runs; few = omega (arith, few) })
-      (λ other. cond_both (is_named LabelMarker span) (failed span z.waiting z) (added span z) (IsSoFar spans) (λ e. is-failed span spans z.waiting z h.waits h) (λ e. is-added span spans z f other h))
-
-  -- behind a span no more runs are left
-  without : (span : List Event) (spans : List (List Event)) (z : SoFar) → IsSoFar (span ∷ spans) z → IsSoFar spans z
-  without span spans z h = let few = h.few in record { waits = h.waits; behind = h.behind; runs = h.runs; few = omega (arith, few) }
-
-  is-linked : (spans : List (List Event)) (z : SoFar) → AllByRecursion (IsFine on) spans → IsSoFar spans z → IsSoFar [] (linked_from z spans)
-  is-linked [] z fs h = h
-  is-linked (span ∷ []) z fs h =
-      cond_both (is_named LabelEnd span) (ended span [] z.waiting z) (taken span z) (IsSoFar [])
-      (λ e. is-ended span [] [] z.waiting z (other-named LabelEnd span refl refl e fs.0) e no-events h.waits (without span [] z h)) (λ e. is-taken span [] z fs.0 h)
-  is-linked (span ∷ next ∷ spans) z fs h =
-      cond_both (is_named LabelEnd span) (cond (is_tail next) (linked_from (ended span next z.waiting z) spans) (linked_from (ended span [] z.waiting z) (next ∷ spans))) (linked_from (taken span z) (next ∷ spans)) (IsSoFar [])
-      (λ e. cond_both (is_tail next) (linked_from (ended span next z.waiting z) spans) (linked_from (ended span [] z.waiting z) (next ∷ spans)) (IsSoFar [])
-      (λ t. is-linked spans (ended span next z.waiting z) fs.1.1
-      (is-ended span next spans z.waiting z (other-named LabelEnd span refl refl e fs.0) e (tail-named next t fs.1.0) h.waits (without next spans z (without span (next ∷ spans) z h))))
-      (λ t. is-linked (next ∷ spans) (ended span [] z.waiting z) fs.1 (is-ended span [] (next ∷ spans) z.waiting z (other-named LabelEnd span refl refl e fs.0) e no-events h.waits (without span (next ∷ spans) z h))))
-      (λ e. is-linked (next ∷ spans) (taken span z) fs.1 (is-taken span (next ∷ spans) z fs.0 h))
 
   -- Whole spans with links, images and emphasis in place of brackets and runs have such names
   pub links-named : (bytes : List ℕ) (es : List Event) → Outer on es → AllByRecursion (MayRun on bytes) es → Are (with_links bytes es)
   links-named bytes es h runs =
-      let start : SoFar = record { waiting = []; behind = []; runs = runs_in bytes es } in
-      let z = linked_from start (outermost_spans es) in
       let spans : AllByRecursion (IsFine on) (outermost_spans es) = subst (λ (l : List Event). AllByRecursion (IsFine on) (spans_in (length es) l)) (append-nil es) (h.fine [] none-fine (length es)) in
       let few : runs_among (outermost_spans es) ≤ length (runs_in bytes es) =
       subst (λ (l : List Event). runs_among (spans_in (length es) l) ≤ length (runs_from bytes 0 0 None l)) (append-nil es) (h.found [] none-found bytes 0 None (length es)) in
-      let is = is-linked (outermost_spans es) start spans (record { waits = tt; behind = tt; runs = runs-on bytes 0 0 None es runs; few = few }) in
-      parts-named (all_parts z.waiting z.behind) (every-part IsPart IsWaiting (λ w h. h.before) data-of-it z.waiting z.behind is.waits is.behind)
+      parts-named (linked_parts (runs_in bytes es) es) (parts-are walk (runs_in bytes es) es spans (runs-on bytes 0 0 None es runs, few))
     where
       none-fine : (bound : ℕ) → AllByRecursion (IsFine on) (spans_in bound [])
       none-fine zero = tt

@@ -5,6 +5,7 @@ use Rattle.mdinline_links.proofs.Spans.{spans-have}
 use Rattle.mdinline_links.proofs.Steps.{ascending-front}
 use Rattle.mdinline_links.specs.Linked.{Part, is_named, linked_from, run}
 use Rattle.mddocument_laws.proofs.Emphasis.PartSpans.{AreGood, HaveSpans, IsGood, parts-spans, spans_between}
+use Rattle.mddocument_laws.proofs.LinkWalk.{every-part}
 use Rattle.mddocument_laws.proofs.Emphasis.RunSpans.{IsPlain, closed-both, plain-closed, plain-none}
 
 -- ---- events with these spans
@@ -94,13 +95,6 @@ record IsFine (z : SoFar) : Type 0 where
 
 good-events : (es : List Event) → ArePlain es → IsGood (events es)
 good-events es h = plain-closed es h
-
--- what holds of the parts before brackets that wait for an end, of brackets as data and of the parts behind, holds of all
-pub every-part : (P : Part → Type 0) (Waits : Waiting → Type 0) → ((w : Waiting) → Waits w → AllByRecursion P w.before) → ((es : List Event) → P (events (as_data es)))
-    → (ws : List Waiting) (ps : List Part) → AllByRecursion Waits ws → AllByRecursion P ps → AllByRecursion P (all_parts ws ps)
-every-part P Waits before datum [] ps h g = g
-every-part P Waits before datum (w ∷ ws) ps h g =
-    every-part P Waits before datum ws (w.before ++ events (as_data w.opener) ∷ ps) h.1 (every-append P w.before (events (as_data w.opener) ∷ ps) (before w h.0) (datum w.opener, g))
 
 pub all-runs : (ws : List Waiting) (ps : List Part) → runs_of_parts (all_parts ws ps) ≡ runs_waiting ws ++ runs_of_parts ps
 all-runs [] ps = refl
