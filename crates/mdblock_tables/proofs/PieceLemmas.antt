@@ -44,6 +44,14 @@ pub adds : {before behind : List Piece} (all xs ys : List Piece) → before ≡ 
 adds {before} {behind} all xs ys e f = f ∙ ap (λ l. l ++ ys) e ∙ append_assoc all xs ys
 
 -- ---- where places move, marks move
+-- two lists, one behind the other
+pub two : {A X : Type 0} (h : A → X) (x : List X) (y : List A) (x2 : List X) (y2 : List A) → x ≡ map h y → x2 ≡ map h y2 → x ++ x2 ≡ map h (y ++ y2)
+two h x y x2 y2 e e2 = (λ i. e i ++ e2 i) ∙ sym (map-append h y y2)
+
+pub end-moved : (f : Point → Point) (p : Point) (seats : List Seat) → end_after (f p) (map (moved f) seats) ≡ f (end_after p seats)
+end-moved f p [] = refl
+end-moved f p (s ∷ ss) = end-moved f s.end ss
+
 module _ (old new : List ℕ) (f : Point → Point) (shows : (p : Point) → shown new (f p) ≡ f (shown old p)) where
   abbrev ms : List Seat → List Seat
   ms seats = map (moved f) seats
@@ -51,18 +59,11 @@ module _ (old new : List ℕ) (f : Point → Point) (shows : (p : Point) → sho
   abbrev mk : List Mark → List Mark
   mk marks = map (moved_mark f) marks
 
-  two : (x y x2 y2 : List Mark) → x ≡ mk y → x2 ≡ mk y2 → x ++ x2 ≡ mk (y ++ y2)
-  two x y x2 y2 e e2 = (λ i. e i ++ e2 i) ∙ sym (map-append (moved_mark f) y y2)
-
-  end-moved : (p : Point) (seats : List Seat) → end_after (f p) (ms seats) ≡ f (end_after p seats)
-  end-moved p [] = refl
-  end-moved p (s ∷ ss) = end-moved s.end ss
-
   span-moved : (n : Name) (seats : List Seat) (x y : List Mark) → x ≡ mk y → span_marks new n (ms seats) x ≡ mk (span_marks old n seats y)
   span-moved n [] x y e = e
   span-moved n (s ∷ ss) x y e =
       let first = shows s.point in
-      let last = ap (shown new) (end-moved s.end ss) ∙ shows (end_after s.end ss) in
+      let last = ap (shown new) (end-moved f s.end ss) ∙ shows (end_after s.end ss) in
       (λ i. ((let v : Event = record { kind = Enter; name = n; point = first i; link = None } in v), None) ∷ (e i ++ ((let v : Event = record { kind = Exit; name = n; point = last i; link = None } in v), None) ∷ []))
       ∙ ap (λ l. moved_mark f (event old Enter n s.point, None) ∷ l) (sym (map-append (moved_mark f) y ((event old Exit n (end_after s.end ss), None) ∷ [])))
 
@@ -70,11 +71,11 @@ module _ (old new : List ℕ) (f : Point → Point) (shows : (p : Point) → sho
   placed-moved nothing seats = refl
   placed-moved (leaf n k ps) seats =
       (λ i. span_marks new n (take-map (moved f) k seats i) [] ++ placed new ps (drop-map (moved f) k seats i))
-      ∙ two _ _ _ _ (span-moved n (take k seats) [] [] refl) (placed-moved ps (drop k seats))
+      ∙ two (moved_mark f) _ _ _ _ (span-moved n (take k seats) [] [] refl) (placed-moved ps (drop k seats))
   placed-moved (span n within ps) seats =
       let k = size_of within in
       (λ i. span_marks new n (take-map (moved f) k seats i) (placed new within (take-map (moved f) k seats i)) ++ placed new ps (drop-map (moved f) k seats i))
-      ∙ two _ _ _ _ (span-moved n (take k seats) _ (placed old within (take k seats)) (placed-moved within (take k seats))) (placed-moved ps (drop k seats))
+      ∙ two (moved_mark f) _ _ _ _ (span-moved n (take k seats) _ (placed old within (take k seats)) (placed-moved within (take k seats))) (placed-moved ps (drop k seats))
 
 pub pieces_move : PiecesMove
 pieces_move old new f shows ps seats = placed-moved old new f shows ps seats

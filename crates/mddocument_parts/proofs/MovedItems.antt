@@ -47,6 +47,7 @@ use Rattle.mdinline_full_references.specs.FullReference.{full_reference, full_re
 use Rattle.mdinline_machine.specs.Brackets.{collapsed_reference, image_bracket, label_end, link_bracket, lone_end, no_tail}
 use Rattle.mdinline_machine.specs.InlineEvents.{data_length, data_run, delimiter_run, inline_grammars, line_break, run_length, run_or_part}
 use Rattle.mdinline_machine.specs.RunRows.{begins_run}
+use Rattle.mdblock_tables.proofs.PieceLemmas.{end-moved}
 use Rattle.mddocument_parts.proofs.MovedMarks as marks
 use Rattle.mddocument_parts.proofs.MovedMarks.{Places}
 
@@ -133,7 +134,7 @@ module _ (m : Moving) where
       let enter = at Enter name s.point h.0.0 in
       let last = marks.end-ok m.places.old m.places.new m.places.to m.places.link m.places.unlinked IsOk m.places.shows s.end ss h.0.1 h.1 in
       let exit : event m.places.new Exit name (end_after (m.places.to s.end) (all_moved ss)) ≡ moved_event (event m.places.old Exit name (end_after s.end ss)) =
-      ap (event m.places.new Exit name) (marks.end-moved m.places.old m.places.new m.places.to m.places.link m.places.unlinked IsOk m.places.shows s.end ss) ∙ at Exit name (end_after s.end ss) last in
+      ap (event m.places.new Exit name) (end-moved m.places.to s.end ss) ∙ at Exit name (end_after s.end ss) last in
       record {
         is = (λ i. enter i ∷ (e.is i ++ exit i ∷ [])) ∙ ap (λ l. moved_event (event m.places.old Enter name s.point) ∷ l) (sym (map-append moved_event y (event m.places.old Exit name (end_after s.end ss) ∷ [])));
         known = (m.stays s.point h.0.0, every-append IsKnown y (event m.places.old Exit name (end_after s.end ss) ∷ []) e.known (m.stays (end_after s.end ss) last, tt));

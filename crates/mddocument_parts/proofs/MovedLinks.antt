@@ -15,6 +15,7 @@ use Rattle.mdinline_emphasis.specs.Emphasis.{Delimiter, Pair, Run, all_in_pairs,
 use Rattle.mdinline_emphasis.specs.Runs.{can_close, can_open, class_beside, depth_after, index_of_event, is_sequence, marker_from, may_mark, run_at, runs_from, runs_in}
 use Rattle.mdinline_emphasis.specs.declared.pairs.Style.{Style}
 use Rattle.mdinline_links.specs.Linked.{Part, SoFar, Waiting, added, all_parts, around, as_data, emphasised_parts, ended, events, failed, is_bracket, is_named, is_run, is_tail, label_text, last_place, linked_from, made, opened, outermost_spans, part_of, run, runs_of_parts, span_at, spanning, spans_in, taken, text_before, text_behind, with_links}
+use Rattle.mdblock_tables.proofs.PieceLemmas.{two}
 use Rattle.mddocument_parts.proofs.MovedItems.{AreKnown, Moving, moved_event, moved_events}
 use Rattle.mddocument_parts.proofs.Choices.{cond-of}
 
@@ -161,9 +162,6 @@ module _ (m : Moving) where
   pub unlinked-moved : (kind : EventKind) (name : Name) (p : Point) → unlinked_event kind name (m.places.to p) ≡ moved_event m (unlinked_event kind name p)
   unlinked-moved kind name p = let none = sym m.places.unlinked in (λ i. let e : Event = record { kind = kind; name = name; point = m.places.to p; link = none i } in e)
 
-  pub join : (x y x2 y2 : List Event) → x2 ≡ moved_events m x → y2 ≡ moved_events m y → x2 ++ y2 ≡ moved_events m (x ++ y)
-  join x y x2 y2 e f = (λ i. e i ++ f i) ∙ sym (map-append (moved_event m) x y)
-
   closings-moved : (p : Point) (ss : List Style) → closings (m.places.to p) ss ≡ moved_events m (closings p ss)
   closings-moved p [] = refl
   closings-moved p (s ∷ ss) =
@@ -200,18 +198,18 @@ module _ (m : Moving) where
       let p = later (markers_of_all r.closed) r.start in
       ap (λ q. data_of q r.left ++ openings (later r.left q) r.opened) (sym (m.further (markers_of_all r.closed) r.start))
       ∙ ap (λ q. data_of (m.places.to p) r.left ++ openings q r.opened) (sym (m.further r.left p))
-      ∙ join (data_of p r.left) (openings (later r.left p) r.opened) _ _ (data-moved p r.left) (openings-moved (later r.left p) r.opened)
+      ∙ two (moved_event m) _ (data_of p r.left) _ (openings (later r.left p) r.opened) (data-moved p r.left) (openings-moved (later r.left p) r.opened)
 
   module _ (texts texts2 : ℕ → List Event) (same : (i : ℕ) → texts2 i ≡ moved_events m (texts i)) where
     run-events-moved : (r : Run) → run_events texts2 (moved_run r) ≡ moved_events m (run_events texts r)
-    run-events-moved r = join (head_events texts r) (tail_events r) _ _ (join (texts r.index) (closings r.start r.closed) _ _ (same r.index) (closings-moved r.start r.closed)) (tail-moved r)
+    run-events-moved r = two (moved_event m) _ (head_events texts r) _ (tail_events r) (two (moved_event m) _ (texts r.index) _ (closings r.start r.closed) (same r.index) (closings-moved r.start r.closed)) (tail-moved r)
 
     all-events-moved : (rs : List Run) → events_of_runs texts2 (moved_runs rs) ≡ moved_events m (events_of_runs texts rs)
     all-events-moved [] = refl
-    all-events-moved (r ∷ rs) = join (run_events texts r) (events_of_runs texts rs) _ _ (run-events-moved r) (all-events-moved rs)
+    all-events-moved (r ∷ rs) = two (moved_event m) _ (run_events texts r) _ (events_of_runs texts rs) (run-events-moved r) (all-events-moved rs)
 
     pub emphasised-moved : (rs : List Run) (rest : List Event) → emphasised texts2 (moved_runs rs) (moved_events m rest) ≡ moved_events m (emphasised texts rs rest)
-    emphasised-moved rs rest = ap (λ rs. events_of_runs texts2 rs ++ moved_events m rest) (paired-moved rs) ∙ join (events_of_runs texts (paired rs)) rest _ _ (all-events-moved (paired rs)) refl
+    emphasised-moved rs rest = ap (λ rs. events_of_runs texts2 rs ++ moved_events m rest) (paired-moved rs) ∙ two (moved_event m) _ (events_of_runs texts (paired rs)) _ rest (all-events-moved (paired rs)) refl
 
 -- ==== Links, images and emphasis of events that are others, moved.
 module _ (m : Moving) where
@@ -274,11 +272,7 @@ module _ (m : Moving) where
 
   before-moved : (since : List Event) (ps : List Part) (index : ℕ) → text_before (moved_events m since) (moved_parts ps) index ≡ moved_events m (text_before since ps index)
   before-moved since [] index = refl
-  before-moved since (run r ∷ ps) index = by (r.index == index) _ _ (before-moved [] ps index)
-    where
-      by : (c : Bool) (x y : List Event) → x ≡ moved_events m y → cond c (moved_events m since) x ≡ moved_events m (cond c since y)
-      by true x y e = refl
-      by false x y e = e
+  before-moved since (run r ∷ ps) index = ap (cond (r.index == index) (moved_events m since)) (before-moved [] ps index) ∙ cond-of (moved_events m) (r.index == index) since (text_before [] ps index)
   before-moved since (events es ∷ ps) index = ap (λ s. text_before s (moved_parts ps) index) (sym (map-append (moved_event m) since es)) ∙ before-moved (since ++ es) ps index
 
   behind-moved : (since : List Event) (ps : List Part) → text_behind (moved_events m since) (moved_parts ps) ≡ moved_events m (text_behind since ps)
@@ -301,7 +295,7 @@ module _ (m : Moving) where
   spanning-moved name start end es =
       let enter = unlinked-moved m Enter name start in
       let exit = unlinked-moved m Exit name end in
-      let rest = join m es (unlinked_event Exit name end ∷ []) _ _ refl (ap (λ e. e ∷ []) exit) in
+      let rest = two (moved_event m) _ es _ (unlinked_event Exit name end ∷ []) refl (ap (λ e. e ∷ []) exit) in
       (λ i. enter i ∷ rest i)
 
   around-moved : (name : Name) (es : List Event) → around name (moved_events m es) ≡ moved_events m (around name es)
@@ -329,9 +323,9 @@ module _ (m : Moving) where
   made-moved opener between close tail =
       let name = ap (λ c. cond c Image Link) (named-moved LabelImage opener) in
       let inside = label_text opener close between ++ close in
-      let label = join m opener inside _ _ refl (join m (label_text opener close between) close _ _ (text-moved opener close between) refl) in
+      let label = two (moved_event m) _ opener _ inside refl (two (moved_event m) _ (label_text opener close between) _ close (text-moved opener close between) refl) in
       let whole = around Label (opener ++ inside) ++ tail in
-      let all = join m (around Label (opener ++ inside)) tail _ _ (ap (around Label) label ∙ around-moved Label (opener ++ inside)) refl in
+      let all = two (moved_event m) _ (around Label (opener ++ inside)) _ tail (ap (around Label) label ∙ around-moved Label (opener ++ inside)) refl in
       (λ i. around (name i) (all i)) ∙ around-moved (cond (is_named LabelImage opener) Image Link) whole
 
   -- ---- brackets that wait
@@ -341,16 +335,13 @@ module _ (m : Moving) where
   abbrev all_waiting : List Waiting → List Waiting
   all_waiting ws = map moved_waiting ws
 
-  join-parts : (x y x2 y2 : List Part) → x2 ≡ moved_parts x → y2 ≡ moved_parts y → x2 ++ y2 ≡ moved_parts (x ++ y)
-  join-parts x y x2 y2 e f = (λ i. e i ++ f i) ∙ sym (map-append moved_part x y)
-
   one-moved : (es es2 : List Event) → es2 ≡ moved_events m es → (events es2 ∷ []) ≡ moved_parts (events es ∷ [])
   one-moved es es2 e = ap (λ es. events es ∷ []) e
 
   all-parts-moved : (ws : List Waiting) (behind : List Part) → all_parts (all_waiting ws) (moved_parts behind) ≡ moved_parts (all_parts ws behind)
   all-parts-moved [] behind = refl
   all-parts-moved (w ∷ ws) behind =
-      ap (all_parts (all_waiting ws)) (join-parts w.before (events (as_data w.opener) ∷ behind) _ _ refl (ap (λ es. events es ∷ moved_parts behind) (as-data-moved w.opener)))
+      ap (all_parts (all_waiting ws)) (two moved_part _ w.before _ (events (as_data w.opener) ∷ behind) refl (ap (λ es. events es ∷ moved_parts behind) (as-data-moved w.opener)))
       ∙ all-parts-moved ws (w.before ++ events (as_data w.opener) ∷ behind)
 
   abbrev Taken : Type 0
@@ -370,25 +361,25 @@ module _ (m : Moving) where
   so_far ws behind rs = record { waiting = ws; behind = behind; runs = rs }
 
   failed-moved : (span : List Event) (ws : List Waiting) (z : SoFar) → failed (moved_events m span) (all_waiting ws) (moved_so_far z) ≡ moved_so_far (failed span ws z)
-  failed-moved span [] z = ap (λ ps. so_far (all_waiting z.waiting) ps (moved_runs m z.runs)) (join-parts z.behind (events (as_data span) ∷ []) _ _ refl (one-moved (as_data span) _ (as-data-moved span)))
+  failed-moved span [] z = ap (λ ps. so_far (all_waiting z.waiting) ps (moved_runs m z.runs)) (two moved_part _ z.behind _ (events (as_data span) ∷ []) refl (one-moved (as_data span) _ (as-data-moved span)))
   failed-moved span (w ∷ ws) z =
-      let last = join-parts z.behind (events (as_data span) ∷ []) _ _ refl (one-moved (as_data span) _ (as-data-moved span)) in
+      let last = two moved_part _ z.behind _ (events (as_data span) ∷ []) refl (one-moved (as_data span) _ (as-data-moved span)) in
       let opener = as-data-moved w.opener in
       ap (λ ps. so_far (all_waiting ws) ps (moved_runs m z.runs))
-      (join-parts w.before (events (as_data w.opener) ∷ (z.behind ++ events (as_data span) ∷ [])) _ _ refl (λ i. events (opener i) ∷ last i))
+      (two moved_part _ w.before _ (events (as_data w.opener) ∷ (z.behind ++ events (as_data span) ∷ [])) refl (λ i. events (opener i) ∷ last i))
 
   ended-moved : (span tail : List Event) (ws : List Waiting) (z : SoFar) → ended (moved_events m span) (moved_events m tail) (all_waiting ws) (moved_so_far z) ≡ moved_so_far (ended span tail ws z)
   ended-moved span tail [] z =
-      ap (λ ps. so_far (all_waiting z.waiting) ps (moved_runs m z.runs)) (join-parts z.behind (events (span ++ tail) ∷ []) _ _ refl (one-moved (span ++ tail) _ (join m span tail _ _ refl refl)))
+      ap (λ ps. so_far (all_waiting z.waiting) ps (moved_runs m z.runs)) (two moved_part _ z.behind _ (events (span ++ tail) ∷ []) refl (one-moved (span ++ tail) _ (two (moved_event m) _ span _ tail refl refl)))
   ended-moved span tail (w ∷ ws) z =
       ap (λ ps. so_far (all_waiting ws) ps (moved_runs m z.runs))
-      (join-parts w.before (events (made w.opener z.behind span tail) ∷ []) _ _ refl (one-moved (made w.opener z.behind span tail) _ (made-moved w.opener z.behind span tail)))
+      (two moved_part _ w.before _ (events (made w.opener z.behind span tail) ∷ []) refl (one-moved (made w.opener z.behind span tail) _ (made-moved w.opener z.behind span tail)))
 
   added-moved : (span : List Event) (z : SoFar) → added (moved_events m span) (moved_so_far z) ≡ moved_so_far (added span z)
   added-moved span z =
       let taken = part_of span z.runs in
       ap (λ (t : Taken). so_far (all_waiting z.waiting) (moved_parts z.behind ++ t.0 ∷ []) t.1) (part-of-moved span z.runs)
-      ∙ ap (λ ps. so_far (all_waiting z.waiting) ps (moved_runs m taken.1)) (join-parts z.behind (taken.0 ∷ []) _ _ refl refl)
+      ∙ ap (λ ps. so_far (all_waiting z.waiting) ps (moved_runs m taken.1)) (two moved_part _ z.behind _ (taken.0 ∷ []) refl refl)
 
   taken-moved : (span : List Event) (z : SoFar) → taken (moved_events m span) (moved_so_far z) ≡ moved_so_far (taken span z)
   taken-moved span z =

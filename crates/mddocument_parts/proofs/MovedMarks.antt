@@ -2,6 +2,7 @@
 use Rattle.mddocument_parts.proofs.Prelude.{◌≡◌, ℕ, zero, suc, ◌+◌, ◌-◌, List, [], ◌∷◌, ◌++◌, Bool, true, false, not, length, min, take, drop, refl, sym, ap, ◌∙◌, Option, None, map, AllByRecursion, flat_map, prefix_len, drop-map, length-map, map-append, take-map, Event, Kind, Enter, Exit, Link, Name, Point, Line, LeafBlock, blank_line, break_line, atx_heading, paragraph, setext_heading, indented_code, fenced_code, html_block, bytes_of, Chunk, Mark, block_around, block_span, body, break_marks, chunk_span, code_fenced_around, code_marks, fence_around, fenced_marks, heading_around, html_marks, last_end, leaf_blocks_marks, leaf_marks, line_end, lines_marks, sequence_marks, span_marks, string_chunk, text_chunk, text_marks, underline_marks, white, all_of, ending_of, is_line_ending, line_text, Fence, heading_text, indent, run, unindented, shown, block_lines, event, Seat, end_after, is_white}
 use Rattle.markdown_base.proofs.Common.{every-append, every-drop, every-take, every-filter}
 use Rattle.markdown_base.specs.declared.event.Name.TheVariants as name
+use Rattle.mdblock_tables.proofs.PieceLemmas.{end-moved, two}
 use Rattle.mddocument_parts.proofs.TextLines.{AnySeat, AreInner, AreTextLines, any-blocks, inner-body, inner-text, texts-front}
 use Rattle.mddocument_parts.proofs.Choices.{filter-mapped}
 
@@ -14,10 +15,6 @@ pub record Places : Type 0 where
   pub unlinked : link None ≡ None
   pub known : Point → Bool
   pub shows : (p : Point) → known p ≡ true → shown new (to p) ≡ to (shown old p)
-
--- two lists, one behind the other
-pub two : {A X : Type 0} (h : A → X) (x : List X) (y : List A) (x2 : List X) (y2 : List A) → x ≡ map h y → x2 ≡ map h y2 → x ++ x2 ≡ map h (y ++ y2)
-two h x y x2 y2 e e2 = (λ i. e i ++ e2 i) ∙ sym (map-append h y y2)
 
 -- places of one document, B, and where they are in another, C
 module _ (B C : List ℕ) (f : Point → Point) (g : Option Link → Option Link) (none : g None ≡ None) (Ok : Point → Type 0) (sh : (p : Point) → Ok p → shown C (f p) ≡ f (shown B p)) where
@@ -119,10 +116,6 @@ module _ (B C : List ℕ) (f : Point → Point) (g : Option Link → Option Link
   pub event-moved : (kind : Kind) (n : Name) (p : Point) → Ok p → event C kind n (f p) ≡ fe (event B kind n p)
   event-moved kind n p h = let e = sh p h in let l = sym none in (λ i. let v : Event = record { kind = kind; name = n; point = e i; link = l i } in v)
 
-  pub end-moved : (p : Point) (ss : List Seat) → end_after (f p) (ms ss) ≡ f (end_after p ss)
-  end-moved p [] = refl
-  end-moved p (s ∷ ss) = end-moved s.end ss
-
   pub end-ok : (p : Point) (ss : List Seat) → Ok p → AreOk ss → Ok (end_after p ss)
   end-ok p [] h k = h
   end-ok p (s ∷ ss) h k = end-ok s.end ss k.0.1 k.1
@@ -131,7 +124,7 @@ module _ (B C : List ℕ) (f : Point → Point) (g : Option Link → Option Link
   span-whole chunk n [] x y h e = e
   span-whole chunk n (s ∷ ss) x y h e =
       let enter = event-moved Enter n s.point h.0.0 in
-      let exit : event C Exit n (end_after (f s.end) (ms ss)) ≡ fe (event B Exit n (end_after s.end ss)) = ap (event C Exit n) (end-moved s.end ss) ∙ event-moved Exit n (end_after s.end ss) (end-ok s.end ss h.0.1 h.1) in
+      let exit : event C Exit n (end_after (f s.end) (ms ss)) ≡ fe (event B Exit n (end_after s.end ss)) = ap (event C Exit n) (end-moved f s.end ss) ∙ event-moved Exit n (end_after s.end ss) (end-ok s.end ss h.0.1 h.1) in
       (λ i. (enter i, chunk) ∷ (e i ++ (exit i, None) ∷ []))
       ∙ ap (λ l. (fe (event B Enter n s.point), chunk) ∷ l) (sym (map-append fm y ((event B Exit n (end_after s.end ss), None) ∷ [])))
 

@@ -24,6 +24,7 @@ use Rattle.mdblock_leaf_blocks.specs.LeafBlocks.{bytes_of}
 use Rattle.mdblock_leaf_blocks.specs.LeafEvents.{Chunk, Mark, chunk_span, leaf_marks, span_marks, white}
 use Rattle.mdblock_leaf_blocks.specs.LineKinds.{indent}
 use Rattle.mdblock_lines.specs.Containers.{Container, Prefix, item, quote}
+use Rattle.mdblock_tables.proofs.PieceLemmas.{end-moved, two}
 use Rattle.mdblock_containers.proofs.JoinLemmas.{join, join_is}
 use Rattle.mdblock_containers.specs.Prefixes.{columns_of}
 use Rattle.mdblock_containers.specs.Rows.{Row, has_none, holds_ending, rest_of}
@@ -34,7 +35,7 @@ use Rattle.mdblock_definitions.specs.Sections.{Inside, Section, defined, lines a
 use Rattle.mdblock_definitions.specs.Skeleton.{all_rows, behind_definitions, behind_marks, inside_marks, section_marks, sections_marks}
 use Rattle.mddocument.proofs.FlowTexts.Segments.{HasByte}
 use Rattle.mddocument_parts.proofs.MovedMarks as marks
-use Rattle.mddocument_parts.proofs.MovedMarks.{Places, two}
+use Rattle.mddocument_parts.proofs.MovedMarks.{Places}
 use Rattle.mddocument_parts.proofs.Choices.{cond-of}
 
 -- ==== Two documents, where places of the first are in the second, and which numbers its lines have there: so are virtual bytes, marks, lines, parts and sections of it.
@@ -134,9 +135,6 @@ module _ (m : Shift) where
 
   pub event-moved : (kind : Kind) (n : Name) (p : Point) → IsOk p → event m.places.new kind n (m.places.to p) ≡ fe (event m.places.old kind n p)
   event-moved = marks.event-moved m.places.old m.places.new m.places.to m.places.link m.places.unlinked IsOk m.places.shows
-
-  pub end-moved : (p : Point) (ss : List Seat) → end_after (m.places.to p) (ms ss) ≡ m.places.to (end_after p ss)
-  end-moved = marks.end-moved m.places.old m.places.new m.places.to m.places.link m.places.unlinked IsOk m.places.shows
 
   pub end-ok : (p : Point) (ss : List Seat) → IsOk p → AreOk ss → IsOk (end_after p ss)
   end-ok = marks.end-ok m.places.old m.places.new m.places.to m.places.link m.places.unlinked IsOk m.places.shows
@@ -566,7 +564,7 @@ module _ (m : Shift) where
       let all = kept m held row.line ok.seats in (
         (λ i. end_after (begin_of (last-same m part.first part.more i).line) (cond (held-same m part i) (last-same m part.first part.more i).line (line_text (last-same m part.first part.more i).line)))
             ∙ (λ i. end_after (first.0 i) (all.is i))
-            ∙ end-moved m (begin_of row.line) (cond held row.line (line_text row.line)),
+            ∙ end-moved m.places.to (begin_of row.line) (cond held row.line (line_text row.line)),
         end-ok m (begin_of row.line) (cond held row.line (line_text row.line)) first.1 all.ok,
       )
 
