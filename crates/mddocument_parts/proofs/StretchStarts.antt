@@ -2,7 +2,8 @@
 use Rattle.std.proofs.Common.{Bool, List, [], ap, append_assoc, arith, cond, drop, false, inl, inr, length, length-append, length-take, nat_le, not, refl, subst, suc, sym, take, true, zero, ℕ, ◌&&◌, ◌++◌, ◌+◌, ◌<◌, ◌==◌, ◌||◌, ◌∙◌, ◌∷◌, ◌≡◌, ◌≤◌}
 use Rattle.std.proofs.Math.Bool.{and-false}
 use Rattle.std.proofs.lemmas.Bool.{leb-true, not-true}
-use Rattle.std.proofs.lemmas.List.{length-map, map-append, take-append-drop}
+use Rattle.std.proofs.lemmas.List.{append-nil, length-map, map-append, take-append-drop}
+use Rattle.std.proofs.lemmas.List.Sums.{prefix_len-le-length}
 use Rattle.std.specs.List.{AllByRecursion, flat_map, prefix_len}
 use Rattle.std.specs.Prelude.{is_some}
 use Rattle.markdown_base.proofs.Common.{and-right}
@@ -344,13 +345,9 @@ module _ (on : Constructs) where
       stretch-ends-before whole bare stay deep more bs are lefts reach stack shut l near =
           let columns : q.columns ≡ 0 = (λ i. columns_of (bare.0.0 i) + columns_of (bare.0.1 i)) in
           let same : rest_of q ≡ text_of line = ap (λ c. drop c (text_of line)) columns in
-          let parts = by (nat_le 1 (defined_in on (q ∷ behind))) refl whole in
+          let parts = whole-next on false q behind whole in
           stretch-ends line (head-known on k n line starts kept bare.0) (ap is_blank_line (sym same) ∙ full) (head-leaf on k n line starts kept bare.0 full)
           (λ defines e. begins left on defines k n line behind e (no-text on k n line starts kept) parts.0) parts.1 bare.1 stay deep more bs are lefts reach stack shut l near
-        where
-          by : (b : Bool) → nat_le 1 (defined_in on (q ∷ behind)) ≡ b → cond b 0 (suc (before_defined on (is_paragraph q.leaf) behind)) ≡ suc (length behind) → (nat_le 1 (defined_in on (q ∷ behind)) ≡ false) × (before_defined on (is_paragraph q.leaf) behind ≡ length behind)
-          by true e h = absurd (omega (arith, h))
-          by false e h = (e, omega (arith, h))
 
 -- ==== Directly behind the definitions of a paragraph: its text so far is that of the definitions, and nothing is left of it.
 -- ---- texts
@@ -414,20 +411,19 @@ module _ (on : Constructs) where
     pub is_open : is_paragraph (state_on on m k n ls).known.before.leaf ≡ true
     pub text : (state_on on m k n ls).known.text ≡ k.text ++ behind_text (take m (rows_from on k n ls))
 
-  none-more : (xs : List ℕ) → xs ≡ xs ++ []
-  none-more [] = refl
-  none-more (x ∷ xs) = ap (λ l. x ∷ l) (none-more xs)
-
-  -- a row that may be in a stretch, and is a paragraph's, stays
-  stays-open : (r : Row) → LeftIsBlank r → may_stay r ≡ true → is_paragraph r.leaf ≡ true → r.stays ≡ true
-  stays-open r empty stay text = by r.is_left_blank refl
+  -- a row of a paragraph is not left blank, and stays if it may be in a stretch
+  not-left : (r : Row) → LeftIsBlank r → is_paragraph r.leaf ≡ true → r.is_left_blank ≡ false
+  not-left r empty text = by r.is_left_blank refl
     where
-      by : (b : Bool) → r.is_left_blank ≡ b → r.stays ≡ true
+      by : (b : Bool) → r.is_left_blank ≡ b → b ≡ false
       by true e = let both : true ≡ false = sym text ∙ (empty e).1 in absurd (cc)
-      by false e = sym (ap (λ b. b || r.stays) e) ∙ stay
+      by false e = refl
+
+  stays-open : (r : Row) → LeftIsBlank r → may_stay r ≡ true → is_paragraph r.leaf ≡ true → r.stays ≡ true
+  stays-open r empty stay text = sym (ap (λ b. b || r.stays) (not-left r empty text)) ∙ stay
 
   grown : (m : ℕ) (k : Known) (n : ℕ) (ls : List Line) → is_paragraph k.before.leaf ≡ true → AllStay (rows_from on k n ls) → m ≤ prefix_len is_open (rows_from on k n ls) → Grown m k n ls
-  grown zero k n ls e stay few = record { is_open = e; text = none-more k.text }
+  grown zero k n ls e stay few = record { is_open = e; text = sym (append-nil k.text) }
   grown (suc m) k n [] e stay few = absurd (omega (arith, few))
   grown (suc m) k n (line ∷ ls) e stay few = by (grown m (known_after on k (row_of on k n line)) (suc n) ls) (is_open (row_of on k n line)) refl few
     where
@@ -514,7 +510,7 @@ module _ (on : Constructs) where
           let long = lines-some (text_in (take (suc d) rows)) (some-long (text_in (take (suc d) rows)) some-there) in
           let count = tens-in row (take d more) in
           let taken = length-take d more in
-          let there = prefix-few more in
+          let there = prefix_len-le-length is_open more in
           let lines : text_lines (text_in (take (suc d) rows)) ≡ suc d = omega (arith, long, count, taken, few, there) in
           let many : defined_in on rows ≡ lines_defined (text_in (paragraph_of rows)) = ap (λ b. cond b (lines_defined (text_in (paragraph_of rows))) 0) defines in
           let here : lines_defined (text_in (take (suc d) rows) ++ behind_text (paragraph_of (drop d more))) ≡ suc d = ap lines_defined whole ∙ sym many ∙ e in
@@ -526,14 +522,6 @@ module _ (on : Constructs) where
             few = subst (λ t. lines_defined (t ++ behind_text (paragraph_of (drop d more))) ≤ text_lines t) (sym text) (omega (arith, lines, here));
             none = ap (λ m. defined_in on (drop m rows)) (sym e) ∙ nothing-behind on rows some;
           }
-        where
-          prefix-few : (rs : List Row) → prefix_len is_open rs ≤ length rs
-          prefix-few [] = omega arith
-          prefix-few (r ∷ rs) = by2 (is_open r) (prefix-few rs)
-            where
-              by2 : (b : Bool) → prefix_len is_open rs ≤ length rs → cond b (1 + prefix_len is_open rs) 0 ≤ suc (length rs)
-              by2 true h = omega (arith, h)
-              by2 false h = omega arith
 
   -- ---- where definitions begin
   -- behind so many lines
@@ -545,9 +533,12 @@ module _ (on : Constructs) where
   not-text k n [] e = tt
   not-text k n (line ∷ ls) e = let r = row_of on k n line in ap (λ b. r.stays && b) e ∙ and-false r.stays
 
-  pub found : (p : Bool) (k : Known) (n : ℕ) (ls : List Line) → is_paragraph k.before.leaf ≡ p → before_defined on p (rows_from on k n ls) < length (rows_from on k n ls) → Found (before_defined on p (rows_from on k n ls)) k n ls
-  found p k n [] e less = absurd (omega (arith, less))
-  found p k n (line ∷ ls) e less = by (found (is_paragraph (row_of on k n line).leaf) (known_after on k (row_of on k n line)) (suc n) ls (leaf-behind on (open-not-blank on) k n line)) (not p && nat_le 1 (defined_in on (row ∷ rows))) refl less
+  -- in the first of lines, or behind it
+  found-by : (p : Bool) (k : Known) (n : ℕ) (line : Line) (ls : List Line) → let row = row_of on k n line in let next = known_after on k row in let rows = rows_from on next (suc n) ls in
+      ((not p && nat_le 1 (defined_in on (row ∷ rows))) ≡ true → NotText k n (line ∷ ls))
+      → (before_defined on (is_paragraph row.leaf) rows < length rows → Found (before_defined on (is_paragraph row.leaf) rows) next (suc n) ls)
+      → before_defined on p (row ∷ rows) < suc (length rows) → Found (before_defined on p (row ∷ rows)) k n (line ∷ ls)
+  found-by p k n line ls start later less = by (not p && nat_le 1 (defined_in on (row ∷ rows))) refl less
     where
       row : Row
       row = row_of on k n line
@@ -558,47 +549,34 @@ module _ (on : Constructs) where
       rows : List Row
       rows = rows_from on next (suc n) ls
 
-      by : (before_defined on (is_paragraph row.leaf) rows < length rows → Found (before_defined on (is_paragraph row.leaf) rows) next (suc n) ls) → (b : Bool) → (not p && nat_le 1 (defined_in on (row ∷ rows))) ≡ b → cond b 0 (suc (before_defined on (is_paragraph row.leaf) rows)) < suc (length rows) → Found (cond b 0 (suc (before_defined on (is_paragraph row.leaf) rows))) k n (line ∷ ls)
-      by later true f less =
+      by : (b : Bool) → (not p && nat_le 1 (defined_in on (row ∷ rows))) ≡ b → cond b 0 (suc (before_defined on (is_paragraph row.leaf) rows)) < suc (length rows) → Found (cond b 0 (suc (before_defined on (is_paragraph row.leaf) rows))) k n (line ∷ ls)
+      by true f less =
           let some = leb-true 1 (defined_in on (row ∷ rows)) (and-right (not p) (nat_le 1 (defined_in on (row ∷ rows))) f) in
-          record { some = some; begins = not-text k n (line ∷ ls) (e ∙ not-true p (and-left (not p) (nat_le 1 (defined_in on (row ∷ rows))) f)) }
-      by later false f less =
+          record { some = some; begins = start f }
+      by false f less =
           let more = later (omega (arith, less)) in
           record { some = more.some; begins = more.begins }
+
+  pub found : (p : Bool) (k : Known) (n : ℕ) (ls : List Line) → is_paragraph k.before.leaf ≡ p → before_defined on p (rows_from on k n ls) < length (rows_from on k n ls) → Found (before_defined on p (rows_from on k n ls)) k n ls
+  found p k n [] e less = absurd (omega (arith, less))
+  found p k n (line ∷ ls) e less =
+      let row = row_of on k n line in
+      let next = known_after on k row in
+      let some = nat_le 1 (defined_in on (row ∷ rows_from on next (suc n) ls)) in
+      found-by p k n line ls (λ f. not-text k n (line ∷ ls) (e ∙ not-true p (and-left (not p) some f))) (found (is_paragraph row.leaf) next (suc n) ls (leaf-behind on (open-not-blank on) k n line)) less
 
   -- from the first of lines on: where no leaf block is open, and where definitions were directly before
   found-first : (k : Known) (n : ℕ) (line : Line) (ls : List Line) → (1 ≤ defined_in on (rows_from on k n (line ∷ ls)) → NotText k n (line ∷ ls)) → before_defined on false (rows_from on k n (line ∷ ls)) < length (rows_from on k n (line ∷ ls))
       → Found (before_defined on false (rows_from on k n (line ∷ ls))) k n (line ∷ ls)
-  found-first k n line ls start less = by (nat_le 1 (defined_in on (row ∷ rows))) refl less
-    where
-      row : Row
-      row = row_of on k n line
-
-      next : Known
-      next = known_after on k row
-
-      rows : List Row
-      rows = rows_from on next (suc n) ls
-
-      by : (b : Bool) → nat_le 1 (defined_in on (row ∷ rows)) ≡ b → cond b 0 (suc (before_defined on (is_paragraph row.leaf) rows)) < suc (length rows) → Found (cond b 0 (suc (before_defined on (is_paragraph row.leaf) rows))) k n (line ∷ ls)
-      by true f less =
-          let some = leb-true 1 (defined_in on (row ∷ rows)) f in
-          record { some = some; begins = start some }
-      by false f less =
-          let more = found (is_paragraph row.leaf) next (suc n) ls (leaf-behind on (open-not-blank on) k n line) (omega (arith, less)) in
-          record { some = more.some; begins = more.begins }
+  found-first k n line ls start less =
+      let row = row_of on k n line in
+      let next = known_after on k row in
+      found-by false k n line ls (λ f. start (leb-true 1 (defined_in on (rows_from on k n (line ∷ ls))) f)) (found (is_paragraph row.leaf) next (suc n) ls (leaf-behind on (open-not-blank on) k n line)) less
 
   pub found-closed : (k : Known) (n : ℕ) (line : Line) (ls : List Line) → StartsClosed on k n (line ∷ ls) → before_defined on false (rows_from on k n (line ∷ ls)) < length (rows_from on k n (line ∷ ls))
       → Found (before_defined on false (rows_from on k n (line ∷ ls))) k n (line ∷ ls)
   found-closed k n line ls starts less =
-      found-first k n line ls (λ some. no-text on k n line starts (kept (row_of on k n line) (left-is-blank on (open-not-blank on) k n line) (defined-text on (row_of on k n line) (rows_from on (known_after on k (row_of on k n line)) (suc n) ls) some))) less
-    where
-      kept : (r : Row) → LeftIsBlank r → is_paragraph r.leaf ≡ true → r.is_left_blank ≡ false
-      kept r empty text = by r.is_left_blank refl
-        where
-          by : (b : Bool) → r.is_left_blank ≡ b → b ≡ false
-          by true e = let both : true ≡ false = sym text ∙ (empty e).1 in absurd (cc)
-          by false e = refl
+      found-first k n line ls (λ some. no-text on k n line starts (not-left (row_of on k n line) (left-is-blank on (open-not-blank on) k n line) (defined-text on (row_of on k n line) (rows_from on (known_after on k (row_of on k n line)) (suc n) ls) some))) less
 
   pub found-used : (k : Known) (n : ℕ) (line : Line) (ls : List Line) → Used k (rows_from on k n (line ∷ ls)) → before_defined on false (rows_from on k n (line ∷ ls)) < length (rows_from on k n (line ∷ ls))
       → Found (before_defined on false (rows_from on k n (line ∷ ls))) k n (line ∷ ls)
