@@ -4,8 +4,8 @@ and so on, up to a given number. Prints a row for each: how many tests passed, a
 
 usage: tools/refusals.py [COUNT]     up to this number; without it, 20
 
-Some tests must pass whichever allocation fails: the modules no_memory, and the test that memory is no fault of the reader. The other
-tests of the program may fail, as they compare without showing. Any other test passes, ends for want of memory and says so, or shows "out of
+Some tests must pass whichever allocation fails: the modules no_memory, and the tests that memory is no fault of the reader. The other
+tests of the programs may fail, as they compare without showing. Any other test passes, ends for want of memory and says so, or shows "out of
 memory" in what it compares. The status is 1 if anything else is seen. Needs rt.
 """
 
@@ -20,8 +20,13 @@ import usage  # noqa: E402
 
 CRATES = os.path.join(os.path.dirname(os.path.abspath(__file__)), "../crates")
 # What the names of the tests begin with that have to pass, and of those that compare without showing.
-PASSES = ("mdtests_engine::no_memory::", "mdtests_machines::no_memory::", "mdtests_program::calls::memory_is_no_fault_of_the_reader")
-SILENT = ("mdtests_program::calls::", "mdtests_program::written::")
+PASSES = (
+    "mdtests_engine::no_memory::",
+    "mdtests_machines::no_memory::",
+    "mdtests_program::calls::memory_is_no_fault_of_the_reader",
+    "mdtests_html::program::memory_is_no_fault_of_the_reader",
+)
+SILENT = ("mdtests_program::calls::", "mdtests_program::written::", "mdtests_html::program::")
 REFUSED = re.compile(r"Error: AllocError|Error: Memory$|left: .*out of memory|\bmemory\b", re.M)
 
 

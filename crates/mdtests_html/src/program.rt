@@ -126,3 +126,10 @@ fn failures_are_shown(rt: HostRuntime) {
     assert!(rt; shows(alloc, Failure::Memory, b"out of memory\n"));
     assert!(rt; shows(alloc, Failure::TooLong, b"input too long\n"));
 }
+
+/// It passes also if an allocation fails, which `rt try --test --fail-alloc N` makes one do.
+#[test]
+fn memory_is_no_fault_of_the_reader(rt: HostRuntime) {
+    let ended = call(rt.alloc(), &[b"mdhtml"], ALL, ErrorKind::Other, ALL, false);
+    assert!(rt; ended.is(0, SAFE, b"") || ended.is(1, b"", b"out of memory\n"));
+}
