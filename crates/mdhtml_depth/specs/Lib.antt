@@ -1,0 +1,4 @@
+-- spans
+pub mod Depth
+-- laws
+pub mod Laws
