@@ -1,13 +1,13 @@
 -- Literals of two parts: those of the one, and of the other.
-use Rattle.std.proofs.Common.{◌≡◌, ℕ, zero, suc, ◌+◌, ◌-◌, ◌≤◌, ◌<◌, ◌++◌, Bool, true, false, cond, List, [], ◌∷◌, length, drop, take, refl, sym, ap, subst, ◌∙◌, arith, le-leb, le-ltb, ltb-true, ltb-false}
+use Rattle.std.proofs.Common.{◌≡◌, ℕ, zero, suc, ◌+◌, ◌-◌, ◌≤◌, ◌<◌, ◌++◌, Bool, true, false, cond, List, [], ◌∷◌, length, take, refl, sym, ap, subst, ◌∙◌, arith, le-leb, le-ltb}
 use Rattle.std.proofs.lemmas.Bool.{false≢true}
 use Rattle.std.proofs.lemmas.List.{append_assoc, take-append-le}
 use Rattle.std.specs.List.{AllByRecursion}
-use Rattle.std.specs.Prelude.{◌==◌, ◌&&◌, ◌||◌, nat_le, nat_lt, not}
+use Rattle.std.specs.Prelude.{◌==◌, ◌&&◌, nat_lt, not}
 use Rattle.markdown_base.specs.declared.event.Event.{Event}
 use Rattle.markdown_base.specs.declared.event.Name.TheVariants.{Data}
 use Rattle.markdown_base.specs.declared.event.Point.{Point}
-use Rattle.markdown_base.specs.Events.{IsInOrder, is_enter}
+use Rattle.markdown_base.specs.Events.{is_enter}
 use Rattle.markdown_base.specs.Virtual.{point}
 use Rattle.markdown_base.proofs.Common.{every-map}
 use Rattle.mdgfm_literals.specs.declared.stretches.Reach.{Reach}
@@ -15,7 +15,7 @@ use Rattle.mdgfm_literals.specs.declared.texts.Literal.{Literal}
 use Rattle.mdgfm_literals.specs.Laws.{LiteralsOfBoth, begins_block}
 use Rattle.mdgfm_literals.specs.LiteralEvents.{Written, end_of, events_with, left_over, with_one, written}
 use Rattle.mdgfm_literals.specs.Places.{later, leaf}
-use Rattle.mdgfm_literals.specs.Stretches.{begins_line, depth_behind, is_fresh, is_plain, is_text, literals_between, literals_of, one_more, reach, span_end, span_size}
+use Rattle.mdgfm_literals.specs.Stretches.{depth_behind, is_fresh, is_plain, is_text, literals_between, literals_of, one_more, reach, span_end, span_size}
 use Rattle.mdgfm_literals.proofs.Balance.{literals-other}
 use Rattle.mdgfm_literals.proofs.Below.{AreUpTo, end-below, literals-below}
 use Rattle.mdgfm_literals.proofs.EventSteps.{reach-end}

@@ -1,6 +1,5 @@
 -- The order of place is kept: events with literals go forward, and none is between a CR and its LF.
-use Rattle.std.proofs.Common.{◌≡◌, ℕ, zero, suc, ◌+◌, ◌-◌, ◌≤◌, ◌<◌, ◌++◌, Bool, true, false, cond, List, [], ◌∷◌, take, drop, refl, ap, ◌∙◌, arith}
-use Rattle.std.proofs.lemmas.Bool.Decides.{nat_tests}
+use Rattle.std.proofs.Common.{◌≡◌, ℕ, zero, suc, ◌+◌, ◌-◌, ◌++◌, Bool, true, false, cond, List, [], ◌∷◌, take, refl, ap, ◌∙◌}
 use Rattle.std.proofs.lemmas.List.Elements.{All-from_recursion, recursion_from_All}
 use Rattle.std.specs.List.{AllByRecursion}
 use Rattle.std.specs.Prelude.{◌==◌, ◌&&◌, nat_le, nat_lt, slice_index}
@@ -13,15 +12,14 @@ use Rattle.markdown_base.specs.Events.{IsInOrder, is_enter}
 use Rattle.markdown_base.specs.Places.{IsShown, follows_cr}
 use Rattle.markdown_base.specs.Virtual.{point}
 use Rattle.markdown_base.proofs.Common.{every-append, every-map, every-take}
-use Rattle.mdgfm_literals.specs.declared.stretches.Reach.{Reach}
 use Rattle.mdgfm_literals.specs.declared.texts.Literal.{Literal}
 use Rattle.mdgfm_literals.specs.Laws.{OrderIsKept}
 use Rattle.mdgfm_literals.specs.LiteralEvents.{Written, end_of, events_with, left_over, start_of, with_one, written}
 use Rattle.mdgfm_literals.specs.Places.{event, later, leaf, place_at}
 use Rattle.mdgfm_literals.specs.Stretches.{depth_behind, is_fresh, is_text, literals_between, literals_of, reach, span_end, span_size}
-use Rattle.mdgfm_literals.proofs.Fits.{LiesIn, Past, Rise, all-fit, between-lies, literals-rise, past-start, rise-end, rise-reach}
+use Rattle.mdgfm_literals.proofs.Fits.{LiesIn, Rise, all-fit, between-lies, literals-rise, past-start}
 use Rattle.mdgfm_literals.proofs.Names.{either-all}
-use Rattle.mdgfm_literals.proofs.Order.{Comes, Goes, beyond, goes-pairs, goes-rise, pairs-go-all, start-comes, with-goes}
+use Rattle.mdgfm_literals.proofs.Order.{Goes, beyond, goes-pairs, goes-rise, pairs-go-all, start-comes, with-goes}
 
 module _ (bytes : List ℕ) where
   -- a literal has no line ending at either end

@@ -17,9 +17,9 @@ use Rattle.mdgfm_literals.specs.LiteralEvents.{Written, end_of, events_with, lef
 use Rattle.mdgfm_literals.specs.Places.{later, leaf}
 use Rattle.mdgfm_literals.specs.Stretches.{depth_behind, is_plain, is_text, literals_of, span_end, span_size}
 use Rattle.mdgfm_literals.proofs.Below.{literals-below}
-use Rattle.mdgfm_literals.proofs.Fits.{Ascend, Fits, Past, Rise, all-fit, from-zero, literals-rise, never, past-start}
+use Rattle.mdgfm_literals.proofs.Fits.{Ascend, Fits, Past, Rise, all-fit, from-zero, literals-rise, past-start}
 use Rattle.mdgfm_literals.proofs.LiteralEnds.{both-first, both-second}
-use Rattle.mdgfm_literals.proofs.Order.{Goes, end-behind, end-is, fits-left, fits-low, goes-rise, later-low, later-other, later-self, leaf-events, pairs-go-all, start-is, text-well, written-well}
+use Rattle.mdgfm_literals.proofs.Order.{end-behind, end-is, fits-left, fits-low, goes-rise, later-low, later-self, leaf-events, pairs-go-all, start-is, text-well, written-well}
 use Rattle.mdgfm_literals.proofs.Tiles.{Tiled, ends_inner, tiled-end, tiled-from, tiled-take, tiles}
 use Rattle.mdgfm_literals.proofs.Whole.{Whole, whole-balanced}
 
