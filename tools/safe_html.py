@@ -34,13 +34,16 @@ import usage  # noqa: E402
 ENTITIES = {b"amp": b"&", b"lt": b"<", b"gt": b">", b"quot": b'"', b"#x27": b"'", b"#x1B": b"\x1b"}
 ENTITY = re.compile(rb"&(" + b"|".join(ENTITIES) + rb");")
 TEXT = re.compile(rb'(?:[^<>&"\0\x1b]|' + ENTITY.pattern + rb")*")
-NAMES = rb"a|blockquote|br|code|del|em|h1|h2|h3|h4|h5|h6|hr|img|li|ol|p|pre|strong|ul"
+NAMES = rb"a|blockquote|br|code|del|em|h1|h2|h3|h4|h5|h6|hr|img|li|ol|p|pre|strong|table|tbody|td|th|thead|tr|ul"
 TAG = re.compile(rb"<(/?)(" + NAMES + rb')(?=[ >])((?: [a-z]+="[^"]*")*)( /)?>')
 ATTRIBUTE = re.compile(rb' ([a-z]+)="([^"]*)"')
 VOID = {b"br", b"hr", b"img"}
 # the attributes of an element, in the order in which they stand
-ATTRIBUTES = {b"a": [b"href", b"title"], b"code": [b"class"], b"img": [b"src", b"alt", b"title"], b"ol": [b"start"]}
-# elements of text, which stand anywhere; the others stand among blocks, and `li` in lists
+ATTRIBUTES = {b"a": [b"href", b"title"], b"code": [b"class"], b"img": [b"src", b"alt", b"title"], b"ol": [b"start"], b"td": [b"align"], b"th": [b"align"]}
+# parts of tables by what they stand in, which holds line feeds and nothing else
+PARTS = {b"tbody": {b"table"}, b"thead": {b"table"}, b"tr": {b"tbody", b"thead"}, b"td": {b"tr"}, b"th": {b"tr"}}
+HOLD_PARTS = {b"table", b"tbody", b"thead", b"tr"}
+# elements of text, which stand where text does; the others stand among blocks, and `li` in lists
 PHRASES = {b"a", b"br", b"code", b"del", b"em", b"img", b"strong"}
 LISTS = {b"ol", b"ul"}
 HOLD_BLOCKS = {b"blockquote", b"li"}
@@ -59,6 +62,8 @@ def value_fault(name, value):
     """What is wrong with the value of an attribute; None if nothing is."""
     if name == b"start":
         return None if re.fullmatch(rb"[0-9]*", value) else "no digits"
+    if name == b"align":
+        return None if value in {b"left", b"center", b"right"} else "no alignment"
     if not TEXT.fullmatch(value):
         return "no text"
     if name == b"class" and not LANGUAGE.fullmatch(value):
@@ -89,7 +94,11 @@ def may_stand(name, tags):
     """Whether an element may stand behind these open tags."""
     if name == b"li":
         return bool(tags) and tags[-1] in LISTS
-    return name in PHRASES or not tags or tags[-1] in HOLD_BLOCKS
+    if name in PARTS:
+        return bool(tags) and tags[-1] in PARTS[name]
+    if name in PHRASES:
+        return not tags or tags[-1] not in HOLD_PARTS
+    return not tags or tags[-1] in HOLD_BLOCKS
 
 
 def tag_fault(tag, tags):
@@ -110,7 +119,9 @@ def fault_of(html):
     """Why bytes are no safe HTML; None if they are."""
     at, tags = 0, []
     while at < len(html):
-        at = TEXT.match(html, at).end()
+        start, at = at, TEXT.match(html, at).end()
+        if tags and tags[-1] in HOLD_PARTS and html[start:at].strip(b"\n"):
+            return f"byte {start}: text in {tags[-1]!r}"
         if at == len(html):
             break
         tag = TAG.match(html, at)
@@ -224,12 +235,16 @@ TAKEN += [b'<a href="http://a/?b&amp;c&#x27;" title="&quot;">d</a>', b'<a href="
 TAKEN += [b'<img src="a.png" alt="" title="b" />', b"<ul><li>a</li></ul>", b"<ol start=\"007\"><li><p>a</p></li></ol>", b'<ol start=""></ol>', b"<ul>a</ul>"]
 TAKEN += [b'<pre><code class="language-a;&amp;&quot;">b</code></pre>', b"<em><a><a>b</a></a></em>", b"<blockquote><h1>a</h1></blockquote>", b"\xff\x80", b"<em><code><img /></code></em>"]
 TAKEN += [b"<p><del>a <em>b</em></del></p>", b'<del><a href="mailto:b@c.d">e</a></del>']
+TAKEN += [b'<table>\n<thead><tr>\n<th align="left">a <em>b</em></th><th></th></tr></thead><tbody><tr><td align="center">c</td></tr></tbody></table>', b"<table></table>"]
 REFUSED = [b"<script>", b"<script></script>", b"<em />", b"<a />", b"<li>a</li>", b"<p><li>a</li></p>", b"<p>", b"</p>", b"<p></em>", b"<em><p></p></em>", b"<p><p></p></p>"]
 REFUSED += [b"<br>", b"<br></br>", b"<p />", b"<P></P>", b"<p onclick=\"x\"></p>", b"<p title=\"x\"></p>", b"<a href=x></a>", b"<a href='x'></a>", b'<a title="a" b"></a>']
 REFUSED += [b'<a href="javascript:x">y</a>', b'<a href=":x">y</a>', b'<img src="mailto:a" />', b'<a href="data:x">y</a>', b'<a href="java&#x27;script:x">y</a>', b'<a href="a b">c</a>']
 REFUSED += [b'<a href="a\\b">c</a>', b'<a href="\xc3\xa9">c</a>', b'<a href="&lt;">c</a>', b'<a href="&colon;">c</a>', b"&#60;", b"&", b"&amp", b"<", b">", b'"', b"\0", b"\x1b", b"<!-- -->"]
 REFUSED += [b'<a title="" href="">b</a>', b'<a href="" href="">b</a>', b'<code class="x">a</code>', b'<code class="language-a b">c</code>', b'<em class="language-a">b</em>', b"<h1><h2></h2></h1>"]
 REFUSED += [b'<ol start="-1"></ol>', b'<ol start="1&amp;"></ol>', b'<ul start="1"></ul>', b"<p >a</p>", b"<p>a</p >", b'<a  href="">b</a>', b'<img alt="<" />', b"<div></div>", b"<h7></h7>"]
+REFUSED += [b"<td></td>", b"<tr></tr>", b"<thead></thead>", b"<table><tr></tr></table>", b"<table>a</table>", b"<table> </table>", b"<table><em></em></table>"]
+REFUSED += [b"<table><thead>a</thead></table>", b"<p><table></table></p>", b'<table><tbody><tr><td align="x"></td></tr></tbody></table>', b'<table align="left"></table>']
+REFUSED += [b"<table><tbody><tr><td><p></p></td></tr></tbody></table>"]
 REFUSED += [b'<del cite="">a</del>', b'<del title="a">b</del>', b"<del />", b"<del>", b"<del><p></p></del>", b"<del><em></del></em>"]
 
 

@@ -1,8 +1,8 @@
 -- What is behind a front, a value, an attribute, attributes and a tag, against the grammar.
 use Rattle.std.proofs.Common.{◌≡◌, ℕ, List, [], ◌∷◌, ◌++◌, take, drop, ap, sym, refl, subst, ◌∙◌, arith, append_assoc, Option, None, Some}
 use Rattle.std.specs.Char.{is_ascii_alphanumeric, is_ascii_digit, is_ascii_whitespace}
-use Rattle.std.specs.List.{list_all, prefix_len, take_while}
-use Rattle.std.specs.Prelude.{◌==◌, ◌&&◌, not, ⊤, Bool, true, false, bytes_eq, cond, codes, option_and_then}
+use Rattle.std.specs.List.{list_all, list_any, prefix_len, take_while}
+use Rattle.std.specs.Prelude.{◌==◌, ◌&&◌, ◌||◌, not, ⊤, Bool, true, false, bytes_eq, cond, codes, option_and_then}
 use Rattle.std.proofs.lemmas.Bool.{and_from, and_parts, false≢true}
 use Rattle.std.proofs.lemmas.Option.{none-some}
 use Rattle.std.proofs.lemmas.Bool.Decides.{Decides-eqb}
@@ -14,10 +14,10 @@ use Rattle.mdhtml_markup.specs.declared.addresses.Place.TheVariants as place
 use Rattle.mdhtml_markup.specs.declared.elements.AttributeName.{AttributeName}
 use Rattle.mdhtml_markup.specs.declared.elements.AttributeName.TheVariants as name
 use Rattle.mdhtml_markup.specs.declared.elements.Element.{Element}
-use Rattle.mdhtml_markup.specs.declared.elements.Element.TheVariants.{Anchor, BlockQuote, Break, Checkbox, Code, Deleted, Emphasis, Heading1, Heading2, Heading3, Heading4, Heading5, Heading6, Image, ListItem, OrderedList, Paragraph, Preformatted, Strong, ThematicBreak, UnorderedList}
+use Rattle.mdhtml_markup.specs.declared.elements.Element.TheVariants.{Anchor, BlockQuote, Break, Checkbox, Code, DataCell, Deleted, Emphasis, HeaderCell, Heading1, Heading2, Heading3, Heading4, Heading5, Heading6, Image, ListItem, OrderedList, Paragraph, Preformatted, Strong, Table, TableBody, TableHead, TableRow, ThematicBreak, UnorderedList}
 use Rattle.mdhtml_markup.specs.SafeChecks.{behind_attribute, behind_attributes, behind_name, behind_value, elements, front_of, named, tag_end}
 use Rattle.mdhtml_markup.specs.SafeHtml as safe
-use Rattle.mdhtml_markup.specs.SafeHtml.{AreAttributes, attribute_name, attributes_of, behind, entity_at, is_address_byte, is_allowed, is_language, is_mark, is_safe_address, is_text, is_text_byte, is_value, is_void, must_be_given, name_of, quoted, undone}
+use Rattle.mdhtml_markup.specs.SafeHtml.{AreAttributes, alignments, attribute_name, attributes_of, behind, entity_at, is_address_byte, is_allowed, is_language, is_mark, is_safe_address, is_text, is_text_byte, is_value, is_void, must_be_given, name_of, quoted, undone}
 use Rattle.mdhtml_markup.proofs.Bools.{Then, is-other, other-by}
 
 -- ---- fronts
@@ -87,7 +87,21 @@ address-others at v h = text-others v (and_parts (is_text v) (list_all is_addres
 constant-others : (v w : List ℕ) → bytes_eq v w ≡ true → list_all other w ≡ true → list_all other v ≡ true
 constant-others v w h e = ap (list_all other) ((bytes_eq-Decides v w).0 h) ∙ e
 
+-- what holds of each of some words holds of one of them
+abbrev EachWord : (P : List ℕ → Type 0) → List (List ℕ) → Type 0
+EachWord P [] = ⊤
+EachWord P (w ∷ ws) = P w × EachWord P ws
+
+word-by : (c : Bool) (P : List ℕ → Type 0) (v w : List ℕ) (rest : Bool) → bytes_eq v w ≡ c → (c || rest) ≡ true → P w → (rest ≡ true → P v) → P v
+word-by true P v w rest e h p more = subst P (sym ((bytes_eq-Decides v w).0 e)) p
+word-by false P v w rest e h p more = more h
+
+pub words-are : (P : List ℕ → Type 0) (ws : List (List ℕ)) (v : List ℕ) → list_any (λ w. bytes_eq v w) ws ≡ true → EachWord P ws → P v
+words-are P [] v h each = absurd (false≢true h)
+words-are P (w ∷ ws) v h each = word-by (bytes_eq v w) P v w (list_any (λ x. bytes_eq v x) ws) refl h each.0 (λ k. words-are P ws v k each.1)
+
 value-others : (a : AttributeName) (v : List ℕ) → is_value a v ≡ true → list_all other v ≡ true
+value-others name.Align v h = words-are (λ w. list_all other w ≡ true) alignments v h (refl, (refl, (refl, tt)))
 value-others name.Alt v h = text-others v h
 value-others name.Checked v h = constant-others v [] h refl
 value-others name.Class v h = language-others v (behind (codes "language-") v) refl h
@@ -212,12 +226,15 @@ distinct : (e : Element) → Distinct (attributes_of e)
 distinct Anchor = (((λ x. refl), tt), (tt, tt))
 distinct Checkbox = (((λ x. refl), ((λ x. refl), tt)), (((λ x. refl), tt), (tt, tt)))
 distinct Code = (tt, tt)
+distinct DataCell = (tt, tt)
+distinct HeaderCell = (tt, tt)
 distinct Image = (((λ x. refl), ((λ x. refl), tt)), (((λ x. refl), tt), (tt, tt)))
 distinct OrderedList = (tt, tt)
 distinct e = tt
 
 end-apart : (v : Bool) (a : AttributeName) (h : List ℕ) → Apart a (cond v (codes " />") (codes ">") ++ h)
 end-apart false a h = refl
+end-apart true name.Align h = refl
 end-apart true name.Alt h = refl
 end-apart true name.Checked h = refl
 end-apart true name.Class h = refl
@@ -317,8 +334,10 @@ named-read BlockQuote = refl
 named-read Break = refl
 named-read Checkbox = refl
 named-read Code = refl
+named-read DataCell = refl
 named-read Deleted = refl
 named-read Emphasis = refl
+named-read HeaderCell = refl
 named-read Heading1 = refl
 named-read Heading2 = refl
 named-read Heading3 = refl
@@ -331,6 +350,10 @@ named-read OrderedList = refl
 named-read Paragraph = refl
 named-read Preformatted = refl
 named-read Strong = refl
+named-read Table = refl
+named-read TableBody = refl
+named-read TableHead = refl
+named-read TableRow = refl
 named-read ThematicBreak = refl
 named-read UnorderedList = refl
 
@@ -340,8 +363,10 @@ name-letters BlockQuote = refl
 name-letters Break = refl
 name-letters Checkbox = refl
 name-letters Code = refl
+name-letters DataCell = refl
 name-letters Deleted = refl
 name-letters Emphasis = refl
+name-letters HeaderCell = refl
 name-letters Heading1 = refl
 name-letters Heading2 = refl
 name-letters Heading3 = refl
@@ -354,5 +379,9 @@ name-letters OrderedList = refl
 name-letters Paragraph = refl
 name-letters Preformatted = refl
 name-letters Strong = refl
+name-letters Table = refl
+name-letters TableBody = refl
+name-letters TableHead = refl
+name-letters TableRow = refl
 name-letters ThematicBreak = refl
 name-letters UnorderedList = refl

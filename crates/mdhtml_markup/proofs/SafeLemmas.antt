@@ -5,17 +5,20 @@ use Rattle.std.specs.Fmt.{decimal}
 use Rattle.std.specs.List.{flat_map, list_all}
 use Rattle.std.specs.Prelude.{Bool, true, false, not, cond, bytes_eq, codes}
 use Rattle.std.proofs.lemmas.Bool.{and_from}
+use Rattle.std.proofs.Math.Bool.{or-true}
 use Rattle.std.proofs.lemmas.Slice.Eq.{bytes_eq-Decides}
 use Rattle.mdhtml_markup.specs.Addresses.{written_address}
 use Rattle.mdhtml_markup.specs.declared.addresses.Place.TheVariants as place
+use Rattle.mdhtml_markup.specs.declared.elements.Alignment.{Alignment}
+use Rattle.mdhtml_markup.specs.declared.elements.Alignment.TheVariants as alignment
 use Rattle.mdhtml_markup.specs.declared.elements.AttributeName.{AttributeName}
 use Rattle.mdhtml_markup.specs.declared.elements.AttributeName.TheVariants as name
 use Rattle.mdhtml_markup.specs.declared.elements.Element.{Element}
 use Rattle.mdhtml_markup.specs.Escapes.{escaped}
 use Rattle.mdhtml_markup.specs.Laws.{SafePiecesAreSafeHtml}
-use Rattle.mdhtml_markup.specs.Pieces.{Alt, Attribute, Checked, Close, Disabled, Feed, Fresh, Href, InputType, Kept, Language, Open, Piece, Src, Start, Text, Title, Void, attribute, html_from, written}
+use Rattle.mdhtml_markup.specs.Pieces.{Aligned, Alt, Attribute, Checked, Close, Disabled, Feed, Fresh, Href, InputType, Kept, Language, Open, Piece, Src, Start, Text, Title, Void, attribute, html_from, written}
 use Rattle.mdhtml_markup.specs.SafeHtml as safe
-use Rattle.mdhtml_markup.specs.SafeHtml.{AreAttributes, IsSafeHtml, attribute_name, attributes_of, is_language, is_text, is_value, must_be_given, quoted}
+use Rattle.mdhtml_markup.specs.SafeHtml.{AreAttributes, IsSafeHtml, attribute_name, attributes_of, holds_text, is_alignment, is_language, is_text, is_value, must_be_given, quoted, word_of}
 use Rattle.mdhtml_markup.specs.SafePieces.{AreAllowedBy, AreFree, AreSafe, Closes, IsAllowed, later, name_of_attribute}
 use Rattle.mdhtml_markup.proofs.AddressLemmas.{addresses-safe}
 use Rattle.mdhtml_markup.proofs.Bools.{Then}
@@ -23,6 +26,7 @@ use Rattle.mdhtml_markup.proofs.Texts.{decimal-digits, escaped-first, escaped-so
 
 -- an attribute by its name and value
 abbrev pub value_of : Attribute → List ℕ
+value_of (Aligned a) = word_of a
 value_of (Alt t) = escaped t
 value_of Checked = []
 value_of Disabled = []
@@ -34,6 +38,7 @@ value_of (Start n) = decimal n
 value_of (Title t) = escaped t
 
 pub attribute-quoted : (a : Attribute) → attribute a ≡ quoted (name_of_attribute a) (value_of a)
+attribute-quoted (Aligned a) = refl
 attribute-quoted (Alt t) = refl
 attribute-quoted Checked = refl
 attribute-quoted Disabled = refl
@@ -44,7 +49,13 @@ attribute-quoted (Src url) = refl
 attribute-quoted (Start n) = refl
 attribute-quoted (Title t) = refl
 
+aligned : (a : Alignment) → is_alignment (word_of a) ≡ true
+aligned alignment.Left = refl
+aligned alignment.Center = refl
+aligned alignment.Right = refl
+
 pub value-is : (a : Attribute) → IsAllowed a → is_value (name_of_attribute a) (value_of a) ≡ true
+value-is (Aligned a) h = aligned a
 value-is (Alt t) h = escaped-text t
 value-is Checked h = refl
 value-is Disabled h = refl
@@ -61,9 +72,10 @@ among [] w = None
 among (n ∷ names) w = cond (bytes_eq w (attribute_name n)) (Some n) (among names w)
 
 abbrev all-names : List AttributeName
-all-names = name.Alt ∷ name.Checked ∷ name.Class ∷ name.Disabled ∷ name.Href ∷ name.InputType ∷ name.Src ∷ name.Start ∷ name.Title ∷ []
+all-names = name.Align ∷ name.Alt ∷ name.Checked ∷ name.Class ∷ name.Disabled ∷ name.Href ∷ name.InputType ∷ name.Src ∷ name.Start ∷ name.Title ∷ []
 
 name-read : (n : AttributeName) → among all-names (attribute_name n) ≡ Some n
+name-read name.Align = refl
 name-read name.Alt = refl
 name-read name.Checked = refl
 name-read name.Class = refl
@@ -122,7 +134,7 @@ attributes-are (a ∷ attributes) names h =
 
 fresh-line : (tags : List Element) (fresh : Bool) (h : List ℕ) → IsSafeHtml tags h → IsSafeHtml tags (cond fresh [] (10 ∷ []) ++ h)
 fresh-line tags true h s = s
-fresh-line tags false h s = safe.IsSafeHtml.text tags 10 h refl refl s
+fresh-line tags false h s = safe.IsSafeHtml.text tags 10 h refl (or-true (holds_text tags)) refl s
 
 -- the innermost open tag is closed
 closed-tag : (tags : List Element) (e : Element) (ps : List Piece) (h : List ℕ) → Closes tags e (λ o. AreSafe o ps) → ((o : List Element) → AreSafe o ps → IsSafeHtml o h)
@@ -137,9 +149,9 @@ safe-from (Open e attributes ∷ ps) tags fresh h =
 safe-from (Void e attributes ∷ ps) tags fresh h =
     safe.IsSafeHtml.void tags e (flat_map attribute attributes) _ refl (h.0).kind (h.0).stands (attributes-are attributes (attributes_of e) (h.0).allowed) (safe-from ps tags _ h.1)
 safe-from (Close e ∷ ps) tags fresh h = closed-tag tags e ps _ h (λ o a. safe-from ps o _ a)
-safe-from (Text t ∷ ps) tags fresh h = escaped-first tags t _ (safe-from ps tags _ h)
+safe-from (Text t ∷ ps) tags fresh h = escaped-first tags t _ h.0 (safe-from ps tags _ h.1)
 safe-from (Kept t ∷ ps) tags fresh h = absurd h
-safe-from (Feed ∷ ps) tags fresh h = safe.IsSafeHtml.text tags 10 _ refl refl (safe-from ps tags _ h)
+safe-from (Feed ∷ ps) tags fresh h = safe.IsSafeHtml.text tags 10 _ refl (or-true (holds_text tags)) refl (safe-from ps tags _ h)
 safe-from (Fresh ∷ ps) tags fresh h = fresh-line tags fresh _ (safe-from ps tags _ h)
 
 pub pieces-safe : SafePiecesAreSafeHtml

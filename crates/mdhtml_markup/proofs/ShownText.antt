@@ -16,11 +16,11 @@ use Rattle.mdhtml_markup.specs.Escapes.{escaped, escaped_byte, kept, kept_byte, 
 use Rattle.mdhtml_markup.specs.Laws.{TextIsKept}
 use Rattle.mdhtml_markup.specs.Pieces.{Attribute, Close, Feed, Fresh, Kept, Open, Piece, Text, Void, attribute, html_from, is_fresh, written}
 use Rattle.mdhtml_markup.specs.SafeHtml as safe
-use Rattle.mdhtml_markup.specs.SafeHtml.{AreAttributes, attribute_name, attributes_of, behind, close_tag, entity_at, is_address_byte, is_allowed, is_safe_address, is_text, is_text_byte, is_value, name_of, open_tag, quoted, undone, undone_from, void_tag}
+use Rattle.mdhtml_markup.specs.SafeHtml.{AreAttributes, alignments, attribute_name, attributes_of, behind, close_tag, entity_at, is_address_byte, is_allowed, is_safe_address, is_text, is_text_byte, is_value, name_of, open_tag, quoted, undone, undone_from, void_tag}
 use Rattle.mdhtml_markup.specs.SafePieces.{AreSafe, Closes}
 use Rattle.mdhtml_markup.specs.ShownText.{said, said_from, text_of, untagged}
 use Rattle.mdhtml_markup.proofs.AddressLemmas.{undone-other}
-use Rattle.mdhtml_markup.proofs.Behind.{behind-is, name-letters}
+use Rattle.mdhtml_markup.proofs.Behind.{behind-is, name-letters, words-are}
 use Rattle.mdhtml_markup.proofs.Bools.{is-other, other-by}
 use Rattle.mdhtml_markup.proofs.SafeLemmas.{attributes-are}
 use Rattle.mdhtml_markup.proofs.Texts.{escaped-text}
@@ -64,6 +64,7 @@ constant-ends : (v w : List ℕ) → bytes_eq v w ≡ true → list_all ends w �
 constant-ends v w h e = ap (list_all ends) ((bytes_eq-Decides v w).0 h) ∙ e
 
 value-ends : (a : AttributeName) (v : List ℕ) → is_value a v ≡ true → list_all ends v ≡ true
+value-ends name.Align v h = words-are (λ w. list_all ends w ≡ true) alignments v h (refl, (refl, (refl, tt)))
 value-ends name.Alt v h = text-all ends text-ends v h
 value-ends name.Checked v h = constant-ends v [] h refl
 value-ends name.Class v h = language-ends v (behind (codes "language-") v) refl h
@@ -75,6 +76,7 @@ value-ends name.Start v h = class-ends is_ascii_digit refl v h
 value-ends name.Title v h = text-all ends text-ends v h
 
 name-ends : (a : AttributeName) → list_all ends (codes " " ++ attribute_name a) ≡ true
+name-ends name.Align = refl
 name-ends name.Alt = refl
 name-ends name.Checked = refl
 name-ends name.Class = refl
@@ -175,7 +177,7 @@ kept-from (Close e ∷ ps) tags fresh h = close-said tags e ps _ _ h (λ o a. ke
 kept-from (Text t ∷ ps) tags fresh h =
     let rest = html_from (is_fresh fresh (escaped t)) ps in
     ap undone (out-of-tags (escaped t) rest (text-all begins text-begins (escaped t) (escaped-text t))) ∙ text-undone t (untagged false rest)
-    ∙ ap (λ (x : List ℕ). kept t ++ x) (kept-from ps tags _ h)
+    ∙ ap (λ (x : List ℕ). kept t ++ x) (kept-from ps tags _ h.1)
 kept-from (Kept t ∷ ps) tags fresh h = absurd h
 kept-from (Feed ∷ ps) tags fresh h = ap (λ (x : List ℕ). 10 ∷ x) (kept-from ps tags _ h)
 kept-from (Fresh ∷ ps) tags fresh h = feed-said fresh _ ∙ ap (λ (x : List ℕ). cond fresh [] (10 ∷ []) ++ x) (kept-from ps tags _ h)

@@ -7,11 +7,11 @@ use Rattle.std.proofs.lemmas.Bool.{and_from, and_parts, false≢true}
 use Rattle.std.proofs.lemmas.Bool.Decides.{Decides-eqb, same_from_decides}
 use Rattle.std.proofs.lemmas.List.{length-append, take-append-drop}
 use Rattle.mdhtml_markup.specs.declared.elements.Element.{Element}
-use Rattle.mdhtml_markup.specs.declared.elements.Element.TheVariants.{Anchor, BlockQuote, Break, Checkbox, Code, Deleted, Emphasis, Heading1, Heading2, Heading3, Heading4, Heading5, Heading6, Image, ListItem, OrderedList, Paragraph, Preformatted, Strong, ThematicBreak, UnorderedList}
+use Rattle.mdhtml_markup.specs.declared.elements.Element.TheVariants.{Anchor, BlockQuote, Break, Checkbox, Code, DataCell, Deleted, Emphasis, HeaderCell, Heading1, Heading2, Heading3, Heading4, Heading5, Heading6, Image, ListItem, OrderedList, Paragraph, Preformatted, Strong, Table, TableBody, TableHead, TableRow, ThematicBreak, UnorderedList}
 use Rattle.mdhtml_markup.specs.Laws.{SafeHtmlIsTested}
 use Rattle.mdhtml_markup.specs.SafeChecks.{is_safe_behind, Rest, behind_close, behind_element, behind_mark, behind_name, elements, is_safe_below, named, tag_end}
 use Rattle.mdhtml_markup.specs.SafeHtml as safe
-use Rattle.mdhtml_markup.specs.SafeHtml.{AreAttributes, IsSafeHtml, attributes_of, behind, close_tag, is_text_byte, is_void, name_of, open_tag, stands_in, void_tag}
+use Rattle.mdhtml_markup.specs.SafeHtml.{AreAttributes, IsSafeHtml, attributes_of, behind, close_tag, is_said, is_text_byte, is_void, name_of, open_tag, stands_in, void_tag}
 use Rattle.mdhtml_markup.proofs.Behind.{behind-front, behind-is, drop-front, ended-then, name-letters, name-read, name-stops, named-is, named-read, take-front}
 use Rattle.mdhtml_markup.proofs.Bools.{Then, other-by}
 
@@ -107,12 +107,14 @@ tested-then (Some rest) f h = h
 
 byte-by : (c : Bool) (n : ℕ) (tags : List Element) (b : ℕ) (l : List ℕ) → (b == 60) ≡ c
     → elim c as (λ _. Bool) [
-      | false ↦ is_text_byte b l && is_safe_below n tags l
+      | false ↦ (is_said tags b && is_text_byte b l) && is_safe_below n tags l
       | true ↦ elim (behind_mark tags l) as (λ _. Bool) [ None ↦ false | Some rest ↦ is_safe_below n rest.0 rest.1 ]
     ] ≡ true
     → ((o : List Element) (r : List ℕ) → is_safe_below n o r ≡ true → IsSafeHtml o r) → IsSafeHtml tags (b ∷ l)
 byte-by false n tags b l e h more =
-    safe.IsSafeHtml.text tags b l refl (and_parts (is_text_byte b l) (is_safe_below n tags l) h).0 (more tags l (and_parts (is_text_byte b l) (is_safe_below n tags l) h).1)
+    let both = and_parts (is_said tags b && is_text_byte b l) (is_safe_below n tags l) h in
+    let here = and_parts (is_said tags b) (is_text_byte b l) both.0 in
+    safe.IsSafeHtml.text tags b l refl here.0 here.1 (more tags l both.1)
 byte-by true n tags b l e h more =
     let it = mark-then tags l (λ rest. is_safe_below n rest.0 rest.1 ≡ true) (tested-then (behind_mark tags l) (λ rest. is_safe_below n rest.0 rest.1) h) in
     subst (λ (x : ℕ). IsSafeHtml tags (x ∷ l)) (sym ((Decides-eqb b 60).0 e)) (it.safely (more it.rest.0 it.rest.1 it.holds))
@@ -132,8 +134,10 @@ name-no-close BlockQuote r = refl
 name-no-close Break r = refl
 name-no-close Checkbox r = refl
 name-no-close Code r = refl
+name-no-close DataCell r = refl
 name-no-close Deleted r = refl
 name-no-close Emphasis r = refl
+name-no-close HeaderCell r = refl
 name-no-close Heading1 r = refl
 name-no-close Heading2 r = refl
 name-no-close Heading3 r = refl
@@ -146,6 +150,10 @@ name-no-close OrderedList r = refl
 name-no-close Paragraph r = refl
 name-no-close Preformatted r = refl
 name-no-close Strong r = refl
+name-no-close Table r = refl
+name-no-close TableBody r = refl
+name-no-close TableHead r = refl
+name-no-close TableRow r = refl
 name-no-close ThematicBreak r = refl
 name-no-close UnorderedList r = refl
 
@@ -173,19 +181,19 @@ mark-close e tags h = ap (λ o. option_map (λ (rest : List ℕ). (tags, rest)) 
 mark-passes : (n : ℕ) (tags o : List Element) (l h : List ℕ) → behind_mark tags l ≡ Some (o, h) → is_safe_below n o h ≡ true → is_safe_below (suc n) tags (60 ∷ l) ≡ true
 mark-passes n tags o l h e k = ap (λ x. elim x as (λ _. Bool) [ None ↦ false | Some rest ↦ is_safe_below n rest.0 rest.1 ]) e ∙ k
 
-text-passes : (n : ℕ) (tags : List Element) (b : ℕ) (h : List ℕ) → is_text_byte b h ≡ true → is_safe_below n tags h ≡ true → is_safe_below (suc n) tags (b ∷ h) ≡ true
-text-passes n tags b h e k =
+text-passes : (n : ℕ) (tags : List Element) (b : ℕ) (h : List ℕ) → is_said tags b ≡ true → is_text_byte b h ≡ true → is_safe_below n tags h ≡ true → is_safe_below (suc n) tags (b ∷ h) ≡ true
+text-passes n tags b h s e k =
     let other : (b == 60) ≡ false = other-by (b == 60) (is_text_byte b h) (is_text_byte 60 h) (λ is. ap (λ x. is_text_byte x h) ((Decides-eqb b 60).0 is)) refl e in
     ap (λ c. elim c as (λ _. Bool) [
-      | false ↦ is_text_byte b h && is_safe_below n tags h
+      | false ↦ (is_said tags b && is_text_byte b h) && is_safe_below n tags h
       | true ↦ elim (behind_mark tags h) as (λ _. Bool) [ None ↦ false | Some rest ↦ is_safe_below n rest.0 rest.1 ]
-    ]) other ∙ and_from (is_text_byte b h) (is_safe_below n tags h) e k
+    ]) other ∙ and_from (is_said tags b && is_text_byte b h) (is_safe_below n tags h) (and_from (is_said tags b) (is_text_byte b h) s e) k
 
 safe-tested : (n : ℕ) (tags : List Element) (l : List ℕ) → IsSafeHtml tags l → length l < n → is_safe_below n tags l ≡ true
 safe-tested zero tags l s k = absurd (omega (arith, k))
 safe-tested (suc n) tags l safe.IsSafeHtml.end k = refl
-safe-tested (suc n) tags l (safe.IsSafeHtml.text o b h e t s) k =
-    ap (is_safe_below (suc n) tags) e ∙ text-passes n tags b h t (safe-tested n tags h s (omega (arith, ap (λ (x : List ℕ). length x) e, k)))
+safe-tested (suc n) tags l (safe.IsSafeHtml.text o b h e i t s) k =
+    ap (is_safe_below (suc n) tags) e ∙ text-passes n tags b h i t (safe-tested n tags h s (omega (arith, ap (λ (x : List ℕ). length x) e, k)))
 safe-tested (suc n) tags l (safe.IsSafeHtml.opened o e attributes h is v st a s) k =
     let same = is ∙ tag-bytes e attributes (codes ">") h in
     let lengths = longer (name_of e) (attributes ++ (codes ">" ++ h)) in
@@ -225,11 +233,11 @@ mark-shorter tags l o r e =
 abbrev byte_step : (c : Bool) (tags : List Element) (b : ℕ) (l : List ℕ) → Bool
 byte_step c tags b l =
     elim c as (λ _. Bool) [
-      | false ↦ is_text_byte b l && is_safe_behind tags l
+      | false ↦ (is_said tags b && is_text_byte b l) && is_safe_behind tags l
       | true ↦ elim (behind_mark tags l) as (λ _. Bool) [ None ↦ false | Some rest ↦ is_safe_below (suc (length l)) rest.0 rest.1 ]
     ]
 
-pub text-step : (tags : List Element) (b : ℕ) (l : List ℕ) → (b == 60) ≡ false → is_safe_behind tags (b ∷ l) ≡ (is_text_byte b l && is_safe_behind tags l)
+pub text-step : (tags : List Element) (b : ℕ) (l : List ℕ) → (b == 60) ≡ false → is_safe_behind tags (b ∷ l) ≡ ((is_said tags b && is_text_byte b l) && is_safe_behind tags l)
 text-step tags b l e = ap (λ c. byte_step c tags b l) e
 
 pub mark-step : (tags : List Element) (b : ℕ) (l : List ℕ) (o : List Element) (r : List ℕ) → (b == 60) ≡ true → behind_mark tags l ≡ Some (o, r)

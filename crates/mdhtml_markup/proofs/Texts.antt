@@ -1,5 +1,5 @@
 -- What is written of texts is text.
-use Rattle.std.proofs.Common.{◌≡◌, ℕ, ◌≤◌, ◌<◌, List, [], ◌∷◌, ◌++◌, length, sym, refl, subst, ◌∙◌, arith, append_assoc}
+use Rattle.std.proofs.Common.{◌≡◌, ℕ, ◌≤◌, ◌<◌, List, [], ◌∷◌, ◌++◌, length, ap, sym, refl, subst, ◌∙◌, arith, append_assoc}
 use Rattle.std.specs.Char.{is_ascii_digit, is_ascii_whitespace}
 use Rattle.std.specs.Fmt.{decimal, digit_glyph, digits, digits_onto}
 use Rattle.std.specs.List.{list_all}
@@ -10,7 +10,7 @@ use Rattle.std.proofs.lemmas.List.Folds.{list_all-append}
 use Rattle.mdhtml_markup.specs.declared.elements.Element.{Element}
 use Rattle.mdhtml_markup.specs.Escapes.{escaped, escaped_byte, replacement}
 use Rattle.mdhtml_markup.specs.Laws.{EscapesAreText, EscapesAreShort}
-use Rattle.mdhtml_markup.specs.SafeHtml.{IsSafeHtml, entity_at, is_text, is_text_byte, text}
+use Rattle.mdhtml_markup.specs.SafeHtml.{IsSafeHtml, entity_at, holds_text, is_text, is_text_byte, text}
 
 -- what is written of a byte, by the six tests; and whether it is text where it is written itself
 abbrev picked : (a l g q x z : Bool) → ℕ → List ℕ
@@ -55,9 +55,9 @@ abbrev says : List ℕ → List ℕ → Bool
 says [] h = true
 says (b ∷ bs) h = is_text_byte b (bs ++ h) && says bs h
 
-said : (tags : List Element) (w h : List ℕ) → says w h ≡ true → IsSafeHtml tags h → IsSafeHtml tags (w ++ h)
-said tags [] h e s = s
-said tags (b ∷ bs) h e s = text tags b (bs ++ h) refl (and_parts (is_text_byte b (bs ++ h)) (says bs h) e).0 (said tags bs h (and_parts (is_text_byte b (bs ++ h)) (says bs h) e).1 s)
+said : (tags : List Element) (w h : List ℕ) → holds_text tags ≡ true → says w h ≡ true → IsSafeHtml tags h → IsSafeHtml tags (w ++ h)
+said tags [] h t e s = s
+said tags (b ∷ bs) h t e s = text tags b (bs ++ h) refl (ap (λ c. c || (b == 10)) t) (and_parts (is_text_byte b (bs ++ h)) (says bs h) e).0 (said tags bs h t (and_parts (is_text_byte b (bs ++ h)) (says bs h) e).1 s)
 
 says-by : (a l g q x z : Bool) (b : ℕ) (h : List ℕ) → itself a l g q x z (is_some (entity_at h)) ≡ is_text_byte b h → says (picked a l g q x z b) h ≡ true
 says-by true l g q x z b h m = refl
@@ -68,12 +68,12 @@ says-by false false false false true z b h m = refl
 says-by false false false false false true b h m = refl
 says-by false false false false false false b h m = and_from (is_text_byte b h) true (sym m) refl
 
-pub escaped-first : (tags : List Element) (t h : List ℕ) → IsSafeHtml tags h → IsSafeHtml tags (escaped t ++ h)
-escaped-first tags [] h s = s
-escaped-first tags (b ∷ bs) h s =
+pub escaped-first : (tags : List Element) (t h : List ℕ) → holds_text tags ≡ true → IsSafeHtml tags h → IsSafeHtml tags (escaped t ++ h)
+escaped-first tags [] h holds s = s
+escaped-first tags (b ∷ bs) h holds s =
     let rest = escaped bs ++ h in
     subst (IsSafeHtml tags) (sym (append_assoc (escaped_byte b) (escaped bs) h))
-    (said tags (escaped_byte b) rest (says-by (b == 38) (b == 60) (b == 62) (b == 34) (b == 27) (b == 0) b rest refl) (escaped-first tags bs h s))
+    (said tags (escaped_byte b) rest holds (says-by (b == 38) (b == 60) (b == 62) (b == 34) (b == 27) (b == 0) b rest refl) (escaped-first tags bs h holds s))
 
 -- what is written of text without white space has none
 abbrev solid : ℕ → Bool

@@ -4,15 +4,16 @@ use Rattle.std.specs.Prelude.{◌≡◌, ℕ, ◌==◌, Bool, true, false, List,
 use Rattle.mdhtml_markup.specs.declared.elements.AttributeName.{AttributeName}
 use Rattle.mdhtml_markup.specs.declared.elements.AttributeName.TheVariants as name
 use Rattle.mdhtml_markup.specs.declared.elements.Element.{Element}
-use Rattle.mdhtml_markup.specs.declared.elements.Element.TheVariants.{Anchor, BlockQuote, Break, Checkbox, Code, Deleted, Emphasis, Image, ListItem, OrderedList, Preformatted, Strong, UnorderedList}
+use Rattle.mdhtml_markup.specs.declared.elements.Element.TheVariants.{Anchor, BlockQuote, Break, Checkbox, Code, DataCell, Deleted, Emphasis, HeaderCell, Image, ListItem, OrderedList, Preformatted, Strong, Table, TableBody, TableHead, TableRow, UnorderedList}
 use Rattle.mdhtml_markup.specs.SafeHtml.{attributes_of, close_tag, is_text_byte, is_value, is_void, open_tag, quoted, void_tag}
 
--- Where one stands: among blocks (and the text of tight items), among text (in a link or not), among the items of a list, in a `pre` before and behind its
--- code, and in code
+-- Where one stands: among blocks (and the text of tight items), among text (in a link or not), among the items of a list, the parts of a
+-- table, its rows and the cells of one, in a `pre` before and behind its code, and in code
 pub data Model : Type 0 where
   Blocks : Model
   Phrases : (in_link : Bool) → Model
   Items : Model
+  Parts Rows Cells : Model
   BeforeCode BehindCode : Model
   Words : Model
 
@@ -33,10 +34,23 @@ is_phrase in_link e = false
 -- an element may stand here
 abbrev pub may_stand : Model → Element → Bool
 may_stand Blocks ListItem = false
+may_stand Blocks DataCell = false
+may_stand Blocks HeaderCell = false
+may_stand Blocks TableBody = false
+may_stand Blocks TableHead = false
+may_stand Blocks TableRow = false
 may_stand Blocks e = true
 may_stand (Phrases in_link) e = is_phrase in_link e
 may_stand Items ListItem = true
 may_stand Items e = false
+may_stand Parts TableBody = true
+may_stand Parts TableHead = true
+may_stand Parts e = false
+may_stand Rows TableRow = true
+may_stand Rows e = false
+may_stand Cells DataCell = true
+may_stand Cells HeaderCell = true
+may_stand Cells e = false
 may_stand BeforeCode Code = true
 may_stand BeforeCode e = false
 may_stand BehindCode e = false
@@ -55,6 +69,10 @@ inside m Code = Words
 inside m ListItem = Blocks
 inside m OrderedList = Items
 inside m Preformatted = BeforeCode
+inside m Table = Parts
+inside m TableBody = Rows
+inside m TableHead = Rows
+inside m TableRow = Cells
 inside m UnorderedList = Items
 inside m Deleted = phrases_in m
 inside m Emphasis = phrases_in m
@@ -66,19 +84,23 @@ abbrev pub after : Model → Model
 after BeforeCode = BehindCode
 after m = m
 
--- an element's content may end here, and text may stand here: of items, line feeds alone
+-- an element's content may end here, and text may stand here: of items and in tables, line feeds alone
 abbrev pub may_end : Model → Bool
 may_end BeforeCode = false
 may_end m = true
 
 abbrev pub may_say : Model → ℕ → Bool
 may_say Items b = b == 10
+may_say Parts b = b == 10
+may_say Rows b = b == 10
+may_say Cells b = b == 10
 may_say BeforeCode b = false
 may_say BehindCode b = false
 may_say m b = true
 
 -- the attributes that an element need not have
 abbrev pub may_be_missing : AttributeName → Bool
+may_be_missing name.Align = true
 may_be_missing name.Checked = true
 may_be_missing name.Class = true
 may_be_missing name.Start = true

@@ -3,13 +3,15 @@ use Rattle.std.specs.Fmt.{decimal}
 use Rattle.std.specs.List.{flat_map}
 use Rattle.std.specs.Prelude.{ℕ, ◌==◌, Bool, true, cond, List, [], ◌∷◌, ◌++◌, codes}
 use Rattle.mdhtml_markup.specs.Addresses.{written_address}
+use Rattle.mdhtml_markup.specs.declared.elements.Alignment.{Alignment}
 use Rattle.mdhtml_markup.specs.declared.elements.AttributeName.TheVariants as name
 use Rattle.mdhtml_markup.specs.declared.elements.Element.{Element}
 use Rattle.mdhtml_markup.specs.Escapes.{escaped, kept}
-use Rattle.mdhtml_markup.specs.SafeHtml.{close_tag, open_tag, quoted, void_tag}
+use Rattle.mdhtml_markup.specs.SafeHtml.{close_tag, open_tag, quoted, void_tag, word_of}
 
 -- the attributes that are written, each with what it says
 pub data Attribute : Type 0 where
+  Aligned : Alignment → Attribute
   Alt : List ℕ → Attribute
   Checked : Attribute
   Disabled : Attribute
@@ -21,6 +23,7 @@ pub data Attribute : Type 0 where
   Title : List ℕ → Attribute
 
 abbrev pub attribute : Attribute → List ℕ
+attribute (Aligned a) = quoted name.Align (word_of a)
 attribute (Alt t) = quoted name.Alt (escaped t)
 attribute Checked = quoted name.Checked []
 attribute Disabled = quoted name.Disabled []

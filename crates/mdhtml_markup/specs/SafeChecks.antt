@@ -4,14 +4,14 @@ use Rattle.std.specs.List.{prefix_len, take_while}
 use Rattle.std.specs.Prelude.{ℕ, zero, suc, ◌==◌, ◌&&◌, not, Bool, true, false, cond, List, [], ◌∷◌, ◌++◌, drop, length, Option, None, Some, option_and_then, option_map, bytes_eq, codes}
 use Rattle.mdhtml_markup.specs.declared.elements.AttributeName.{AttributeName}
 use Rattle.mdhtml_markup.specs.declared.elements.Element.{Element}
-use Rattle.mdhtml_markup.specs.declared.elements.Element.TheVariants.{Anchor, BlockQuote, Break, Checkbox, Code, Deleted, Emphasis, Heading1, Heading2, Heading3, Heading4, Heading5, Heading6, Image, ListItem, OrderedList, Paragraph, Preformatted, Strong, ThematicBreak, UnorderedList}
-use Rattle.mdhtml_markup.specs.SafeHtml.{attribute_name, attributes_of, behind, is_text_byte, is_value, is_void, must_be_given, name_of, stands_in}
+use Rattle.mdhtml_markup.specs.declared.elements.Element.TheVariants.{Anchor, BlockQuote, Break, Checkbox, Code, DataCell, Deleted, Emphasis, HeaderCell, Heading1, Heading2, Heading3, Heading4, Heading5, Heading6, Image, ListItem, OrderedList, Paragraph, Preformatted, Strong, Table, TableBody, TableHead, TableRow, ThematicBreak, UnorderedList}
+use Rattle.mdhtml_markup.specs.SafeHtml.{attribute_name, attributes_of, behind, is_said, is_text_byte, is_value, is_void, must_be_given, name_of, stands_in}
 
 -- the element of a name
 abbrev pub elements : List Element
 elements =
-    Anchor ∷ BlockQuote ∷ Break ∷ Checkbox ∷ Code ∷ Deleted ∷ Emphasis ∷ Heading1 ∷ Heading2 ∷ Heading3 ∷ Heading4 ∷ Heading5 ∷ Heading6 ∷ Image ∷ ListItem ∷ OrderedList ∷ Paragraph ∷ Preformatted
-    ∷ Strong ∷ ThematicBreak ∷ UnorderedList ∷ []
+    Anchor ∷ BlockQuote ∷ Break ∷ Checkbox ∷ Code ∷ DataCell ∷ Deleted ∷ Emphasis ∷ HeaderCell ∷ Heading1 ∷ Heading2 ∷ Heading3 ∷ Heading4 ∷ Heading5 ∷ Heading6 ∷ Image ∷ ListItem
+    ∷ OrderedList ∷ Paragraph ∷ Preformatted ∷ Strong ∷ Table ∷ TableBody ∷ TableHead ∷ TableRow ∷ ThematicBreak ∷ UnorderedList ∷ []
 
 abbrev pub named : List Element → List ℕ → Option Element
 named [] name = None
@@ -69,7 +69,7 @@ is_safe_below (suc n) [] [] = true
 is_safe_below (suc n) (e ∷ tags) [] = false
 is_safe_below (suc n) tags (b ∷ l) =
     elim (b == 60) [
-      | false ↦ is_text_byte b l && is_safe_below n tags l
+      | false ↦ (is_said tags b && is_text_byte b l) && is_safe_below n tags l
       | true ↦ elim (behind_mark tags l) [ None ↦ false | Some rest ↦ is_safe_below n rest.0 rest.1 ]
     ]
 

@@ -15,10 +15,12 @@ use Rattle.std.specs.List.{list_all, list_any}
 use Rattle.std.specs.Prelude.{◌≡◌, ℕ, zero, suc, ◌==◌, ◌&&◌, ◌||◌, not, Bool, true, false, cond, List, [], ◌∷◌, ◌++◌, length, map, Option, None, Some, is_some, option_map, bytes_eq, codes}
 use Rattle.mdhtml_markup.specs.declared.addresses.Place.{Place}
 use Rattle.mdhtml_markup.specs.declared.addresses.Place.TheVariants as place
+use Rattle.mdhtml_markup.specs.declared.elements.Alignment.{Alignment}
+use Rattle.mdhtml_markup.specs.declared.elements.Alignment.TheVariants as alignment
 use Rattle.mdhtml_markup.specs.declared.elements.AttributeName.{AttributeName}
 use Rattle.mdhtml_markup.specs.declared.elements.AttributeName.TheVariants as name
 use Rattle.mdhtml_markup.specs.declared.elements.Element.{Element}
-use Rattle.mdhtml_markup.specs.declared.elements.Element.TheVariants.{Anchor, BlockQuote, Break, Checkbox, Code, Deleted, Emphasis, Heading1, Heading2, Heading3, Heading4, Heading5, Heading6, Image, ListItem, OrderedList, Paragraph, Preformatted, Strong, ThematicBreak, UnorderedList}
+use Rattle.mdhtml_markup.specs.declared.elements.Element.TheVariants.{Anchor, BlockQuote, Break, Checkbox, Code, DataCell, Deleted, Emphasis, HeaderCell, Heading1, Heading2, Heading3, Heading4, Heading5, Heading6, Image, ListItem, OrderedList, Paragraph, Preformatted, Strong, Table, TableBody, TableHead, TableRow, ThematicBreak, UnorderedList}
 
 -- ---- elements
 
@@ -29,8 +31,10 @@ name_of BlockQuote = codes "blockquote"
 name_of Break = codes "br"
 name_of Checkbox = codes "input"
 name_of Code = codes "code"
+name_of DataCell = codes "td"
 name_of Deleted = codes "del"
 name_of Emphasis = codes "em"
+name_of HeaderCell = codes "th"
 name_of Heading1 = codes "h1"
 name_of Heading2 = codes "h2"
 name_of Heading3 = codes "h3"
@@ -43,6 +47,10 @@ name_of OrderedList = codes "ol"
 name_of Paragraph = codes "p"
 name_of Preformatted = codes "pre"
 name_of Strong = codes "strong"
+name_of Table = codes "table"
+name_of TableBody = codes "tbody"
+name_of TableHead = codes "thead"
+name_of TableRow = codes "tr"
 name_of ThematicBreak = codes "hr"
 name_of UnorderedList = codes "ul"
 
@@ -68,22 +76,46 @@ holds_blocks (BlockQuote ∷ tags) = true
 holds_blocks (ListItem ∷ tags) = true
 holds_blocks tags = false
 
+-- Parts of tables stand directly in what they are parts of, and nothing else does: elsewhere a browser leaves such a tag out, or closes a cell of the page by
+-- it; and what is no part of a table it puts in front of that
+abbrev pub holds_parts : (tags : List Element) → Bool
+holds_parts (Table ∷ tags) = true
+holds_parts tags = false
+
+abbrev pub holds_rows : (tags : List Element) → Bool
+holds_rows (TableBody ∷ tags) = true
+holds_rows (TableHead ∷ tags) = true
+holds_rows tags = false
+
+abbrev pub holds_cells : (tags : List Element) → Bool
+holds_cells (TableRow ∷ tags) = true
+holds_cells tags = false
+
+abbrev pub holds_text : (tags : List Element) → Bool
+holds_text tags = not (holds_parts tags || (holds_rows tags || holds_cells tags))
+
 -- an element may stand behind these open tags, the innermost first
 abbrev pub stands_in : Element → (tags : List Element) → Bool
 stands_in ListItem tags = holds_items tags
-stands_in Anchor tags = true
-stands_in Break tags = true
-stands_in Checkbox tags = true
-stands_in Code tags = true
-stands_in Deleted tags = true
-stands_in Emphasis tags = true
-stands_in Image tags = true
-stands_in Strong tags = true
+stands_in DataCell tags = holds_cells tags
+stands_in HeaderCell tags = holds_cells tags
+stands_in TableBody tags = holds_parts tags
+stands_in TableHead tags = holds_parts tags
+stands_in TableRow tags = holds_rows tags
+stands_in Anchor tags = holds_text tags
+stands_in Break tags = holds_text tags
+stands_in Checkbox tags = holds_text tags
+stands_in Code tags = holds_text tags
+stands_in Deleted tags = holds_text tags
+stands_in Emphasis tags = holds_text tags
+stands_in Image tags = holds_text tags
+stands_in Strong tags = holds_text tags
 stands_in e tags = holds_blocks tags
 
 -- ---- attributes
 
 abbrev pub attribute_name : AttributeName → List ℕ
+attribute_name name.Align = codes "align"
 attribute_name name.Alt = codes "alt"
 attribute_name name.Checked = codes "checked"
 attribute_name name.Class = codes "class"
@@ -99,6 +131,8 @@ abbrev pub attributes_of : Element → List AttributeName
 attributes_of Anchor = name.Href ∷ name.Title ∷ []
 attributes_of Checkbox = name.InputType ∷ name.Checked ∷ name.Disabled ∷ []
 attributes_of Code = name.Class ∷ []
+attributes_of DataCell = name.Align ∷ []
+attributes_of HeaderCell = name.Align ∷ []
 attributes_of Image = name.Src ∷ name.Alt ∷ name.Title ∷ []
 attributes_of OrderedList = name.Start ∷ []
 attributes_of e = []
@@ -200,7 +234,20 @@ is_safe_address at value = is_text value && (list_all is_address_byte (undone va
 abbrev pub is_language : List ℕ → Bool
 is_language value = elim (behind (codes "language-") value) [ None ↦ false | Some word ↦ is_text word && list_all (λ b. not (is_ascii_whitespace b)) word ]
 
+-- where the text of a cell stands, in words
+abbrev pub word_of : Alignment → List ℕ
+word_of alignment.Left = codes "left"
+word_of alignment.Center = codes "center"
+word_of alignment.Right = codes "right"
+
+abbrev pub alignments : List (List ℕ)
+alignments = word_of alignment.Left ∷ word_of alignment.Center ∷ word_of alignment.Right ∷ []
+
+abbrev pub is_alignment : List ℕ → Bool
+is_alignment value = list_any (λ word. bytes_eq value word) alignments
+
 abbrev pub is_value : AttributeName → List ℕ → Bool
+is_value name.Align value = is_alignment value
 is_value name.Alt value = is_text value
 is_value name.Checked value = bytes_eq value []
 is_value name.Class value = is_language value
@@ -233,10 +280,14 @@ void_tag e attributes = (codes "<" ++ name_of e) ++ (attributes ++ codes " />")
 abbrev pub close_tag : Element → List ℕ
 close_tag e = (codes "</" ++ name_of e) ++ codes ">"
 
+-- a byte may be said behind these open tags: a line feed anywhere
+abbrev pub is_said : (tags : List Element) → ℕ → Bool
+is_said tags b = holds_text tags || (b == 10)
+
 -- Safe HTML, behind tags that are open, the innermost first. `IsSafeHtml []` is the whole
 pub data IsSafeHtml : (tags : List Element) → List ℕ → Type 0 where
   end : IsSafeHtml [] []
-  text : (tags : List Element) (b : ℕ) (h : List ℕ) {l : List ℕ} → l ≡ b ∷ h → is_text_byte b h ≡ true → IsSafeHtml tags h → IsSafeHtml tags l
+  text : (tags : List Element) (b : ℕ) (h : List ℕ) {l : List ℕ} → l ≡ b ∷ h → is_said tags b ≡ true → is_text_byte b h ≡ true → IsSafeHtml tags h → IsSafeHtml tags l
   opened : (tags : List Element) (e : Element) (attributes h : List ℕ) {l : List ℕ} → l ≡ open_tag e attributes ++ h
       → is_void e ≡ false → stands_in e tags ≡ true → AreAttributes (attributes_of e) attributes → IsSafeHtml (e ∷ tags) h → IsSafeHtml tags l
   void : (tags : List Element) (e : Element) (attributes h : List ℕ) {l : List ℕ} → l ≡ void_tag e attributes ++ h

@@ -6,11 +6,12 @@ use Rattle.mdhtml_markup.specs.declared.addresses.Place.TheVariants as place
 use Rattle.mdhtml_markup.specs.declared.elements.AttributeName.{AttributeName}
 use Rattle.mdhtml_markup.specs.declared.elements.AttributeName.TheVariants as name
 use Rattle.mdhtml_markup.specs.declared.elements.Element.{Element}
-use Rattle.mdhtml_markup.specs.Pieces.{Alt, Attribute, Checked, Close, Disabled, Feed, Fresh, Href, InputType, Kept, Language, Open, Piece, Src, Start, Text, Title, Void}
-use Rattle.mdhtml_markup.specs.SafeHtml.{attribute_name, attributes_of, is_allowed, is_void, must_be_given, stands_in}
+use Rattle.mdhtml_markup.specs.Pieces.{Aligned, Alt, Attribute, Checked, Close, Disabled, Feed, Fresh, Href, InputType, Kept, Language, Open, Piece, Src, Start, Text, Title, Void}
+use Rattle.mdhtml_markup.specs.SafeHtml.{attribute_name, attributes_of, holds_text, is_allowed, is_void, must_be_given, stands_in}
 
 -- an attribute by what it says: an address is allowed, a language has no white space
 abbrev pub IsAllowed : Attribute → Type 0
+IsAllowed (Aligned a) = ⊤
 IsAllowed (Alt t) = ⊤
 IsAllowed Checked = ⊤
 IsAllowed Disabled = ⊤
@@ -22,6 +23,7 @@ IsAllowed (Start n) = ⊤
 IsAllowed (Title t) = ⊤
 
 abbrev pub name_of_attribute : Attribute → AttributeName
+name_of_attribute (Aligned a) = name.Align
 name_of_attribute (Alt t) = name.Alt
 name_of_attribute Checked = name.Checked
 name_of_attribute Disabled = name.Disabled
@@ -62,13 +64,13 @@ abbrev pub Closes : (tags : List Element) → Element → (rest : (tags : List E
 Closes [] e rest = ⊥
 Closes (d ∷ tags) e rest = (d ≡ e) × rest tags
 
--- Pieces behind tags that are open, the innermost first: each tag may stand where it is and is closed in order, and no HTML is kept
+-- Pieces behind tags that are open, the innermost first: each tag and each text may stand where it is, tags are closed in order, and no HTML is kept
 abbrev pub AreSafe : (tags : List Element) → List Piece → Type 0
 AreSafe tags [] = tags ≡ []
 AreSafe tags (Open e attributes ∷ ps) = IsTag false tags e attributes × AreSafe (e ∷ tags) ps
 AreSafe tags (Void e attributes ∷ ps) = IsTag true tags e attributes × AreSafe tags ps
 AreSafe tags (Close e ∷ ps) = Closes tags e (λ o. AreSafe o ps)
-AreSafe tags (Text t ∷ ps) = AreSafe tags ps
+AreSafe tags (Text t ∷ ps) = (holds_text tags ≡ true) × AreSafe tags ps
 AreSafe tags (Kept h ∷ ps) = ⊥
 AreSafe tags (Feed ∷ ps) = AreSafe tags ps
 AreSafe tags (Fresh ∷ ps) = AreSafe tags ps

@@ -4,10 +4,10 @@ ghost use Rattle.std.specs.Char.{is_ascii_alphanumeric, is_ascii_digit, is_ascii
 ghost use Rattle.std.specs.List.{list_all, prefix_len};
 ghost use Rattle.std.specs.Prelude.{◌≡◌, ◌↔◌, ◌∷◌, ◌+◌, ◌<◌, ◌≤◌, ◌==◌, [], IfOk, MatchOption, None, Some, drop, is_some, length, not, option_map, reverse, slice_index, true};
 ghost use Rattle.mdhtml_markup.specs.SafeChecks.{behind_attribute, behind_attributes, behind_close, behind_element, behind_mark, behind_name, behind_value, elements, front_of, is_safe_html, named, tag_end};
-ghost use Rattle.mdhtml_markup.specs.SafeHtml.{IsSafeHtml, attributes_of, behind, entity_at, holds_blocks, holds_items, is_address_byte, is_language, is_mark, is_safe_address, is_text, is_text_byte, is_value, must_be_given, stands_in, undone};
+ghost use Rattle.mdhtml_markup.specs.SafeHtml.{IsSafeHtml, attributes_of, behind, entity_at, holds_blocks, holds_cells, holds_items, holds_parts, holds_rows, holds_text, is_address_byte, is_alignment, is_language, is_mark, is_safe_address, is_said, is_text, is_text_byte, is_value, must_be_given, stands_in, undone};
 
 use crate::addresses::{Place, is_allowed, is_plain};
-use crate::elements::{AttributeName, Element};
+use crate::elements::{Alignment, AttributeName, Element};
 use std::alloc::{AllocError, Global};
 
 /// What is behind a front, if bytes begin with that.
@@ -184,11 +184,21 @@ fn must_be_given(name: AttributeName) -> bool
     matches!(name, AttributeName::Disabled | AttributeName::InputType)
 }
 
+/// Whether a value says where the text of a cell stands.
+fn is_alignment(value: &[u8]) -> bool
+    ensures { result ≡ is_alignment value.now }
+{
+    value == Alignment::Left.word()
+        || value == Alignment::Center.word()
+        || value == Alignment::Right.word()
+}
+
 /// Whether an attribute may have a value.
 fn is_value(alloc: Global, name: AttributeName, value: &[u8]) -> Result<bool, AllocError>
     ensures { IfOk result (λ b. b ≡ is_value name value.now) }
 {
     match name {
+        AttributeName::Align => Ok(is_alignment(value)),
         AttributeName::Alt => Ok(is_text(value)),
         AttributeName::Checked | AttributeName::Disabled => Ok(value == b"".as_slice()),
         AttributeName::Class => Ok(is_language(value)),
@@ -233,6 +243,7 @@ fn front_of(name: AttributeName) -> &'static [u8]
     ensures { result.now ≡ front_of name }
 {
     match name {
+        AttributeName::Align => b" align=\"",
         AttributeName::Alt => b" alt=\"",
         AttributeName::Checked => b" checked=\"",
         AttributeName::Class => b" class=\"",
@@ -295,6 +306,11 @@ fn behind_attributes<'a>(
             Some(rest) => behind_two(alloc, AttributeName::Checked, AttributeName::Disabled, rest),
         },
         Element::Code => behind_attribute(alloc, AttributeName::Class, bytes),
+        Element::DataCell | Element::HeaderCell => behind_attribute(
+            alloc,
+            AttributeName::Align,
+            bytes,
+        ),
         Element::Image => match behind_attribute(alloc, AttributeName::Src, bytes)? {
             None => Ok(None),
             Some(rest) => behind_two(alloc, AttributeName::Alt, AttributeName::Title, rest),
@@ -344,11 +360,17 @@ fn element_of(name: &[u8]) -> Option<Element>
     if name == b"code".as_slice() {
         return Some(Element::Code);
     }
+    if name == b"td".as_slice() {
+        return Some(Element::DataCell);
+    }
     if name == b"del".as_slice() {
         return Some(Element::Deleted);
     }
     if name == b"em".as_slice() {
         return Some(Element::Emphasis);
+    }
+    if name == b"th".as_slice() {
+        return Some(Element::HeaderCell);
     }
     if name == b"h1".as_slice() {
         return Some(Element::Heading1);
@@ -386,6 +408,18 @@ fn element_of(name: &[u8]) -> Option<Element>
     if name == b"strong".as_slice() {
         return Some(Element::Strong);
     }
+    if name == b"table".as_slice() {
+        return Some(Element::Table);
+    }
+    if name == b"tbody".as_slice() {
+        return Some(Element::TableBody);
+    }
+    if name == b"thead".as_slice() {
+        return Some(Element::TableHead);
+    }
+    if name == b"tr".as_slice() {
+        return Some(Element::TableRow);
+    }
     if name == b"hr".as_slice() {
         return Some(Element::ThematicBreak);
     }
@@ -415,12 +449,50 @@ fn holds_blocks(tags: &Vec<Element>) -> bool
     )
 }
 
+/// Whether parts of a table may stand behind these open tags: directly in a table.
+fn holds_parts(tags: &Vec<Element>) -> bool
+    ensures { result ≡ holds_parts (reverse tags.now.items) }
+{
+    matches!(tags.last(), Some(Element::Table))
+}
+
+/// Whether rows may stand behind these open tags: directly in the head or the body of a table.
+fn holds_rows(tags: &Vec<Element>) -> bool
+    ensures { result ≡ holds_rows (reverse tags.now.items) }
+{
+    matches!(tags.last(), Some(Element::TableBody | Element::TableHead))
+}
+
+/// Whether cells may stand behind these open tags: directly in a row.
+fn holds_cells(tags: &Vec<Element>) -> bool
+    ensures { result ≡ holds_cells (reverse tags.now.items) }
+{
+    matches!(tags.last(), Some(Element::TableRow))
+}
+
+/// Whether text may stand behind these open tags: not where parts of tables do.
+fn holds_text(tags: &Vec<Element>) -> bool
+    ensures { result ≡ holds_text (reverse tags.now.items) }
+{
+    !(holds_parts(tags) || holds_rows(tags) || holds_cells(tags))
+}
+
+/// Whether a byte may be said behind these open tags.
+fn is_said(tags: &Vec<Element>, byte: u8) -> bool
+    ensures { result ≡ is_said (reverse tags.now.items) byte }
+{
+    holds_text(tags) || byte == b'\n'
+}
+
 /// Whether an element may stand behind these open tags.
 fn stands_in(element: Element, tags: &Vec<Element>) -> bool
     ensures { result ≡ stands_in element (reverse tags.now.items) }
 {
     match element {
         Element::ListItem => holds_items(tags),
+        Element::DataCell | Element::HeaderCell => holds_cells(tags),
+        Element::TableBody | Element::TableHead => holds_parts(tags),
+        Element::TableRow => holds_rows(tags),
         Element::Anchor
         | Element::Break
         | Element::Checkbox
@@ -428,7 +500,7 @@ fn stands_in(element: Element, tags: &Vec<Element>) -> bool
         | Element::Deleted
         | Element::Emphasis
         | Element::Image
-        | Element::Strong => true,
+        | Element::Strong => holds_text(tags),
         _ => holds_blocks(tags),
     }
 }
@@ -505,7 +577,7 @@ fn passes(alloc: Global, html: &[u8]) -> Result<bool, AllocError>
     while rest.len() > 0 {
         let more = &rest[1..];
         if rest[0] != b'<' {
-            if !is_text_byte(rest[0], more) {
+            if !(is_said(&tags, rest[0]) && is_text_byte(rest[0], more)) {
                 return Ok(false);
             }
             rest = more;

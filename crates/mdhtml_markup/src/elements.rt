@@ -1,7 +1,7 @@
 //! The elements of HTML that are written, and their attributes, by name.
 
 ghost use Rattle.std.specs.Prelude.{◌≡◌};
-ghost use Rattle.mdhtml_markup.specs.SafeHtml.{is_void, name_of};
+ghost use Rattle.mdhtml_markup.specs.SafeHtml.{is_void, name_of, word_of};
 
 /// An element.
 #[derive(Clone, Copy, Debug, PartialEq, Eq)]
@@ -16,10 +16,14 @@ pub enum Element {
     Checkbox,
     /// Code: `code`.
     Code,
+    /// A cell of a table: `td`.
+    DataCell,
     /// Text that is struck through: `del`.
     Deleted,
     /// Emphasis: `em`.
     Emphasis,
+    /// A cell of the head of a table: `th`.
+    HeaderCell,
     /// A heading of the first rank: `h1`.
     Heading1,
     /// A heading of the second rank: `h2`.
@@ -44,6 +48,14 @@ pub enum Element {
     Preformatted,
     /// Strong emphasis: `strong`.
     Strong,
+    /// A table: `table`.
+    Table,
+    /// The rows of a table: `tbody`.
+    TableBody,
+    /// The head of a table: `thead`.
+    TableHead,
+    /// A row of a table: `tr`.
+    TableRow,
     /// A line between blocks: `hr`.
     ThematicBreak,
     /// A list without numbers: `ul`.
@@ -61,8 +73,10 @@ impl Element {
             Element::Break => b"br",
             Element::Checkbox => b"input",
             Element::Code => b"code",
+            Element::DataCell => b"td",
             Element::Deleted => b"del",
             Element::Emphasis => b"em",
+            Element::HeaderCell => b"th",
             Element::Heading1 => b"h1",
             Element::Heading2 => b"h2",
             Element::Heading3 => b"h3",
@@ -75,6 +89,10 @@ impl Element {
             Element::Paragraph => b"p",
             Element::Preformatted => b"pre",
             Element::Strong => b"strong",
+            Element::Table => b"table",
+            Element::TableBody => b"tbody",
+            Element::TableHead => b"thead",
+            Element::TableRow => b"tr",
             Element::ThematicBreak => b"hr",
             Element::UnorderedList => b"ul",
         }
@@ -94,6 +112,8 @@ impl Element {
 /// An attribute, without its value.
 #[derive(Clone, Copy, Debug, PartialEq, Eq)]
 pub enum AttributeName {
+    /// Where the text of a cell stands: `align`.
+    Align,
     /// What stands in place of an image: `alt`.
     Alt,
     /// That a box is checked: `checked`.
@@ -112,4 +132,28 @@ pub enum AttributeName {
     Start,
     /// A title: `title`.
     Title,
+}
+
+/// Where the text of a cell of a table stands.
+#[derive(Clone, Copy, Debug, PartialEq, Eq)]
+pub enum Alignment {
+    /// At the left.
+    Left,
+    /// In the middle.
+    Center,
+    /// At the right.
+    Right,
+}
+
+impl Alignment {
+    /// The word for it.
+    pub fn word(self) -> &'static [u8]
+        ensures { result.now ≡ word_of self }
+    {
+        match self {
+            Alignment::Left => b"left",
+            Alignment::Center => b"center",
+            Alignment::Right => b"right",
+        }
+    }
 }

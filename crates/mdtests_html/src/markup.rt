@@ -104,6 +104,16 @@ const HTML: &[(&[u8], bool)] = &[
         true,
     ),
     (b"<p><input type=\"checkbox\" /> a</p>", false),
+    (
+        b"<table><thead><tr><th align=\"left\">a</th><th></th></tr></thead></table>",
+        true,
+    ),
+    (
+        b"<table><thead><tr><th align=\"top\">a</th></tr></thead></table>",
+        false,
+    ),
+    (b"<table><thead>a</thead></table>", false),
+    (b"<td>a</td>", false),
     (b"<p><input type=\"image\" disabled=\"\" /> a</p>", false),
 ];
 
