@@ -1,5 +1,5 @@
 -- HTML of events is the same by options that let the same through.
-use Rattle.std.proofs.Common.{◌≡◌, ◌∙◌, ◌++◌, ap, refl, ℕ, Bool, true, false, List, Option, None, Some}
+use Rattle.std.proofs.Common.{◌≡◌, ◌∙◌, ◌++◌, ap, refl, ℕ, Bool, true, false, List, [], Option, None, Some}
 use Rattle.std.specs.Prelude.{cond}
 use Rattle.markdown_base.specs.declared.configuration.CompileOptions.{CompileOptions}
 use Rattle.markdown_base.specs.declared.event.Event.{Event}
@@ -12,9 +12,9 @@ use Rattle.mdhtml_document.specs.declared.names.Inline.{Inline}
 use Rattle.mdhtml_document.specs.declared.names.Inline.TheVariants as inline
 use Rattle.mdhtml_document.specs.declared.shapes.Mode.{Mode}
 use Rattle.mdhtml_document.specs.declared.shapes.Mode.TheVariants as mode
-use Rattle.mdhtml_document.specs.Html.{Shape, block_shape, check, html_by, inline_shape, is_check, is_checked, link_to, image_of, parts_in_link, pieces, shape, shape_by}
+use Rattle.mdhtml_document.specs.Html.{Shape, block_shape, check, html_by, columns_behind, columns_in, inline_shape, is_check, is_checked, is_in_cell, link_to, image_of, parts_in_link, pieces, shape, shape_by}
 use Rattle.mdhtml_document.specs.Names.{block_of, inline_of}
-use Rattle.mdhtml_document.specs.Spans.{Nothing, Span, Spans, spans_of}
+use Rattle.mdhtml_document.specs.Spans.{Nothing, Span, Spans, events_of, spans_of}
 use Rattle.mdhtml_markup.specs.Pieces.{Piece, html}
 
 link-same : (options : CompileOptions) (parts : Option Parts) → link_to options parts ≡ link_to (as_let_through options) parts
@@ -44,48 +44,59 @@ module _ (options : CompileOptions) (bytes : List ℕ) (lookup : (label : List �
   block-same tight block.Indented es loose start = refl
   block-same tight block.Html es loose start = refl
   block-same tight block.Rule es loose start = refl
+  block-same tight block.Table es loose start = refl
+  block-same tight block.TableHead es loose start = refl
+  block-same tight block.TableBody es loose start = refl
+  block-same tight block.TableRow es loose start = refl
+  block-same tight block.TableCell es loose start = refl
   block-same tight block.Other es loose start = refl
 
-  inline-same : (i : Inline) (es : List Event) (said alt : List ℕ)
-      → inline_shape options bytes lookup tab i es said alt ≡ inline_shape (as_let_through options) bytes lookup tab i es said alt
-  inline-same inline.Ending es said alt = refl
-  inline-same inline.Break es said alt = refl
-  inline-same inline.Emphasis es said alt = refl
-  inline-same inline.Strong es said alt = refl
-  inline-same inline.Struck es said alt = refl
-  inline-same inline.Code es said alt = refl
-  inline-same inline.Html es said alt = refl
-  inline-same inline.Autolink es said alt = refl
-  inline-same inline.Www es said alt = refl
-  inline-same inline.Email es said alt = refl
-  inline-same inline.Address es said alt = refl
-  inline-same inline.Check es said alt = refl
-  inline-same inline.Link es said alt = link-same options (parts_in_link bytes lookup es)
-  inline-same inline.Image es said alt = image-same options alt (parts_in_link bytes lookup es)
-  inline-same inline.Tail es said alt = refl
-  inline-same inline.Other es said alt = refl
+  inline-same : (in_cell : Bool) (i : Inline) (es : List Event) (said alt : List ℕ)
+      → inline_shape options bytes lookup tab in_cell i es said alt ≡ inline_shape (as_let_through options) bytes lookup tab in_cell i es said alt
+  inline-same in_cell inline.Ending es said alt = refl
+  inline-same in_cell inline.Break es said alt = refl
+  inline-same in_cell inline.Emphasis es said alt = refl
+  inline-same in_cell inline.Strong es said alt = refl
+  inline-same in_cell inline.Struck es said alt = refl
+  inline-same in_cell inline.Code es said alt = refl
+  inline-same in_cell inline.Html es said alt = refl
+  inline-same in_cell inline.Autolink es said alt = refl
+  inline-same in_cell inline.Www es said alt = refl
+  inline-same in_cell inline.Email es said alt = refl
+  inline-same in_cell inline.Address es said alt = refl
+  inline-same in_cell inline.Check es said alt = refl
+  inline-same in_cell inline.Link es said alt = link-same options (parts_in_link bytes lookup es)
+  inline-same in_cell inline.Image es said alt = image-same options alt (parts_in_link bytes lookup es)
+  inline-same in_cell inline.Tail es said alt = refl
+  inline-same in_cell inline.Other es said alt = refl
 
-  by-name : (m : Mode) (n : Name) (es : List Event) (loose : Bool) (start : Option ℕ) (said alt : List ℕ)
-      → shape_by options bytes lookup tab m n es loose start said alt ≡ shape_by (as_let_through options) bytes lookup tab m n es loose start said alt
-  by-name mode.Flow n es loose start said alt = block-same false (block_of n) es loose start
-  by-name mode.Tight n es loose start said alt = block-same true (block_of n) es loose start
-  by-name mode.LooseItems n es loose start said alt = refl
-  by-name mode.TightItems n es loose start said alt = refl
-  by-name mode.Heading n es loose start said alt = refl
-  by-name mode.Paragraph n es loose start said alt = ap (λ s. cond (is_check (inline_of n)) (check (is_checked es)) s) (inline-same (inline_of n) es said alt)
-  by-name mode.Text n es loose start said alt = inline-same (inline_of n) es said alt
-  by-name mode.Nothing n es loose start said alt = refl
+  by-name : (m : Mode) (columns : List Event) (n : Name) (es : List Event) (loose : Bool) (start : Option ℕ) (said alt : List ℕ)
+      → shape_by options bytes lookup tab m columns n es loose start said alt ≡ shape_by (as_let_through options) bytes lookup tab m columns n es loose start said alt
+  by-name mode.Flow columns n es loose start said alt = block-same false (block_of n) es loose start
+  by-name mode.Tight columns n es loose start said alt = block-same true (block_of n) es loose start
+  by-name mode.LooseItems columns n es loose start said alt = refl
+  by-name mode.TightItems columns n es loose start said alt = refl
+  by-name mode.Heading columns n es loose start said alt = refl
+  by-name mode.Table columns n es loose start said alt = refl
+  by-name (mode.Rows head) columns n es loose start said alt = refl
+  by-name (mode.Cells head) columns n es loose start said alt = refl
+  by-name mode.Paragraph columns n es loose start said alt = ap (λ s. cond (is_check (inline_of n)) (check (is_checked es)) s) (inline-same (is_in_cell columns) (inline_of n) es said alt)
+  by-name mode.Text columns n es loose start said alt = inline-same (is_in_cell columns) (inline_of n) es said alt
+  by-name mode.Nothing columns n es loose start said alt = refl
 
-  shape-same : (m : Mode) (e f : Event) (s : Spans) → shape options bytes lookup tab m e f s ≡ shape (as_let_through options) bytes lookup tab m e f s
-  shape-same m e f s = by-name m e.name _ _ _ _ _
+  shape-same : (m : Mode) (columns : List Event) (e f : Event) (s : Spans) → shape options bytes lookup tab m columns e f s ≡ shape (as_let_through options) bytes lookup tab m columns e f s
+  shape-same m columns e f s = by-name m columns e.name _ _ _ _ _
 
-  pieces-same : (m : Mode) (s : Spans) → pieces options bytes lookup tab m s ≡ pieces (as_let_through options) bytes lookup tab m s
-  pieces-same m Nothing = refl
-  pieces-same m (Span e f s behind) =
-      let there = shape (as_let_through options) bytes lookup tab m e f s in
-      ap (around (λ i. pieces options bytes lookup tab i s) (pieces options bytes lookup tab m behind)) (shape-same m e f s)
-      ∙ ap (λ ps. there.opened ++ (ps ++ (there.closed ++ pieces options bytes lookup tab m behind))) (pieces-same there.inside s)
-      ∙ ap (λ ps. there.opened ++ (pieces (as_let_through options) bytes lookup tab there.inside s ++ (there.closed ++ ps))) (pieces-same m behind)
+  pieces-same : (m : Mode) (columns : List Event) (s : Spans) → pieces options bytes lookup tab m columns s ≡ pieces (as_let_through options) bytes lookup tab m columns s
+  pieces-same m columns Nothing = refl
+  pieces-same m columns (Span e f s behind) =
+      let b = block_of e.name in
+      let within = columns_in b columns (events_of s) in
+      let next = columns_behind b columns in
+      let there = shape (as_let_through options) bytes lookup tab m columns e f s in
+      ap (around (λ i. pieces options bytes lookup tab i within s) (pieces options bytes lookup tab m next behind)) (shape-same m columns e f s)
+      ∙ ap (λ ps. there.opened ++ (ps ++ (there.closed ++ pieces options bytes lookup tab m next behind))) (pieces-same there.inside within s)
+      ∙ ap (λ ps. there.opened ++ (pieces (as_let_through options) bytes lookup tab there.inside within s ++ (there.closed ++ ps))) (pieces-same m next behind)
 
   pub html-same : (events : List Event) → html_by options bytes lookup tab events ≡ html_by (as_let_through options) bytes lookup tab events
-  html-same events = ap html (pieces-same mode.Flow (spans_of events))
+  html-same events = ap html (pieces-same mode.Flow [] (spans_of events))

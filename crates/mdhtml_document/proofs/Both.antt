@@ -5,10 +5,10 @@ use Rattle.markdown_base.specs.declared.configuration.CompileOptions.{CompileOpt
 use Rattle.markdown_base.specs.declared.event.Event.{Event}
 use Rattle.markdown_base.specs.declared.event.Kind.TheVariants.{Enter, Exit}
 use Rattle.markdown_base.specs.Events.{IsBalanced, empty, span}
-use Rattle.mdhtml_document.specs.declared.shapes.Mode.{Mode}
 use Rattle.mdhtml_document.specs.declared.shapes.Mode.TheVariants as mode
-use Rattle.mdhtml_document.specs.Html.{Shape, html_by, pieces, shape}
+use Rattle.mdhtml_document.specs.Html.{Shape, columns_in, html_by, pieces, shape}
 use Rattle.mdhtml_document.specs.HtmlLaws.{HtmlOfBoth}
+use Rattle.mdhtml_document.specs.Names.{block_of}
 use Rattle.mdhtml_document.specs.Spans.{Nothing, Opened, Outer, Span, Spans, SpansKeepEvents, events_of, opened, opened_by, spans_of}
 use Rattle.mdhtml_markup.specs.Pieces.{Piece, html, html_from, is_fresh}
 use Rattle.mdhtml_document.proofs.Written.{html-append}
@@ -59,18 +59,19 @@ both es fs balanced =
     ap (λ (o : Opened). o.inside) (r.first fs) ∙ ap (λ s. joined s (spans_of fs)) (sym alone)
 
 module _ (options : CompileOptions) (bytes : List ℕ) (lookup : (label : List ℕ) → Option Parts) (tab : ℕ) where
-  pieces-joined : (m : Mode) (s t : Spans) → pieces options bytes lookup tab m (joined s t) ≡ pieces options bytes lookup tab m s ++ pieces options bytes lookup tab m t
-  pieces-joined m Nothing t = refl
-  pieces-joined m (Span e f inside behind) t =
-      let s = shape options bytes lookup tab m e f inside in
-      let inner = pieces options bytes lookup tab s.inside inside in
-      let rest = pieces options bytes lookup tab m behind in
-      let last = pieces options bytes lookup tab m t in
-      ap (λ x. s.opened ++ (inner ++ (s.closed ++ x))) (pieces-joined m behind t)
+  -- in a table pieces behind the last span would come between both
+  pieces-joined : (s t : Spans) → pieces options bytes lookup tab mode.Flow [] (joined s t) ≡ pieces options bytes lookup tab mode.Flow [] s ++ pieces options bytes lookup tab mode.Flow [] t
+  pieces-joined Nothing t = refl
+  pieces-joined (Span e f inside behind) t =
+      let s = shape options bytes lookup tab mode.Flow [] e f inside in
+      let inner = pieces options bytes lookup tab s.inside (columns_in (block_of e.name) [] (events_of inside)) inside in
+      let rest = pieces options bytes lookup tab mode.Flow [] behind in
+      let last = pieces options bytes lookup tab mode.Flow [] t in
+      ap (λ x. s.opened ++ (inner ++ (s.closed ++ x))) (pieces-joined behind t)
       ∙ sym (append_assoc s.opened (inner ++ (s.closed ++ rest)) last ∙ ap (λ x. s.opened ++ x) (append_assoc inner (s.closed ++ rest) last ∙ ap (λ x. inner ++ x) (append_assoc s.closed rest last)))
 
 pub html-both : HtmlOfBoth
 html-both options bytes lookup tab es fs be bf fresh =
-    let p = pieces options bytes lookup tab mode.Flow in
-    ap (λ s. html (p s)) (both es fs be) ∙ ap html (pieces-joined options bytes lookup tab mode.Flow (spans_of es) (spans_of fs))
+    let p = pieces options bytes lookup tab mode.Flow [] in
+    ap (λ s. html (p s)) (both es fs be) ∙ ap html (pieces-joined options bytes lookup tab (spans_of es) (spans_of fs))
     ∙ html-append (p (spans_of es)) (p (spans_of fs)) ∙ ap (λ f. html (p (spans_of es)) ++ html_from f (p (spans_of fs))) fresh

@@ -18,9 +18,9 @@ use Rattle.mdhtml_document.specs.declared.names.Block.{Block}
 use Rattle.mdhtml_document.specs.declared.names.Block.TheVariants as block
 use Rattle.mdhtml_document.specs.declared.shapes.Mode.{Mode}
 use Rattle.mdhtml_document.specs.declared.shapes.Mode.TheVariants as mode
-use Rattle.mdhtml_document.specs.Frames.{AreListsOf, Open, closed_of, is_list, list_at, lists_behind, lookup_of, loose_of, mode_of, start_of}
+use Rattle.mdhtml_document.specs.Frames.{AreListsOf, Open, closed_of, columns_at, is_list, list_at, lists_behind, lookup_of, loose_of, mode_of, moved, start_of}
 use Rattle.mdhtml_document.specs.Written.{after}
-use Rattle.mdhtml_document.specs.Html.{Shape, block_shape, shape_by}
+use Rattle.mdhtml_document.specs.Html.{Shape, block_shape, columns_in, lacking, shape_by}
 use Rattle.mdhtml_document.specs.Names.{block_of, blocks_by_name, named}
 use Rattle.mdhtml_document.specs.Walks.{Entered, alt_from, said_at, shape_at, shape_in, walked, walked_in}
 use Rattle.mdhtml_document.proofs.Walked.{enter-walked, exit-walked}
@@ -117,49 +117,56 @@ module _ (options : CompileOptions) (bytes : List ℕ) (lookup : (label : List �
       → block_shape options bytes lookup tab tight (block_of n) es l s ≡ block_shape options bytes lookup tab tight (block_of n) es m t
   block-unlisted tight n es l m s t h =
       named-each (λ b. block_shape options bytes lookup tab tight b es l s ≡ block_shape options bytes lookup tab tight b es m t) blocks_by_name block.Other n
-      (λ _. refl, (λ _. refl, (λ _. refl, (λ _. refl, (λ _. refl, (λ _. refl, (λ e. no-list n name.ListUnordered h refl e, (λ e. no-list n name.ListOrdered h refl e, (λ _. refl, (λ _. refl, (λ _. refl, (λ _. refl, (λ _. refl, tt)))))))))))))
+      (λ _. refl, (λ _. refl, (λ _. refl, (λ _. refl, (λ _. refl, (λ _. refl, (λ e. no-list n name.ListUnordered h refl e, (λ e. no-list n name.ListOrdered h refl e, (λ _. refl, (λ _. refl, (λ _. refl, (λ _. refl, (λ _. refl, (λ _. refl, (λ _. refl, (λ _. refl, (λ _. refl, (λ _. refl, (λ _. refl, tt)))))))))))))))))))
       refl
 
-  unlisted : (w : Mode) (n : Name) (es : List Event) (l m : Bool) (s t : Option ℕ) (said alt : List ℕ) → is_wanted list_names n ≡ false
-      → shape_by options bytes lookup tab w n es l s said alt ≡ shape_by options bytes lookup tab w n es m t said alt
-  unlisted mode.Flow n es l m s t said alt h = block-unlisted false n es l m s t h
-  unlisted mode.Tight n es l m s t said alt h = block-unlisted true n es l m s t h
-  unlisted mode.LooseItems n es l m s t said alt h = refl
-  unlisted mode.TightItems n es l m s t said alt h = refl
-  unlisted mode.Heading n es l m s t said alt h = refl
-  unlisted mode.Paragraph n es l m s t said alt h = refl
-  unlisted mode.Text n es l m s t said alt h = refl
-  unlisted mode.Nothing n es l m s t said alt h = refl
+  unlisted : (w : Mode) (columns : List Event) (n : Name) (es : List Event) (l m : Bool) (s t : Option ℕ) (said alt : List ℕ) → is_wanted list_names n ≡ false
+      → shape_by options bytes lookup tab w columns n es l s said alt ≡ shape_by options bytes lookup tab w columns n es m t said alt
+  unlisted mode.Flow columns n es l m s t said alt h = block-unlisted false n es l m s t h
+  unlisted mode.Tight columns n es l m s t said alt h = block-unlisted true n es l m s t h
+  unlisted mode.LooseItems columns n es l m s t said alt h = refl
+  unlisted mode.TightItems columns n es l m s t said alt h = refl
+  unlisted mode.Heading columns n es l m s t said alt h = refl
+  unlisted mode.Table columns n es l m s t said alt h = refl
+  unlisted (mode.Rows head) columns n es l m s t said alt h = refl
+  unlisted (mode.Cells head) columns n es l m s t said alt h = refl
+  unlisted mode.Paragraph columns n es l m s t said alt h = refl
+  unlisted mode.Text columns n es l m s t said alt h = refl
+  unlisted mode.Nothing columns n es l m s t said alt h = refl
 
-  listed-by : (c : Bool) (w : Mode) (n : Name) (at : ℕ) (es inner : List Event) (said alt : List ℕ) → is_wanted list_names n ≡ c
-      → shape_by options bytes lookup tab w n inner (loose_of (cond c (Some (shape_of bytes at es)) None)) (start_of (cond c (Some (shape_of bytes at es)) None)) said alt
-      ≡ shape_by options bytes lookup tab w n inner (is_loose es) (list_start bytes es) said alt
-  listed-by true w n at es inner said alt h = refl
-  listed-by false w n at es inner said alt h = unlisted w n inner false (is_loose es) None (list_start bytes es) said alt h
+  listed-by : (c : Bool) (w : Mode) (columns : List Event) (n : Name) (at : ℕ) (es inner : List Event) (said alt : List ℕ) → is_wanted list_names n ≡ c
+      → shape_by options bytes lookup tab w columns n inner (loose_of (cond c (Some (shape_of bytes at es)) None)) (start_of (cond c (Some (shape_of bytes at es)) None)) said alt
+      ≡ shape_by options bytes lookup tab w columns n inner (is_loose es) (list_start bytes es) said alt
+  listed-by true w columns n at es inner said alt h = refl
+  listed-by false w columns n at es inner said alt h = unlisted w columns n inner false (is_loose es) None (list_start bytes es) said alt h
 
 -- ---- steps
 
 pub enter-step : (w : Whole) (os next : List Open) (lists : List ListShape) (e : Event) (es : List Event) (old new : List ℕ) → e.kind ≡ Enter → AreListsOf w.bytes.now lists (e ∷ es)
-    → Entered (shape_in w (mode_of os) (list_at lists e) e es) old new os next
+    → Entered (shape_in w (mode_of os) (columns_at os) (list_at lists e) e es) e (inside es) old new os next
     → after new (walked_in w next es) ≡ after old (walked_in w os (e ∷ es))
 enter-step w os next lists e es old new enters h entered =
     let lookup = lookup_of w in
-    let by = λ (list : Option ListShape). shape_by w.options.now w.bytes.now lookup w.tab (mode_of os) e.name (inside es) (loose_of list) (start_of list) (said_at w.bytes.now e es) (alt_from w.bytes.now 0 (inside es)) in
-    let here = shape_at w.options.now w.bytes.now lookup w.tab (mode_of os) e es in
+    let by = λ (list : Option ListShape). shape_by w.options.now w.bytes.now lookup w.tab (mode_of os) (columns_at os) e.name (inside es) (loose_of list) (start_of list) (said_at w.bytes.now e es) (alt_from w.bytes.now 0 (inside es)) in
+    let here = shape_at w.options.now w.bytes.now lookup w.tab (mode_of os) (columns_at os) e es in
+    let b = block_of e.name in
+    let stack : Shape → List Open = λ s. record { mode = s.inside; columns = columns_in b (columns_at os) (inside es); closed = s.closed } ∷ moved b os in
     let listed : is_list e ≡ is_wanted list_names e.name = ap (λ k. is_enter k && is_wanted list_names e.name) enters in
     let same : by (list_at lists e) ≡ here =
     ap by (list-at w.bytes.now lists e es h ∙ ap (λ c. cond c (Some (shape_of w.bytes.now h.at es)) None) listed)
-    ∙ listed-by w.options.now w.bytes.now lookup w.tab (is_wanted list_names e.name) (mode_of os) e.name h.at es (inside es) (said_at w.bytes.now e es) (alt_from w.bytes.now 0 (inside es)) refl
+    ∙ listed-by w.options.now w.bytes.now lookup w.tab (is_wanted list_names e.name) (mode_of os) (columns_at os) e.name h.at es (inside es) (said_at w.bytes.now e es) (alt_from w.bytes.now 0 (inside es)) refl
     in
-    let go = λ (s : Shape). after (after old s.opened) (walked_in w (record { mode = s.inside; closed = s.closed } ∷ os) es) in
+    let go = λ (s : Shape). after (after old s.opened) (walked_in w (stack s) es) in
     ap (λ (out : List ℕ). after out (walked_in w next es)) entered.written
     ∙ ap (λ (o : List Open). after (after old (by (list_at lists e)).opened) (walked_in w o es)) entered.stack
     ∙ ap go same
-    ∙ sym (after-append old here.opened (walked_in w (record { mode = here.inside; closed = here.closed } ∷ os) es))
+    ∙ sym (after-append old here.opened (walked_in w (stack here) es))
     ∙ ap (after old) (sym (enter-walked w.options.now w.bytes.now lookup w.tab os e es enters))
 
-pub exit-step : (w : Whole) (os next : List Open) (e : Event) (es : List Event) (old new : List ℕ) → e.kind ≡ Exit → new ≡ after old (closed_of os) → next ≡ drop 1 os
-    → after new (walked_in w next es) ≡ after old (walked_in w os (e ∷ es))
+pub exit-step : (w : Whole) (os next : List Open) (e : Event) (es : List Event) (old new : List ℕ) → e.kind ≡ Exit → new ≡ after (after old (lacking (mode_of os) (columns_at os))) (closed_of os)
+    → next ≡ drop 1 os → after new (walked_in w next es) ≡ after old (walked_in w os (e ∷ es))
 exit-step w os next e es old new exits written rest =
-    ap (λ (out : List ℕ). after out (walked_in w next es)) written ∙ ap (λ (o : List Open). after (after old (closed_of os)) (walked_in w o es)) rest
-    ∙ sym (after-append old (closed_of os) (walked_in w (drop 1 os) es)) ∙ ap (after old) (sym (exit-walked w.options.now w.bytes.now (lookup_of w) w.tab os e es exits))
+    let behind = lacking (mode_of os) (columns_at os) in
+    ap (λ (out : List ℕ). after out (walked_in w next es)) written ∙ ap (λ (o : List Open). after (after (after old behind) (closed_of os)) (walked_in w o es)) rest
+    ∙ sym (after-append old behind (closed_of os ++ walked_in w (drop 1 os) es) ∙ after-append (after old behind) (closed_of os) (walked_in w (drop 1 os) es))
+    ∙ ap (after old) (sym (exit-walked w.options.now w.bytes.now (lookup_of w) w.tab os e es exits))

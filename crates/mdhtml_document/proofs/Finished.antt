@@ -45,4 +45,4 @@ module _ (options : CompileOptions) (bytes : List ℕ) (tab : ℕ) (events : Lis
   html-walked many h =
       ap (λ (lookup : (label : List ℕ) → Option Parts). after [] (walked options bytes lookup tab [] events)) (led many (too-many many h))
       ∙ ap (after []) (walked-all options bytes (led_to bytes events) tab events balanced)
-      ∙ after-nothing (pieces options bytes (led_to bytes events) tab mode.Flow (spans_of events))
+      ∙ after-nothing (pieces options bytes (led_to bytes events) tab mode.Flow [] (spans_of events))

@@ -2,8 +2,8 @@
 use Rattle.std.proofs.Common.{◌≡◌, ℕ, List, [], ◌∷◌, ◌++◌, ap, sym, refl, subst, ◌∙◌, Option, None, Some, append_assoc, append-nil}
 use Rattle.std.proofs.lemmas.Bool.{and_parts, false≢true, not-true, or_parts}
 use Rattle.std.specs.Char.{is_ascii_whitespace}
-use Rattle.std.specs.List.{flat_map, take_while}
-use Rattle.std.specs.Prelude.{◌&&◌, ◌||◌, ◌==◌, ⊤, Bool, true, false, cond, codes, not}
+use Rattle.std.specs.List.{flat_map, list_any, take_while}
+use Rattle.std.specs.Prelude.{zero, suc, ◌&&◌, ◌||◌, ◌==◌, ⊤, Bool, true, false, cond, codes, not}
 use Rattle.markdown_base.specs.declared.configuration.CompileOptions.{CompileOptions}
 use Rattle.markdown_base.specs.declared.event.Event.{Event}
 use Rattle.markdown_base.specs.declared.event.Name.{Name}
@@ -15,28 +15,29 @@ use Rattle.mdhtml_document.specs.declared.names.Inline.{Inline}
 use Rattle.mdhtml_document.specs.declared.names.Inline.TheVariants as inline
 use Rattle.mdhtml_document.specs.declared.shapes.Mode.{Mode}
 use Rattle.mdhtml_document.specs.declared.shapes.Mode.TheVariants as mode
-use Rattle.mdhtml_document.specs.Html.{Shape, address_at, address_link, alone, autolink, block_shape, blocks, check, code, container, heading, heading_shape, image_of, inline_shape, is_check, is_checked, item_shape, items, language, length_of_first, line, link_to, literal, ordered, paragraph_shape, parts_in_link, pieces, raw, setext_rank, shape, shape_by, through, titled, told, within_line}
+use Rattle.mdhtml_document.specs.Html.{Shape, address_at, address_link, aligned, alignment_of, alone, autolink, behind_column, block_shape, blocks, cell, cell_element, cell_shape, check, code, columns_behind, columns_in, container, empty_cell, empty_cells, heading, heading_shape, image_of, inline_shape, is_check, is_checked, is_in_cell, item_shape, items, language, lacking, length_of_first, line, link_to, literal, ordered, paragraph_shape, parts_in_link, pieces, raw, row_shape, setext_rank, shape, shape_by, table_shape, through, titled, told, within_line}
 use Rattle.mdhtml_document.specs.HtmlLaws.{AreSafeOptions, HtmlIsFlow, are_apart, has_links, has_links_by, is_linked}
 use Rattle.mdhtml_document.specs.Names.{block_of, inline_of}
 use Rattle.mdhtml_document.specs.Spans.{Nothing, Span, Spans, events_of, spans_of}
-use Rattle.mdhtml_document.specs.Values.{alt_of, autolink_address, behind_first_line, code_lines, code_text, html_flow, html_text, is_email, said, title_from}
+use Rattle.mdhtml_document.specs.Values.{alt_of, autolink_address, behind_first_line, cell_text, code_lines, code_text, html_flow, html_text, is_email, said, title_from}
 use Rattle.mdhtml_document.proofs.Safe.{email-is, href-is, language-is, moved, src-is}
 use Rattle.mdhtml_markup.specs.declared.addresses.Place.TheVariants as place
+use Rattle.mdhtml_markup.specs.declared.elements.Alignment.{Alignment}
 use Rattle.mdhtml_markup.specs.declared.elements.AttributeName.{AttributeName}
 use Rattle.mdhtml_markup.specs.declared.elements.Element.{Element}
-use Rattle.mdhtml_markup.specs.declared.elements.Element.TheVariants.{Anchor, BlockQuote, Break, Checkbox, Code, Deleted, Emphasis, Heading1, Heading2, Heading3, Heading4, Heading5, Heading6, Image, ListItem, OrderedList, Paragraph, Preformatted, Strong, ThematicBreak, UnorderedList}
+use Rattle.mdhtml_markup.specs.declared.elements.Element.TheVariants.{Anchor, BlockQuote, Break, Checkbox, Code, DataCell, Deleted, Emphasis, HeaderCell, Heading1, Heading2, Heading3, Heading4, Heading5, Heading6, Image, ListItem, OrderedList, Paragraph, Preformatted, Strong, Table, TableBody, TableHead, TableRow, ThematicBreak, UnorderedList}
 use Rattle.mdhtml_markup.specs.Escapes.{escaped}
 use Rattle.mdhtml_markup.specs.Flow as flow
-use Rattle.mdhtml_markup.specs.Flow.{AreGiven, BeforeCode, BehindCode, Blocks, IsContent, Items, Model, Phrases, Words, after, inside, may_be_missing, may_end, may_say, may_stand}
-use Rattle.mdhtml_markup.specs.Pieces.{Alt, Attribute, Checked, Close, Disabled, Feed, Fresh, Href, InputType, Kept, Language, Open, Piece, Src, Start, Text, Title, Void, attribute, html_from, is_fresh, written}
+use Rattle.mdhtml_markup.specs.Flow.{AreGiven, BeforeCode, BehindCode, Blocks, Cells, IsContent, Items, Model, Parts, Phrases, Rows, Words, after, inside, may_be_missing, may_end, may_say, may_stand}
+use Rattle.mdhtml_markup.specs.Pieces.{Aligned, Alt, Attribute, Checked, Close, Disabled, Feed, Fresh, Href, InputType, Kept, Language, Open, Piece, Src, Start, Text, Title, Void, attribute, html_from, is_fresh, written}
 use Rattle.mdhtml_markup.specs.SafeHtml.{attributes_of, is_allowed, is_text, is_text_byte, is_void, open_tag, void_tag}
 use Rattle.mdhtml_markup.specs.SafePieces.{IsAllowed, name_of_attribute}
 use Rattle.mdhtml_markup.proofs.FlowSafe.{text-more}
 use Rattle.mdhtml_markup.proofs.Orders.{written-in-order}
 use Rattle.mdhtml_markup.proofs.SafeLemmas.{attribute-quoted, value-is, value_of}
 use Rattle.mdhtml_markup.proofs.Texts.{escaped-text}
-use Rattle.mddocument_link_targets.specs.declared.targets.Parts.{Parts}
-use Rattle.mddocument_link_targets.specs.Spans.{first_in}
+use Rattle.mddocument_link_targets.specs.declared.targets.Parts.{Parts as TargetParts}
+use Rattle.mddocument_link_targets.specs.Spans.{enters, first_in}
 use Rattle.mddocument_link_targets.specs.Strings.{decoded}
 
 -- ---- content, by pieces
@@ -146,6 +147,9 @@ Suits mode.Tight m = m ≡ Blocks
 Suits mode.LooseItems m = m ≡ Items
 Suits mode.TightItems m = m ≡ Items
 Suits mode.Heading m = m ≡ Phrases false
+Suits mode.Table m = m ≡ Parts
+Suits (mode.Rows head) m = m ≡ Rows
+Suits (mode.Cells head) m = m ≡ Cells
 Suits mode.Paragraph m = IsFree m
 Suits mode.Text m = IsText m
 Suits mode.Nothing m = ⊤
@@ -161,6 +165,9 @@ IsApart mode.Tight m linked = in_link m ≡ true → linked ≡ false
 IsApart mode.LooseItems m linked = in_link m ≡ true → linked ≡ false
 IsApart mode.TightItems m linked = in_link m ≡ true → linked ≡ false
 IsApart mode.Heading m linked = in_link m ≡ true → linked ≡ false
+IsApart mode.Table m linked = in_link m ≡ true → linked ≡ false
+IsApart (mode.Rows head) m linked = in_link m ≡ true → linked ≡ false
+IsApart (mode.Cells head) m linked = in_link m ≡ true → linked ≡ false
 IsApart mode.Paragraph m linked = in_link m ≡ true → linked ≡ false
 IsApart mode.Text m linked = in_link m ≡ true → linked ≡ false
 IsApart mode.Nothing m linked = ⊤
@@ -171,6 +178,9 @@ apart-first mode.Tight m a b h = λ e. (or_parts a b (h e)).0
 apart-first mode.LooseItems m a b h = λ e. (or_parts a b (h e)).0
 apart-first mode.TightItems m a b h = λ e. (or_parts a b (h e)).0
 apart-first mode.Heading m a b h = λ e. (or_parts a b (h e)).0
+apart-first mode.Table m a b h = λ e. (or_parts a b (h e)).0
+apart-first (mode.Rows head) m a b h = λ e. (or_parts a b (h e)).0
+apart-first (mode.Cells head) m a b h = λ e. (or_parts a b (h e)).0
 apart-first mode.Paragraph m a b h = λ e. (or_parts a b (h e)).0
 apart-first mode.Text m a b h = λ e. (or_parts a b (h e)).0
 apart-first mode.Nothing m a b h = tt
@@ -181,6 +191,9 @@ apart-rest mode.Tight m a b h = λ e. (or_parts a b (h e)).1
 apart-rest mode.LooseItems m a b h = λ e. (or_parts a b (h e)).1
 apart-rest mode.TightItems m a b h = λ e. (or_parts a b (h e)).1
 apart-rest mode.Heading m a b h = λ e. (or_parts a b (h e)).1
+apart-rest mode.Table m a b h = λ e. (or_parts a b (h e)).1
+apart-rest (mode.Rows head) m a b h = λ e. (or_parts a b (h e)).1
+apart-rest (mode.Cells head) m a b h = λ e. (or_parts a b (h e)).1
 apart-rest mode.Paragraph m a b h = λ e. (or_parts a b (h e)).1
 apart-rest mode.Text m a b h = λ e. (or_parts a b (h e)).1
 apart-rest mode.Nothing m a b h = tt
@@ -216,19 +229,26 @@ line-around e w n linked kind stands none holds ends suits apart =
           (subst (λ x. IsOf x inner) (sym holds) (whole-of n inner ends fronted)) (feed-of Blocks k refl rest));
     }
 
-container-around : (e : Element) (attributes : List Attribute) (w : Mode) (n : Model) (linked : Bool) → is_void e ≡ false → may_stand Blocks e ≡ true
-    → AreGiven (attributes_of e) (flat_map attribute attributes) → inside Blocks e ≡ n → may_end n ≡ true → Breaks n → Suits w n → IsApart w n linked
-    → Around Blocks (container e attributes w) linked
-container-around e attributes w n linked kind stands its holds ends breaks suits apart =
+container-in : (m : Model) (e : Element) (attributes : List Attribute) (w : Mode) (n : Model) (linked : Bool) → after m ≡ m → Breaks m → is_void e ≡ false → may_stand m e ≡ true
+    → AreGiven (attributes_of e) (flat_map attribute attributes) → inside m e ≡ n → may_end n ≡ true → Breaks n → Suits w n → IsApart w n linked
+    → Around m (container e attributes w) linked
+container-in m e attributes w n linked same feeds kind stands its holds ends breaks suits apart =
     record {
       model = n;
       suits = suits;
       apart = apart;
       around = λ inner k fronted rest.
           let content : IsOf n (Feed ∷ (inner ++ (Fresh ∷ []))) = feed-of n (inner ++ (Fresh ∷ [])) breaks (fronted.front (Fresh ∷ []) (fresh-of n [] breaks (ended n ends))) in
-          let whole = element-of Blocks e attributes (Feed ∷ (inner ++ (Fresh ∷ []))) (Feed ∷ k) kind stands its (subst (λ x. IsOf x (Feed ∷ (inner ++ (Fresh ∷ [])))) (sym holds) content) (feed-of Blocks k refl rest) in
-          fresh-of Blocks (Open e attributes ∷ Feed ∷ (inner ++ (Fresh ∷ Close e ∷ Feed ∷ k))) refl (subst (λ (x : List Piece). IsOf Blocks (Open e attributes ∷ Feed ∷ x)) (append_assoc inner (Fresh ∷ []) (Close e ∷ Feed ∷ k)) whole);
+          let whole = element-of m e attributes (Feed ∷ (inner ++ (Fresh ∷ []))) (Feed ∷ k) kind stands its (subst (λ x. IsOf x (Feed ∷ (inner ++ (Fresh ∷ [])))) (sym holds) content)
+          (subst (λ x. IsOf x (Feed ∷ k)) (sym same) (feed-of m k feeds rest)) in
+          fresh-of m (Open e attributes ∷ Feed ∷ (inner ++ (Fresh ∷ Close e ∷ Feed ∷ k))) feeds (subst (λ (x : List Piece). IsOf m (Open e attributes ∷ Feed ∷ x)) (append_assoc inner (Fresh ∷ []) (Close e ∷ Feed ∷ k)) whole);
     }
+
+container-around : (e : Element) (attributes : List Attribute) (w : Mode) (n : Model) (linked : Bool) → is_void e ≡ false → may_stand Blocks e ≡ true
+    → AreGiven (attributes_of e) (flat_map attribute attributes) → inside Blocks e ≡ n → may_end n ≡ true → Breaks n → Suits w n → IsApart w n linked
+    → Around Blocks (container e attributes w) linked
+container-around e attributes w n linked kind stands its holds ends breaks suits apart =
+    container-in Blocks e attributes w n linked refl refl kind stands its holds ends breaks suits apart
 
 code-around : (attributes : List Attribute) (t : List ℕ) (linked : Bool) → AreGiven (attributes_of Code) (flat_map attribute attributes) → Around Blocks (code attributes t) linked
 code-around attributes t linked its =
@@ -266,12 +286,144 @@ heading-around rank linked =
     let h = heading-is rank in
     line-around (heading rank) mode.Heading (Phrases false) linked h.kind h.stands h.none h.holds refl refl (λ e. absurd (false≢true e))
 
+-- ---- tables
+
+cell-given : (head : Bool) (a : Option Alignment) → AreGiven (attributes_of (cell_element head)) (flat_map attribute (aligned a))
+cell-given true None = flow.AreGiven.missing _ [] refl flow.AreGiven.none
+cell-given true (Some a) = first-given (Aligned a) [] [] tt flow.AreGiven.none
+cell-given false None = flow.AreGiven.missing _ [] refl flow.AreGiven.none
+cell-given false (Some a) = first-given (Aligned a) [] [] tt flow.AreGiven.none
+
+record IsCell (e : Element) : Type 0 where
+  kind : is_void e ≡ false
+  stands : may_stand Cells e ≡ true
+  holds : inside Cells e ≡ Phrases false
+
+cell-is : (head : Bool) → IsCell (cell_element head)
+cell-is true = record { kind = refl; stands = refl; holds = refl }
+cell-is false = record { kind = refl; stands = refl; holds = refl }
+
+cell-piece : (head : Bool) (a : Option Alignment) (inner k : List Piece) → IsOf (Phrases false) inner → IsOf Cells k
+    → IsOf Cells (Open (cell_element head) (aligned a) ∷ (inner ++ (Close (cell_element head) ∷ k)))
+cell-piece head a inner k content rest =
+    let h = cell-is head in
+    element-of Cells (cell_element head) (aligned a) inner k h.kind h.stands (cell-given head a) (subst (λ x. IsOf x inner) (sym h.holds) content) rest
+
+cell-around : (head : Bool) (a : Option Alignment) (linked : Bool) → Around Cells (cell head a) linked
+cell-around head a linked =
+    record {
+      model = Phrases false;
+      suits = refl;
+      apart = λ e. absurd (false≢true e);
+      around = λ inner k fronted rest.
+          fresh-of Cells (Open (cell_element head) (aligned a) ∷ (inner ++ (Close (cell_element head) ∷ Feed ∷ k))) refl
+          (cell-piece head a inner (Feed ∷ k) (whole-of (Phrases false) inner refl fronted) (feed-of Cells k refl rest));
+    }
+
+cell-by : (head : Bool) (o : Option (List Event)) (linked : Bool)
+    → Around Cells (elim o as (λ (_ : Option (List Event)). Shape) [ None ↦ alone [] | Some column ↦ cell head (alignment_of column) ]) linked
+cell-by head None linked = nothing-around Cells linked
+cell-by head (Some column) linked = cell-around head (alignment_of column) linked
+
+cells-around : (head : Bool) (columns : List Event) (b : Block) (linked : Bool) → Around Cells (cell_shape head columns b) linked
+cells-around head columns block.TableCell linked = cell-by head (first_in name.GfmTableDelimiterCell columns) linked
+cells-around head columns block.Paragraph linked = nothing-around Cells linked
+cells-around head columns block.HeadingAtx linked = nothing-around Cells linked
+cells-around head columns block.HeadingSetext linked = nothing-around Cells linked
+cells-around head columns block.HeadingText linked = nothing-around Cells linked
+cells-around head columns block.Quote linked = nothing-around Cells linked
+cells-around head columns block.Bullets linked = nothing-around Cells linked
+cells-around head columns block.Numbers linked = nothing-around Cells linked
+cells-around head columns block.Item linked = nothing-around Cells linked
+cells-around head columns block.Fenced linked = nothing-around Cells linked
+cells-around head columns block.Indented linked = nothing-around Cells linked
+cells-around head columns block.Html linked = nothing-around Cells linked
+cells-around head columns block.Rule linked = nothing-around Cells linked
+cells-around head columns block.Table linked = nothing-around Cells linked
+cells-around head columns block.TableHead linked = nothing-around Cells linked
+cells-around head columns block.TableBody linked = nothing-around Cells linked
+cells-around head columns block.TableRow linked = nothing-around Cells linked
+cells-around head columns block.Other linked = nothing-around Cells linked
+
+rows-around : (head : Bool) (b : Block) (linked : Bool) → Around Rows (row_shape head b) linked
+rows-around head block.TableRow linked =
+    container-in Rows TableRow [] (mode.Cells head) Cells linked refl refl refl refl flow.AreGiven.none refl refl refl refl (λ e. absurd (false≢true e))
+rows-around head block.Paragraph linked = nothing-around Rows linked
+rows-around head block.HeadingAtx linked = nothing-around Rows linked
+rows-around head block.HeadingSetext linked = nothing-around Rows linked
+rows-around head block.HeadingText linked = nothing-around Rows linked
+rows-around head block.Quote linked = nothing-around Rows linked
+rows-around head block.Bullets linked = nothing-around Rows linked
+rows-around head block.Numbers linked = nothing-around Rows linked
+rows-around head block.Item linked = nothing-around Rows linked
+rows-around head block.Fenced linked = nothing-around Rows linked
+rows-around head block.Indented linked = nothing-around Rows linked
+rows-around head block.Html linked = nothing-around Rows linked
+rows-around head block.Rule linked = nothing-around Rows linked
+rows-around head block.Table linked = nothing-around Rows linked
+rows-around head block.TableHead linked = nothing-around Rows linked
+rows-around head block.TableBody linked = nothing-around Rows linked
+rows-around head block.TableCell linked = nothing-around Rows linked
+rows-around head block.Other linked = nothing-around Rows linked
+
+body-around : (some linked : Bool) → Around Parts (cond some (container TableBody [] (mode.Rows false)) (alone [])) linked
+body-around true linked = container-in Parts TableBody [] (mode.Rows false) Rows linked refl refl refl refl flow.AreGiven.none refl refl refl refl (λ e. absurd (false≢true e))
+body-around false linked = nothing-around Parts linked
+
+table-around : (b : Block) (es : List Event) (linked : Bool) → Around Parts (table_shape b es) linked
+table-around block.TableHead es linked =
+    container-in Parts TableHead [] (mode.Rows true) Rows linked refl refl refl refl flow.AreGiven.none refl refl refl refl (λ e. absurd (false≢true e))
+table-around block.TableBody es linked = body-around (list_any (enters name.GfmTableRow) es) linked
+table-around block.Paragraph es linked = nothing-around Parts linked
+table-around block.HeadingAtx es linked = nothing-around Parts linked
+table-around block.HeadingSetext es linked = nothing-around Parts linked
+table-around block.HeadingText es linked = nothing-around Parts linked
+table-around block.Quote es linked = nothing-around Parts linked
+table-around block.Bullets es linked = nothing-around Parts linked
+table-around block.Numbers es linked = nothing-around Parts linked
+table-around block.Item es linked = nothing-around Parts linked
+table-around block.Fenced es linked = nothing-around Parts linked
+table-around block.Indented es linked = nothing-around Parts linked
+table-around block.Html es linked = nothing-around Parts linked
+table-around block.Rule es linked = nothing-around Parts linked
+table-around block.Table es linked = nothing-around Parts linked
+table-around block.TableRow es linked = nothing-around Parts linked
+table-around block.TableCell es linked = nothing-around Parts linked
+table-around block.Other es linked = nothing-around Parts linked
+
+-- the cells that a row lacks
+empty-by : (head : Bool) (o : Option (List Event)) (more : List Piece) → Flows Cells more
+    → Flows Cells (elim o as (λ (_ : Option (List Event)). List Piece) [ None ↦ [] | Some column ↦ empty_cell head (alignment_of column) ++ more ])
+empty-by head None more kept = record { front = λ k rest. rest }
+empty-by head (Some column) more kept =
+    record { front = λ k rest. cell-piece head (alignment_of column) [] (Feed ∷ (more ++ k)) (ended (Phrases false) refl) (feed-of Cells (more ++ k) refl (kept.front k rest)) }
+
+empty-flows : (most : ℕ) (head : Bool) (columns : List Event) → Flows Cells (empty_cells most head columns)
+empty-flows zero head columns = record { front = λ k rest. rest }
+empty-flows (suc n) head columns = empty-by head (first_in name.GfmTableDelimiterCell columns) (empty_cells n head (behind_column columns)) (empty-flows n head (behind_column columns))
+
+left-flows : (w : Mode) (m : Model) (columns : List Event) → Suits w m → Flows m (lacking w columns)
+left-flows (mode.Cells head) m columns s = subst (λ x. Flows x (empty_cells 100 head columns)) (sym s) (empty-flows 100 head columns)
+left-flows mode.Flow m columns s = record { front = λ k rest. rest }
+left-flows mode.Tight m columns s = record { front = λ k rest. rest }
+left-flows mode.LooseItems m columns s = record { front = λ k rest. rest }
+left-flows mode.TightItems m columns s = record { front = λ k rest. rest }
+left-flows mode.Heading m columns s = record { front = λ k rest. rest }
+left-flows mode.Table m columns s = record { front = λ k rest. rest }
+left-flows (mode.Rows head) m columns s = record { front = λ k rest. rest }
+left-flows mode.Paragraph m columns s = record { front = λ k rest. rest }
+left-flows mode.Text m columns s = record { front = λ k rest. rest }
+left-flows mode.Nothing m columns s = record { front = λ k rest. rest }
+
 -- ---- text
 
 after-text : (m : Model) → IsText m → after m ≡ m
 after-text Blocks t = refl
 after-text (Phrases in_link) t = refl
 after-text Items t = absurd t
+after-text Parts t = absurd t
+after-text Rows t = absurd t
+after-text Cells t = absurd t
 after-text BeforeCode t = absurd t
 after-text BehindCode t = absurd t
 after-text Words t = absurd t
@@ -280,6 +432,9 @@ speaks : (m : Model) → IsText m → Speaks m
 speaks Blocks t b = refl
 speaks (Phrases in_link) t b = refl
 speaks Items t b = absurd t
+speaks Parts t b = absurd t
+speaks Rows t b = absurd t
+speaks Cells t b = absurd t
 speaks BeforeCode t b = absurd t
 speaks BehindCode t b = absurd t
 speaks Words t b = absurd t
@@ -295,6 +450,9 @@ phrase-by e b p =
         | Blocks ↦ λ t. b
         | Phrases in_link ↦ λ t. p in_link
         | Items ↦ λ t. absurd t
+        | Parts ↦ λ t. absurd t
+        | Rows ↦ λ t. absurd t
+        | Cells ↦ λ t. absurd t
         | BeforeCode ↦ λ t. absurd t
         | BehindCode ↦ λ t. absurd t
         | Words ↦ λ t. absurd t
@@ -306,6 +464,9 @@ link-stands Blocks t h = refl
 link-stands (Phrases false) t h = refl
 link-stands (Phrases true) t h = absurd (false≢true (sym (h refl)))
 link-stands Items t h = absurd t
+link-stands Parts t h = absurd t
+link-stands Rows t h = absurd t
+link-stands Cells t h = absurd t
 link-stands BeforeCode t h = absurd t
 link-stands BehindCode t h = absurd t
 link-stands Words t h = absurd t
@@ -336,6 +497,9 @@ phrases-hold : (m : Model) → IsText m → flow.phrases_in m ≡ Phrases (in_li
 phrases-hold Blocks t = refl
 phrases-hold (Phrases in_link) t = refl
 phrases-hold Items t = absurd t
+phrases-hold Parts t = absurd t
+phrases-hold Rows t = absurd t
+phrases-hold Cells t = absurd t
 phrases-hold BeforeCode t = absurd t
 phrases-hold BehindCode t = absurd t
 phrases-hold Words t = absurd t
@@ -350,17 +514,17 @@ code-flows m t s =
           (text-of Words t [] (λ b. refl) (ended Words refl));
     }
 
-module _ (options : CompileOptions) (bytes : List ℕ) (lookup : (label : List ℕ) → Option Parts) (tab : ℕ) (safe : AreSafeOptions options) where
+module _ (options : CompileOptions) (bytes : List ℕ) (lookup : (label : List ℕ) → Option TargetParts) (tab : ℕ) (safe : AreSafeOptions options) where
   raw-flows : (m : Model) (h : List ℕ) → IsText m → Flows m (raw options h ∷ [])
   raw-flows m h s = subst (λ x. Flows m (cond x (Kept h) (Text h) ∷ [])) (sym safe.html) (text-flows m h s)
 
-  link-around : (m : Model) (p : Option Parts) (linked : Bool) → IsText m → (in_link m ≡ true → true ≡ false) → linked ≡ false → Around m (link_to options p) linked
+  link-around : (m : Model) (p : Option TargetParts) (linked : Bool) → IsText m → (in_link m ≡ true → true ≡ false) → linked ≡ false → Around m (link_to options p) linked
   link-around m None linked t h apart = through-around m mode.Text linked t (λ e. apart)
   link-around m (Some parts) linked t h apart =
       within-around m Anchor (Href (address_at options place.Href parts.destination) ∷ titled parts.title) linked true t refl (link-stands m t h) (link-given (address_at options place.Href parts.destination) parts.title (href-is options bytes lookup tab safe parts.destination)) refl
       (λ e. apart)
 
-  image-around : (m : Model) (alt : List ℕ) (p : Option Parts) (linked : Bool) → IsText m → Around m (image_of options alt p) linked
+  image-around : (m : Model) (alt : List ℕ) (p : Option TargetParts) (linked : Bool) → IsText m → Around m (image_of options alt p) linked
   image-around m alt None linked t = alone-around m _ linked (text-flows m alt t)
   image-around m alt (Some parts) linked t =
       alone-around m _ linked
@@ -381,27 +545,27 @@ module _ (options : CompileOptions) (bytes : List ℕ) (lookup : (label : List �
   literal-around : (m : Model) (scheme text : List ℕ) (linked : Bool) → IsText m → (in_link m ≡ true → true ≡ false) → Around m (literal options scheme text) linked
   literal-around m scheme text linked t h = address-around m _ text linked t h (href-is options bytes lookup tab safe (scheme ++ text))
 
-  inline-around : (m : Model) (i : Inline) (es : List Event) (said alt : List ℕ) (linked : Bool) → IsText m → (in_link m ≡ true → has_links_by i linked ≡ false)
-      → is_linked i linked ≡ false → Around m (inline_shape options bytes lookup tab i es said alt) linked
-  inline-around m inline.Ending es said alt linked t h a = alone-around m _ linked (record { front = λ k rest. feed-of m k (speaks m t 10) rest })
-  inline-around m inline.Break es said alt linked t h a = alone-around m _ linked (void-front m Break [] t refl ((phrase-by Break refl (λ l. refl)).stands m t) flow.AreGiven.none)
-  inline-around m inline.Emphasis es said alt linked t h a =
+  inline-around : (m : Model) (in_cell : Bool) (i : Inline) (es : List Event) (said alt : List ℕ) (linked : Bool) → IsText m → (in_link m ≡ true → has_links_by i linked ≡ false)
+      → is_linked i linked ≡ false → Around m (inline_shape options bytes lookup tab in_cell i es said alt) linked
+  inline-around m in_cell inline.Ending es said alt linked t h a = alone-around m _ linked (record { front = λ k rest. feed-of m k (speaks m t 10) rest })
+  inline-around m in_cell inline.Break es said alt linked t h a = alone-around m _ linked (void-front m Break [] t refl ((phrase-by Break refl (λ l. refl)).stands m t) flow.AreGiven.none)
+  inline-around m in_cell inline.Emphasis es said alt linked t h a =
       within-around m Emphasis [] linked (in_link m) t refl ((phrase-by Emphasis refl (λ l. refl)).stands m t) flow.AreGiven.none (phrases-hold m t) h
-  inline-around m inline.Strong es said alt linked t h a =
+  inline-around m in_cell inline.Strong es said alt linked t h a =
       within-around m Strong [] linked (in_link m) t refl ((phrase-by Strong refl (λ l. refl)).stands m t) flow.AreGiven.none (phrases-hold m t) h
-  inline-around m inline.Struck es said alt linked t h a =
+  inline-around m in_cell inline.Struck es said alt linked t h a =
       within-around m Deleted [] linked (in_link m) t refl ((phrase-by Deleted refl (λ l. refl)).stands m t) flow.AreGiven.none (phrases-hold m t) h
-  inline-around m inline.Code es said alt linked t h a = alone-around m _ linked (code-flows m (code_text bytes es) t)
-  inline-around m inline.Html es said alt linked t h a = alone-around m _ linked (raw-flows m (html_text bytes es) t)
-  inline-around m inline.Autolink es said alt linked t h a = autolink-around m es linked t h
-  inline-around m inline.Www es said alt linked t h a = literal-around m (codes "http://") said linked t h
-  inline-around m inline.Email es said alt linked t h a = literal-around m (codes "mailto:") said linked t h
-  inline-around m inline.Address es said alt linked t h a = literal-around m [] said linked t h
-  inline-around m inline.Link es said alt linked t h a = link-around m (parts_in_link bytes lookup es) linked t h a
-  inline-around m inline.Image es said alt linked t h a = image-around m alt (parts_in_link bytes lookup es) linked t
-  inline-around m inline.Check es said alt linked t h a = nothing-around m linked
-  inline-around m inline.Tail es said alt linked t h a = nothing-around m linked
-  inline-around m inline.Other es said alt linked t h a =
+  inline-around m in_cell inline.Code es said alt linked t h a = alone-around m _ linked (code-flows m (cell_text in_cell (code_text bytes es)) t)
+  inline-around m in_cell inline.Html es said alt linked t h a = alone-around m _ linked (raw-flows m (cell_text in_cell (html_text bytes es)) t)
+  inline-around m in_cell inline.Autolink es said alt linked t h a = autolink-around m es linked t h
+  inline-around m in_cell inline.Www es said alt linked t h a = literal-around m (codes "http://") said linked t h
+  inline-around m in_cell inline.Email es said alt linked t h a = literal-around m (codes "mailto:") said linked t h
+  inline-around m in_cell inline.Address es said alt linked t h a = literal-around m [] said linked t h
+  inline-around m in_cell inline.Link es said alt linked t h a = link-around m (parts_in_link bytes lookup es) linked t h a
+  inline-around m in_cell inline.Image es said alt linked t h a = image-around m alt (parts_in_link bytes lookup es) linked t
+  inline-around m in_cell inline.Check es said alt linked t h a = nothing-around m linked
+  inline-around m in_cell inline.Tail es said alt linked t h a = nothing-around m linked
+  inline-around m in_cell inline.Other es said alt linked t h a =
       record { model = m; suits = t; apart = h; around = λ inner k fronted rest. text-of m said (inner ++ k) (speaks m t) (fronted.front k rest) }
 
   -- a box stands in text that is in no link
@@ -410,6 +574,9 @@ module _ (options : CompileOptions) (bytes : List ℕ) (lookup : (label : List �
   free-text (Phrases true) t = absurd t
   free-text (Phrases false) t = tt
   free-text Items t = absurd t
+  free-text Parts t = absurd t
+  free-text Rows t = absurd t
+  free-text Cells t = absurd t
   free-text BeforeCode t = absurd t
   free-text BehindCode t = absurd t
   free-text Words t = absurd t
@@ -419,6 +586,9 @@ module _ (options : CompileOptions) (bytes : List ℕ) (lookup : (label : List �
   box-stands (Phrases true) t = absurd t
   box-stands (Phrases false) t = refl
   box-stands Items t = absurd t
+  box-stands Parts t = absurd t
+  box-stands Rows t = absurd t
+  box-stands Cells t = absurd t
   box-stands BeforeCode t = absurd t
   box-stands BehindCode t = absurd t
   box-stands Words t = absurd t
@@ -436,11 +606,11 @@ module _ (options : CompileOptions) (bytes : List ℕ) (lookup : (label : List �
   around-by m true s t linked h k = h
   around-by m false s t linked h k = k
 
-  paragraph-around : (m : Model) (i : Inline) (es : List Event) (said alt : List ℕ) (linked : Bool) → IsFree m → (in_link m ≡ true → has_links_by i linked ≡ false)
-      → is_linked i linked ≡ false → Around m (paragraph_shape options bytes lookup tab i es said alt) linked
-  paragraph-around m i es said alt linked t h a =
-      around-by m (is_check i) (check (is_checked es)) (inline_shape options bytes lookup tab i es said alt) linked (check-around m (is_checked es) linked t)
-      (inline-around m i es said alt linked (free-text m t) h a)
+  paragraph-around : (m : Model) (in_cell : Bool) (i : Inline) (es : List Event) (said alt : List ℕ) (linked : Bool) → IsFree m → (in_link m ≡ true → has_links_by i linked ≡ false)
+      → is_linked i linked ≡ false → Around m (paragraph_shape options bytes lookup tab in_cell i es said alt) linked
+  paragraph-around m in_cell i es said alt linked t h a =
+      around-by m (is_check i) (check (is_checked es)) (inline_shape options bytes lookup tab in_cell i es said alt) linked (check-around m (is_checked es) linked t)
+      (inline-around m in_cell i es said alt linked (free-text m t) h a)
 
   blocks-suit : (tight : Bool) → Suits (blocks tight) Blocks
   blocks-suit true = refl
@@ -479,6 +649,12 @@ module _ (options : CompileOptions) (bytes : List ℕ) (lookup : (label : List �
   block-around tight block.Rule es loose start linked =
       alone-around Blocks _ linked
       (record { front = λ k rest. fresh-of Blocks (Void ThematicBreak [] ∷ Feed ∷ k) refl (void-of Blocks ThematicBreak [] (Feed ∷ k) refl refl flow.AreGiven.none (feed-of Blocks k refl rest)) })
+  block-around tight block.Table es loose start linked =
+      container-around Table [] mode.Table Parts linked refl refl flow.AreGiven.none refl refl refl refl (λ e. absurd (false≢true e))
+  block-around tight block.TableHead es loose start linked = nothing-around Blocks linked
+  block-around tight block.TableBody es loose start linked = nothing-around Blocks linked
+  block-around tight block.TableRow es loose start linked = nothing-around Blocks linked
+  block-around tight block.TableCell es loose start linked = nothing-around Blocks linked
   block-around tight block.Other es loose start linked = nothing-around Blocks linked
 
   -- an item, among items
@@ -505,6 +681,11 @@ module _ (options : CompileOptions) (bytes : List ℕ) (lookup : (label : List �
   items-around tight block.Indented linked = nothing-around Items linked
   items-around tight block.Html linked = nothing-around Items linked
   items-around tight block.Rule linked = nothing-around Items linked
+  items-around tight block.Table linked = nothing-around Items linked
+  items-around tight block.TableHead linked = nothing-around Items linked
+  items-around tight block.TableBody linked = nothing-around Items linked
+  items-around tight block.TableRow linked = nothing-around Items linked
+  items-around tight block.TableCell linked = nothing-around Items linked
   items-around tight block.Other linked = nothing-around Items linked
 
   headings-around : (b : Block) (linked : Bool) → Around (Phrases false) (heading_shape b) linked
@@ -520,6 +701,11 @@ module _ (options : CompileOptions) (bytes : List ℕ) (lookup : (label : List �
   headings-around block.Indented linked = nothing-around (Phrases false) linked
   headings-around block.Html linked = nothing-around (Phrases false) linked
   headings-around block.Rule linked = nothing-around (Phrases false) linked
+  headings-around block.Table linked = nothing-around (Phrases false) linked
+  headings-around block.TableHead linked = nothing-around (Phrases false) linked
+  headings-around block.TableBody linked = nothing-around (Phrases false) linked
+  headings-around block.TableRow linked = nothing-around (Phrases false) linked
+  headings-around block.TableCell linked = nothing-around (Phrases false) linked
   headings-around block.Other linked = nothing-around (Phrases false) linked
 
   -- what is written of spans is content, wherever they stand
@@ -531,33 +717,48 @@ module _ (options : CompileOptions) (bytes : List ℕ) (lookup : (label : List �
   items-at : (tight : Bool) (m : Model) (n : Name) (linked : Bool) → m ≡ Items → Around m (item_shape tight (block_of n)) linked
   items-at tight m n linked s = subst (λ x. Around x (item_shape tight (block_of n)) linked) (sym s) (items-around tight (block_of n) linked)
 
-  shape-around : (w : Mode) (m : Model) (n : Name) (linked : Bool) (es : List Event) (loose : Bool) (start : Option ℕ) (said alt : List ℕ) → Suits w m
-      → IsApart w m (has_links_by (inline_of n) linked) → is_linked (inline_of n) linked ≡ false → Around m (shape_by options bytes lookup tab w n es loose start said alt) linked
-  shape-around mode.Flow m n linked es loose start said alt s a l = blocks-at false m n es loose start linked s
-  shape-around mode.Tight m n linked es loose start said alt s a l = blocks-at true m n es loose start linked s
-  shape-around mode.LooseItems m n linked es loose start said alt s a l = items-at false m n linked s
-  shape-around mode.TightItems m n linked es loose start said alt s a l = items-at true m n linked s
-  shape-around mode.Heading m n linked es loose start said alt s a l = subst (λ x. Around x (heading_shape (block_of n)) linked) (sym s) (headings-around (block_of n) linked)
-  shape-around mode.Paragraph m n linked es loose start said alt s a l = paragraph-around m (inline_of n) es said alt linked s a l
-  shape-around mode.Text m n linked es loose start said alt s a l = inline-around m (inline_of n) es said alt linked s a l
-  shape-around mode.Nothing m n linked es loose start said alt s a l = nothing-around m linked
+  table-at : (m : Model) (b : Block) (es : List Event) (linked : Bool) → m ≡ Parts → Around m (table_shape b es) linked
+  table-at m b es linked s = subst (λ x. Around x (table_shape b es) linked) (sym s) (table-around b es linked)
 
-  pieces-flow : (w : Mode) (m : Model) (s : Spans) → Suits w m → IsApart w m (has_links s) → are_apart s ≡ true → Flows m (pieces options bytes lookup tab w s)
-  pieces-flow w m Nothing suits apart h = record { front = λ k rest. rest }
-  pieces-flow w m (Span e f s behind) suits apart h =
+  rows-at : (head : Bool) (m : Model) (b : Block) (linked : Bool) → m ≡ Rows → Around m (row_shape head b) linked
+  rows-at head m b linked s = subst (λ x. Around x (row_shape head b) linked) (sym s) (rows-around head b linked)
+
+  cells-at : (head : Bool) (m : Model) (columns : List Event) (b : Block) (linked : Bool) → m ≡ Cells → Around m (cell_shape head columns b) linked
+  cells-at head m columns b linked s = subst (λ x. Around x (cell_shape head columns b) linked) (sym s) (cells-around head columns b linked)
+
+  shape-around : (w : Mode) (m : Model) (columns : List Event) (n : Name) (linked : Bool) (es : List Event) (loose : Bool) (start : Option ℕ) (said alt : List ℕ) → Suits w m
+      → IsApart w m (has_links_by (inline_of n) linked) → is_linked (inline_of n) linked ≡ false → Around m (shape_by options bytes lookup tab w columns n es loose start said alt) linked
+  shape-around mode.Flow m columns n linked es loose start said alt s a l = blocks-at false m n es loose start linked s
+  shape-around mode.Tight m columns n linked es loose start said alt s a l = blocks-at true m n es loose start linked s
+  shape-around mode.LooseItems m columns n linked es loose start said alt s a l = items-at false m n linked s
+  shape-around mode.TightItems m columns n linked es loose start said alt s a l = items-at true m n linked s
+  shape-around mode.Heading m columns n linked es loose start said alt s a l = subst (λ x. Around x (heading_shape (block_of n)) linked) (sym s) (headings-around (block_of n) linked)
+  shape-around mode.Table m columns n linked es loose start said alt s a l = table-at m (block_of n) es linked s
+  shape-around (mode.Rows head) m columns n linked es loose start said alt s a l = rows-at head m (block_of n) linked s
+  shape-around (mode.Cells head) m columns n linked es loose start said alt s a l = cells-at head m columns (block_of n) linked s
+  shape-around mode.Paragraph m columns n linked es loose start said alt s a l = paragraph-around m (is_in_cell columns) (inline_of n) es said alt linked s a l
+  shape-around mode.Text m columns n linked es loose start said alt s a l = inline-around m (is_in_cell columns) (inline_of n) es said alt linked s a l
+  shape-around mode.Nothing m columns n linked es loose start said alt s a l = nothing-around m linked
+
+  pieces-flow : (w : Mode) (m : Model) (columns : List Event) (s : Spans) → Suits w m → IsApart w m (has_links s) → are_apart s ≡ true
+      → Flows m (pieces options bytes lookup tab w columns s)
+  pieces-flow w m columns Nothing suits apart h = left-flows w m columns suits
+  pieces-flow w m columns (Span e f s behind) suits apart h =
       let i = inline_of e.name in
-      let here = shape options bytes lookup tab w e f s in
-      let inner = pieces options bytes lookup tab here.inside s in
-      let outer = pieces options bytes lookup tab w behind in
+      let b = block_of e.name in
+      let here = shape options bytes lookup tab w columns e f s in
+      let within = columns_in b columns (events_of s) in
+      let inner = pieces options bytes lookup tab here.inside within s in
+      let outer = pieces options bytes lookup tab w (columns_behind b columns) behind in
       let unlinked = not-true (is_linked i (has_links s)) ((and_parts (not (is_linked i (has_links s))) (are_apart s && are_apart behind) h).0) in
       let both = (and_parts (not (is_linked i (has_links s))) (are_apart s && are_apart behind) h).1 in
       let es = events_of s in
-      let it : Around m here (has_links s) = shape-around w m e.name (has_links s) es (is_loose es) (list_start bytes es) (said bytes e f s) (alt_of bytes s) suits (apart-first w m (has_links_by i (has_links s)) (has_links behind) apart) unlinked in
-      let first = pieces-flow here.inside it.model s it.suits it.apart ((and_parts (are_apart s) (are_apart behind) both).0) in
-      let rest = pieces-flow w m behind suits (apart-rest w m (has_links_by i (has_links s)) (has_links behind) apart) ((and_parts (are_apart s) (are_apart behind) both).1) in
+      let it : Around m here (has_links s) = shape-around w m columns e.name (has_links s) es (is_loose es) (list_start bytes es) (said bytes e f s) (alt_of bytes s) suits (apart-first w m (has_links_by i (has_links s)) (has_links behind) apart) unlinked in
+      let first = pieces-flow here.inside it.model within s it.suits it.apart ((and_parts (are_apart s) (are_apart behind) both).0) in
+      let rest = pieces-flow w m (columns_behind b columns) behind suits (apart-rest w m (has_links_by i (has_links s)) (has_links behind) apart) ((and_parts (are_apart s) (are_apart behind) both).1) in
       record { front = λ k more. subst (IsOf m) (sym (moved options bytes lookup tab safe here.opened inner here.closed outer k)) (it.around inner (outer ++ k) first (rest.front k more)) }
 
 pub html-flow : HtmlIsFlow
 html-flow options bytes lookup tab events safe apart =
-    let ps = pieces options bytes lookup tab mode.Flow (spans_of events) in
-    whole-of Blocks ps refl (pieces-flow options bytes lookup tab safe mode.Flow Blocks (spans_of events) refl (λ e. absurd (false≢true e)) apart) true
+    let ps = pieces options bytes lookup tab mode.Flow [] (spans_of events) in
+    whole-of Blocks ps refl (pieces-flow options bytes lookup tab safe mode.Flow Blocks [] (spans_of events) refl (λ e. absurd (false≢true e)) apart) true

@@ -2,6 +2,8 @@
 pub mod AltFacts
 -- laws
 pub mod Both
+-- tables
+pub mod EmptyCells
 -- the walk
 pub mod Entered
 pub mod Finished

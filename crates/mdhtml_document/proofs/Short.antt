@@ -6,7 +6,7 @@ use Rattle.std.proofs.lemmas.Fmt.{length-decimal-le}
 use Rattle.std.proofs.lemmas.List.{length-append}
 use Rattle.std.specs.Char.{is_ascii_whitespace}
 use Rattle.std.specs.Fmt.{decimal}
-use Rattle.std.specs.List.{flat_map, list_all, prefix_len, take_while}
+use Rattle.std.specs.List.{flat_map, list_all, list_any, prefix_len, take_while}
 use Rattle.std.specs.Option.{option_map_or}
 use Rattle.std.specs.Prelude.{zero, ⊤, ◌==◌, ◌&&◌, ◌||◌, not, Bool, true, false, cond, codes, nat_le, option_and_then}
 use denote.Enum.Bare.{same_true}
@@ -20,7 +20,7 @@ use Rattle.mdblock_containers.specs.Lists.{Met, digits_at, in_first_prefix, is_d
 use Rattle.mddocument_link_targets.specs.declared.targets.Parts.{Parts}
 use Rattle.mddocument_link_targets.specs.declared.targets.Target.{Target}
 use Rattle.mddocument_link_targets.specs.declared.targets.Target.TheVariants as target
-use Rattle.mddocument_link_targets.specs.Spans.{behind, first_in, inside, size_from}
+use Rattle.mddocument_link_targets.specs.Spans.{behind, enters, first_in, inside, size_from}
 use Rattle.mddocument_link_targets.specs.declared.strings.Reading.TheVariants.{Decoded}
 use Rattle.mddocument_link_targets.specs.Strings.{decoded}
 use Rattle.mddocument_link_targets.specs.Targets.{label_of, resource_parts, target_in}
@@ -30,11 +30,11 @@ use Rattle.mdhtml_document.specs.declared.names.Inline.{Inline}
 use Rattle.mdhtml_document.specs.declared.names.Inline.TheVariants as inline
 use Rattle.mdhtml_document.specs.declared.shapes.Mode.{Mode}
 use Rattle.mdhtml_document.specs.declared.shapes.Mode.TheVariants as mode
-use Rattle.mdhtml_document.specs.Html.{Shape, address_at, address_link, alone, autolink, block_shape, blocks, check, code, container, heading, heading_shape, image_of, inline_shape, is_check, is_checked, item_shape, items, language, length_of_first, line, link_to, literal, ordered, parts_in_link, pieces, raw, references, referred, setext_rank, shape, shape_by, size_of_target, through, titled, told, within_line}
-use Rattle.mdhtml_document.specs.HtmlLaws.{HtmlIsShort, ahead, are_apart, has_links, has_links_by, is_linked, length_of_parts, room}
+use Rattle.mdhtml_document.specs.Html.{Shape, address_at, address_link, aligned, alignment_of, alone, autolink, behind_column, block_shape, blocks, cell, cell_element, cell_shape, check, code, columns_behind, columns_in, container, empty_cell, empty_cells, heading, heading_shape, image_of, inline_shape, is_check, is_checked, is_in_cell, item_shape, items, language, lacking, length_of_first, line, link_to, literal, ordered, parts_in_link, pieces, raw, references, referred, row_shape, setext_rank, shape, shape_by, size_of_target, table_shape, through, titled, told, within_line}
+use Rattle.mdhtml_document.specs.HtmlLaws.{HtmlIsShort, ahead, are_apart, has_links, has_links_by, is_linked, is_row, length_of_parts, room, rows}
 use Rattle.mdhtml_document.specs.Names.{block_of, blocks_by_name, inline_of}
 use Rattle.mdhtml_document.specs.Spans.{Nothing, Span, Spans, events_of, spans_of}
-use Rattle.mdhtml_document.specs.Values.{alt_of, autolink_address, behind_first_line, code_lines, code_text, html_flow, html_text, is_email, said, title_from}
+use Rattle.mdhtml_document.specs.Values.{alt_of, autolink_address, behind_first_line, cell_text, code_lines, code_text, html_flow, html_text, is_email, is_escape, said, title_from, unescaped}
 use Rattle.mdhtml_document.specs.Walks.{is_left}
 use Rattle.mdhtml_document.proofs.Both.{keep-events}
 use Rattle.mdhtml_document.proofs.Entered.{named-each}
@@ -43,10 +43,12 @@ use Rattle.mdhtml_document.proofs.Safe.{all-taken}
 use Rattle.mdhtml_markup.specs.Addresses.{allowed, written_address}
 use Rattle.mdhtml_markup.specs.declared.addresses.Place.{Place}
 use Rattle.mdhtml_markup.specs.declared.addresses.Place.TheVariants as place
+use Rattle.mdhtml_markup.specs.declared.elements.Alignment.{Alignment}
+use Rattle.mdhtml_markup.specs.declared.elements.Alignment.TheVariants as alignment
 use Rattle.mdhtml_markup.specs.declared.elements.AttributeName.{AttributeName}
 use Rattle.mdhtml_markup.specs.declared.elements.AttributeName.TheVariants as attr
 use Rattle.mdhtml_markup.specs.declared.elements.Element.{Element}
-use Rattle.mdhtml_markup.specs.declared.elements.Element.TheVariants.{Anchor, BlockQuote, Break, Code, Deleted, Emphasis, Image, ListItem, OrderedList, Paragraph, Preformatted, Strong, ThematicBreak, UnorderedList}
+use Rattle.mdhtml_markup.specs.declared.elements.Element.TheVariants.{Anchor, BlockQuote, Break, Code, DataCell, Deleted, Emphasis, HeaderCell, Image, ListItem, OrderedList, Paragraph, Preformatted, Strong, Table, TableBody, TableHead, TableRow, ThematicBreak, UnorderedList}
 use Rattle.mdhtml_markup.specs.Escapes.{escaped, kept, kept_byte, replacement}
 use Rattle.mdhtml_markup.specs.Pieces.{Alt, Attribute, Close, Feed, Fresh, Href, Kept, Language, Open, Piece, Src, Start, Text, Title, Void, attribute, html_from, is_fresh, written}
 use Rattle.mdhtml_markup.specs.SafeHtml.{close_tag, is_allowed, name_of, open_tag, quoted, void_tag}
@@ -117,6 +119,7 @@ IsBrief attr.Disabled = ⊥
 IsBrief a = ⊤
 
 quoted-short : (a : AttributeName) (value : List ℕ) → IsBrief a → length (quoted a value) ≤ length value + 9
+quoted-short attr.Align value brief = let l = length-append value (codes "\"") in omega (arith, l)
 quoted-short attr.Alt value brief = let l = length-append value (codes "\"") in omega (arith, l)
 quoted-short attr.Checked value brief = absurd brief
 quoted-short attr.Class value brief = let l = length-append value (codes "\"") in omega (arith, l)
@@ -376,7 +379,25 @@ each-block P n some other =
                           (λ e. some block.Indented (no-image n name.CodeIndented refl e)),
                           (
                             (λ e. some block.Html (no-image n name.HtmlFlow refl e)),
-                            ((λ e. some block.Rule (no-image n name.ThematicBreak refl e)), tt),
+                            (
+                              (λ e. some block.Rule (no-image n name.ThematicBreak refl e)),
+                              (
+                                (λ e. some block.Table (no-image n name.GfmTable refl e)),
+                                (
+                                  (λ e. some block.TableHead (no-image n name.GfmTableHead refl e)),
+                                  (
+                                    (λ e. some block.TableBody (no-image n name.GfmTableBody refl e)),
+                                    (
+                                      (λ e. some block.TableRow (no-image n name.GfmTableRow refl e)),
+                                      (
+                                        (λ e. some block.TableCell (no-image n name.GfmTableCell refl e)),
+                                        ((λ e. some block.HeadingText (no-image n name.GfmTableCellText refl e)), tt),
+                                      ),
+                                    ),
+                                  ),
+                                ),
+                              ),
+                            ),
                           ),
                         ),
                       ),
@@ -404,6 +425,11 @@ item-short i tight block.Fenced few all own left = nothing-short i few all own
 item-short i tight block.Indented few all own left = nothing-short i few all own
 item-short i tight block.Html few all own left = nothing-short i few all own
 item-short i tight block.Rule few all own left = nothing-short i few all own
+item-short i tight block.Table few all own left = nothing-short i few all own
+item-short i tight block.TableHead few all own left = nothing-short i few all own
+item-short i tight block.TableBody few all own left = nothing-short i few all own
+item-short i tight block.TableRow few all own left = nothing-short i few all own
+item-short i tight block.TableCell few all own left = nothing-short i few all own
 item-short i tight block.Other few all own left = nothing-short i few all own
 
 title-of-heading : (i : Inline) (b : Block) (few all own : ℕ) → is_left i ≡ false → IsShort i (heading_shape b) few all own
@@ -419,7 +445,139 @@ title-of-heading i block.Fenced few all own left = nothing-short i few all own
 title-of-heading i block.Indented few all own left = nothing-short i few all own
 title-of-heading i block.Html few all own left = nothing-short i few all own
 title-of-heading i block.Rule few all own left = nothing-short i few all own
+title-of-heading i block.Table few all own left = nothing-short i few all own
+title-of-heading i block.TableHead few all own left = nothing-short i few all own
+title-of-heading i block.TableBody few all own left = nothing-short i few all own
+title-of-heading i block.TableRow few all own left = nothing-short i few all own
+title-of-heading i block.TableCell few all own left = nothing-short i few all own
 title-of-heading i block.Other few all own left = nothing-short i few all own
+
+-- parts of tables
+body-short : (i : Inline) (some : Bool) (few all own : ℕ) → is_left i ≡ false → IsShort i (cond some (container TableBody [] (mode.Rows false)) (alone [])) few all own
+body-short i true few all own left = let h = container-short TableBody [] (mode.Rows false) (omega arith) (omega arith) in thin left (omega (arith, h))
+body-short i false few all own left = nothing-short i few all own
+
+part-short : (i : Inline) (b : Block) (es : List Event) (few all own : ℕ) → is_left i ≡ false → IsShort i (table_shape b es) few all own
+part-short i block.TableHead es few all own left = let h = container-short TableHead [] (mode.Rows true) (omega arith) (omega arith) in thin left (omega (arith, h))
+part-short i block.TableBody es few all own left = body-short i (list_any (enters name.GfmTableRow) es) few all own left
+part-short i block.Paragraph es few all own left = nothing-short i few all own
+part-short i block.HeadingAtx es few all own left = nothing-short i few all own
+part-short i block.HeadingSetext es few all own left = nothing-short i few all own
+part-short i block.HeadingText es few all own left = nothing-short i few all own
+part-short i block.Quote es few all own left = nothing-short i few all own
+part-short i block.Bullets es few all own left = nothing-short i few all own
+part-short i block.Numbers es few all own left = nothing-short i few all own
+part-short i block.Item es few all own left = nothing-short i few all own
+part-short i block.Fenced es few all own left = nothing-short i few all own
+part-short i block.Indented es few all own left = nothing-short i few all own
+part-short i block.Html es few all own left = nothing-short i few all own
+part-short i block.Rule es few all own left = nothing-short i few all own
+part-short i block.Table es few all own left = nothing-short i few all own
+part-short i block.TableRow es few all own left = nothing-short i few all own
+part-short i block.TableCell es few all own left = nothing-short i few all own
+part-short i block.Other es few all own left = nothing-short i few all own
+
+row-short : (i : Inline) (head : Bool) (b : Block) (few all own : ℕ) → is_left i ≡ false → IsShort i (row_shape head b) few all own
+row-short i head block.TableRow few all own left = let h = container-short TableRow [] (mode.Cells head) (omega arith) (omega arith) in thin left (omega (arith, h))
+row-short i head block.Paragraph few all own left = nothing-short i few all own
+row-short i head block.HeadingAtx few all own left = nothing-short i few all own
+row-short i head block.HeadingSetext few all own left = nothing-short i few all own
+row-short i head block.HeadingText few all own left = nothing-short i few all own
+row-short i head block.Quote few all own left = nothing-short i few all own
+row-short i head block.Bullets few all own left = nothing-short i few all own
+row-short i head block.Numbers few all own left = nothing-short i few all own
+row-short i head block.Item few all own left = nothing-short i few all own
+row-short i head block.Fenced few all own left = nothing-short i few all own
+row-short i head block.Indented few all own left = nothing-short i few all own
+row-short i head block.Html few all own left = nothing-short i few all own
+row-short i head block.Rule few all own left = nothing-short i few all own
+row-short i head block.Table few all own left = nothing-short i few all own
+row-short i head block.TableHead few all own left = nothing-short i few all own
+row-short i head block.TableBody few all own left = nothing-short i few all own
+row-short i head block.TableCell few all own left = nothing-short i few all own
+row-short i head block.Other few all own left = nothing-short i few all own
+
+-- the tags of a cell
+alignment-short : (a : Option Alignment) → length (flat_map attribute (aligned a)) ≤ 15
+alignment-short None = omega arith
+alignment-short (Some alignment.Left) = omega arith
+alignment-short (Some alignment.Center) = omega arith
+alignment-short (Some alignment.Right) = omega arith
+
+cell-tags : (head : Bool) (a : Option Alignment)
+    → (length (open_tag (cell_element head) (flat_map attribute (aligned a))) ≤ 19) × (length (close_tag (cell_element head)) ≡ 5)
+cell-tags true a =
+    let tag = tag-long HeaderCell (flat_map attribute (aligned a)) in
+    let few = alignment-short a in
+    (omega (arith, tag, few), refl)
+cell-tags false a =
+    let tag = tag-long DataCell (flat_map attribute (aligned a)) in
+    let few = alignment-short a in
+    (omega (arith, tag, few), refl)
+
+cell-by : (i : Inline) (head : Bool) (o : Option (List Event)) (few all own : ℕ) → is_left i ≡ false
+    → IsShort i (elim o as (λ (_ : Option (List Event)). Shape) [ None ↦ alone [] | Some column ↦ cell head (alignment_of column) ]) few all own
+cell-by i head None few all own left = nothing-short i few all own
+cell-by i head (Some column) few all own left =
+    let tags = cell-tags head (alignment_of column) in
+    let o = tags.0 in
+    let c = tags.1 in
+    thin left (omega (arith, o, c))
+
+cell-short : (i : Inline) (head : Bool) (columns : List Event) (b : Block) (few all own : ℕ) → is_left i ≡ false → IsShort i (cell_shape head columns b) few all own
+cell-short i head columns block.TableCell few all own left = cell-by i head (first_in name.GfmTableDelimiterCell columns) few all own left
+cell-short i head columns block.Paragraph few all own left = nothing-short i few all own
+cell-short i head columns block.HeadingAtx few all own left = nothing-short i few all own
+cell-short i head columns block.HeadingSetext few all own left = nothing-short i few all own
+cell-short i head columns block.HeadingText few all own left = nothing-short i few all own
+cell-short i head columns block.Quote few all own left = nothing-short i few all own
+cell-short i head columns block.Bullets few all own left = nothing-short i few all own
+cell-short i head columns block.Numbers few all own left = nothing-short i few all own
+cell-short i head columns block.Item few all own left = nothing-short i few all own
+cell-short i head columns block.Fenced few all own left = nothing-short i few all own
+cell-short i head columns block.Indented few all own left = nothing-short i few all own
+cell-short i head columns block.Html few all own left = nothing-short i few all own
+cell-short i head columns block.Rule few all own left = nothing-short i few all own
+cell-short i head columns block.Table few all own left = nothing-short i few all own
+cell-short i head columns block.TableHead few all own left = nothing-short i few all own
+cell-short i head columns block.TableBody few all own left = nothing-short i few all own
+cell-short i head columns block.TableRow few all own left = nothing-short i few all own
+cell-short i head columns block.Other few all own left = nothing-short i few all own
+
+-- the cells that a row lacks
+empty-by : (head : Bool) (o : Option (List Event)) (more : List Piece) (n : ℕ) → longs more ≤ 25 * n
+    → longs (elim o as (λ (_ : Option (List Event)). List Piece) [ None ↦ [] | Some column ↦ empty_cell head (alignment_of column) ++ more ]) ≤ 25 * suc n
+empty-by head None more n h = omega arith
+empty-by head (Some column) more n h =
+    let tags = cell-tags head (alignment_of column) in
+    let o = tags.0 in
+    let c = tags.1 in
+    omega (arith, h, o, c)
+
+empty-short : (most : ℕ) (head : Bool) (columns : List Event) → longs (empty_cells most head columns) ≤ 25 * most
+empty-short zero head columns = omega arith
+empty-short (suc n) head columns = empty-by head (first_in name.GfmTableDelimiterCell columns) (empty_cells n head (behind_column columns)) n (empty-short n head (behind_column columns))
+
+-- the room that they have, and that rows have for them
+abbrev spare : Mode → ℕ
+spare (mode.Cells head) = 2500
+spare m = 0
+
+abbrev row_room : Block → ℕ
+row_room b = 2500 * cond (is_row b) 1 0
+
+left-short : (m : Mode) (columns : List Event) → longs (lacking m columns) ≤ spare m
+left-short (mode.Cells head) columns = let h = empty-short 100 head columns in omega (arith, h)
+left-short mode.Flow columns = omega arith
+left-short mode.Tight columns = omega arith
+left-short mode.LooseItems columns = omega arith
+left-short mode.TightItems columns = omega arith
+left-short mode.Heading columns = omega arith
+left-short mode.Table columns = omega arith
+left-short (mode.Rows head) columns = omega arith
+left-short mode.Paragraph columns = omega arith
+left-short mode.Text columns = omega arith
+left-short mode.Nothing columns = omega arith
 
 -- what has a link in it has one by itself, or is an image
 unlinked : (i : Inline) (inner : Bool) → is_left i ≡ false → has_links_by i inner ≡ false → inner ≡ false
@@ -563,51 +721,70 @@ module _ (options : CompileOptions) (bytes : List ℕ) (lookup : (label : List �
       let text = block-le bytes tab name.HtmlFlowData es in
       whole refl (omega (arith, h, text, r))
   block-short i tight block.Rule es loose start few all own left s r = whole refl (omega arith)
+  block-short i tight block.Table es loose start few all own left s r = let h = container-short Table [] mode.Table (omega arith) (omega arith) in thin left (omega (arith, h))
+  block-short i tight block.TableHead es loose start few all own left s r = nothing-short i few all own
+  block-short i tight block.TableBody es loose start few all own left s r = nothing-short i few all own
+  block-short i tight block.TableRow es loose start few all own left s r = nothing-short i few all own
+  block-short i tight block.TableCell es loose start few all own left s r = nothing-short i few all own
   block-short i tight block.Other es loose start few all own left s r = nothing-short i few all own
 
-  inline-short : (i : Inline) (es : List Event) (said alt : List ℕ) (few all : ℕ) → length said ≤ few → few ≤ all → room tab es + 1 ≤ all → length alt ≤ all
-      → IsShort i (inline_shape options bytes lookup tab i es said alt) few all (referred bytes size i es 0)
-  inline-short inline.Ending es said alt few all t f r a = whole refl (omega arith)
-  inline-short inline.Break es said alt few all t f r a = whole refl (omega arith)
-  inline-short inline.Emphasis es said alt few all t f r a = thin refl (omega arith)
-  inline-short inline.Strong es said alt few all t f r a = thin refl (omega arith)
-  inline-short inline.Struck es said alt few all t f r a = thin refl (omega arith)
-  inline-short inline.Code es said alt few all t f r a =
+  unescaped-by : (c : Bool) (b : ℕ) (t : List ℕ) (n : ℕ) → length t ≤ n → length (cond c t (b ∷ t)) ≤ suc n
+  unescaped-by true b t n h = omega (arith, h)
+  unescaped-by false b t n h = omega (arith, h)
+
+  unescaped-le : (t : List ℕ) → length (unescaped t) ≤ length t
+  unescaped-le [] = omega arith
+  unescaped-le (b ∷ bs) = unescaped-by (is_escape b bs) b (unescaped bs) (length bs) (unescaped-le bs)
+
+  cell-le : (c : Bool) (t : List ℕ) → length (cell_text c t) ≤ length t
+  cell-le true t = unescaped-le t
+  cell-le false t = omega arith
+
+  inline-short : (in_cell : Bool) (i : Inline) (es : List Event) (said alt : List ℕ) (few all : ℕ) → length said ≤ few → few ≤ all → room tab es + 1 ≤ all → length alt ≤ all
+      → IsShort i (inline_shape options bytes lookup tab in_cell i es said alt) few all (referred bytes size i es 0)
+  inline-short in_cell inline.Ending es said alt few all t f r a = whole refl (omega arith)
+  inline-short in_cell inline.Break es said alt few all t f r a = whole refl (omega arith)
+  inline-short in_cell inline.Emphasis es said alt few all t f r a = thin refl (omega arith)
+  inline-short in_cell inline.Strong es said alt few all t f r a = thin refl (omega arith)
+  inline-short in_cell inline.Struck es said alt few all t f r a = thin refl (omega arith)
+  inline-short in_cell inline.Code es said alt few all t f r a =
       let text = code-le bytes tab es in
-      let short = escaped-short (code_text bytes es) in
-      whole refl (omega (arith, text, short, r))
-  inline-short inline.Html es said alt few all t f r a =
-      let h = raw-short options (html_text bytes es) in
+      let less = cell-le in_cell (code_text bytes es) in
+      let short = escaped-short (cell_text in_cell (code_text bytes es)) in
+      whole refl (omega (arith, text, less, short, r))
+  inline-short in_cell inline.Html es said alt few all t f r a =
+      let h = raw-short options (cell_text in_cell (html_text bytes es)) in
+      let less = cell-le in_cell (html_text bytes es) in
       let text = lines-le bytes tab name.HtmlTextData 10 false es in
-      whole refl (omega (arith, h, text, r))
-  inline-short inline.Autolink es said alt few all t f r a =
+      whole refl (omega (arith, h, less, text, r))
+  inline-short in_cell inline.Autolink es said alt few all t f r a =
       let h = autolink-short options bytes es in
       let text = address-le bytes tab es in
       whole refl (omega (arith, h, text, r))
-  inline-short inline.Www es said alt few all t f r a =
+  inline-short in_cell inline.Www es said alt few all t f r a =
       let more = http-long said in
       let h = literal-short options (codes "http://") said (omega (arith, more)) in
       whole refl (omega (arith, h, t, f))
-  inline-short inline.Email es said alt few all t f r a =
+  inline-short in_cell inline.Email es said alt few all t f r a =
       let more = mailto-long said in
       let h = literal-short options (codes "mailto:") said (omega (arith, more)) in
       whole refl (omega (arith, h, t, f))
-  inline-short inline.Address es said alt few all t f r a =
+  inline-short in_cell inline.Address es said alt few all t f r a =
       let h = literal-short options [] said (omega arith) in
       whole refl (omega (arith, h, t, f))
-  inline-short inline.Link es said alt few all t f r a =
+  inline-short in_cell inline.Link es said alt few all t f r a =
       let p = parts_in_link bytes lookup es in
       let h = link-short options p in
       let most = leads es in
       led (link-inside options p) refl (omega (arith, h, most, r))
-  inline-short inline.Image es said alt few all t f r a =
+  inline-short in_cell inline.Image es said alt few all t f r a =
       let p = parts_in_link bytes lookup es in
       let h = image-short options alt p in
       let most = leads es in
       whole (image-inside options alt p) (omega (arith, h, most, r, a))
-  inline-short inline.Check es said alt few all t f r a = whole refl (omega arith)
-  inline-short inline.Tail es said alt few all t f r a = whole refl (omega arith)
-  inline-short inline.Other es said alt few all t f r a = let short = escaped-short said in thin refl (omega (arith, short, t))
+  inline-short in_cell inline.Check es said alt few all t f r a = whole refl (omega arith)
+  inline-short in_cell inline.Tail es said alt few all t f r a = whole refl (omega arith)
+  inline-short in_cell inline.Other es said alt few all t f r a = let short = escaped-short said in thin refl (omega (arith, short, t))
 
   -- a box is 48 bytes
   check-by : (checked : Bool) (i : Inline) (few all own : ℕ) → 1 ≤ all → IsShort i (check checked) few all own
@@ -618,41 +795,245 @@ module _ (options : CompileOptions) (bytes : List ℕ) (lookup : (label : List �
   paragraph-by true checked i s few all own r h = check-by checked i few all own r
   paragraph-by false checked i s few all own r h = h
 
-  by-name-short : (m : Mode) (n : Name) (es : List Event) (loose : Bool) (start : Option ℕ) (said alt : List ℕ) (few all : ℕ) → length (flat_map attribute (ordered start)) ≤ 18 → length said ≤ few → few ≤ all
-      → room tab es + 1 ≤ all → length alt ≤ all → IsShort (inline_of n) (shape_by options bytes lookup tab m n es loose start said alt) few all (referred bytes size (inline_of n) es 0)
-  by-name-short mode.Flow n es loose start said alt few all s t f r a =
+  by-name-short : (m : Mode) (columns : List Event) (n : Name) (es : List Event) (loose : Bool) (start : Option ℕ) (said alt : List ℕ) (few all : ℕ) → length (flat_map attribute (ordered start)) ≤ 18 → length said ≤ few → few ≤ all
+      → room tab es + 1 ≤ all → length alt ≤ all → IsShort (inline_of n) (shape_by options bytes lookup tab m columns n es loose start said alt) few all (referred bytes size (inline_of n) es 0)
+  by-name-short mode.Flow columns n es loose start said alt few all s t f r a =
       let i = inline_of n in
       let own = referred bytes size i es 0 in
       each-block (λ b. IsShort i (block_shape options bytes lookup tab false b es loose start) few all own) n (λ b left. block-short i false b es loose start few all own left s r) (nothing-short i few all own)
-  by-name-short mode.Tight n es loose start said alt few all s t f r a =
+  by-name-short mode.Tight columns n es loose start said alt few all s t f r a =
       let i = inline_of n in
       let own = referred bytes size i es 0 in
       each-block (λ b. IsShort i (block_shape options bytes lookup tab true b es loose start) few all own) n (λ b left. block-short i true b es loose start few all own left s r) (nothing-short i few all own)
-  by-name-short mode.LooseItems n es loose start said alt few all s t f r a =
+  by-name-short mode.LooseItems columns n es loose start said alt few all s t f r a =
       let i = inline_of n in
       let own = referred bytes size i es 0 in
       each-block (λ b. IsShort i (item_shape false b) few all own) n (λ b left. item-short i false b few all own left) (nothing-short i few all own)
-  by-name-short mode.TightItems n es loose start said alt few all s t f r a =
+  by-name-short mode.TightItems columns n es loose start said alt few all s t f r a =
       let i = inline_of n in
       let own = referred bytes size i es 0 in
       each-block (λ b. IsShort i (item_shape true b) few all own) n (λ b left. item-short i true b few all own left) (nothing-short i few all own)
-  by-name-short mode.Heading n es loose start said alt few all s t f r a =
+  by-name-short mode.Heading columns n es loose start said alt few all s t f r a =
       let i = inline_of n in
       let own = referred bytes size i es 0 in
       each-block (λ b. IsShort i (heading_shape b) few all own) n (λ b left. title-of-heading i b few all own left) (nothing-short i few all own)
-  by-name-short mode.Paragraph n es loose start said alt few all s t f r a =
+  by-name-short mode.Table columns n es loose start said alt few all s t f r a =
       let i = inline_of n in
-      paragraph-by (is_check i) (is_checked es) i (inline_shape options bytes lookup tab i es said alt) few all (referred bytes size i es 0) (omega (arith, r)) (inline-short i es said alt few all t f r a)
-  by-name-short mode.Text n es loose start said alt few all s t f r a = inline-short (inline_of n) es said alt few all t f r a
-  by-name-short mode.Nothing n es loose start said alt few all s t f r a = nothing-short (inline_of n) few all (referred bytes size (inline_of n) es 0)
+      let own = referred bytes size i es 0 in
+      each-block (λ b. IsShort i (table_shape b es) few all own) n (λ b left. part-short i b es few all own left) (nothing-short i few all own)
+  by-name-short (mode.Rows head) columns n es loose start said alt few all s t f r a =
+      let i = inline_of n in
+      let own = referred bytes size i es 0 in
+      each-block (λ b. IsShort i (row_shape head b) few all own) n (λ b left. row-short i head b few all own left) (nothing-short i few all own)
+  by-name-short (mode.Cells head) columns n es loose start said alt few all s t f r a =
+      let i = inline_of n in
+      let own = referred bytes size i es 0 in
+      each-block (λ b. IsShort i (cell_shape head columns b) few all own) n (λ b left. cell-short i head columns b few all own left) (nothing-short i few all own)
+  by-name-short mode.Paragraph columns n es loose start said alt few all s t f r a =
+      let i = inline_of n in
+      paragraph-by (is_check i) (is_checked es) i (inline_shape options bytes lookup tab (is_in_cell columns) i es said alt) few all (referred bytes size i es 0) (omega (arith, r)) (inline-short (is_in_cell columns) i es said alt few all t f r a)
+  by-name-short mode.Text columns n es loose start said alt few all s t f r a = inline-short (is_in_cell columns) (inline_of n) es said alt few all t f r a
+  by-name-short mode.Nothing columns n es loose start said alt few all s t f r a = nothing-short (inline_of n) few all (referred bytes size (inline_of n) es 0)
+
+  -- ---- what is in a shape has room for the cells that a row lacks, if it is a row
+
+  blocks-room : (tight : Bool) → spare (blocks tight) ≡ 0
+  blocks-room true = refl
+  blocks-room false = refl
+
+  items-room : (loose : Bool) → spare (items loose) ≡ 0
+  items-room true = refl
+  items-room false = refl
+
+  shape-room : (c : Bool) (x y : Shape) (n : ℕ) → spare x.inside ≤ n → spare y.inside ≤ n → spare (cond c x y).inside ≤ n
+  shape-room true x y n h k = h
+  shape-room false x y n h k = k
+
+  block-room : (tight : Bool) (b : Block) (es : List Event) (loose : Bool) (start : Option ℕ) → spare (block_shape options bytes lookup tab tight b es loose start).inside ≤ row_room b
+  block-room tight block.Paragraph es loose start = shape-room tight (through mode.Paragraph) (line Paragraph mode.Paragraph) 0 (omega arith) (omega arith)
+  block-room tight block.Bullets es loose start = let h = items-room loose in omega (arith, h)
+  block-room tight block.Numbers es loose start = let h = items-room loose in omega (arith, h)
+  block-room tight block.Item es loose start = let h = blocks-room tight in omega (arith, h)
+  block-room tight block.HeadingAtx es loose start = omega arith
+  block-room tight block.HeadingSetext es loose start = omega arith
+  block-room tight block.HeadingText es loose start = omega arith
+  block-room tight block.Quote es loose start = omega arith
+  block-room tight block.Fenced es loose start = omega arith
+  block-room tight block.Indented es loose start = omega arith
+  block-room tight block.Html es loose start = omega arith
+  block-room tight block.Rule es loose start = omega arith
+  block-room tight block.Table es loose start = omega arith
+  block-room tight block.TableHead es loose start = omega arith
+  block-room tight block.TableBody es loose start = omega arith
+  block-room tight block.TableRow es loose start = omega arith
+  block-room tight block.TableCell es loose start = omega arith
+  block-room tight block.Other es loose start = omega arith
+
+  item-room : (tight : Bool) (b : Block) → spare (item_shape tight b).inside ≤ row_room b
+  item-room tight block.Item = let h = blocks-room tight in omega (arith, h)
+  item-room tight block.Paragraph = omega arith
+  item-room tight block.HeadingAtx = omega arith
+  item-room tight block.HeadingSetext = omega arith
+  item-room tight block.HeadingText = omega arith
+  item-room tight block.Quote = omega arith
+  item-room tight block.Bullets = omega arith
+  item-room tight block.Numbers = omega arith
+  item-room tight block.Fenced = omega arith
+  item-room tight block.Indented = omega arith
+  item-room tight block.Html = omega arith
+  item-room tight block.Rule = omega arith
+  item-room tight block.Table = omega arith
+  item-room tight block.TableHead = omega arith
+  item-room tight block.TableBody = omega arith
+  item-room tight block.TableRow = omega arith
+  item-room tight block.TableCell = omega arith
+  item-room tight block.Other = omega arith
+
+  heading-room : (b : Block) → spare (heading_shape b).inside ≤ row_room b
+  heading-room block.Paragraph = omega arith
+  heading-room block.HeadingAtx = omega arith
+  heading-room block.HeadingSetext = omega arith
+  heading-room block.HeadingText = omega arith
+  heading-room block.Quote = omega arith
+  heading-room block.Bullets = omega arith
+  heading-room block.Numbers = omega arith
+  heading-room block.Item = omega arith
+  heading-room block.Fenced = omega arith
+  heading-room block.Indented = omega arith
+  heading-room block.Html = omega arith
+  heading-room block.Rule = omega arith
+  heading-room block.Table = omega arith
+  heading-room block.TableHead = omega arith
+  heading-room block.TableBody = omega arith
+  heading-room block.TableRow = omega arith
+  heading-room block.TableCell = omega arith
+  heading-room block.Other = omega arith
+
+  table-room : (b : Block) (es : List Event) → spare (table_shape b es).inside ≤ row_room b
+  table-room block.TableBody es = shape-room (list_any (enters name.GfmTableRow) es) (container TableBody [] (mode.Rows false)) (alone []) 0 (omega arith) (omega arith)
+  table-room block.Paragraph es = omega arith
+  table-room block.HeadingAtx es = omega arith
+  table-room block.HeadingSetext es = omega arith
+  table-room block.HeadingText es = omega arith
+  table-room block.Quote es = omega arith
+  table-room block.Bullets es = omega arith
+  table-room block.Numbers es = omega arith
+  table-room block.Item es = omega arith
+  table-room block.Fenced es = omega arith
+  table-room block.Indented es = omega arith
+  table-room block.Html es = omega arith
+  table-room block.Rule es = omega arith
+  table-room block.Table es = omega arith
+  table-room block.TableHead es = omega arith
+  table-room block.TableRow es = omega arith
+  table-room block.TableCell es = omega arith
+  table-room block.Other es = omega arith
+
+  row-fits : (head : Bool) (b : Block) → spare (row_shape head b).inside ≤ row_room b
+  row-fits head block.Paragraph = omega arith
+  row-fits head block.HeadingAtx = omega arith
+  row-fits head block.HeadingSetext = omega arith
+  row-fits head block.HeadingText = omega arith
+  row-fits head block.Quote = omega arith
+  row-fits head block.Bullets = omega arith
+  row-fits head block.Numbers = omega arith
+  row-fits head block.Item = omega arith
+  row-fits head block.Fenced = omega arith
+  row-fits head block.Indented = omega arith
+  row-fits head block.Html = omega arith
+  row-fits head block.Rule = omega arith
+  row-fits head block.Table = omega arith
+  row-fits head block.TableHead = omega arith
+  row-fits head block.TableBody = omega arith
+  row-fits head block.TableRow = omega arith
+  row-fits head block.TableCell = omega arith
+  row-fits head block.Other = omega arith
+
+  cell-room-by : (head : Bool) (o : Option (List Event)) → spare (elim o as (λ (_ : Option (List Event)). Shape) [ None ↦ alone [] | Some column ↦ cell head (alignment_of column) ]).inside ≡ 0
+  cell-room-by head None = refl
+  cell-room-by head (Some column) = refl
+
+  cell-room : (head : Bool) (columns : List Event) (b : Block) → spare (cell_shape head columns b).inside ≤ row_room b
+  cell-room head columns block.TableCell = let h = cell-room-by head (first_in name.GfmTableDelimiterCell columns) in omega (arith, h)
+  cell-room head columns block.Paragraph = omega arith
+  cell-room head columns block.HeadingAtx = omega arith
+  cell-room head columns block.HeadingSetext = omega arith
+  cell-room head columns block.HeadingText = omega arith
+  cell-room head columns block.Quote = omega arith
+  cell-room head columns block.Bullets = omega arith
+  cell-room head columns block.Numbers = omega arith
+  cell-room head columns block.Item = omega arith
+  cell-room head columns block.Fenced = omega arith
+  cell-room head columns block.Indented = omega arith
+  cell-room head columns block.Html = omega arith
+  cell-room head columns block.Rule = omega arith
+  cell-room head columns block.Table = omega arith
+  cell-room head columns block.TableHead = omega arith
+  cell-room head columns block.TableBody = omega arith
+  cell-room head columns block.TableRow = omega arith
+  cell-room head columns block.Other = omega arith
+
+  image-room : (alt : List ℕ) (q : Option Parts) → spare (image_of options alt q).inside ≡ 0
+  image-room alt None = refl
+  image-room alt (Some q) = refl
+
+  link-room : (q : Option Parts) → spare (link_to options q).inside ≡ 0
+  link-room None = refl
+  link-room (Some q) = refl
+
+  inline-room : (in_cell : Bool) (i : Inline) (es : List Event) (said alt : List ℕ) → spare (inline_shape options bytes lookup tab in_cell i es said alt).inside ≡ 0
+  inline-room in_cell inline.Link es said alt = link-room (parts_in_link bytes lookup es)
+  inline-room in_cell inline.Image es said alt = image-room alt (parts_in_link bytes lookup es)
+  inline-room in_cell inline.Ending es said alt = refl
+  inline-room in_cell inline.Break es said alt = refl
+  inline-room in_cell inline.Emphasis es said alt = refl
+  inline-room in_cell inline.Strong es said alt = refl
+  inline-room in_cell inline.Struck es said alt = refl
+  inline-room in_cell inline.Code es said alt = refl
+  inline-room in_cell inline.Html es said alt = refl
+  inline-room in_cell inline.Autolink es said alt = refl
+  inline-room in_cell inline.Www es said alt = refl
+  inline-room in_cell inline.Email es said alt = refl
+  inline-room in_cell inline.Address es said alt = refl
+  inline-room in_cell inline.Check es said alt = refl
+  inline-room in_cell inline.Tail es said alt = refl
+  inline-room in_cell inline.Other es said alt = refl
+
+  paragraph-room : (c : Bool) (x y : Shape) → spare x.inside ≡ 0 → spare y.inside ≡ 0 → spare (cond c x y).inside ≡ 0
+  paragraph-room true x y h k = h
+  paragraph-room false x y h k = k
+
+  by-name-room : (m : Mode) (columns : List Event) (n : Name) (es : List Event) (loose : Bool) (start : Option ℕ) (said alt : List ℕ)
+      → spare (shape_by options bytes lookup tab m columns n es loose start said alt).inside ≤ row_room (block_of n)
+  by-name-room mode.Flow columns n es loose start said alt = block-room false (block_of n) es loose start
+  by-name-room mode.Tight columns n es loose start said alt = block-room true (block_of n) es loose start
+  by-name-room mode.LooseItems columns n es loose start said alt = item-room false (block_of n)
+  by-name-room mode.TightItems columns n es loose start said alt = item-room true (block_of n)
+  by-name-room mode.Heading columns n es loose start said alt = heading-room (block_of n)
+  by-name-room mode.Table columns n es loose start said alt = table-room (block_of n) es
+  by-name-room (mode.Rows head) columns n es loose start said alt = row-fits head (block_of n)
+  by-name-room (mode.Cells head) columns n es loose start said alt = cell-room head columns (block_of n)
+  by-name-room mode.Paragraph columns n es loose start said alt =
+      let c = is_in_cell columns in
+      let i = inline_of n in
+      let h = paragraph-room (is_check i) (check (is_checked es)) (inline_shape options bytes lookup tab c i es said alt) refl (inline-room c i es said alt) in
+      omega (arith, h)
+  by-name-room mode.Text columns n es loose start said alt = let h = inline-room (is_in_cell columns) (inline_of n) es said alt in omega (arith, h)
+  by-name-room mode.Nothing columns n es loose start said alt = omega arith
 
   -- ---- spans
 
-  abbrev all_of : Mode → Spans → List Piece
-  all_of m s = pieces options bytes lookup tab m s
+  abbrev all_of : Mode → (columns : List Event) → Spans → List Piece
+  all_of m columns s = pieces options bytes lookup tab m columns s
 
-  abbrev here_of : Mode → (e f : Event) → Spans → Shape
-  here_of m e f s = shape options bytes lookup tab m e f s
+  abbrev here_of : Mode → (columns : List Event) → (e f : Event) → Spans → Shape
+  here_of m columns e f s = shape options bytes lookup tab m columns e f s
+
+  abbrev within_of : (columns : List Event) → Event → Spans → List Event
+  within_of columns e s = columns_in (block_of e.name) columns (events_of s)
+
+  abbrev behind_of : (columns : List Event) → Event → List Event
+  behind_of columns e = columns_behind (block_of e.name) columns
 
   -- the room of an enter
   abbrev first_of : (e f : Event) → (s behind : Spans) → ℕ
@@ -670,21 +1051,24 @@ module _ (options : CompileOptions) (bytes : List ℕ) (lookup : (label : List �
   abbrev own_of : Event → Spans → ℕ
   own_of e s = referred bytes size (inline_of e.name) (events_of s) 0
 
-  shape-short : (m : Mode) (e f : Event) (s behind : Spans)
-      → IsShort (inline_of e.name) (here_of m e f s) (first_of e f s behind) (first_of e f s behind + room_of s) (own_of e s)
-  shape-short m e f s behind =
+  shape-short : (m : Mode) (columns : List Event) (e f : Event) (s behind : Spans)
+      → IsShort (inline_of e.name) (here_of m columns e f s) (first_of e f s behind) (first_of e f s behind + room_of s) (own_of e s)
+  shape-short m columns e f s behind =
       let es = events_of s in
       let own = said-le bytes e f s (events_of behind) in
       let alt = alt-le bytes tab s in
-      by-name-short m e.name es (is_loose es) (list_start bytes es) (said bytes e f s) (alt_of bytes s) (first_of e f s behind) (first_of e f s behind + room_of s) (start-short bytes es)
+      by-name-short m columns e.name es (is_loose es) (list_start bytes es) (said bytes e f s) (alt_of bytes s) (first_of e f s behind) (first_of e f s behind + room_of s) (start-short bytes es)
       (omega (arith, own)) (omega arith) (omega arith) (omega (arith, alt))
 
-  none-written : (s : Spans) → longs (all_of mode.Nothing s) ≡ 0
-  none-written Nothing = refl
-  none-written (Span e f s behind) =
-      let all = longs-append (all_of mode.Nothing s) (all_of mode.Nothing behind) in
-      let inner = none-written s in
-      let rest = none-written behind in
+  inside-room : (m : Mode) (columns : List Event) (e f : Event) (s : Spans) → spare (here_of m columns e f s).inside ≤ row_room (block_of e.name)
+  inside-room m columns e f s = let es = events_of s in by-name-room m columns e.name es (is_loose es) (list_start bytes es) (said bytes e f s) (alt_of bytes s)
+
+  none-written : (columns : List Event) (s : Spans) → longs (all_of mode.Nothing columns s) ≡ 0
+  none-written columns Nothing = refl
+  none-written columns (Span e f s behind) =
+      let all = longs-append (all_of mode.Nothing (within_of columns e s) s) (all_of mode.Nothing (behind_of columns e) behind) in
+      let inner = none-written (within_of columns e s) s in
+      let rest = none-written (behind_of columns e) behind in
       omega (arith, all, inner, rest)
 
   longs-span : (here : Shape) (inner rest : List Piece)
@@ -701,79 +1085,89 @@ module _ (options : CompileOptions) (bytes : List ℕ) (lookup : (label : List �
   span-count : (e f : Event) (s behind : Spans) → count_of (Span e f s behind) ≡ (count_of s + count_of behind) + 2
   span-count e f s behind = let h = length-append (events_of s) (f ∷ events_of behind) in omega (arith, h)
 
-  abbrev IsBelow : (most : ℕ) → Mode → Spans → Type 0
-  IsBelow most m s = longs (all_of m s) ≤ (most + 24 * count_of s) + 9 * left_of s
+  abbrev IsBelow : (most : ℕ) → Mode → (columns : List Event) → Spans → Type 0
+  IsBelow most m columns s = longs (all_of m columns s) ≤ (((most + 24 * count_of s) + 9 * left_of s) + 2500 * rows s) + spare m
+
+  abbrev inner_of : Mode → (columns : List Event) → (e f : Event) → Spans → List Piece
+  inner_of m columns e f s = all_of (here_of m columns e f s).inside (within_of columns e s) s
 
   -- a span with no link in it
-  linkless-by : (m : Mode) (e f : Event) (s behind : Spans) → IsShort (inline_of e.name) (here_of m e f s) (first_of e f s behind) (first_of e f s behind + room_of s) (own_of e s)
-      → has_links_by (inline_of e.name) (has_links s) ≡ false → (has_links s ≡ false → IsBelow (21 * room_of s) (here_of m e f s).inside s) → IsBelow (21 * room_of behind) m behind
-      → IsBelow (21 * room_of (Span e f s behind)) m (Span e f s behind)
-  linkless-by m e f s behind (thin left bound) none inner rest =
+  linkless-by : (m : Mode) (columns : List Event) (e f : Event) (s behind : Spans)
+      → IsShort (inline_of e.name) (here_of m columns e f s) (first_of e f s behind) (first_of e f s behind + room_of s) (own_of e s) → has_links_by (inline_of e.name) (has_links s) ≡ false
+      → (has_links s ≡ false → IsBelow (21 * room_of s) (here_of m columns e f s).inside (within_of columns e s) s) → IsBelow (21 * room_of behind) m (behind_of columns e) behind
+      → IsBelow (21 * room_of (Span e f s behind)) m columns (Span e f s behind)
+  linkless-by m columns e f s behind (thin left bound) none inner rest =
       let i = inline_of e.name in
       let within = inner (unlinked i (has_links s) left none) in
-      let all = longs-span (here_of m e f s) (all_of (here_of m e f s).inside s) (all_of m behind) in
+      let spares = inside-room m columns e f s in
+      let all = longs-span (here_of m columns e f s) (inner_of m columns e f s) (all_of m (behind_of columns e) behind) in
       let rooms = span-room e f s behind in
       let count = span-count e f s behind in
       let more = referred-inner i (events_of s) (left_of s) left in
-      omega (arith, bound, within, rest, all, rooms, count, more)
-  linkless-by m e f s behind (whole is bound) none inner rest =
+      omega (arith, bound, within, spares, rest, all, rooms, count, more)
+  linkless-by m columns e f s behind (whole is bound) none inner rest =
       let i = inline_of e.name in
-      let within = ap (λ w. longs (all_of w s)) is ∙ none-written s in
-      let all = longs-span (here_of m e f s) (all_of (here_of m e f s).inside s) (all_of m behind) in
+      let within = ap (λ w. longs (all_of w (within_of columns e s) s)) is ∙ none-written (within_of columns e s) s in
+      let all = longs-span (here_of m columns e f s) (inner_of m columns e f s) (all_of m (behind_of columns e) behind) in
       let rooms = span-room e f s behind in
       let count = span-count e f s behind in
       let more = referred-own i (events_of s) (left_of s) in
       omega (arith, bound, within, rest, all, rooms, count, more)
-  linkless-by m e f s behind (led is link bound) none inner rest = absurd (false≢true (sym none ∙ ap (λ i. has_links_by i (has_links s)) link))
+  linkless-by m columns e f s behind (led is link bound) none inner rest = absurd (false≢true (sym none ∙ ap (λ i. has_links_by i (has_links s)) link))
 
-  linkless : (m : Mode) (s : Spans) → has_links s ≡ false → IsBelow (21 * room_of s) m s
-  linkless m Nothing h = omega arith
-  linkless m (Span e f s behind) h =
+  linkless : (m : Mode) (columns : List Event) (s : Spans) → has_links s ≡ false → IsBelow (21 * room_of s) m columns s
+  linkless m columns Nothing h = let few = left-short m columns in omega (arith, few)
+  linkless m columns (Span e f s behind) h =
       let parts = or_parts (has_links_by (inline_of e.name) (has_links s)) (has_links behind) h in
-      linkless-by m e f s behind (shape-short m e f s behind) parts.0 (λ none. linkless (here_of m e f s).inside s none) (linkless m behind parts.1)
+      linkless-by m columns e f s behind (shape-short m columns e f s behind) parts.0 (λ none. linkless (here_of m columns e f s).inside (within_of columns e s) s none)
+      (linkless m (behind_of columns e) behind parts.1)
 
   -- a span with no link in a link
-  apart-by : (m : Mode) (e f : Event) (s behind : Spans) → IsShort (inline_of e.name) (here_of m e f s) (first_of e f s behind) (first_of e f s behind + room_of s) (own_of e s)
-      → is_linked (inline_of e.name) (has_links s) ≡ false → IsBelow (36 * room_of s) (here_of m e f s).inside s → IsBelow (36 * room_of behind) m behind
-      → IsBelow (36 * room_of (Span e f s behind)) m (Span e f s behind)
-  apart-by m e f s behind (thin left bound) none inner rest =
+  apart-by : (m : Mode) (columns : List Event) (e f : Event) (s behind : Spans)
+      → IsShort (inline_of e.name) (here_of m columns e f s) (first_of e f s behind) (first_of e f s behind + room_of s) (own_of e s) → is_linked (inline_of e.name) (has_links s) ≡ false
+      → IsBelow (36 * room_of s) (here_of m columns e f s).inside (within_of columns e s) s → IsBelow (36 * room_of behind) m (behind_of columns e) behind
+      → IsBelow (36 * room_of (Span e f s behind)) m columns (Span e f s behind)
+  apart-by m columns e f s behind (thin left bound) none inner rest =
       let i = inline_of e.name in
-      let all = longs-span (here_of m e f s) (all_of (here_of m e f s).inside s) (all_of m behind) in
+      let spares = inside-room m columns e f s in
+      let all = longs-span (here_of m columns e f s) (inner_of m columns e f s) (all_of m (behind_of columns e) behind) in
       let rooms = span-room e f s behind in
       let count = span-count e f s behind in
       let more = referred-inner i (events_of s) (left_of s) left in
-      omega (arith, bound, inner, rest, all, rooms, count, more)
-  apart-by m e f s behind (whole is bound) none inner rest =
+      omega (arith, bound, inner, spares, rest, all, rooms, count, more)
+  apart-by m columns e f s behind (whole is bound) none inner rest =
       let i = inline_of e.name in
-      let within = ap (λ w. longs (all_of w s)) is ∙ none-written s in
-      let all = longs-span (here_of m e f s) (all_of (here_of m e f s).inside s) (all_of m behind) in
+      let within = ap (λ w. longs (all_of w (within_of columns e s) s)) is ∙ none-written (within_of columns e s) s in
+      let all = longs-span (here_of m columns e f s) (inner_of m columns e f s) (all_of m (behind_of columns e) behind) in
       let rooms = span-room e f s behind in
       let count = span-count e f s behind in
       let more = referred-own i (events_of s) (left_of s) in
       omega (arith, bound, within, rest, all, rooms, count, more)
-  apart-by m e f s behind (led is link bound) none inner rest =
+  apart-by m columns e f s behind (led is link bound) none inner rest =
       let i = inline_of e.name in
       let free : has_links s ≡ false = ap (λ j. is_linked j (has_links s)) (sym link) ∙ none in
-      let within = linkless (here_of m e f s).inside s free in
-      let all = longs-span (here_of m e f s) (all_of (here_of m e f s).inside s) (all_of m behind) in
+      let within = linkless (here_of m columns e f s).inside (within_of columns e s) s free in
+      let spares = inside-room m columns e f s in
+      let all = longs-span (here_of m columns e f s) (inner_of m columns e f s) (all_of m (behind_of columns e) behind) in
       let rooms = span-room e f s behind in
       let count = span-count e f s behind in
       let more = referred-link i (events_of s) (left_of s) link in
-      omega (arith, bound, within, rest, all, rooms, count, more)
+      omega (arith, bound, within, spares, rest, all, rooms, count, more)
 
-  apart : (m : Mode) (s : Spans) → are_apart s ≡ true → IsBelow (36 * room_of s) m s
-  apart m Nothing h = omega arith
-  apart m (Span e f s behind) h =
+  apart : (m : Mode) (columns : List Event) (s : Spans) → are_apart s ≡ true → IsBelow (36 * room_of s) m columns s
+  apart m columns Nothing h = let few = left-short m columns in omega (arith, few)
+  apart m columns (Span e f s behind) h =
       let i = inline_of e.name in
       let first = and_parts (not (is_linked i (has_links s))) (are_apart s && are_apart behind) h in
       let both = and_parts (are_apart s) (are_apart behind) first.1 in
-      apart-by m e f s behind (shape-short m e f s behind) (not-true (is_linked i (has_links s)) first.0) (apart (here_of m e f s).inside s both.0) (apart m behind both.1)
+      apart-by m columns e f s behind (shape-short m columns e f s behind) (not-true (is_linked i (has_links s)) first.0)
+      (apart (here_of m columns e f s).inside (within_of columns e s) s both.0) (apart m (behind_of columns e) behind both.1)
 
 pub html-short : HtmlIsShort
 html-short options bytes lookup tab events balanced free =
     let s = spans_of events in
-    let ps = pieces options bytes lookup tab mode.Flow s in
+    let ps = pieces options bytes lookup tab mode.Flow [] s in
     let left = references bytes (λ label. length_of_parts (lookup label)) s in
     let bytes-of = html-longs true ps in
-    let most = apart options bytes lookup tab mode.Flow s free in
-    subst (λ (es : List Event). length (html_from true ps) ≤ (36 * room tab es + 24 * length es) + 9 * left) (keep-events events balanced) (omega (arith, bytes-of, most))
+    let most = apart options bytes lookup tab mode.Flow [] s free in
+    subst (λ (es : List Event). length (html_from true ps) ≤ ((36 * room tab es + 24 * length es) + 9 * left) + 2500 * rows s) (keep-events events balanced) (omega (arith, bytes-of, most))

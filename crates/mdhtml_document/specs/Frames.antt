@@ -9,11 +9,13 @@ use Rattle.mdblock_containers.specs.Lists.{list_names}
 use Rattle.mdblock_containers.specs.ListShapes.{shapes_from}
 use Rattle.mdhtml_document.specs.declared.shapes.End.{End}
 use Rattle.mdhtml_document.specs.declared.shapes.End.TheVariants as end
+use Rattle.mdhtml_document.specs.declared.names.Block.{Block}
 use Rattle.mdhtml_document.specs.declared.shapes.Frame.{Frame}
+use Rattle.mdhtml_document.specs.declared.shapes.Level.{Level}
 use Rattle.mdhtml_document.specs.declared.shapes.Mode.{Mode}
 use Rattle.mdhtml_document.specs.declared.shapes.Mode.TheVariants as mode
 use Rattle.mdhtml_document.specs.declared.links.Whole.{Whole}
-use Rattle.mdhtml_document.specs.Html.{Shape, extent}
+use Rattle.mdhtml_document.specs.Html.{Shape, columns_behind, extent}
 use Rattle.mdhtml_document.specs.Written.{after}
 use Rattle.mdhtml_markup.specs.Pieces.{Close, Feed, Fresh, Piece}
 use Rattle.mddocument_link_targets.specs.declared.definitions.Definitions.{Definitions}
@@ -28,22 +30,32 @@ closed_by (end.WithinLine e) = Close e ∷ []
 closed_by (end.Line e) = Close e ∷ Feed ∷ []
 closed_by (end.Lines e) = Fresh ∷ Close e ∷ Feed ∷ []
 
--- a span that is open: what is written of the spans in it, and what ends it
+-- a span that is open: what is written of the spans in it from here on, the columns that they stand in, and what ends it
 pub record Open : Type 0 where
   pub mode : Mode
+  pub columns : List Event
   pub closed : List Piece
 
-abbrev pub open_of : Frame → Open
-open_of f = record { mode = f.mode; closed = closed_by f.end }
+abbrev pub open_of : Level → Open
+open_of l = record { mode = l.mode; columns = l.columns.now; closed = closed_by l.end }
 
--- those of frames, the innermost first
-abbrev pub opens : List Frame → List Open
-opens frames = map open_of (reverse frames)
+-- those of levels, the innermost first
+abbrev pub opens : List Level → List Open
+opens levels = map open_of (reverse levels)
 
--- what is written of spans behind them, and what ends the innermost one
+-- what is written of spans behind them, in which columns, and what ends the innermost one
 abbrev pub mode_of : List Open → Mode
 mode_of [] = mode.Flow
 mode_of (o ∷ os) = o.mode
+
+abbrev pub columns_at : List Open → List Event
+columns_at [] = []
+columns_at (o ∷ os) = o.columns
+
+-- behind a span that is entered, the others stand in the columns behind it
+abbrev pub moved : Block → List Open → List Open
+moved b [] = []
+moved b (o ∷ os) = record o { columns = columns_behind b o.columns } ∷ os
 
 abbrev pub closed_of : List Open → List Piece
 closed_of [] = []

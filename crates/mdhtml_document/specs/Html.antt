@@ -2,7 +2,7 @@
 use Rattle.std.specs.List.{list_any, take_while}
 use Rattle.std.specs.Char.{is_ascii_whitespace}
 use Rattle.std.specs.Option.{option_map_or}
-use Rattle.std.specs.Prelude.{ℕ, ◌+◌, ◌-◌, ◌==◌, ◌||◌, max, nat_lt, not, Bool, true, false, cond, List, [], ◌∷◌, ◌++◌, codes, drop, length, slice_get, Option, None, Some, option_and_then}
+use Rattle.std.specs.Prelude.{ℕ, zero, suc, ◌+◌, ◌-◌, ◌==◌, ◌||◌, max, nat_lt, not, Bool, true, false, cond, List, [], ◌∷◌, ◌++◌, codes, drop, length, slice_get, Option, None, Some, option_and_then}
 use Rattle.markdown_base.specs.declared.configuration.CompileOptions.{CompileOptions}
 use Rattle.markdown_base.specs.declared.event.Event.{Event}
 use Rattle.markdown_base.specs.declared.event.Name.{Name}
@@ -16,13 +16,15 @@ use Rattle.mdhtml_document.specs.declared.shapes.Mode.{Mode}
 use Rattle.mdhtml_document.specs.declared.shapes.Mode.TheVariants as mode
 use Rattle.mdhtml_document.specs.Names.{block_of, inline_of}
 use Rattle.mdhtml_document.specs.Spans.{Nothing, Span, Spans, events_of, spans_of}
-use Rattle.mdhtml_document.specs.Values.{alt_of, autolink_address, behind_first_line, code_lines, code_text, html_flow, html_text, is_email, said, title_from}
+use Rattle.mdhtml_document.specs.Values.{alt_of, autolink_address, behind_first_line, cell_text, code_lines, code_text, html_flow, html_text, is_email, said, title_from}
 use Rattle.mdhtml_markup.specs.Addresses.{allowed}
 use Rattle.mdhtml_markup.specs.declared.addresses.Place.{Place}
 use Rattle.mdhtml_markup.specs.declared.addresses.Place.TheVariants as place
+use Rattle.mdhtml_markup.specs.declared.elements.Alignment.{Alignment}
+use Rattle.mdhtml_markup.specs.declared.elements.Alignment.TheVariants as alignment
 use Rattle.mdhtml_markup.specs.declared.elements.Element.{Element}
-use Rattle.mdhtml_markup.specs.declared.elements.Element.TheVariants.{Anchor, BlockQuote, Break, Checkbox, Code, Deleted, Emphasis, Heading1, Heading2, Heading3, Heading4, Heading5, Heading6, Image, ListItem, OrderedList, Paragraph, Preformatted, Strong, ThematicBreak, UnorderedList}
-use Rattle.mdhtml_markup.specs.Pieces.{Alt, Attribute, Checked, Close, Disabled, Feed, Fresh, Href, InputType, Kept, Language, Open, Piece, Src, Start, Text, Title, Void, html}
+use Rattle.mdhtml_markup.specs.declared.elements.Element.TheVariants.{Anchor, BlockQuote, Break, Checkbox, Code, DataCell, Deleted, Emphasis, HeaderCell, Heading1, Heading2, Heading3, Heading4, Heading5, Heading6, Image, ListItem, OrderedList, Paragraph, Preformatted, Strong, Table, TableBody, TableHead, TableRow, ThematicBreak, UnorderedList}
+use Rattle.mdhtml_markup.specs.Pieces.{Aligned, Alt, Attribute, Checked, Close, Disabled, Feed, Fresh, Href, InputType, Kept, Language, Open, Piece, Src, Start, Text, Title, Void, html}
 use Rattle.mddocument_link_targets.specs.declared.targets.Parts.{Parts}
 use Rattle.mddocument_link_targets.specs.declared.targets.Target.{Target}
 use Rattle.mddocument_link_targets.specs.declared.targets.Target.TheVariants as target
@@ -161,6 +163,99 @@ task_box checked = Void Checkbox (InputType ∷ cond checked (Checked ∷ Disabl
 abbrev pub check : (checked : Bool) → Shape
 check checked = alone (task_box checked ∷ [])
 
+-- ---- tables (GFM 0.29, 4.10)
+
+-- Where the columns of a table are told: events of its delimiter row, in which the next delimiter cell is the next column. Outside of tables there are none
+abbrev pub columns_of : List Event → List Event
+columns_of es = elim (first_in name.GfmTableDelimiterRow es) [ None ↦ [] | Some row ↦ row ]
+
+-- the columns behind the first one
+abbrev pub behind_column : List Event → List Event
+behind_column [] = []
+behind_column (e ∷ es) = cond (enters name.GfmTableDelimiterCell e) es (behind_column es)
+
+-- A colon before the hyphens of a delimiter cell, and one behind them: "optionally, a leading or trailing colon (:), or both, to indicate left, right, or center
+-- alignment respectively"
+abbrev pub is_led : List Event → Bool
+is_led [] = false
+is_led (e ∷ es) = cond (enters name.GfmTableDelimiterMarker e) true (cond (enters name.GfmTableDelimiterFiller e) false (is_led es))
+
+abbrev pub is_trailed : List Event → Bool
+is_trailed [] = false
+is_trailed (e ∷ es) = cond (enters name.GfmTableDelimiterFiller e) (list_any (enters name.GfmTableDelimiterMarker) es) (is_trailed es)
+
+abbrev pub alignment_by : (led trailed : Bool) → Option Alignment
+alignment_by true true = Some alignment.Center
+alignment_by true false = Some alignment.Left
+alignment_by false true = Some alignment.Right
+alignment_by false false = None
+
+-- where the text of a column stands, by the events in its delimiter cell
+abbrev pub alignment_of : List Event → Option Alignment
+alignment_of es = alignment_by (is_led es) (is_trailed es)
+
+abbrev pub aligned : Option Alignment → List Attribute
+aligned None = []
+aligned (Some a) = Aligned a ∷ []
+
+-- a cell of the head of a table, or of a row
+abbrev pub cell_element : (is_head : Bool) → Element
+cell_element is_head = cond is_head HeaderCell DataCell
+
+abbrev pub cell : (is_head : Bool) → Option Alignment → Shape
+cell is_head a = record { opened = Fresh ∷ Open (cell_element is_head) (aligned a) ∷ []; inside = mode.Heading; closed = Close (cell_element is_head) ∷ Feed ∷ [] }
+
+abbrev pub empty_cell : (is_head : Bool) → Option Alignment → List Piece
+empty_cell is_head a = Open (cell_element is_head) (aligned a) ∷ Close (cell_element is_head) ∷ Feed ∷ []
+
+-- "If there are a number of cells fewer than the number of cells in the header row, empty cells are inserted": so many at most, for these columns
+abbrev pub empty_cells : (most : ℕ) → (is_head : Bool) → (columns : List Event) → List Piece
+empty_cells zero is_head columns = []
+empty_cells (suc n) is_head columns =
+    elim (first_in name.GfmTableDelimiterCell columns) [
+      | None ↦ []
+      | Some column ↦ empty_cell is_head (alignment_of column) ++ empty_cells n is_head (behind_column columns)
+    ]
+
+-- What is written behind the last of some spans: behind the cells of a row those that it lacks. A hundred are enough for people, and so many rows that are
+-- short of a wide header are not the square of that
+abbrev pub lacking : Mode → (columns : List Event) → List Piece
+lacking (mode.Cells is_head) columns = empty_cells 100 is_head columns
+lacking m columns = []
+
+-- the columns that the spans in a span, and those behind it, stand in
+abbrev pub columns_in : Block → (columns inner : List Event) → List Event
+columns_in block.Table columns inner = columns_of inner
+columns_in b columns inner = columns
+
+abbrev pub is_cell : Block → Bool
+is_cell block.TableCell = true
+is_cell b = false
+
+abbrev pub columns_behind : Block → (columns : List Event) → List Event
+columns_behind b [] = []
+columns_behind b (e ∷ es) = cond (is_cell b) (behind_column (e ∷ es)) (e ∷ es)
+
+-- text that stands in a column is in a cell
+abbrev pub is_in_cell : (columns : List Event) → Bool
+is_in_cell [] = false
+is_in_cell (e ∷ es) = true
+
+-- a span directly in a table: its head; and its body, if that has a row
+abbrev pub table_shape : Block → List Event → Shape
+table_shape block.TableHead es = container TableHead [] (mode.Rows true)
+table_shape block.TableBody es = cond (list_any (enters name.GfmTableRow) es) (container TableBody [] (mode.Rows false)) (alone [])
+table_shape _ es = alone []
+
+-- directly in these; and directly in a row: "If there are greater, the excess is ignored"
+abbrev pub row_shape : (is_head : Bool) → Block → Shape
+row_shape is_head block.TableRow = container TableRow [] (mode.Cells is_head)
+row_shape is_head _ = alone []
+
+abbrev pub cell_shape : (is_head : Bool) → (columns : List Event) → Block → Shape
+cell_shape is_head columns block.TableCell = elim (first_in name.GfmTableDelimiterCell columns) [ None ↦ alone [] | Some column ↦ cell is_head (alignment_of column) ]
+cell_shape is_head columns _ = alone []
+
 -- ---- spans
 
 -- a span directly in a list
@@ -168,7 +263,7 @@ abbrev pub item_shape : (tight : Bool) → Block → Shape
 item_shape tight block.Item = line ListItem (blocks tight)
 item_shape tight _ = alone []
 
--- and directly in a heading
+-- and directly in a heading, or in a cell of a table
 abbrev pub heading_shape : Block → Shape
 heading_shape block.HeadingText = through mode.Text
 heading_shape _ = alone []
@@ -190,56 +285,65 @@ module _ (options : CompileOptions) (bytes : List ℕ) (lookup : (label : List �
   block_shape tight block.Indented es loose start = code [] (code_lines bytes tab es)
   block_shape tight block.Html es loose start = alone (Fresh ∷ raw options (html_flow bytes tab es) ∷ Fresh ∷ [])
   block_shape tight block.Rule es loose start = alone (Fresh ∷ Void ThematicBreak [] ∷ Feed ∷ [])
+  block_shape tight block.Table es loose start = container Table [] mode.Table
+  block_shape tight block.TableHead es loose start = alone []
+  block_shape tight block.TableBody es loose start = alone []
+  block_shape tight block.TableRow es loose start = alone []
+  block_shape tight block.TableCell es loose start = alone []
   block_shape tight block.Other es loose start = alone []
 
-  -- a span of inline text, by what it is, the events in it, what it says if it is an innermost one, and what it is described by if it is an image
-  abbrev pub inline_shape : Inline → List Event → (said alt : List ℕ) → Shape
-  inline_shape inline.Ending es said alt = alone (Feed ∷ [])
-  inline_shape inline.Break es said alt = alone (Void Break [] ∷ [])
-  inline_shape inline.Emphasis es said alt = within_line Emphasis []
-  inline_shape inline.Strong es said alt = within_line Strong []
-  inline_shape inline.Struck es said alt = within_line Deleted []
-  inline_shape inline.Code es said alt = alone (Open Code [] ∷ Text (code_text bytes es) ∷ Close Code ∷ [])
-  inline_shape inline.Html es said alt = alone (raw options (html_text bytes es) ∷ [])
-  inline_shape inline.Autolink es said alt = autolink options bytes es
-  inline_shape inline.Www es said alt = literal options (codes "http://") said
-  inline_shape inline.Email es said alt = literal options (codes "mailto:") said
-  inline_shape inline.Address es said alt = literal options [] said
-  inline_shape inline.Link es said alt = link_to options (parts_in_link bytes lookup es)
-  inline_shape inline.Image es said alt = image_of options alt (parts_in_link bytes lookup es)
-  inline_shape inline.Check es said alt = alone []
-  inline_shape inline.Tail es said alt = alone []
-  inline_shape inline.Other es said alt = told said
+  -- a span of inline text, by whether it is in a cell, what it is, the events in it, what it says if it is an innermost one, and what it is described by if it is an image
+  abbrev pub inline_shape : (in_cell : Bool) → Inline → List Event → (said alt : List ℕ) → Shape
+  inline_shape in_cell inline.Ending es said alt = alone (Feed ∷ [])
+  inline_shape in_cell inline.Break es said alt = alone (Void Break [] ∷ [])
+  inline_shape in_cell inline.Emphasis es said alt = within_line Emphasis []
+  inline_shape in_cell inline.Strong es said alt = within_line Strong []
+  inline_shape in_cell inline.Struck es said alt = within_line Deleted []
+  inline_shape in_cell inline.Code es said alt = alone (Open Code [] ∷ Text (cell_text in_cell (code_text bytes es)) ∷ Close Code ∷ [])
+  inline_shape in_cell inline.Html es said alt = alone (raw options (cell_text in_cell (html_text bytes es)) ∷ [])
+  inline_shape in_cell inline.Autolink es said alt = autolink options bytes es
+  inline_shape in_cell inline.Www es said alt = literal options (codes "http://") said
+  inline_shape in_cell inline.Email es said alt = literal options (codes "mailto:") said
+  inline_shape in_cell inline.Address es said alt = literal options [] said
+  inline_shape in_cell inline.Link es said alt = link_to options (parts_in_link bytes lookup es)
+  inline_shape in_cell inline.Image es said alt = image_of options alt (parts_in_link bytes lookup es)
+  inline_shape in_cell inline.Check es said alt = alone []
+  inline_shape in_cell inline.Tail es said alt = alone []
+  inline_shape in_cell inline.Other es said alt = told said
 
   -- and directly in a paragraph: there a check of a task is a box
-  abbrev pub paragraph_shape : Inline → List Event → (said alt : List ℕ) → Shape
-  paragraph_shape i es said alt = cond (is_check i) (check (is_checked es)) (inline_shape i es said alt)
+  abbrev pub paragraph_shape : (in_cell : Bool) → Inline → List Event → (said alt : List ℕ) → Shape
+  paragraph_shape in_cell i es said alt = cond (is_check i) (check (is_checked es)) (inline_shape in_cell i es said alt)
 
-  abbrev pub shape_by : Mode → Name → List Event → (is_loose : Bool) → (start : Option ℕ) → (said alt : List ℕ) → Shape
-  shape_by mode.Flow n es loose start said alt = block_shape false (block_of n) es loose start
-  shape_by mode.Tight n es loose start said alt = block_shape true (block_of n) es loose start
-  shape_by mode.LooseItems n es loose start said alt = item_shape false (block_of n)
-  shape_by mode.TightItems n es loose start said alt = item_shape true (block_of n)
-  shape_by mode.Heading n es loose start said alt = heading_shape (block_of n)
-  shape_by mode.Paragraph n es loose start said alt = paragraph_shape (inline_of n) es said alt
-  shape_by mode.Text n es loose start said alt = inline_shape (inline_of n) es said alt
-  shape_by mode.Nothing n es loose start said alt = alone []
+  abbrev pub shape_by : Mode → (columns : List Event) → Name → List Event → (is_loose : Bool) → (start : Option ℕ) → (said alt : List ℕ) → Shape
+  shape_by mode.Flow columns n es loose start said alt = block_shape false (block_of n) es loose start
+  shape_by mode.Tight columns n es loose start said alt = block_shape true (block_of n) es loose start
+  shape_by mode.LooseItems columns n es loose start said alt = item_shape false (block_of n)
+  shape_by mode.TightItems columns n es loose start said alt = item_shape true (block_of n)
+  shape_by mode.Heading columns n es loose start said alt = heading_shape (block_of n)
+  shape_by mode.Table columns n es loose start said alt = table_shape (block_of n) es
+  shape_by (mode.Rows is_head) columns n es loose start said alt = row_shape is_head (block_of n)
+  shape_by (mode.Cells is_head) columns n es loose start said alt = cell_shape is_head columns (block_of n)
+  shape_by mode.Paragraph columns n es loose start said alt = paragraph_shape (is_in_cell columns) (inline_of n) es said alt
+  shape_by mode.Text columns n es loose start said alt = inline_shape (is_in_cell columns) (inline_of n) es said alt
+  shape_by mode.Nothing columns n es loose start said alt = alone []
 
-  abbrev pub shape : Mode → (enter exit : Event) → Spans → Shape
-  shape m e f s = let es = events_of s in shape_by m e.name es (is_loose es) (list_start bytes es) (said bytes e f s) (alt_of bytes s)
+  abbrev pub shape : Mode → (columns : List Event) → (enter exit : Event) → Spans → Shape
+  shape m columns e f s = let es = events_of s in shape_by m columns e.name es (is_loose es) (list_start bytes es) (said bytes e f s) (alt_of bytes s)
 
-  -- the pieces of spans
-  abbrev pub pieces : Mode → Spans → List Piece
-  pieces m Nothing = []
-  pieces m (Span e f s behind) =
-      let here = shape m e f s in
-      here.opened ++ (pieces here.inside s ++ (here.closed ++ pieces m behind))
+  -- the pieces of spans that stand in these columns
+  abbrev pub pieces : Mode → (columns : List Event) → Spans → List Piece
+  pieces m columns Nothing = lacking m columns
+  pieces m columns (Span e f s behind) =
+      let b = block_of e.name in
+      let here = shape m columns e f s in
+      here.opened ++ (pieces here.inside (columns_in b columns (events_of s)) s ++ (here.closed ++ pieces m (columns_behind b columns) behind))
 
 -- ---- HTML
 
 -- HTML of events, by what labels are defined as
 abbrev pub html_by : CompileOptions → (bytes : List ℕ) → (lookup : (label : List ℕ) → Option Parts) → (tab : ℕ) → List Event → List ℕ
-html_by options bytes lookup tab events = html (pieces options bytes lookup tab mode.Flow (spans_of events))
+html_by options bytes lookup tab events = html (pieces options bytes lookup tab mode.Flow [] (spans_of events))
 
 -- what labels are defined as by the events of a document: the first definition of a label counts
 abbrev pub defined_in : (bytes : List ℕ) → List Event → (label : List ℕ) → Option Parts

@@ -27,6 +27,19 @@ check value line start i =
     around name.GfmTaskListItemCheck line start i (i + 3)
     (leaf name.GfmTaskListItemMarker line start i (i + 1) ++ (leaf value line start (i + 1) (i + 2) ++ leaf name.GfmTaskListItemMarker line start (i + 2) (i + 3)))
 
+-- a cell of a byte between spaces, behind a divider, and at the end of its row; and a delimiter cell
+abbrev pub text_cell : (line start from : ℕ) → List Event
+text_cell line start i =
+    leaf name.GfmTableCellDivider line start i (i + 1)
+    ++ (leaf name.SpaceOrTab line start (i + 1) (i + 2)
+    ++ (around name.GfmTableCellText line start (i + 2) (i + 3) (leaf name.Data line start (i + 2) (i + 3)) ++ leaf name.SpaceOrTab line start (i + 3) (i + 4)))
+
+abbrev pub first_cell : (line start from : ℕ) → List Event
+first_cell line start i = around name.GfmTableCell line start i (i + 4) (text_cell line start i)
+
+abbrev pub last_cell : (line start from : ℕ) → List Event
+last_cell line start i = around name.GfmTableCell line start i (i + 5) (text_cell line start i ++ leaf name.GfmTableCellDivider line start (i + 4) (i + 5))
+
 -- A document, its events, and its HTML with the default options
 pub record HtmlExample : Type 0 where
   pub document : List ℕ
@@ -37,7 +50,8 @@ abbrev pub html_of : HtmlExample → HtmlExample
 html_of e = record e { html = html_of_events default_compile_options e.document 4 e.events }
 
 -- A heading; a list with HTML, which is shown, and a quote; an address that is not allowed, with a title, and an image; fenced code. And of GFM: text
--- that is struck through, and literals; an image that such text describes; and tasks
+-- that is struck through, and literals; an image that such text describes; tasks; a table with a
+-- pipe in a cell, and rows of fewer and of more cells; and one with a head alone, in a list
 abbrev pub html_examples : List HtmlExample
 html_examples =
     record {
@@ -344,5 +358,52 @@ html_examples =
           ++ around name.Emphasis 2 8 14 17
           (leaf name.EmphasisSequence 2 8 14 15 ++ (around name.EmphasisText 2 8 15 16 (leaf name.Data 2 8 15 16) ++ leaf name.EmphasisSequence 2 8 16 17)))))));
       html = codes "<ul>\n<li><input type=\"checkbox\" checked=\"\" disabled=\"\" /> a</li>\n<li><input type=\"checkbox\" disabled=\"\" /> <em>b</em></li>\n</ul>\n";
+    } ∷
+    record {
+      document = codes "| a | b |\n|:-:|--:|\n| `c\\|d` |\n| e | f | g |";
+      events =
+          around name.GfmTable 1 0 0 44
+          (around name.GfmTableHead 1 0 0 19
+          (around name.GfmTableRow 1 0 0 9 (first_cell 1 0 0 ++ last_cell 1 0 4)
+          ++ (leaf name.LineEnding 1 0 9 10
+          ++ around name.GfmTableDelimiterRow 2 10 10 19
+          (around name.GfmTableDelimiterCell 2 10 10 14
+          (leaf name.GfmTableCellDivider 2 10 10 11
+          ++ around name.GfmTableDelimiterCellValue 2 10 11 14
+          (leaf name.GfmTableDelimiterMarker 2 10 11 12 ++ (leaf name.GfmTableDelimiterFiller 2 10 12 13 ++ leaf name.GfmTableDelimiterMarker 2 10 13 14)))
+          ++ around name.GfmTableDelimiterCell 2 10 14 19
+          (leaf name.GfmTableCellDivider 2 10 14 15
+          ++ (around name.GfmTableDelimiterCellValue 2 10 15 18 (leaf name.GfmTableDelimiterFiller 2 10 15 17 ++ leaf name.GfmTableDelimiterMarker 2 10 17 18)
+          ++ leaf name.GfmTableCellDivider 2 10 18 19)))))
+          ++ (leaf name.LineEnding 2 10 19 20
+          ++ around name.GfmTableBody 3 20 20 44
+          (around name.GfmTableRow 3 20 20 30
+          (around name.GfmTableCell 3 20 20 30
+          (leaf name.GfmTableCellDivider 3 20 20 21
+          ++ (leaf name.SpaceOrTab 3 20 21 22
+          ++ (around name.GfmTableCellText 3 20 22 28
+          (around name.CodeText 3 20 22 28
+          (leaf name.CodeTextSequence 3 20 22 23 ++ (leaf name.CodeTextData 3 20 23 27 ++ leaf name.CodeTextSequence 3 20 27 28)))
+          ++ (leaf name.SpaceOrTab 3 20 28 29 ++ leaf name.GfmTableCellDivider 3 20 29 30)))))
+          ++ (leaf name.LineEnding 3 20 30 31 ++ around name.GfmTableRow 4 31 31 44 (first_cell 4 31 31 ++ (first_cell 4 31 35 ++ last_cell 4 31 39))))));
+      html = codes "<table>\n<thead>\n<tr>\n<th align=\"center\">a</th>\n<th align=\"right\">b</th>\n</tr>\n</thead>\n<tbody>\n<tr>\n<td align=\"center\"><code>c|d</code></td>\n<td align=\"right\"></td>\n</tr>\n<tr>\n<td align=\"center\">e</td>\n<td align=\"right\">f</td>\n</tr>\n</tbody>\n</table>\n";
+    } ∷
+    record {
+      document = codes "- |a\n  |:-";
+      events =
+          around name.ListUnordered 1 0 0 10
+          (around name.ListItem 1 0 0 10
+          (bullet 1 0
+          ++ around name.GfmTable 1 0 2 10
+          (around name.GfmTableHead 1 0 2 10
+          (around name.GfmTableRow 1 0 2 4
+          (around name.GfmTableCell 1 0 2 4 (leaf name.GfmTableCellDivider 1 0 2 3 ++ around name.GfmTableCellText 1 0 3 4 (leaf name.Data 1 0 3 4)))
+          ++ (leaf name.LineEnding 1 0 4 5
+          ++ (leaf name.SpaceOrTab 2 5 5 7
+          ++ around name.GfmTableDelimiterRow 2 5 7 10
+          (around name.GfmTableDelimiterCell 2 5 7 10
+          (leaf name.GfmTableCellDivider 2 5 7 8
+          ++ around name.GfmTableDelimiterCellValue 2 5 8 10 (leaf name.GfmTableDelimiterMarker 2 5 8 9 ++ leaf name.GfmTableDelimiterFiller 2 5 9 10)))))))));
+      html = codes "<ul>\n<li>\n<table>\n<thead>\n<tr>\n<th align=\"left\">a</th>\n</tr>\n</thead>\n</table>\n</li>\n</ul>\n";
     } ∷
     []

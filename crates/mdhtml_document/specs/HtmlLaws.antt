@@ -1,15 +1,17 @@
 -- Laws of the HTML of documents.
 use Rattle.std.specs.Option.{option_map_or}
-use Rattle.std.specs.Prelude.{◌≡◌, ◌++◌, ◌∷◌, ℕ, ◌+◌, ◌-◌, ◌*◌, ◌<◌, ◌≤◌, max, ⊤, ◌&&◌, ◌||◌, not, Bool, true, false, List, [], Option, length}
+use Rattle.std.specs.Prelude.{◌≡◌, ◌++◌, ◌∷◌, ℕ, ◌+◌, ◌-◌, ◌*◌, ◌<◌, ◌≤◌, max, ⊤, ◌&&◌, ◌||◌, not, Bool, true, false, cond, List, [], Option, length}
 use Rattle.markdown_base.specs.declared.configuration.CompileOptions.{CompileOptions}
 use Rattle.markdown_base.specs.declared.event.Event.{Event}
 use Rattle.markdown_base.specs.declared.event.Name.TheVariants as name
 use Rattle.markdown_base.specs.Events.{IsBalanced}
+use Rattle.mdhtml_document.specs.declared.names.Block.{Block}
+use Rattle.mdhtml_document.specs.declared.names.Block.TheVariants as block
 use Rattle.mdhtml_document.specs.declared.names.Inline.{Inline}
 use Rattle.mdhtml_document.specs.declared.names.Inline.TheVariants as inline
 use Rattle.mdhtml_document.specs.declared.shapes.Mode.TheVariants as mode
 use Rattle.mdhtml_document.specs.Html.{html_by, html_of_events, pieces, references}
-use Rattle.mdhtml_document.specs.Names.{inline_of}
+use Rattle.mdhtml_document.specs.Names.{block_of, inline_of}
 use Rattle.mdhtml_document.specs.Spans.{Nothing, Span, Spans, spans_of}
 use Rattle.mdhtml_markup.specs.Flow.{IsFlow}
 use Rattle.mdhtml_markup.specs.Pieces.{is_fresh}
@@ -34,7 +36,7 @@ HtmlIsSafe =
 abbrev pub HtmlKeepsText : Type 0
 HtmlKeepsText =
     (options : CompileOptions) (bytes : List ℕ) (lookup : (label : List ℕ) → Option Parts) (tab : ℕ) (events : List Event) → AreSafeOptions options
-    → text_of (html_by options bytes lookup tab events) ≡ said_from true (pieces options bytes lookup tab mode.Flow (spans_of events))
+    → text_of (html_by options bytes lookup tab events) ≡ said_from true (pieces options bytes lookup tab mode.Flow [] (spans_of events))
 
 -- There is a link in a span of inline text, by what that is and whether there is one among the spans in it. Autolinks and literals are links. An image's
 -- links are told as text
@@ -95,15 +97,24 @@ room tab (e ∷ es) = (4 * ahead e es + (tab + 1)) + room tab es
 abbrev pub length_of_parts : Option Parts → ℕ
 length_of_parts parts = option_map_or (λ p. length p.destination + option_map_or length p.title 0) parts 0
 
+-- how many rows of tables there are among spans
+abbrev pub is_row : Block → Bool
+is_row block.TableRow = true
+is_row b = false
+
+abbrev pub rows : Spans → ℕ
+rows Nothing = 0
+rows (Span e f s behind) = cond (is_row (block_of e.name)) 1 0 + (rows s + rows behind)
+
 -- Where no link is in a link, HTML is no longer than this: the text of each event is in it once, six times as long if it is all quotation marks, or
 -- nine times if it is all NUL in an address; and again in the title and the description of an image, and in the link around that. Tags are 48 bytes a
--- span at most. What labels are defined as is in it as often as links and images refer to it
+-- span at most, and the cells that a row lacks 2,500. What labels are defined as is in it as often as links and images refer to it
 abbrev pub HtmlIsShort : Type 0
 HtmlIsShort =
     (options : CompileOptions) (bytes : List ℕ) (lookup : (label : List ℕ) → Option Parts) (tab : ℕ) (events : List Event) → IsBalanced events
     → are_apart (spans_of events) ≡ true
     → length (html_by options bytes lookup tab events)
-    ≤ (36 * room tab events + 24 * length events) + 9 * references bytes (λ label. length_of_parts (lookup label)) (spans_of events)
+    ≤ ((36 * room tab events + 24 * length events) + 9 * references bytes (λ label. length_of_parts (lookup label)) (spans_of events)) + 2500 * rows (spans_of events)
 
 -- a line ending has a byte, by the events behind its enter
 abbrev pub HasByte : Event → List Event → Type 0
@@ -116,9 +127,9 @@ GoForward tab most from [] = ⊤
 GoForward tab most from (e ∷ es) =
     (from ≤ e.point.index) × (e.point.index ≤ most) × (e.point.vs ≤ tab) × HasByte e es × GoForward tab most e.point.index es
 
--- The HTML of a document is in proportion to its length, or to 100,000 bytes, and to its events: whatever it refers to
+-- The HTML of a document is in proportion to its length, or to 100,000 bytes, to its events, and to its rows of tables: whatever it refers to
 abbrev pub HtmlIsLinear : Type 0
 HtmlIsLinear =
     (options : CompileOptions) (bytes : List ℕ) (tab : ℕ) (events : List Event) → IsBalanced events → GoForward tab (length bytes) 0 events
     → are_apart (spans_of events) ≡ true
-    → length (html_of_events options bytes tab events) ≤ (144 * length bytes + 72 * max 100000 (length bytes)) + length events * (180 * tab + 60)
+    → length (html_of_events options bytes tab events) ≤ ((144 * length bytes + 72 * max 100000 (length bytes)) + length events * (180 * tab + 60)) + 2500 * rows (spans_of events)

@@ -29,6 +29,12 @@ blocks_by_name =
     ∷ (name.CodeIndented, block.Indented)
     ∷ (name.HtmlFlow, block.Html)
     ∷ (name.ThematicBreak, block.Rule)
+    ∷ (name.GfmTable, block.Table)
+    ∷ (name.GfmTableHead, block.TableHead)
+    ∷ (name.GfmTableBody, block.TableBody)
+    ∷ (name.GfmTableRow, block.TableRow)
+    ∷ (name.GfmTableCell, block.TableCell)
+    ∷ (name.GfmTableCellText, block.HeadingText)
     ∷ []
 
 abbrev pub block_of : Name → Block

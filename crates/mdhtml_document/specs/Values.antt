@@ -62,6 +62,20 @@ abbrev pub title_from : (start : Bool) → List ℕ → List ℕ
 title_from start [] = []
 title_from start (b ∷ bs) = cond (start && is_blank b) (title_from true bs) (b ∷ title_from (b == 10) bs)
 
+-- text without a backslash (92) directly before a pipe (124)
+abbrev pub is_escape : ℕ → List ℕ → Bool
+is_escape b [] = false
+is_escape b (c ∷ cs) = (b == 92) && (c == 124)
+
+abbrev pub unescaped : List ℕ → List ℕ
+unescaped [] = []
+unescaped (b ∷ bs) = cond (is_escape b bs) (unescaped bs) (b ∷ unescaped bs)
+
+-- Code and HTML in a cell of a table: "It is possible to include a pipe in a cell's content by escaping it, including inside other inline spans" (GFM 0.29,
+-- 4.10)
+abbrev pub cell_text : (in_cell : Bool) → List ℕ → List ℕ
+cell_text in_cell t = cond in_cell (unescaped t) t
+
 -- a document
 module _ (bytes : List ℕ) where
   -- the bytes of the innermost span that an event enters, by the events behind that

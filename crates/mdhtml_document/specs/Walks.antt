@@ -9,10 +9,10 @@ use Rattle.mdhtml_document.specs.declared.names.Inline.{Inline}
 use Rattle.mdhtml_document.specs.declared.names.Inline.TheVariants as inline
 use Rattle.mdhtml_document.specs.declared.shapes.Mode.{Mode}
 use Rattle.mdhtml_document.specs.declared.links.Whole.{Whole}
-use Rattle.mdhtml_document.specs.Frames.{Open, closed_of, lookup_of, loose_of, mode_of, start_of}
+use Rattle.mdhtml_document.specs.Frames.{Open, closed_of, columns_at, lookup_of, loose_of, mode_of, moved, start_of}
 use Rattle.mdhtml_document.specs.Written.{after}
-use Rattle.mdhtml_document.specs.Html.{Shape, referred, shape_by}
-use Rattle.mdhtml_document.specs.Names.{inline_of}
+use Rattle.mdhtml_document.specs.Html.{Shape, columns_in, lacking, referred, shape_by}
+use Rattle.mdhtml_document.specs.Names.{block_of, inline_of}
 use Rattle.mdhtml_document.specs.Values.{alt_by, reading_of}
 use Rattle.mdhtml_markup.specs.Pieces.{Piece}
 use Rattle.mddocument_link_targets.specs.declared.targets.Parts.{Parts}
@@ -63,27 +63,30 @@ references_from bytes size (suc n) (e ∷ es) = references_from bytes size n es
 
 module _ (options : CompileOptions) (bytes : List ℕ) (lookup : (label : List ℕ) → Option Parts) (tab : ℕ) where
   -- the shape of the span that an event enters, by the events behind that
-  abbrev pub shape_at : Mode → Event → List Event → Shape
-  shape_at m e es = shape_by options bytes lookup tab m e.name (inside es) (is_loose es) (list_start bytes es) (said_at bytes e es) (alt_from bytes 0 (inside es))
+  abbrev pub shape_at : Mode → (columns : List Event) → Event → List Event → Shape
+  shape_at m columns e es = shape_by options bytes lookup tab m columns e.name (inside es) (is_loose es) (list_start bytes es) (said_at bytes e es) (alt_from bytes 0 (inside es))
 
   -- the pieces of events behind spans that are open, the innermost first
-  abbrev pub entered : List Open → Shape → (rest : List Open → List Piece) → List Piece
-  entered os s rest = s.opened ++ rest (record { mode = s.inside; closed = s.closed } ∷ os)
+  abbrev pub entered : List Open → Event → (inner : List Event) → Shape → (rest : List Open → List Piece) → List Piece
+  entered os e inner s rest =
+      let b = block_of e.name in s.opened ++ rest (record { mode = s.inside; columns = columns_in b (columns_at os) inner; closed = s.closed } ∷ moved b os)
 
   abbrev pub walked : List Open → List Event → List Piece
   walked os [] = []
-  walked os (e ∷ es) = cond (is_enter e.kind) (entered os (shape_at (mode_of os) e es) (λ next. walked next es)) (closed_of os ++ walked (drop 1 os) es)
+  walked os (e ∷ es) =
+      cond (is_enter e.kind) (entered os e (inside es) (shape_at (mode_of os) (columns_at os) e es) (λ next. walked next es))
+      (lacking (mode_of os) (columns_at os) ++ (closed_of os ++ walked (drop 1 os) es))
 
--- A span of a shape was entered: its beginning was written, and it is open
-pub record Entered (s : Shape) (old new : List ℕ) (before behind : List Open) : Type 0 where
+-- A span of a shape was entered, with these events in it: its beginning was written, and it is open
+pub record Entered (s : Shape) (e : Event) (inner : List Event) (old new : List ℕ) (before behind : List Open) : Type 0 where
   pub written : new ≡ after old s.opened
-  pub stack : behind ≡ record { mode = s.inside; closed = s.closed } ∷ before
+  pub stack : behind ≡ record { mode = s.inside; columns = columns_in (block_of e.name) (columns_at before) inner; closed = s.closed } ∷ moved (block_of e.name) before
 
 -- ---- of a document, as the code knows it
 
-abbrev pub shape_in : Whole → Mode → (list : Option ListShape) → Event → List Event → Shape
-shape_in w m list e es =
-    shape_by w.options.now w.bytes.now (lookup_of w) w.tab m e.name (inside es) (loose_of list) (start_of list) (said_at w.bytes.now e es) (alt_from w.bytes.now 0 (inside es))
+abbrev pub shape_in : Whole → Mode → (columns : List Event) → (list : Option ListShape) → Event → List Event → Shape
+shape_in w m columns list e es =
+    shape_by w.options.now w.bytes.now (lookup_of w) w.tab m columns e.name (inside es) (loose_of list) (start_of list) (said_at w.bytes.now e es) (alt_from w.bytes.now 0 (inside es))
 
 abbrev pub walked_in : Whole → List Open → List Event → List Piece
 walked_in w os es = walked w.options.now w.bytes.now (lookup_of w) w.tab os es

@@ -212,7 +212,7 @@ fn first_word(text: &[u8]) -> &[u8]
 }
 
 /// The events in the first span of a name, if there is one.
-fn first_in(events: &[Event], name: Name) -> Option<&[Event]>
+pub(crate) fn first_in(events: &[Event], name: Name) -> Option<&[Event]>
     ensures { MatchOption result (first_in name events.now ≡ None) (λ found. first_in name events.now ≡ Some found.now) }
 {
     for (i, event) in events.iter().enumerate() {
@@ -368,7 +368,9 @@ pub(crate) fn open_block(
         Block::Indented => indented(alloc, out, whole, inside(behind)),
         Block::Html => html(alloc, out, whole, inside(behind)),
         Block::Rule => rule(out),
-        Block::Other => Ok(DONE),
+        Block::Table => open_container(out, Element::Table, Mode::Table),
+        Block::TableHead | Block::TableBody | Block::TableRow | Block::TableCell | Block::Other =>
+            Ok(DONE),
     }
 }
 

@@ -40,7 +40,7 @@ pub fn html_of_both()
     ensures { HtmlOfBoth }
 {}
 
-/// The HTML of seven documents.
+/// The HTML of nine documents.
 pub fn html_of_documents()
     ensures { map html_of html_examples ≡ html_examples }
 {}

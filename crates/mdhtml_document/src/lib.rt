@@ -21,6 +21,8 @@ mod references;
 // spans
 pub mod shapes;
 mod spans;
+// tables: their columns, and what is written of their parts
+mod tables;
 // inline text
 mod text_shapes;
 // HTML

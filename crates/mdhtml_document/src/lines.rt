@@ -2,7 +2,7 @@
 
 ghost use Rattle.std.specs.List.{list_all, prefix_len};
 ghost use Rattle.std.specs.Prelude.{◌≡◌, ◌==◌, ◌++◌, ◌≤◌, ◌∷◌, IfOk, false, length};
-ghost use Rattle.mdhtml_document.specs.Values.{code_text, html_text, is_blank, line_text, lines_from, stripped};
+ghost use Rattle.mdhtml_document.specs.Values.{cell_text, code_text, html_text, is_blank, is_escape, line_text, lines_from, stripped, unescaped};
 
 use crate::spans::bytes_at;
 use markdown_base::event::{Event, Name};
@@ -126,4 +126,45 @@ pub(crate) fn html_text(
     ensures { IfOk result (λ text. text.items ≡ html_text bytes.now events.now) }
 {
     lines_of(alloc, bytes, Name::HtmlTextData, b'\n', events)
+}
+
+/// Whether a byte is a backslash directly before a pipe, by the bytes behind it.
+fn is_escape(byte: u8, behind: &[u8]) -> bool
+    ensures { result ≡ is_escape byte behind.now }
+{
+    match behind.first() {
+        None => false,
+        Some(next) => byte == b'\\' && *next == b'|',
+    }
+}
+
+/// A text without a backslash directly before a pipe.
+fn unescaped(alloc: Global, text: &[u8]) -> Result<Vec<u8>, AllocError>
+    ensures { IfOk result (λ out. out.items ≡ unescaped text.now) }
+{
+    let mut out = Vec::new(alloc);
+    let mut rest = text;
+    'bytes: while let [byte, behind @ ..] = rest {
+        rest = behind;
+        if is_escape(*byte, behind) {
+            continue;
+        }
+        out.push(*byte)?;
+    }
+    Ok(out)
+}
+
+/// Code or HTML, by whether it is in a cell of a table.
+pub(crate) fn cell_text(
+    alloc: Global,
+    is_in_cell: bool,
+    text: Vec<u8>,
+) -> Result<Vec<u8>, AllocError>
+    ensures { IfOk result (λ out. out.items ≡ cell_text is_in_cell text.items) }
+{
+    if is_in_cell {
+        unescaped(alloc, text.as_slice())
+    } else {
+        Ok(text)
+    }
 }

@@ -16,7 +16,7 @@ pub enum Block {
     HeadingAtx,
     /// A heading that is underlined.
     HeadingSetext,
-    /// The text of a heading.
+    /// The text of a heading, or of a cell of a table.
     HeadingText,
     /// A block quote.
     Quote,
@@ -34,6 +34,16 @@ pub enum Block {
     Html,
     /// A thematic break.
     Rule,
+    /// A table.
+    Table,
+    /// The head of a table.
+    TableHead,
+    /// The rows of a table behind its head.
+    TableBody,
+    /// A row of a table.
+    TableRow,
+    /// A cell of a table.
+    TableCell,
     /// Anything else.
     Other,
 }
@@ -83,7 +93,9 @@ pub(crate) fn block_of(name: Name) -> Block
         Name::Paragraph => Block::Paragraph,
         Name::HeadingAtx => Block::HeadingAtx,
         Name::HeadingSetext => Block::HeadingSetext,
-        Name::HeadingAtxText | Name::HeadingSetextText => Block::HeadingText,
+        Name::HeadingAtxText | Name::HeadingSetextText | Name::GfmTableCellText => {
+            Block::HeadingText
+        }
         Name::BlockQuote => Block::Quote,
         Name::ListUnordered => Block::Bullets,
         Name::ListOrdered => Block::Numbers,
@@ -92,6 +104,11 @@ pub(crate) fn block_of(name: Name) -> Block
         Name::CodeIndented => Block::Indented,
         Name::HtmlFlow => Block::Html,
         Name::ThematicBreak => Block::Rule,
+        Name::GfmTable => Block::Table,
+        Name::GfmTableHead => Block::TableHead,
+        Name::GfmTableBody => Block::TableBody,
+        Name::GfmTableRow => Block::TableRow,
+        Name::GfmTableCell => Block::TableCell,
         _ => Block::Other,
     }
 }

@@ -7,6 +7,7 @@ ghost use Rattle.mdhtml_document.specs.Html.{container, line, through, within_li
 ghost use Rattle.mdhtml_markup.specs.Pieces.{Fresh, is_fresh, written};
 ghost use Rattle.mdhtml_markup.specs.SafeHtml.{close_tag, open_tag};
 
+use markdown_base::event::Event;
 use mdhtml_markup::elements::Element;
 use std::alloc::AllocError;
 
@@ -21,8 +22,14 @@ pub enum Mode {
     LooseItems,
     /// The items of a tight list.
     TightItems,
-    /// The text of a heading.
+    /// The text of a heading, or of a cell of a table.
     Heading,
+    /// The head and the body of a table.
+    Table,
+    /// The rows of the head of a table, or of its body.
+    Rows(bool),
+    /// The cells of a row of the head of a table, or of its body.
+    Cells(bool),
     /// Inline text that is a paragraph's.
     Paragraph,
     /// Inline text.
@@ -49,6 +56,17 @@ pub enum End {
 pub struct Frame {
     /// What is written of the spans in it.
     pub mode: Mode,
+    /// What ends it.
+    pub end: End,
+}
+
+/// A span that is open, with the columns that the spans in it stand in from here on.
+#[derive(Clone, Copy)]
+pub struct Level<'a> {
+    /// What is written of the spans in it.
+    pub mode: Mode,
+    /// The events of the delimiter row of the table around it from its column on; none outside of tables.
+    pub columns: &'a [Event],
     /// What ends it.
     pub end: End,
 }
@@ -101,8 +119,10 @@ pub(crate) fn open_tag(element: Element) -> &'static [u8]
         Element::Break => b"<br>",
         Element::Checkbox => b"<input>",
         Element::Code => b"<code>",
+        Element::DataCell => b"<td>",
         Element::Deleted => b"<del>",
         Element::Emphasis => b"<em>",
+        Element::HeaderCell => b"<th>",
         Element::Heading1 => b"<h1>",
         Element::Heading2 => b"<h2>",
         Element::Heading3 => b"<h3>",
@@ -115,6 +135,10 @@ pub(crate) fn open_tag(element: Element) -> &'static [u8]
         Element::Paragraph => b"<p>",
         Element::Preformatted => b"<pre>",
         Element::Strong => b"<strong>",
+        Element::Table => b"<table>",
+        Element::TableBody => b"<tbody>",
+        Element::TableHead => b"<thead>",
+        Element::TableRow => b"<tr>",
         Element::ThematicBreak => b"<hr>",
         Element::UnorderedList => b"<ul>",
     }
@@ -130,8 +154,10 @@ pub(crate) fn close_tag(element: Element) -> &'static [u8]
         Element::Break => b"</br>",
         Element::Checkbox => b"</input>",
         Element::Code => b"</code>",
+        Element::DataCell => b"</td>",
         Element::Deleted => b"</del>",
         Element::Emphasis => b"</em>",
+        Element::HeaderCell => b"</th>",
         Element::Heading1 => b"</h1>",
         Element::Heading2 => b"</h2>",
         Element::Heading3 => b"</h3>",
@@ -144,6 +170,10 @@ pub(crate) fn close_tag(element: Element) -> &'static [u8]
         Element::Paragraph => b"</p>",
         Element::Preformatted => b"</pre>",
         Element::Strong => b"</strong>",
+        Element::Table => b"</table>",
+        Element::TableBody => b"</tbody>",
+        Element::TableHead => b"</thead>",
+        Element::TableRow => b"</tr>",
         Element::ThematicBreak => b"</hr>",
         Element::UnorderedList => b"</ul>",
     }

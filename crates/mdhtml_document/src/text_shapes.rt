@@ -4,13 +4,13 @@ ghost use Rattle.std.specs.Prelude.{◌≡◌, ◌∷◌, [], IfOk, true};
 ghost use Rattle.mddocument_link_targets.specs.Spans.{inside};
 ghost use Rattle.mdhtml_document.specs.Frames.{Opens, lookup_of};
 ghost use Rattle.mdhtml_document.specs.Html.{alone, task_box, check, inline_shape, is_check, is_checked, literal, paragraph_shape, raw, told};
-ghost use Rattle.mdhtml_document.specs.Values.{code_text, html_text};
+ghost use Rattle.mdhtml_document.specs.Values.{cell_text, code_text, html_text};
 ghost use Rattle.mdhtml_document.specs.Walks.{alt_from, said_at};
 ghost use Rattle.mdhtml_markup.specs.Pieces.{Close, Open, Text, written};
 ghost use Rattle.mdhtml_markup.specs.declared.elements.Element.TheVariants as element;
 
 use crate::block_shapes::push_raw;
-use crate::lines::{code_text, html_text};
+use crate::lines::{cell_text, code_text, html_text};
 use crate::links::{Whole, autolink, image, literal, open_link};
 use crate::names::Inline;
 use crate::shapes::{DONE, Frame, Mode, open_within_line, through};
@@ -26,11 +26,13 @@ fn code(
     alloc: Global,
     out: &mut Vec<u8>,
     bytes: &[u8],
+    is_in_cell: bool,
     inner: &[Event],
 ) -> Result<Frame, AllocError>
-    ensures { IfOk result (λ frame. Opens (alone (Open element.Code [] ∷ Text (code_text bytes.now inner.now) ∷ Close element.Code ∷ [])) out.old.items out.new.items frame) }
+    ensures { IfOk result (λ frame. Opens (alone (Open element.Code [] ∷ Text (cell_text is_in_cell (code_text bytes.now inner.now)) ∷ Close element.Code ∷ [])) out.old.items out.new.items frame) }
 {
     let text = code_text(alloc, bytes, inner)?;
+    let text = cell_text(alloc, is_in_cell, text)?;
     out.extend_from_slice(b"<code>")?;
     push_escaped(out, text.as_slice())?;
     out.extend_from_slice(b"</code>")?;
@@ -42,11 +44,13 @@ fn html(
     alloc: Global,
     out: &mut Vec<u8>,
     whole: &Whole<'_>,
+    is_in_cell: bool,
     inner: &[Event],
 ) -> Result<Frame, AllocError>
-    ensures { IfOk result (λ frame. Opens (alone (raw whole.now.options.now (html_text whole.now.bytes.now inner.now) ∷ [])) out.old.items out.new.items frame) }
+    ensures { IfOk result (λ frame. Opens (alone (raw whole.now.options.now (cell_text is_in_cell (html_text whole.now.bytes.now inner.now)) ∷ [])) out.old.items out.new.items frame) }
 {
     let html = html_text(alloc, whole.bytes, inner)?;
+    let html = cell_text(alloc, is_in_cell, html)?;
     push_raw(out, whole.options, html.as_slice())?;
     Ok(DONE)
 }
@@ -83,16 +87,17 @@ fn open_literal(
     literal(alloc, out, whole.options, scheme, said.as_slice())
 }
 
-/// Begins a span of inline text, by what it is, the event that enters it and those behind that.
+/// Begins a span of inline text, by whether it is in a cell of a table, what it is, the event that enters it and those behind that.
 pub(crate) fn open_inline(
     alloc: Global,
     out: &mut Vec<u8>,
     whole: &Whole<'_>,
+    is_in_cell: bool,
     inline: Inline,
     event: &Event,
     behind: &[Event],
 ) -> Result<Frame, AllocError>
-    ensures { IfOk result (λ frame. Opens (inline_shape whole.now.options.now whole.now.bytes.now (lookup_of whole.now) whole.now.tab inline (inside behind.now) (said_at whole.now.bytes.now event.now behind.now) (alt_from whole.now.bytes.now 0 (inside behind.now))) out.old.items out.new.items frame) }
+    ensures { IfOk result (λ frame. Opens (inline_shape whole.now.options.now whole.now.bytes.now (lookup_of whole.now) whole.now.tab is_in_cell inline (inside behind.now) (said_at whole.now.bytes.now event.now behind.now) (alt_from whole.now.bytes.now 0 (inside behind.now))) out.old.items out.new.items frame) }
 {
     match inline {
         Inline::Ending => {
@@ -106,8 +111,8 @@ pub(crate) fn open_inline(
         Inline::Emphasis => open_within_line(out, Element::Emphasis),
         Inline::Strong => open_within_line(out, Element::Strong),
         Inline::Struck => open_within_line(out, Element::Deleted),
-        Inline::Code => code(alloc, out, whole.bytes, inside(behind)),
-        Inline::Html => html(alloc, out, whole, inside(behind)),
+        Inline::Code => code(alloc, out, whole.bytes, is_in_cell, inside(behind)),
+        Inline::Html => html(alloc, out, whole, is_in_cell, inside(behind)),
         Inline::Autolink => autolink(out, whole, inside(behind)),
         Inline::Www => open_literal(alloc, out, whole, b"http://", event, behind),
         Inline::Email => open_literal(alloc, out, whole, b"mailto:", event, behind),
@@ -154,20 +159,21 @@ fn check(out: &mut Vec<u8>, is_checked: bool) -> Result<Frame, AllocError>
     Ok(DONE)
 }
 
-/// Begins a span directly in a paragraph, by what it is, the event that enters it and those behind that.
+/// Begins a span directly in a paragraph, by whether that is in a cell of a table, what it is, the event that enters it and those behind that.
 pub(crate) fn open_in_paragraph(
     alloc: Global,
     out: &mut Vec<u8>,
     whole: &Whole<'_>,
+    is_in_cell: bool,
     inline: Inline,
     event: &Event,
     behind: &[Event],
 ) -> Result<Frame, AllocError>
-    ensures { IfOk result (λ frame. Opens (paragraph_shape whole.now.options.now whole.now.bytes.now (lookup_of whole.now) whole.now.tab inline (inside behind.now) (said_at whole.now.bytes.now event.now behind.now) (alt_from whole.now.bytes.now 0 (inside behind.now))) out.old.items out.new.items frame) }
+    ensures { IfOk result (λ frame. Opens (paragraph_shape whole.now.options.now whole.now.bytes.now (lookup_of whole.now) whole.now.tab is_in_cell inline (inside behind.now) (said_at whole.now.bytes.now event.now behind.now) (alt_from whole.now.bytes.now 0 (inside behind.now))) out.old.items out.new.items frame) }
 {
     if is_check(inline) {
         check(out, is_checked(inside(behind)))
     } else {
-        open_inline(alloc, out, whole, inline, event, behind)
+        open_inline(alloc, out, whole, is_in_cell, inline, event, behind)
     }
 }

@@ -7,7 +7,7 @@ use Rattle.mdhtml_document.proofs.writer.write.Given as goal
 abbrev pub invariant-events : goal.invariant-events
 invariant-events l = record {
   lists : AreListsOf l.whole.bytes.now l.lists l.rest;
-  written : after l.out.items (walked_in l.whole (opens l.frames.items) l.rest) ≡ after [] (walked_in l.whole [] l.whole.events.now);
+  written : after l.out.items (walked_in l.whole (opens l.levels.items) l.rest) ≡ after [] (walked_in l.whole [] l.whole.events.now);
 }
 
 abbrev pub decreases-events : goal.decreases-events
