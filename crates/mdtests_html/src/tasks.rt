@@ -8,7 +8,10 @@ use std::alloc::AllocError;
 
 /// Documents, and their checks: the byte index of what is between the brackets, and whether it is checked.
 const CHECKS: &[(&[u8], &[(usize, bool)])] = &[
-    (b"- [ ] a\n* [x] b\n+ [X] c\n1. [x] d\n2) [ ] e", &[(3, false), (11, true), (19, true), (28, true), (37, false)]),
+    (
+        b"- [ ] a\n* [x] b\n+ [X] c\n1. [x] d\n2) [ ] e",
+        &[(3, false), (11, true), (19, true), (28, true), (37, false)],
+    ),
     (b"- [\t] a\n- [x]\tb", &[(3, false), (11, true)]),
     (b"> - [x] a\n> - b", &[(5, true)]),
     (b"- - [x] a\n- 1. [ ] b", &[(5, true), (16, false)]),
@@ -24,8 +27,14 @@ const CHECKS: &[(&[u8], &[(usize, bool)])] = &[
     (b"- > [x] a\n- ```\n  [x] a\n  ```", &[]),
     (b"[x] a\n\n> [x] b", &[]),
     (b"- [x]\n- [x] \n- [x]\n  a", &[]),
-    (b"- [y] a\n- [] a\n- [xX] a\n- [x]a\n- [ x] a\n- \\[x] a\n- [\xc2\xa0] a", &[]),
-    (b"- [x] a\n- [x](u) b\n- [x][] c\n- [ ] d\n\n[x]: u", &[(3, true), (32, false)]),
+    (
+        b"- [y] a\n- [] a\n- [xX] a\n- [x]a\n- [ x] a\n- \\[x] a\n- [\xc2\xa0] a",
+        &[],
+    ),
+    (
+        b"- [x] a\n- [x](u) b\n- [x][] c\n- [ ] d\n\n[x]: u",
+        &[(3, true), (32, false)],
+    ),
     (b"- [x] a\n- `[x] b`\n- ![x] c\n- *[x] d*", &[(3, true)]),
 ];
 
@@ -73,9 +82,14 @@ fn checks_take_the_place_of_data(rt: HostRuntime) -> Result<(), AllocError> {
     let all = with_tasks(rt.alloc(), document, &options, read)?;
     let mut found = Vec::new(rt.alloc());
     for event in all.as_slice() {
-        found.push((event.kind, event.name, event.point.index, event.point.column))?;
+        found.push((
+            event.kind,
+            event.name,
+            event.point.index,
+            event.point.column,
+        ))?;
     }
-    assert!(rt; found.len() == 22 && found.as_slice()[8..20] == *PARAGRAPH);
+    assert!(rt; found.len() == 22 && found.as_slice().get(8..20) == Some(PARAGRAPH));
     let off = ParseOptions::default();
     let read = read_document(rt.alloc(), document, &off)?;
     let same = with_tasks(rt.alloc(), document, &off, read)?;
