@@ -3,7 +3,7 @@
 ghost use Rattle.std.specs.Prelude.{◌≡◌, [], IfOk};
 ghost use Rattle.markdown_base.specs.Presets.{default_options};
 ghost use Rattle.markdown_base.specs.Virtual.{IsWithinLimit};
-ghost use Rattle.mdhtml_calls.specs.Document.{html_of_document};
+ghost use Rattle.mdhtml_calls.specs.Document.{html_of_document, html_within};
 ghost use Rattle.mdhtml_document.specs.HtmlLaws.{AreSafeOptions};
 ghost use Rattle.mdhtml_markup.specs.SafeHtml.{IsSafeHtml};
 
@@ -11,6 +11,7 @@ use markdown_base::configuration::Options;
 use mddocument::documents::read_document;
 use mdgfm_literals::events::with_literals;
 use mdgfm_tasks::events::with_tasks;
+use mdhtml_depth::spans::within;
 use mdhtml_document::html::html_of_events;
 use std::alloc::{AllocError, Global};
 
@@ -40,6 +41,32 @@ pub fn to_html_with_options(
         alloc,
         bytes,
         events.as_slice(),
+        &options.compile,
+        options.parse.tab_size,
+    )
+}
+
+/// A document as HTML, with these options, and within a limit of depth. Block quotes, lists, emphasis, strikethrough and links around which there are as many
+/// of these as the limit are written without their tags; what is in them is written. It is safe, whatever the document is, if the options let nothing
+/// through. Fails only if it runs out of memory.
+pub fn to_html_within(
+    alloc: Global,
+    bytes: &[u8],
+    options: &Options,
+    limit: usize,
+) -> Result<Vec<u8>, AllocError>
+    requires limit { IsWithinLimit options.now.parse.tab_size bytes.now }
+    ensures html { IfOk result (λ html. html.items ≡ html_within limit options.now bytes.now) }
+    ensures safe { IfOk result (λ html. AreSafeOptions options.now.compile → IsSafeHtml [] html.items) }
+{
+    let read = read_document(alloc, bytes, &options.parse)?;
+    let tasks = with_tasks(alloc, bytes, &options.parse, read)?;
+    let events = with_literals(alloc, bytes, &options.parse, tasks)?;
+    let shallow = within(alloc, events, limit)?;
+    html_of_events(
+        alloc,
+        bytes,
+        shallow.as_slice(),
         &options.compile,
         options.parse.tab_size,
     )

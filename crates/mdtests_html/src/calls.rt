@@ -3,7 +3,7 @@
 ghost use Rattle.markdown_base.specs.Virtual.{IsWithinLimit};
 
 use markdown_base::configuration::Options;
-use mdhtml_calls::html::{to_html, to_html_with_options};
+use mdhtml_calls::html::{to_html, to_html_with_options, to_html_within};
 use std::alloc::{AllocError, Global};
 
 /// Documents, and their safe HTML.
@@ -78,6 +78,52 @@ fn documents_are_html(rt: HostRuntime) {
     }
     for &(html, protocol, images, wanted) in LET_THROUGH {
         let found = lets_through(rt.alloc(), html, protocol, images, wanted);
+        assert!(rt; found.expect(&rt, "memory"), "{wanted:?}");
+    }
+}
+
+/// Documents, limits of depth, and their HTML.
+const WITHIN: &[(&[u8], usize, &[u8])] = &[
+    (
+        b"> > > a",
+        2,
+        b"<blockquote>\n<blockquote>\n<p>a</p>\n</blockquote>\n</blockquote>\n",
+    ),
+    (
+        b"> > > a",
+        3,
+        b"<blockquote>\n<blockquote>\n<blockquote>\n<p>a</p>\n</blockquote>\n</blockquote>\n</blockquote>\n",
+    ),
+    (b"> # a\n> ***", 0, b"<h1>a</h1>\n<hr />\n"),
+    (
+        b"- > *a **b***\n\n  c",
+        2,
+        b"<ul>\n<li>\n<blockquote>\n<p>a b</p>\n</blockquote>\n<p>c</p>\n</li>\n</ul>\n",
+    ),
+    (
+        b"*a [b **c**](d)* ![e](f)",
+        1,
+        b"<p><em>a b c</em> <img src=\"f\" alt=\"e\" /></p>\n",
+    ),
+];
+
+/// Whether a document is written so within a limit of depth.
+fn is_within(
+    alloc: Global,
+    document: &[u8],
+    limit: usize,
+    wanted: &[u8],
+) -> Result<bool, AllocError>
+    requires limit { IsWithinLimit 4 document.now }
+{
+    let html = to_html_within(alloc, document, &Options::default(), limit)?;
+    Ok(html.as_slice() == wanted)
+}
+
+#[test]
+fn limits_of_depth_leave_out_tags(rt: HostRuntime) {
+    for &(document, limit, wanted) in WITHIN {
+        let found = is_within(rt.alloc(), document, limit, wanted);
         assert!(rt; found.expect(&rt, "memory"), "{wanted:?}");
     }
 }
