@@ -200,6 +200,7 @@ pub use Rattle.mddocument_laws.proofs.ItemNames
 pub use Rattle.mddocument_laws.proofs.LineStarts
 pub use Rattle.mddocument_laws.proofs.LinkEvents
 pub use Rattle.mddocument_laws.proofs.LinkNames
+pub use Rattle.mddocument_laws.proofs.LinkWalk
 pub use Rattle.mddocument_laws.proofs.MarksWalk
 pub use Rattle.mddocument_laws.proofs.Named
 pub use Rattle.mddocument_laws.proofs.PlainNames
