@@ -9,6 +9,7 @@ use mdtests_fakes::systems::CalledWith;
 use mdtests_fakes::writers::FailingWriter;
 use std::alloc::Global;
 use std::io::ErrorKind;
+use std::process::ExitCode;
 
 /// A document, with a tab behind a mark, and what is written of it.
 const DOCUMENT: &[u8] = b"-\t<b>";
@@ -20,7 +21,7 @@ const UNSAFE: &[u8] = b"<ul>\n<li>\n<b>\n</li>\n</ul>\n";
 const SAFE_CODE: &[u8] =
     b"<ul>\n<li>\n<pre><code>          &lt;b&gt;\n</code></pre>\n</li>\n</ul>\n";
 
-const USAGE_SHOWN: &[u8] = b"usage: mdhtml [--unsafe] [--tab n]\n";
+const USAGE_SHOWN: &[u8] = b"usage: mdhtml [--unsafe] [--gfm] [--tab n] [--depth n]\n";
 
 /// Calls the program with these arguments, over the document, and fakes.
 fn call(
@@ -47,11 +48,39 @@ const CALLS: &[(&[&[u8]], u8, &[u8], &[u8])] = &[
     (&[b"mdhtml", b"--tab", b"16"], 0, SAFE_CODE, b""),
     (&[b"mdhtml", b"--tab", b"4", b"--unsafe"], 0, UNSAFE, b""),
     (&[b"mdhtml", b"--unsafe", b"--tab", b"1"], 0, UNSAFE, b""),
+    (&[b"mdhtml", b"--depth", b"1"], 0, SAFE, b""),
+    (&[b"mdhtml", b"--gfm"], 0, SAFE, b""),
+    (
+        &[
+            b"mdhtml",
+            b"--depth",
+            b"9",
+            b"--gfm",
+            b"--unsafe",
+            b"--tab",
+            b"4",
+        ],
+        0,
+        UNSAFE,
+        b"",
+    ),
     (&[b"mdhtml", b"--tab"], 2, b"", USAGE_SHOWN),
+    (&[b"mdhtml", b"--depth"], 2, b"", USAGE_SHOWN),
+    (&[b"mdhtml", b"--depth", b"0"], 2, b"", USAGE_SHOWN),
+    (&[b"mdhtml", b"--depth", b"x"], 2, b"", USAGE_SHOWN),
+    (&[b"mdhtml", b"--unsafe", b"--depth"], 2, b"", USAGE_SHOWN),
     (&[b"mdhtml", b"--tab", b"0"], 2, b"", USAGE_SHOWN),
     (&[b"mdhtml", b"--tab", b"17"], 2, b"", USAGE_SHOWN),
     (&[b"mdhtml", b"--tab", b"+1"], 2, b"", USAGE_SHOWN),
     (&[b"mdhtml", b"--unsafe", b"--unsafe"], 2, b"", USAGE_SHOWN),
+    (&[b"mdhtml", b"--gfm", b"--gfm"], 2, b"", USAGE_SHOWN),
+    (
+        &[b"mdhtml", b"--gfm", b"--unsafe", b"--gfm"],
+        2,
+        b"",
+        USAGE_SHOWN,
+    ),
+    (&[b"mdhtml", b"--gfm", b"x"], 2, b"", USAGE_SHOWN),
     (&[b"mdhtml", b"--safe"], 2, b"", USAGE_SHOWN),
     (&[b"mdhtml", b"--UNSAFE"], 2, b"", USAGE_SHOWN),
     (&[b"mdhtml", b" --unsafe "], 2, b"", USAGE_SHOWN),
@@ -61,8 +90,57 @@ const CALLS: &[(&[&[u8]], u8, &[u8], &[u8])] = &[
         b"",
         USAGE_SHOWN,
     ),
+    (
+        &[b"mdhtml", b"--depth", b"4", b"--depth", b"4"],
+        2,
+        b"",
+        USAGE_SHOWN,
+    ),
     (&[b"mdhtml", b"\xff"], 2, b"", USAGE_SHOWN),
 ];
+
+/// A document with constructs of GFM: a task in a block quote, strikethrough, a literal and what would be a table.
+const OF_GFM: &[u8] = b"> - [x] ~a~ www.b.c\n\n| a |\n| - |\n";
+
+/// Arguments, and what is written for this document.
+const WITH_GFM: &[(&[&[u8]], &[u8])] = &[
+    (
+        &[b"mdhtml"],
+        b"<blockquote>\n<ul>\n<li>[x] ~a~ www.b.c</li>\n</ul>\n</blockquote>\n<p>| a |\n| - |</p>\n",
+    ),
+    (
+        &[b"mdhtml", b"--gfm"],
+        b"<blockquote>\n<ul>\n<li><input type=\"checkbox\" checked=\"\" disabled=\"\" /> <del>a</del> <a href=\"http://www.b.c\">www.b.c</a></li>\n</ul>\n</blockquote>\n<p>| a |\n| - |</p>\n",
+    ),
+    (
+        &[b"mdhtml", b"--depth", b"3", b"--gfm"],
+        b"<blockquote>\n<ul>\n<li><input type=\"checkbox\" checked=\"\" disabled=\"\" /> <del>a</del> <a href=\"http://www.b.c\">www.b.c</a></li>\n</ul>\n</blockquote>\n<p>| a |\n| - |</p>\n",
+    ),
+    (
+        &[b"mdhtml", b"--gfm", b"--depth", b"2"],
+        b"<blockquote>\n<ul>\n<li><input type=\"checkbox\" checked=\"\" disabled=\"\" /> a <a href=\"http://www.b.c\">www.b.c</a></li>\n</ul>\n</blockquote>\n<p>| a |\n| - |</p>\n",
+    ),
+    (
+        &[b"mdhtml", b"--depth", b"1", b"--tab", b"8"],
+        b"<blockquote>\n<p>[x] ~a~ www.b.c</p>\n</blockquote>\n<p>| a |\n| - |</p>\n",
+    ),
+];
+
+/// Whether the program writes this of the document, with the status 0.
+fn writes(alloc: Global, words: &[&[u8]], wanted: &[u8]) -> bool {
+    let system = (CalledWith::new(words), alloc);
+    let mut reader = OF_GFM;
+    let mut written = Vec::new(alloc);
+    let status = answer_call(&system, &mut reader, &mut written);
+    status == ExitCode::SUCCESS && written.as_slice() == wanted
+}
+
+#[test]
+fn words_turn_on_what_is_written(rt: HostRuntime) {
+    for &(words, wanted) in WITH_GFM {
+        assert!(rt; writes(rt.alloc(), words, wanted), "{wanted:?}");
+    }
+}
 
 #[test]
 fn does_what_the_words_choose(rt: HostRuntime) {
