@@ -1,0 +1,4 @@
+-- laws
+pub mod Ended
+pub mod Levels
+pub mod Nested

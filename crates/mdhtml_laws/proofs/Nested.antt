@@ -1,0 +1,90 @@
+-- Within a limit of depth no more spans that nest are in one another than it says, and elements are as deep.
+use Rattle.std.proofs.Common.{◌≡◌, ℕ, suc, ◌+◌, ◌*◌, ◌<◌, ◌≤◌, ◌++◌, Bool, true, false, cond, List, [], ◌∷◌, length, drop, refl, sym, ap, subst, ◌∙◌, arith}
+use Rattle.std.proofs.lemmas.Bool.{and_parts, not-true}
+use Rattle.std.proofs.lemmas.Bool.Decides.{nat_tests}
+use Rattle.std.proofs.lemmas.List.{append-nil, drop_at}
+use Rattle.std.specs.Prelude.{⊤, ◌&&◌, max, nat_le, not}
+use Rattle.markdown_base.specs.declared.event.Event.{Event}
+use Rattle.markdown_base.specs.Events.{IsBalanced, empty, span}
+use Rattle.mddocument_link_targets.proofs.SpanEnds.{spans-end}
+use Rattle.mddocument_link_targets.specs.Spans.{inside}
+use Rattle.mdhtml_laws.specs.Depth.{HtmlIsShallow}
+use Rattle.mdhtml_laws.proofs.Levels.{nest, stays}
+use Rattle.mdhtml_depth.proofs.Kept.{balance-kept, behind-enter, deep-enter, depth-kept, span-back}
+use Rattle.mdhtml_depth.specs.Depth.{behind, has_depth, is_deep, nests, within}
+use Rattle.mdhtml_document.specs.declared.shapes.Mode.TheVariants as mode
+use Rattle.mdhtml_document.specs.Spans.{Nothing, Span, Spans, events_of, spans_of}
+use Rattle.mdhtml_document.proofs.Both.{keep-events}
+use Rattle.mdhtml_document.proofs.SpanFacts.{AreKinded, inside-of, opened-kinded, span-append}
+
+-- each exit has the name of its enter
+abbrev AreNamed : Spans → Type 0
+AreNamed Nothing = ⊤
+AreNamed (Span e f s t) = (f.name ≡ e.name) × AreNamed s × AreNamed t
+
+head-name : (e f : Event) (es fs : List Event) → e ∷ es ≡ f ∷ fs → e ≡ f
+head-name e f es fs h = cc
+
+none-some : (e : Event) (es : List Event) → [] ≡ e ∷ es → ⊥
+none-some e es h = cc
+
+named : (s : Spans) (l : List Event) → AreKinded s → IsBalanced l → l ≡ events_of s → AreNamed s
+named Nothing l h b is = tt
+named (Span e f s t) l h empty is = absurd (none-some e (events_of s ++ f ∷ events_of t) is)
+named (Span e f s t) l h (span d g xs ys whole enters exits same bx by) is =
+    let all : d ∷ (xs ++ g ∷ ys) ≡ e ∷ (events_of s ++ f ∷ events_of t) = sym whole ∙ is in
+    let rest : xs ++ g ∷ ys ≡ events_of s ++ f ∷ events_of t = ap (drop 1) all in
+    let inner : xs ≡ events_of s = sym (spans-end xs ys g bx exits).0 ∙ ap inside rest ∙ inside-of s f (events_of t) h.2 h.1 in
+    let outer : g ∷ ys ≡ f ∷ events_of t = sym (drop_at xs (g ∷ ys) (length xs) refl) ∙ ap (drop (length xs)) rest ∙ drop_at (events_of s) (f ∷ events_of t) (length xs) (sym (ap length inner)) in
+    let first : d ≡ e = head-name d e _ _ all in
+    let last : g ≡ f = head-name g f _ _ outer in (
+      sym (ap (λ (x : Event). x.name) last) ∙ same ∙ ap (λ (x : Event). x.name) first,
+      named s xs h.2 bx inner,
+      named t ys h.3 by (ap (drop 1) outer),
+    )
+
+-- ---- depth
+
+-- spans in so many that nest, and events behind them
+record IsWithin (limit o : ℕ) (s : Spans) (zs : List Event) : Type 0 where
+  few : o + nest s ≤ limit
+  rest : has_depth limit o zs ≡ true
+
+below : (limit o : ℕ) → nat_le limit o ≡ false → o < limit
+below limit o h = grind (arith, nat_tests, h)
+
+-- one more is open in a span that nests
+inner-few : (b : Bool) (limit o : ℕ) → (b && nat_le limit o) ≡ false → o ≤ limit → cond b (suc o) o ≤ limit
+inner-few true limit o h k = below limit o h
+inner-few false limit o h k = k
+
+span-few : (b : Bool) (limit o inner outer : ℕ) → cond b (suc o) o + inner ≤ limit → o + outer ≤ limit → o + max (cond b (suc inner) inner) outer ≤ limit
+span-few true limit o inner outer h k = omega (arith, h, k)
+span-few false limit o inner outer h k = omega (arith, h, k)
+
+within-limit : (limit o : ℕ) (s : Spans) (zs : List Event) → AreKinded s → AreNamed s → has_depth limit o (events_of s ++ zs) ≡ true → o ≤ limit → IsWithin limit o s zs
+within-limit limit o Nothing zs h n d k = record { few = omega (arith, k); rest = d }
+within-limit limit o (Span e f s t) zs h n d k =
+    let b = nests e.name in
+    let ys = events_of t ++ zs in
+    let all : has_depth limit o (e ∷ (events_of s ++ f ∷ ys)) ≡ true = subst (λ l. has_depth limit o l ≡ true) (span-append e f s t zs) d in
+    let first = and_parts (not (is_deep limit o e)) (has_depth limit (behind o e) (events_of s ++ f ∷ ys)) all in
+    let shallow : (b && nat_le limit o) ≡ false = sym (deep-enter limit o e h.0) ∙ not-true (is_deep limit o e) first.0 in
+    let i-is = behind-enter o e h.0 in
+    let i-few : behind o e ≤ limit = subst (λ i. i ≤ limit) (sym i-is) (inner-few b limit o shallow k) in
+    let inner = within-limit limit (behind o e) s (f ∷ ys) h.2 n.1 first.1 i-few in
+    let last = and_parts (not (is_deep limit (behind o e) f)) (has_depth limit (behind (behind o e) f) ys) inner.rest in
+    let back = subst (λ i. has_depth limit i ys ≡ true) (span-back limit o e f h.0 h.1 n.0) last.1 in
+    let outer = within-limit limit o t zs h.3 n.2 back k in
+    record { few = span-few b limit o (nest s) (nest t) (subst (λ i. i + nest s ≤ limit) i-is inner.few) outer.few; rest = outer.rest }
+
+pub html-shallow : HtmlIsShallow
+html-shallow limit options bytes lookup tab events balanced =
+    let left = within limit 0 events in
+    let s = spans_of left in
+    let kept = balance-kept limit 0 events balanced in
+    let are : left ≡ events_of s = sym (keep-events left kept) in
+    let kinded = (opened-kinded left).0 in
+    let depth : has_depth limit 0 (events_of s ++ []) ≡ true = subst (λ l. has_depth limit 0 l ≡ true) (are ∙ sym (append-nil (events_of s))) (depth-kept limit events balanced) in
+    let few = (within-limit limit 0 s [] kinded (named s left kinded kept are) depth (omega arith)).few in
+    (stays options bytes lookup tab mode.Flow [] s limit 0 (2 * limit + 5) (omega (arith, few)) (omega arith)).deep

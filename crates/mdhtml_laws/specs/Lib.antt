@@ -1,0 +1,3 @@
+-- laws
+pub mod Depth
+pub mod Parts
