@@ -1,6 +1,7 @@
 #!/bin/sh
 # Builds the library and the program, and tests the library: from C, from Rust with random documents against the program, and as a
-# release. It needs rt, ar, cc, clang, cargo and python3, and no network; for the library of aarch64 also gcc-aarch64-linux-gnu and qemu-user.
+# release. It needs rt, ar, cc, clang, cargo and python3, and no network; for the library of aarch64 also gcc-aarch64-linux-gnu and qemu-user;
+# programs over musl are tested if there is musl-gcc.
 # usage: bindings/test.sh [-WORD..]. The words are passed to `rt`, as --jobs 2.
 set -eu
 if [ "${1-}" = --help ]; then
@@ -27,6 +28,14 @@ if ! (cd "$here/../crates/mdevents" && rt run "$@" </dev/null >"$work/log" 2>&1)
     exit 1
 fi
 "$here/tests_of_c.sh" "$here/limecove.h" "$here/out/liblimecove.a" "$here/c"
+if command -v musl-gcc >/dev/null; then
+    say "programs over musl, linked statically"
+    for example in layout example edit; do
+        musl-gcc -static -std=c11 -Wall -Wextra -pedantic -Werror -o "$work/$example" "$here/c/$example.c" "$here/out/liblimecove.a"
+        (cd "$here/c" && "$work/$example" >"$work/printed")
+        if [ -f "$here/c/$example.out" ]; then diff "$here/c/$example.out" "$work/printed"; fi
+    done
+fi
 say "heap.c does what the toolchain's object does"
 for compiler in cc clang; do
     "$compiler" -std=c99 -Wall -Wextra -pedantic -Werror -c -o "$work/heap.o" "$here/heap.c"
