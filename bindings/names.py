@@ -1,10 +1,11 @@
 #!/usr/bin/env python3
-"""Writes the names of spans and machines into limecove.h and rust/limecove/src/names.rs, each with the number that it is proved to have.
+"""Writes the names of spans and machines into limecove.h and rust/limecove/src/names.rs, each with the number that it is proved to have, and
+those of spans into python/limecove.py.
 Then compares the fields of what crosses the border, in order and with their widths, and the numbers, as crates/limecove/src, limecove.h
 and rust/limecove-sys declare them.
 
 usage: names.py [--check] [CRATE]    says what differs, and ends with 1 if something does; CRATE is read in place of crates/limecove
-       names.py --write              writes both files
+       names.py --write              writes the three files
 
 The numbers are read from the definitions that the contracts of crates/limecove cite: specs/Names.antt, specs/Choices.antt and
 specs/Records.antt. The comments are those of the Rattle sources. The status is 1 if a file would change, or two declarations differ: each
@@ -29,7 +30,9 @@ WORDS = parser.parse_args()
 LIMECOVE = WORDS.crate
 HEADER, FOREIGN = HERE / "limecove.h", HERE / "rust/limecove-sys/src/lib.rs"
 SAFE = HERE / "rust/limecove/src"
+PYTHON = HERE / "python/limecove.py"
 BEGIN, END = "/* written by names.py: begin */", "/* written by names.py: end */"
+BEGIN_PYTHON, END_PYTHON = "# written by names.py: begin\n", "# written by names.py: end\n"
 
 
 def comments_of(path, enum):
@@ -104,6 +107,13 @@ def header(old, names, machines):
     before, rest = old.split(BEGIN)
     after = rest.split(END)[1]
     return before + BEGIN + "\n" + "\n".join(lines) + "\n" + END + after
+
+
+def python(old, names):
+    """The module for Python with the names between its two marks."""
+    before, rest = old.split(BEGIN_PYTHON)
+    lines = ["# The names of spans, in the order of their numbers.", "NAMES = (", *[f'    "{name}",' for name in names], ")"]
+    return before + BEGIN_PYTHON + "\n".join(lines) + "\n" + END_PYTHON + rest.split(END_PYTHON)[1]
 
 
 def rust_enum(name, about, variants, comments, derives):
@@ -259,6 +269,7 @@ def differences():
 def main():
     names, machines = proved_names(), proved_machines()
     files = {HEADER: header(HEADER.read_text(), names, machines), SAFE / "names.rs": rust(names, machines)}
+    files[PYTHON] = python(PYTHON.read_text(), names)
     stale = [path for path, text in files.items() if not path.exists() or path.read_text() != text]
     for path in stale:
         if WORDS.write:

@@ -1,6 +1,6 @@
 #!/bin/sh
 # Makes a folder that builds, and passes its tests, where there is no rt. For each target it has a folder with the library as .a and .so,
-# the header and limecove.pc; and for all the crates limecove-sys, limecove and limecove-lsp, the tests in C, html.py, and a test.sh. Libraries that are
+# the header and limecove.pc; and for all the crates limecove-sys, limecove and limecove-lsp, the tests in C, the module for Python, html.py, and a test.sh. Libraries that are
 # not in bindings/out, or older than a source, bindings/build.sh first makes and proves, with rt. Beside that it needs a C compiler: cc,
 # and for the .so of another target than this machine's the one that Debian names after it, as aarch64-linux-gnu-gcc. Without that one
 # the release has no such .so.
@@ -48,6 +48,8 @@ mkdir -p "$folder/rust"
 out=$(cd "$folder" && pwd)
 cp "$here/../LICENSE" "$here/html.py" "$out"
 cp -r "$here/c" "$out/c"
+mkdir "$out/python"
+cp "$here"/python/*.py "$out/python"
 # the programs include the header of the release by its name
 sed -i 's|"../limecove.h"|<limecove.h>|' "$out"/c/*.c "$out"/c/cases.h
 cp "$here/tests_of_c.sh" "$out/c"
@@ -99,6 +101,8 @@ Each target has a folder: ${names#, }.
   \`cc prog.c \$(PKG_CONFIG_PATH=T/lib/pkgconfig pkg-config --cflags --libs limecove)\`, which links \`T/lib/liblimecove.so.$layout\` if that is
   there. \`limecove.h\` says what each function does. To install, copy \`include\` and \`lib\` of T to \`/usr/local\`.
 - Rust: \`limecove = { path = ".../rust/limecove" }\` in \`Cargo.toml\`. It finds the target's \`lib\` by itself. It needs Rust 1.63.
+- Python: \`python/limecove.py\` is a module of one file. It finds the \`lib\` of this release by itself, and elsewhere in the folder that
+  \`LIMECOVE_LIB\` names. It needs Python 3.8.
 - Examples: \`c/outline.c\`, and in \`rust/limecove/examples\` linters, a highlighter, a list of links and a writer of HTML.
 - An editor: \`rust/limecove-lsp\` is a language server.
 - \`./html.py SPEC\` runs CommonMark's examples, which are not here, through that writer: 650 of the 652 of 0.30 are right.
@@ -145,6 +149,10 @@ if [ -e "$prefix/lib/liblimecove.so" ]; then
     "${CC:-cc}" -std=c99 -o "$work/example" "$here/c/example.c" "$@"
     # shellcheck disable=SC2086
     env LD_LIBRARY_PATH="$prefix/lib" ${RUN:-} "$work/example" | diff "$here/c/example.out" -
+    if [ "$target" = "$own" ] && command -v python3 >/dev/null; then
+        echo "release: the module for Python"
+        env -u LIMECOVE_LIB python3 -B "$here/python/test_limecove.py" 2>"$work/said" || { cat "$work/said" >&2; exit 1; }
+    fi
 fi
 if command -v cargo >/dev/null; then
     if [ "$target" != "$own" ] && [ ! -d "$(rustc --print sysroot)/lib/rustlib/$target" ]; then

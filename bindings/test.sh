@@ -1,7 +1,7 @@
 #!/bin/sh
 # Builds the library and the program, and tests the library: from C, from Rust with random documents against the program, and as a
-# release. It needs rt, ar, cc, clang, cargo and python3, and no network; for the library of aarch64 also gcc-aarch64-linux-gnu and qemu-user;
-# programs over musl are tested if there is musl-gcc.
+# release, with Python too. It needs rt, ar, cc, clang, cargo and python3, and no network; for the library of aarch64 also
+# gcc-aarch64-linux-gnu and qemu-user. Programs over musl are tested if there is musl-gcc.
 # usage: bindings/test.sh [-WORD..]. The words are passed to `rt`, as --jobs 2.
 set -eu
 if [ "${1-}" = --help ]; then
