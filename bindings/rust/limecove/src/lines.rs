@@ -1,6 +1,6 @@
 //! Lines and columns of bytes.
 
-use crate::Error;
+use crate::{Encoding, Error, Place};
 use std::fmt;
 use std::ops::Range;
 
@@ -72,6 +72,14 @@ fn is_inner(byte: u8) -> bool {
     byte & 0xc0 == 0x80
 }
 
+/// How far a walk over the bytes has come: a line from 0, a byte in it, and the units in front of that.
+#[derive(Default)]
+struct Walk {
+    line: usize,
+    index: usize,
+    character: usize,
+}
+
 impl<'a> LineIndex<'a> {
     /// Finds the lines of a document.
     ///
@@ -133,14 +141,10 @@ impl<'a> LineIndex<'a> {
     ///
     /// If the document is no UTF-8, bytes from 0x80 to 0xBF count as no characters, and all others as one.
     pub fn line_column(&self, index: usize) -> LineColumn {
-        let mut index = index.min(self.document.len());
+        let index = index.min(self.document.len());
         let line = self.starts.partition_point(|start| *start <= index);
         let start = self.starts[line - 1];
-        for _ in 0..3 {
-            if index > start && self.document.get(index).copied().map_or(false, is_inner) {
-                index -= 1;
-            }
-        }
+        let index = self.first_of(index, start);
         let (before, here) = (self.count(start), self.count(index));
         LineColumn {
             line,
@@ -176,6 +180,107 @@ impl<'a> LineIndex<'a> {
     /// inside a character of two units is of that character.
     pub fn byte_at_utf16(&self, line: usize, column: usize) -> Option<usize> {
         self.find(line, column, |count| count.utf16)
+    }
+
+    /// The byte of the nearest place at or before this one, as an editor means a place that there is not: behind a line's end it is the line's end,
+    /// in front of its line ending; in a character its first byte; and behind the last line the document's end. It takes no longer for a long line.
+    ///
+    /// ```
+    /// use limecove::{Encoding, LineIndex, Place};
+    ///
+    /// let index = LineIndex::new("a\r\né😀b")?;
+    /// let nearest = |line, character| index.nearest(Place { line, character }, Encoding::Utf16);
+    /// assert_eq!((nearest(0, 9), nearest(1, 2), nearest(2, 0)), (1, 5, 10));
+    /// # Ok::<(), limecove::Error>(())
+    /// ```
+    pub fn nearest(&self, place: Place, encoding: Encoding) -> usize {
+        let number = place.line.saturating_add(1);
+        let line = match self.line(number) {
+            Some(line) => line,
+            None => return self.document.len(),
+        };
+        let column = place.character.saturating_add(1);
+        let found = match encoding {
+            Encoding::Utf8 => self.byte_at(number, column),
+            Encoding::Utf16 => self.byte_at_utf16(number, column),
+        };
+        let index = found.map_or(line.end, |index| index.min(line.end));
+        self.first_of(index, line.start)
+    }
+
+    /// The places of bytes: in a character that of its first byte, in a line ending that of the line's end, and behind the document's end that of its
+    /// end.
+    ///
+    /// For bytes in ascending order it is one walk: its time is in proportion to them, and to the lines and bytes from the first to the last. Behind
+    /// one that is less than the one before it, it begins anew.
+    ///
+    /// ```
+    /// use limecove::{Encoding, LineIndex};
+    ///
+    /// let index = LineIndex::new("a\né😀b")?;
+    /// let places = index.places(&[1, 2, 8, 9], Encoding::Utf16)?;
+    /// let found: Vec<_> = places.iter().map(|it| (it.line, it.character)).collect();
+    /// assert_eq!(found, [(0, 1), (1, 0), (1, 3), (1, 4)]);
+    /// # Ok::<(), limecove::Error>(())
+    /// ```
+    ///
+    /// # Errors
+    ///
+    /// If it runs out of memory.
+    pub fn places(&self, bytes: &[usize], encoding: Encoding) -> Result<Vec<Place>, Error> {
+        let mut places = Vec::new();
+        let got = places.try_reserve_exact(bytes.len());
+        got.map_err(|_| Error::OutOfMemory)?;
+        let mut walk = Walk::default();
+        for (nth, byte) in bytes.iter().enumerate() {
+            if nth == 0 || *byte < walk.index {
+                walk = self.walk_to(*byte);
+            }
+            self.go_on(&mut walk, *byte, encoding);
+            places.push(Place {
+                line: walk.line,
+                character: walk.character,
+            });
+        }
+        Ok(places)
+    }
+
+    /// A walk that begins where the line of a byte does.
+    fn walk_to(&self, byte: usize) -> Walk {
+        let begun = self.starts.partition_point(|start| *start <= byte);
+        Walk {
+            line: begun - 1,
+            index: self.starts[begun - 1],
+            character: 0,
+        }
+    }
+
+    /// Takes a walk to a byte, which is not before it.
+    fn go_on(&self, walk: &mut Walk, byte: usize, encoding: Encoding) {
+        while let Some(start) = self.starts.get(walk.line + 1).filter(|it| **it <= byte) {
+            *walk = Walk {
+                line: walk.line + 1,
+                index: *start,
+                character: 0,
+            };
+        }
+        let end = self.line(walk.line + 1).map_or(walk.index, |it| it.end);
+        let to = self.first_of(byte.min(end), walk.index);
+        walk.character += match encoding {
+            Encoding::Utf8 => to - walk.index,
+            Encoding::Utf16 => Count::default().and(&self.document[walk.index..to]).utf16,
+        };
+        walk.index = to;
+    }
+
+    /// The first byte of the character that a byte is in, if that is not before `start`.
+    fn first_of(&self, mut index: usize, start: usize) -> usize {
+        for _ in 0..3 {
+            if index > start && self.document.get(index).copied().map_or(false, is_inner) {
+                index -= 1;
+            }
+        }
+        index
     }
 
     /// The bytes of a line, with its line ending but for the last byte of that; of the last line all up to the end.
@@ -285,12 +390,99 @@ mod tests {
         }
     }
 
+    /// The nearest byte of places, as they are counted by hand: lines of `a`, of `é😀b`, of nothing, and of `c`.
+    #[test]
+    fn the_nearest_place_is_before() {
+        let text = "a\r\né😀b\n\rc";
+        let index = LineIndex::new(text).unwrap();
+        assert_eq!((text.len(), index.line_count()), (13, 4));
+        for (line, character, in_utf8, in_utf16) in [
+            (0, 0, 0, 0),
+            (0, 1, 1, 1),
+            // not between CR and LF
+            (0, 2, 1, 1),
+            (0, usize::MAX, 1, 1),
+            (1, 0, 3, 3),
+            // in `é`, and behind it
+            (1, 1, 3, 5),
+            // in front of `😀`, and between its halves
+            (1, 2, 5, 5),
+            (1, 3, 5, 9),
+            (1, 4, 5, 10),
+            (1, 5, 5, 10),
+            (1, 6, 9, 10),
+            (1, 7, 10, 10),
+            (1, 8, 10, 10),
+            (2, 0, 11, 11),
+            (2, 1, 11, 11),
+            (3, 0, 12, 12),
+            (3, 1, 13, 13),
+            (3, 2, 13, 13),
+            (4, 0, 13, 13),
+            (usize::MAX, usize::MAX, 13, 13),
+        ] {
+            let place = Place { line, character };
+            let found = [Encoding::Utf8, Encoding::Utf16].map(|it| index.nearest(place, it));
+            assert_eq!(found, [in_utf8, in_utf16], "{:?}", place);
+        }
+    }
+
+    /// The places of all bytes of that text, in one walk; and out of order.
+    #[test]
+    fn many_places_are_found_in_a_walk() {
+        let index = LineIndex::new("a\r\né😀b\n\rc").unwrap();
+        let all: Vec<usize> = (0..=15).collect();
+        let found = |bytes: &[usize], encoding| -> Vec<(usize, usize)> {
+            let places = index.places(bytes, encoding).unwrap();
+            places.iter().map(|it| (it.line, it.character)).collect()
+        };
+        #[rustfmt::skip]
+        let in_utf16 = [
+            (0, 0), (0, 1), (0, 1), (1, 0), (1, 0), (1, 1), (1, 1), (1, 1), (1, 1), (1, 3), (1, 4), (2, 0), (3, 0), (3, 1), (3, 1), (3, 1),
+        ];
+        assert_eq!(found(&all, Encoding::Utf16), in_utf16);
+        #[rustfmt::skip]
+        let in_utf8 = [
+            (0, 0), (0, 1), (0, 1), (1, 0), (1, 0), (1, 2), (1, 2), (1, 2), (1, 2), (1, 6), (1, 7), (2, 0), (3, 0), (3, 1), (3, 1), (3, 1),
+        ];
+        assert_eq!(found(&all, Encoding::Utf8), in_utf8);
+        let mixed = [12, 9, 10, 0, 9, 9, 5, usize::MAX, 1];
+        assert_eq!(
+            found(&mixed, Encoding::Utf16),
+            mixed.map(|at| in_utf16[at.min(15)])
+        );
+        assert_eq!(found(&[], Encoding::Utf8), []);
+    }
+
+    /// Half a million places in a line of 1 MB, and in as many lines: in time of the square of that it took minutes.
+    #[test]
+    fn many_places_take_linear_time() {
+        let text = "é".repeat(500_000);
+        let bytes: Vec<usize> = (0..text.len()).step_by(2).collect();
+        let index = LineIndex::new(&text).unwrap();
+        let places = index.places(&bytes, Encoding::Utf16).unwrap();
+        assert!(places.iter().map(|it| it.character).eq(0..500_000));
+        let text = "a\n".repeat(500_000);
+        let index = LineIndex::new(&text).unwrap();
+        let places = index.places(&bytes, Encoding::Utf8).unwrap();
+        assert!(places
+            .iter()
+            .map(|it| (it.line, it.character))
+            .eq((0..500_000).map(|it| (it, 0))));
+    }
+
     /// No bytes panic, and columns grow with the index.
     #[test]
     fn what_is_no_text_has_columns() {
         let bytes: Vec<u8> = (0..2000_usize).map(|n| (n * n / 7 + n) as u8).collect();
         for len in [0, 1, 255, 256, 257, 2000] {
             let index = LineIndex::new(&bytes[..len]).unwrap();
+            let all: Vec<usize> = (0..=len + 1).collect();
+            for encoding in [Encoding::Utf8, Encoding::Utf16] {
+                let found = index.places(&all, encoding).unwrap();
+                assert!(found.windows(2).all(|two| two[0] <= two[1]));
+                assert!(found.iter().all(|it| index.nearest(*it, encoding) <= len));
+            }
             let places: Vec<_> = (0..=len + 1).map(|at| index.line_column(at)).collect();
             assert!(places.windows(2).all(|two| two[0] <= two[1]));
             for place in places {
