@@ -11,7 +11,7 @@ fn listed(document: &[u8]) -> Result<Vec<String>, Error> {
     let lines = LineIndex::new(document)?;
     let text = |bytes: &[u8]| String::from_utf8_lossy(bytes).into_owned();
     let (mut found, mut used) = (Vec::new(), HashSet::new());
-    for node in tree.nodes() {
+    for node in tree.nodes().filter(|it| it.name() != Name::Definition) {
         let target = match node.link()? {
             Some(target) => target,
             None => continue,

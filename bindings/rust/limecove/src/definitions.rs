@@ -1,226 +1,176 @@
-//! Definitions: what links and images by reference refer to.
+//! The definitions of a document that is edited.
 
 use crate::tree::{Text, Tree};
-use crate::{Error, Name, Node};
-use std::str;
+use crate::{normalized_label, Changed, Document, Error, Name};
+use std::ops::Range;
 
-/// The definitions of a document: of each label the first one, by its label and the index of its span, in the order of labels.
-#[derive(Clone, Debug, Default)]
-pub(crate) struct Definitions(Vec<(Vec<u8>, usize)>);
+/// A link reference definition.
+#[derive(Clone, Debug, PartialEq, Eq, Hash)]
+#[non_exhaustive]
+pub struct Definition {
+    /// The label in the form by which labels are compared, as [`normalized_label`] has it.
+    pub label: Vec<u8>,
+    /// The bytes of the document that it covers.
+    pub bytes: Range<usize>,
+    /// The destination, with what escapes and references stand for, as [`Target`](crate::Target) has it.
+    pub destination: Vec<u8>,
+    /// The title, if there is one, with what escapes and references stand for.
+    pub title: Option<Vec<u8>>,
+}
+
+/// The definitions of a whole document: so links by reference in a tree of a section of it go where another section says. They are made once, and
+/// [updated](Definitions::update) after each edit.
+///
+/// ```
+/// use limecove::{Definitions, Document, Name, Options};
+///
+/// let mut document = Document::new("[a]\n\n# b\n\n[A]: c\n", &Options::default())?;
+/// let mut definitions = Definitions::of_document(&document)?;
+/// let goes_to = |document: &Document, definitions: &Definitions| -> Result<_, limecove::Error> {
+///     let tree = document.tree(0..1, definitions)?;
+///     let link = tree.nodes().find(|node| node.name() == Name::Link).unwrap();
+///     let target = link.link()?.unwrap();
+///     Ok(target.destination)
+/// };
+/// assert_eq!(goes_to(&document, &definitions)?, b"c");
+/// let change = document.replace(15..16, "d")?;
+/// definitions.update(&document, &change)?;
+/// assert_eq!(goes_to(&document, &definitions)?, b"d");
+/// # Ok::<(), limecove::Error>(())
+/// ```
+#[derive(Clone, Debug, Default, PartialEq, Eq)]
+pub struct Definitions {
+    /// All of them, by label and then by place.
+    all: Vec<Definition>,
+}
 
 impl Definitions {
+    /// Those of a document.
+    ///
+    /// # Errors
+    ///
+    /// If it runs out of memory.
+    pub fn of_document(document: &Document) -> Result<Definitions, Error> {
+        Definitions::in_sections(document, 0..document.sections())
+    }
+
     /// Those of a tree.
-    pub(crate) fn of(tree: &Tree<'_>) -> Result<Definitions, Error> {
-        let mut found = Vec::new();
-        for (index, node) in tree.nodes().enumerate() {
+    ///
+    /// # Errors
+    ///
+    /// If it runs out of memory.
+    pub fn of(tree: &Tree<'_>) -> Result<Definitions, Error> {
+        let mut all = Vec::new();
+        for node in tree.nodes() {
             if node.name() != Name::Definition {
                 continue;
             }
-            let label = node.child(Name::DefinitionLabel);
-            if let Some(label) = label.and_then(|it| it.child(Name::DefinitionLabelString)) {
-                found.try_reserve(1).map_err(|_| Error::OutOfMemory)?;
-                found.push((normalised(&label)?, index));
+            if let (Some(label), Some(target)) = (node.normalized_label()?, node.link()?) {
+                all.try_reserve(1).map_err(|_| Error::OutOfMemory)?;
+                all.push(Definition {
+                    label,
+                    bytes: node.bytes(),
+                    destination: target.destination,
+                    title: target.title,
+                });
             }
         }
-        // by label, and then by place
-        found.sort_unstable();
-        found.dedup_by(|later, first| later.0 == first.0);
-        Ok(Definitions(found))
+        let mut found = Definitions { all };
+        found.sort();
+        Ok(found)
     }
 
-    /// The index of the span that defines a label.
-    fn get(&self, label: &[u8]) -> Option<usize> {
-        let found = self.0.binary_search_by(|(known, _)| known[..].cmp(label));
-        found.ok().map(|at| self.0[at].1)
+    /// Those of sections of a document.
+    fn in_sections(document: &Document, sections: Range<usize>) -> Result<Definitions, Error> {
+        let none = Definitions::default();
+        let tree = document.tree(sections, &none)?;
+        Definitions::of(&tree)
     }
-}
 
-impl<'a> Node<'a> {
-    /// The definition that a link or an image refers to: the first one of its label. `None` if it has a resource, as `(b)` in `[a](b)`,
-    /// is no link or image, or nothing defines its label.
+    /// Makes them those of the document as it is now, if they were those of it before its last edit, which changed this. It takes time in proportion to
+    /// the sections that were replaced, and to all definitions.
     ///
-    /// Its label is what is in the brackets behind it, or else in its own. Two labels are the same also if they differ in how much white space
-    /// is in them, or in lower and upper case. It takes time in proportion to the label, and a logarithm to look it up.
+    /// # Errors
+    ///
+    /// If it runs out of memory. They are then as they were, so that the same can be tried again before the next edit.
+    pub fn update(&mut self, document: &Document, change: &Changed) -> Result<(), Error> {
+        let mut fresh = Definitions::in_sections(document, change.new_sections())?.all;
+        let got = self.all.try_reserve(fresh.len());
+        got.map_err(|_| Error::OutOfMemory)?;
+        let (old, new) = (change.old_bytes(), change.bytes());
+        self.all.retain(|it| !old.contains(&it.bytes.start));
+        for Definition { bytes, .. } in &mut self.all {
+            if bytes.start >= old.end {
+                let moved = |at: usize| at - old.end + new.end;
+                *bytes = moved(bytes.start)..moved(bytes.end);
+            }
+        }
+        if !fresh.is_empty() {
+            self.all.append(&mut fresh);
+            self.sort();
+        }
+        Ok(())
+    }
+
+    fn sort(&mut self) {
+        self.all.sort_unstable_by(|one, other| {
+            (&one.label, one.bytes.start).cmp(&(&other.label, other.bytes.start))
+        });
+    }
+
+    /// What defines a label: the first definition of it. The label is what is between brackets, in any form.
     ///
     /// ```
-    /// use limecove::{Name, Options, Tree};
+    /// use limecove::{Definitions, Options, Tree};
     ///
-    /// let tree = Tree::read("[a][B]\n\n[b]: c 'd'", &Options::default())?;
-    /// let link = tree.nodes().find(|node| node.name() == Name::Link).unwrap();
-    /// assert_eq!(link.definition()?.unwrap().text(), b"[b]: c 'd'");
-    /// assert_eq!(link.link()?.unwrap().destination, b"c");
+    /// let tree = Tree::read("[a b]: c\n[A  B]: d\n", &Options::default())?;
+    /// let found = Definitions::of(&tree)?;
+    /// assert_eq!(found.get(b" a\nB")?.unwrap().destination, b"c");
+    /// assert_eq!((found.get(b"c")?, found.len()), (None, 2));
     /// # Ok::<(), limecove::Error>(())
     /// ```
     ///
     /// # Errors
     ///
     /// If it runs out of memory.
-    pub fn definition(&self) -> Result<Option<Node<'a>>, Error> {
-        let is_reference =
-            matches!(self.name(), Name::Link | Name::Image) && self.child(Name::Resource).is_none();
-        if !is_reference {
-            return Ok(None);
-        }
-        let behind = self.child(Name::Reference);
-        let label = match behind.and_then(|it| it.child(Name::ReferenceString)) {
-            Some(label) => Some(label),
-            None => self
-                .child(Name::Label)
-                .and_then(|it| it.child(Name::LabelText)),
-        };
-        let label = match label {
-            Some(label) => normalised(&label)?,
-            None => return Ok(None),
-        };
-        let tree = self.tree();
-        Ok(tree.definitions.get(&label).map(|index| tree.node(index)))
+    pub fn get(&self, label: &[u8]) -> Result<Option<&Definition>, Error> {
+        Ok(self.find(&normalized_label(label)?))
+    }
+
+    /// What defines a label, which is in the form by which labels are compared.
+    pub(crate) fn find(&self, label: &[u8]) -> Option<&Definition> {
+        let at = self.all.partition_point(|it| it.label[..] < *label);
+        self.all.get(at).filter(|it| it.label == label)
+    }
+
+    /// All of them, also those whose label is defined before: by label, and those of one label by place.
+    pub fn iter(&self) -> std::slice::Iter<'_, Definition> {
+        self.all.iter()
+    }
+
+    /// How many there are.
+    pub fn len(&self) -> usize {
+        self.all.len()
+    }
+
+    /// Whether there are none.
+    pub fn is_empty(&self) -> bool {
+        self.all.is_empty()
     }
 }
 
-/// A label as it is compared: each run of white space is a space, none is at an end, and letters are in lower and then in upper case,
-/// but for `ı`, and NUL is U+FFFD. Of bytes that are no UTF-8 only ASCII letters change.
-fn normalised(label: &Node<'_>) -> Result<Vec<u8>, Error> {
-    let mut written = Text::new();
-    written.add_written(label)?;
-    folded(&written.into_bytes())
+impl<'a> IntoIterator for &'a Definitions {
+    type Item = &'a Definition;
+    type IntoIter = std::slice::Iter<'a, Definition>;
+
+    fn into_iter(self) -> Self::IntoIter {
+        self.iter()
+    }
 }
 
-fn folded(written: &[u8]) -> Result<Vec<u8>, Error> {
-    let mut collapsed = Text::new();
-    let words = written.split(|byte| matches!(byte, b' ' | b'\t' | b'\n' | b'\r'));
-    for (at, word) in words.filter(|word| !word.is_empty()).enumerate() {
-        collapsed.add_bytes(if at > 0 { b" " } else { b"" })?;
-        for (at, part) in word.split(|byte| *byte == 0).enumerate() {
-            collapsed.add_bytes(if at > 0 { b"\xEF\xBF\xBD" } else { b"" })?;
-            collapsed.add_bytes(part)?;
-        }
-    }
-    let mut collapsed = collapsed.into_bytes();
-    let characters = match str::from_utf8(&collapsed) {
-        Ok(text) => text.chars(),
-        Err(_) => {
-            collapsed.make_ascii_uppercase();
-            return Ok(collapsed);
-        }
-    };
-    let mut folded = Text::new();
-    for letter in characters {
-        match letter {
-            'ı' => add_letter(&mut folded, letter)?,
-            _ => {
-                for upper in letter.to_lowercase().flat_map(char::to_uppercase) {
-                    add_letter(&mut folded, upper)?;
-                }
-            }
-        }
-    }
-    Ok(folded.into_bytes())
-}
-
-fn add_letter(folded: &mut Text, letter: char) -> Result<(), Error> {
-    folded.add_bytes(letter.encode_utf8(&mut [0; 4]).as_bytes())
-}
-
-#[cfg(test)]
-mod tests {
-    use super::*;
-    use crate::event::tests::event;
-    use crate::{Event, Kind};
-    use std::ops::Range;
-
-    /// The events of spans in the order of their starts: each is in those before it that cover it.
-    fn events(of: &[(Name, Range<usize>)]) -> Vec<Event> {
-        let (mut all, mut open) = (Vec::new(), Vec::<(Name, usize)>::new());
-        let ends = std::iter::once((Name::Paragraph, usize::MAX..usize::MAX));
-        for (name, range) in of.iter().cloned().chain(ends) {
-            while let Some(&(inner, end)) = open.last().filter(|(_, end)| *end < range.end) {
-                all.push(event(Kind::Exit, inner, end));
-                open.pop();
-            }
-            if range.start < usize::MAX {
-                all.push(event(Kind::Enter, name, range.start));
-                open.push((name, range.end));
-            }
-        }
-        all
-    }
-
-    /// The three forms of references, one to nothing, and two definitions of one label, of which the first is meant.
-    #[test]
-    fn references_go_where_their_definitions_say() {
-        let document =
-            "[Foo  bar]: </u&amp;> 't'\n[FOO BAR]: /v\n\n[x][foo\tBAR] ![FoO Bar][] [fOo bar] [no]";
-        let span = |name, text: &str| {
-            let from = document.find(text).unwrap();
-            (name, from..from + text.len())
-        };
-        let list = events(&[
-            span(Name::Definition, "[Foo  bar]: </u&amp;> 't'"),
-            span(Name::DefinitionLabel, "[Foo  bar]"),
-            span(Name::DefinitionLabelString, "Foo  bar"),
-            span(Name::Data, "Foo  bar"),
-            span(Name::DefinitionDestination, "</u&amp;>"),
-            span(Name::DefinitionDestinationLiteral, "</u&amp;>"),
-            span(Name::DefinitionDestinationString, "/u&amp;"),
-            span(Name::Data, "/u&amp;"),
-            span(Name::DefinitionTitle, "'t'"),
-            span(Name::DefinitionTitleString, "t"),
-            span(Name::Data, "t"),
-            span(Name::Definition, "[FOO BAR]: /v"),
-            span(Name::DefinitionLabel, "[FOO BAR]"),
-            span(Name::DefinitionLabelString, "FOO BAR"),
-            span(Name::Data, "FOO BAR"),
-            span(Name::Link, "[x][foo\tBAR]"),
-            span(Name::Label, "[x]"),
-            span(Name::LabelText, "x"),
-            span(Name::Reference, "[foo\tBAR]"),
-            span(Name::ReferenceString, "foo\tBAR"),
-            span(Name::Data, "foo\tBAR"),
-            span(Name::Image, "![FoO Bar][]"),
-            span(Name::Label, "![FoO Bar]"),
-            span(Name::LabelText, "FoO Bar"),
-            span(Name::Data, "FoO Bar"),
-            span(Name::Reference, "[]"),
-            span(Name::Link, "[fOo bar]"),
-            span(Name::Label, "[fOo bar]"),
-            span(Name::LabelText, "fOo bar"),
-            span(Name::Data, "fOo bar"),
-            span(Name::Link, "[no]"),
-            span(Name::Label, "[no]"),
-            span(Name::LabelText, "no"),
-            span(Name::Data, "no"),
-        ]);
-        let tree = Tree::new(document, &list).unwrap();
-        let is_link = |node: &Node<'_>| matches!(node.name(), Name::Link | Name::Image);
-        let links: Vec<_> = tree.nodes().filter(is_link).collect();
-        assert_eq!(links.len(), 4);
-        for link in &links[..3] {
-            let target = link.link().unwrap().unwrap();
-            assert_eq!(target.destination, b"/u&");
-            assert_eq!(target.title.as_deref(), Some(&b"t"[..]));
-            assert_eq!(target.definition.unwrap().bytes().start, 0);
-            assert_eq!(target.label.unwrap().name(), Name::LabelText);
-        }
-        assert!(links[3].link().unwrap().is_none());
-        assert!(tree.node(0).definition().unwrap().is_none());
-    }
-
-    #[test]
-    fn labels_are_compared_without_case_and_white_space() {
-        for (one, other) in [
-            ("Foo", "fOO"),
-            (" a \t\r\n b ", "A B"),
-            ("\u{1e9e}", "SS"),
-            (
-                "\u{3b1}\u{3c3} \u{3b1}\u{3c2}",
-                "\u{391}\u{3a3} \u{391}\u{3a3}",
-            ),
-            ("\u{df}", "ss"),
-        ] {
-            assert_eq!(folded(one.as_bytes()), folded(other.as_bytes()), "{}", one);
-        }
-        assert_ne!(folded(b"a b"), folded(b"ab"));
-        assert_ne!(folded("a\u{a0}b".as_bytes()), folded(b"a b"));
-        assert_eq!(folded(b"\xffa\xc3\xa9").unwrap(), b"\xffA\xc3\xa9");
-    }
+/// A copy of bytes, if there is memory for it.
+pub(crate) fn copied(bytes: &[u8]) -> Result<Vec<u8>, Error> {
+    let mut text = Text::new();
+    text.add_bytes(bytes)?;
+    Ok(text.into_bytes())
 }

@@ -1,14 +1,15 @@
 //! A document that can be edited.
 
+use crate::definitions::copied;
 use crate::reading::assert_version;
-use crate::{Error, Event, Options};
+use crate::{Definitions, Error, Event, Options, Snapshot, TextOptions, Tree};
 use limecove_sys::{Record, NO_DOCUMENT};
 use std::cell::UnsafeCell;
 use std::fmt;
 use std::mem::size_of;
 use std::ops::Range;
 
-/// A document that can be edited, in the library's memory. It is given back when this is dropped.
+/// A document that can be edited, in the library's memory. It is given back when this is dropped. Its bytes are kept beside it.
 ///
 /// It is cut into sections, which are numbered from 0. An edit reads the sections that it changes anew, and those that ask for a label that
 /// came or went; all others keep their events. After each edit the events are those that reading the edited bytes anew would give.
@@ -39,6 +40,10 @@ pub struct Document {
     /// What a call of the library left. Each call takes the document out of it and puts it back, and no reference to what is in it
     /// outlives a call.
     document: UnsafeCell<limecove_sys::Document>,
+    /// Its bytes, as the library has them too.
+    bytes: Vec<u8>,
+    /// How its text is read.
+    text: TextOptions,
     sections: usize,
     /// To how many others the last edit gave other events.
     others: usize,
@@ -47,29 +52,65 @@ pub struct Document {
 // SAFETY: as of a reading: it is a number and a pointer to memory of `malloc`, of which nothing else has a pointer. It is not `Sync`.
 unsafe impl Send for Document {}
 
-/// What an edit changed. Sections in front of the replaced ones and behind them have the bytes that they had.
+/// What an edit changed. Sections in front of the replaced ones and behind them have the bytes that they had. What is behind them has moved by as
+/// much as the end of the replaced ones: in bytes from that of [`old_bytes`](Changed::old_bytes) to that of [`bytes`](Changed::bytes), in lines from that
+/// of [`old_lines`](Changed::old_lines) to that of [`new_lines`](Changed::new_lines).
+///
+/// ```
+/// use limecove::{Document, Options};
+///
+/// let mut document = Document::new("# a\n\nb\n\n# c\n", &Options::default())?;
+/// let change = document.replace(6..6, "\nd\ne")?;
+/// assert_eq!((change.old_bytes(), change.bytes()), (5..8, 5..12));
+/// assert_eq!((change.old_lines(), change.new_lines()), (2..4, 2..6));
+/// # Ok::<(), limecove::Error>(())
+/// ```
 #[derive(Clone, Copy, Debug, PartialEq, Eq)]
-pub struct Changed(limecove_sys::Changed);
+pub struct Changed {
+    change: limecove_sys::Changed,
+    /// Where the replaced sections ended, in the document as it was.
+    old_end: usize,
+    /// The line in which both start.
+    line: usize,
+    /// How many line endings the replaced sections had, and the new ones have.
+    endings: (usize, usize),
+}
 
 impl Changed {
     /// The sections that were replaced, as sections were numbered before.
     pub const fn old_sections(&self) -> Range<usize> {
-        self.0.from..self.0.old_to
+        self.change.from..self.change.old_to
     }
 
     /// The sections in their place, as sections are numbered now.
     pub const fn new_sections(&self) -> Range<usize> {
-        self.0.from..self.0.new_to
+        self.change.from..self.change.new_to
     }
 
     /// The bytes of the new sections, in the document as it is now.
     pub const fn bytes(&self) -> Range<usize> {
-        self.0.start..self.0.end
+        self.change.start..self.change.end
+    }
+
+    /// The bytes of the replaced sections, in the document as it was.
+    pub const fn old_bytes(&self) -> Range<usize> {
+        self.change.start..self.old_end
+    }
+
+    /// The lines of the replaced sections, from 0, as lines were numbered before: from that in which they started up to that in which what was
+    /// behind them did. The document's last line is none of these if it ended in them, as it has no line ending.
+    pub const fn old_lines(&self) -> Range<usize> {
+        self.line..self.line + self.endings.0
+    }
+
+    /// The lines of the new sections, as lines are numbered now.
+    pub const fn new_lines(&self) -> Range<usize> {
+        self.line..self.line + self.endings.1
     }
 
     /// How many other sections have other events than before, since a label came or went: [`Document::others`] says which.
     pub const fn others(&self) -> usize {
-        self.0.others
+        self.change.others
     }
 }
 
@@ -103,14 +144,16 @@ impl Document {
     /// If the library that is linked has another version. Nothing has been read or written then.
     pub fn new(bytes: impl AsRef<[u8]>, options: &Options) -> Result<Document, Error> {
         assert_version();
-        let bytes = bytes.as_ref();
+        let (bytes, text) = (bytes.as_ref(), options.text);
         let options = limecove_sys::TextOptions {
             size: size_of::<limecove_sys::TextOptions>(),
-            tab_size: options.text.tab_size.get(),
-            constructs: options.text.constructs | options.blocks,
+            tab_size: text.tab_size.get(),
+            constructs: text.constructs | options.blocks,
         };
         let mut made = Document {
             document: UnsafeCell::new(NO_DOCUMENT),
+            bytes: copied(bytes)?,
+            text,
             sections: 0,
             others: 0,
         };
@@ -123,7 +166,7 @@ impl Document {
                 made.document.get(),
             )
         };
-        read(answer.code)?;
+        read(answer.code, || unknown(answer.code))?;
         made.sections = answer.count;
         Ok(made)
     }
@@ -138,7 +181,11 @@ impl Document {
         range: Range<usize>,
         with: impl AsRef<[u8]>,
     ) -> Result<Changed, Error> {
-        let with = with.as_ref();
+        let (with, len) = (with.as_ref(), self.bytes.len());
+        // room for the bytes first: what follows the edit needs no memory
+        let more = with.len().saturating_sub(range.len());
+        let got = self.bytes.try_reserve(more);
+        got.map_err(|_| Error::OutOfMemory)?;
         let mut change = limecove_sys::Changed::default();
         // SAFETY: the document is as a call of the library left it, and is not shared. Pointers and lengths are those of references.
         let answer = unsafe {
@@ -151,10 +198,24 @@ impl Document {
                 &mut change,
             )
         };
-        read(answer.code)?;
+        read(answer.code, || Error::NoSuchBytes {
+            from: range.start,
+            to: range.end,
+            len,
+        })?;
         self.sections = answer.count;
         self.others = change.others;
-        Ok(Changed(change))
+        let old_end = change.end + range.len() - with.len();
+        let old = endings(&self.bytes[change.start..old_end]);
+        put(&mut self.bytes, range, with);
+        let new = endings(&self.bytes[change.start..change.end]);
+        let line = self.place(change.start, Encoding::Utf8);
+        Ok(Changed {
+            change,
+            old_end,
+            line: line.map_or(0, |it| it.line),
+            endings: (old, new),
+        })
     }
 
     /// The sections that the last edit did not replace and that have other events than before it, in order, as they are numbered now.
@@ -206,7 +267,11 @@ impl Document {
                     room,
                 )
             };
-            read(answer.code)?;
+            read(answer.code, || Error::NoSuchSections {
+                from: sections.start,
+                to: sections.end,
+                count: self.sections,
+            })?;
             if answer.count <= room {
                 // SAFETY: that many were written.
                 unsafe { events.set_len(answer.count) };
@@ -217,6 +282,39 @@ impl Document {
         }
     }
 
+    /// These sections as a tree, with places in the whole document. Links by reference go where its definitions say, wherever they stand.
+    ///
+    /// # Errors
+    ///
+    /// If memory runs out, or there are no such sections.
+    pub fn tree<'a>(
+        &'a self,
+        sections: Range<usize>,
+        definitions: &'a Definitions,
+    ) -> Result<Tree<'a>, Error> {
+        let events = self.events_in(sections)?;
+        let tree = Tree::with_definitions(&self.bytes, &events, definitions)?;
+        Ok(tree.read_with(self.text))
+    }
+
+    /// A copy of the document as it is now, which edits do not change, and which several threads can ask at the same time.
+    ///
+    /// # Errors
+    ///
+    /// If memory runs out.
+    pub fn snapshot(&self) -> Result<Snapshot, Error> {
+        Ok(Snapshot::of(
+            copied(&self.bytes)?,
+            self.events()?,
+            self.text,
+        ))
+    }
+
+    /// The bytes.
+    pub fn bytes(&self) -> &[u8] {
+        &self.bytes
+    }
+
     /// How many sections there are.
     pub const fn sections(&self) -> usize {
         self.sections
@@ -224,7 +322,13 @@ impl Document {
 
     /// How many bytes the document has.
     pub fn len(&self) -> usize {
-        self.start_of(self.sections)
+        self.bytes.len()
+    }
+
+    /// How many lines it has: one more than line endings.
+    pub fn line_count(&self) -> usize {
+        let end = self.place(self.bytes.len(), Encoding::Utf8);
+        end.map_or(0, |end| end.line) + 1
     }
 
     /// Whether it has none.
@@ -277,6 +381,44 @@ impl Document {
         };
         (code == limecove_sys::READ).then_some(index)
     }
+
+    /// The byte index of the nearest place at or before this one, as an editor means a place that there is not: behind a line's end it is the line's
+    /// end, in a character its start, and behind the last line the document's end.
+    ///
+    /// ```
+    /// use limecove::{Document, Encoding, Options, Place};
+    ///
+    /// let document = Document::new("a\n😀b", &Options::default())?;
+    /// let nearest = |line, character| document.nearest(Place { line, character }, Encoding::Utf16);
+    /// assert_eq!((nearest(0, 9), nearest(1, 1), nearest(2, 0)), (1, 2, 7));
+    /// # Ok::<(), limecove::Error>(())
+    /// ```
+    pub fn nearest(&self, place: Place, encoding: Encoding) -> usize {
+        // a character has at most four units
+        let mut tried = (0..4).filter_map(|back| {
+            let character = place.character.checked_sub(back)?;
+            self.index(Place { character, ..place }, encoding)
+        });
+        tried.next().unwrap_or(self.bytes.len())
+    }
+}
+
+/// How many lines end in these bytes, by LF, CR LF or CR.
+fn endings(bytes: &[u8]) -> usize {
+    let ends = |(at, byte): &(usize, &u8)| {
+        **byte == b'\n' || **byte == b'\r' && bytes.get(at + 1) != Some(&b'\n')
+    };
+    bytes.iter().enumerate().filter(ends).count()
+}
+
+/// Puts bytes in the place of these. There is room for them.
+fn put(bytes: &mut Vec<u8>, range: Range<usize>, with: &[u8]) {
+    let (old, behind) = (bytes.len(), range.start + with.len());
+    let new = old - range.len() + with.len();
+    bytes.resize(new.max(old), 0);
+    bytes.copy_within(range.end..old, behind);
+    bytes.truncate(new);
+    bytes[range.start..behind].copy_from_slice(with);
 }
 
 /// The units of an encoding, as the library takes them.
@@ -287,16 +429,20 @@ fn number_of(encoding: Encoding) -> u32 {
     }
 }
 
-/// Whether a call succeeded, by its code.
-fn read(code: u32) -> Result<(), Error> {
+/// Whether a call succeeded, by its code. `refused` is why, if what was asked for is not there.
+fn read(code: u32, refused: impl FnOnce() -> Error) -> Result<(), Error> {
     match code {
         limecove_sys::READ => Ok(()),
         limecove_sys::OUT_OF_MEMORY => Err(Error::OutOfMemory),
         limecove_sys::TOO_LONG => Err(Error::TooLong),
-        limecove_sys::NO_SUCH_RANGES => Err(Error::NoSuchRanges),
-        limecove_sys::NO_SUCH_BYTES => Err(Error::NoSuchBytes),
-        code => unreachable!("the document is open, and the code is {}", code),
+        limecove_sys::NO_SUCH_RANGES | limecove_sys::NO_SUCH_BYTES => Err(refused()),
+        code => unknown(code),
     }
+}
+
+/// What no call returns here.
+fn unknown(code: u32) -> ! {
+    unreachable!("the document is open, and the code is {}", code)
 }
 
 impl Drop for Document {

@@ -18,25 +18,31 @@
 //! | events | [`tokenize`], [`with_ranges`] | linear in the document, as measured; 56 bytes an event |
 //! | a few events at a time | [`Reading`] | the list stays in the library; the same time for each event |
 //! | events of a document that is edited | [`Document`] | an edit reads the sections that change, and those that a label reaches |
+//! | what an edit changed in a list of events | [`differing`] | linear in the events |
+//! | its sections as trees, with the labels of all of it | [`Document::tree`], [`Definitions`] | linear in the sections; to make it, in the document |
+//! | it as it is now, for several threads | [`Document::snapshot`], [`Snapshot`] | a copy of its bytes and events |
 //! | HTML, safe by default | [`to_html`], [`to_html_with_options`], [`to_html_bytes`] | the document is read once, and twice if the HTML is more than twice as long |
 //! | spans, flat | [`spans`], [`spans_by_start`] | linear in the events, in any nesting |
 //! | spans, as a tree | [`Tree`], [`Node`] | made in linear time; about 100 bytes a span |
 //! | the span at a byte | [`Tree::node_at`] | a logarithm, and the depth there |
-//! | what a span is | [`Node::heading_level`], [`list`](Node::list), [`link`](Node::link), [`definition`](Node::definition), [`fence_info`](Node::fence_info), [`decoded`](Node::decoded) | in the size of what it looks at |
-//! | lines and columns | [`LineIndex`], both ways | made in linear time; a logarithm to look up |
+//! | what a span is | [`Node::heading_level`], [`list`](Node::list), [`link`](Node::link), [`definition`](Node::definition), [`label`](Node::label), [`fence_info`](Node::fence_info), [`decoded`](Node::decoded), [`last_line`](Node::last_line) | in the size of what it looks at |
+//! | lines and columns | [`LineIndex`], both ways | made in linear time; a logarithm to look up; many [`places`](LineIndex::places) in one walk |
 //!
 //! The crate `limecove-sys` links `liblimecove.a`. If it is not found, set `LIMECOVE_LIB` to the folder that has it.
 #![deny(missing_docs)]
 
 mod definitions;
+mod differing;
 mod document;
 mod event;
 mod html;
+mod labels;
 mod lines;
 mod list;
 mod names;
 mod reading;
 mod references;
+mod snapshot;
 mod target;
 mod tree;
 
@@ -45,16 +51,20 @@ mod tree;
 #[doc = include_str!("../README.md")]
 struct Readme;
 
+pub use crate::definitions::{Definition, Definitions};
+pub use crate::differing::differing;
 pub use crate::document::{Changed, Document, Encoding, Place};
 pub use crate::event::{
     spans, spans_by_start, with_ranges, Content, Event, Kind, Link, Point, Span, Spans, WithRanges,
 };
 pub use crate::html::{to_html, to_html_bytes, to_html_with_options, HtmlOptions};
+pub use crate::labels::normalized_label;
 pub use crate::lines::{LineColumn, LineIndex};
 pub use crate::list::{List, ListMarker};
 pub use crate::names::{Machine, Name, UnknownName};
 pub use crate::reading::{Iter, Reading};
 pub use crate::references::character_reference;
+pub use crate::snapshot::Snapshot;
 pub use crate::target::Target;
 pub use crate::tree::{Node, Nodes, Tree};
 use std::error;
@@ -362,6 +372,18 @@ impl Machine {
 }
 
 /// Why a document was not read.
+///
+/// Later versions may have more of them, and more numbers in each: a `match` has an arm `_`, and a pattern ends with `..`.
+///
+/// ```
+/// use limecove::{Document, Error, Options};
+///
+/// let mut document = Document::new("abc", &Options::default())?;
+/// let refused = document.replace(2..4, "").unwrap_err();
+/// assert!(matches!(refused, Error::NoSuchBytes { from: 2, to: 4, len: 3, .. }));
+/// assert_eq!(refused.to_string(), "no such bytes: 2..4 of 3");
+/// # Ok::<(), Error>(())
+/// ```
 #[derive(Clone, Copy, Debug, PartialEq, Eq, Hash)]
 #[non_exhaustive]
 pub enum Error {
@@ -369,20 +391,61 @@ pub enum Error {
     OutOfMemory,
     /// The size of tabs times the length of the document, and one more, do not fit `usize`.
     TooLong,
-    /// The ranges cannot be read as one text: [`tokenize_text_in`] says which can. Or the document has no such sections.
-    NoSuchRanges,
+    /// The ranges cannot be read as one text: [`tokenize_text_in`] says which can.
+    #[non_exhaustive]
+    NoSuchRanges {
+        /// The index of the first range that is none, or cannot be read behind those before it.
+        index: usize,
+        /// Where that range begins.
+        from: usize,
+        /// Where it ends: the index of the byte behind it.
+        to: usize,
+        /// How many bytes the document has.
+        len: usize,
+    },
+    /// The document has no such sections.
+    #[non_exhaustive]
+    NoSuchSections {
+        /// The first section that was asked for.
+        from: usize,
+        /// The section behind the last.
+        to: usize,
+        /// How many sections the document has.
+        count: usize,
+    },
     /// The bytes that are to be replaced are none of the document.
-    NoSuchBytes,
+    #[non_exhaustive]
+    NoSuchBytes {
+        /// The index of the first of these bytes.
+        from: usize,
+        /// The index of the byte behind them.
+        to: usize,
+        /// How many bytes the document has.
+        len: usize,
+    },
 }
 
 impl fmt::Display for Error {
     fn fmt(&self, f: &mut fmt::Formatter<'_>) -> fmt::Result {
-        f.write_str(match self {
-            Error::OutOfMemory => "out of memory",
-            Error::TooLong => "document too long",
-            Error::NoSuchRanges => "the ranges are no text",
-            Error::NoSuchBytes => "no such bytes",
-        })
+        match self {
+            Error::OutOfMemory => f.write_str("out of memory"),
+            Error::TooLong => f.write_str("document too long"),
+            Error::NoSuchRanges {
+                index,
+                from,
+                to,
+                len,
+            } => write!(
+                f,
+                "the ranges are no text: range {index} is {from}..{to} of {len}"
+            ),
+            Error::NoSuchSections { from, to, count } => {
+                write!(f, "no such sections: {from}..{to} of {count}")
+            }
+            Error::NoSuchBytes { from, to, len } => {
+                write!(f, "no such bytes: {from}..{to} of {len}")
+            }
+        }
     }
 }
 
@@ -486,6 +549,6 @@ mod tests {
     #[test]
     fn events_are_send_and_sync() {
         fn is<T: Send + Sync>() {}
-        is::<(Event, Span, Options, Error)>();
+        is::<(Event, Span, Options, Error, Snapshot, Definitions, Changed)>();
     }
 }

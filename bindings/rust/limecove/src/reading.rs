@@ -122,7 +122,7 @@ impl Reading {
         }));
         let options = numbers_of(options);
         // SAFETY: as in `open`.
-        Reading::of(|reading| unsafe {
+        let opened = Reading::of(|reading| unsafe {
             limecove_sys::limecove_open_text_in(
                 document.as_ptr(),
                 document.len(),
@@ -131,7 +131,11 @@ impl Reading {
                 &options,
                 reading,
             )
-        })
+        });
+        match opened {
+            Err(Error::NoSuchRanges { .. }) => Err(no_such_ranges(document, ranges)),
+            opened => opened,
+        }
     }
 
     /// What a call opens.
@@ -148,7 +152,8 @@ impl Reading {
             limecove_sys::READ => Ok(reading),
             limecove_sys::OUT_OF_MEMORY => Err(Error::OutOfMemory),
             limecove_sys::TOO_LONG => Err(Error::TooLong),
-            limecove_sys::NO_SUCH_RANGES => Err(Error::NoSuchRanges),
+            // which of them, its caller finds
+            limecove_sys::NO_SUCH_RANGES => Err(no_such_ranges(&[], &[])),
             code => unreachable!("the options choose something, and the code is {}", code),
         }
     }
@@ -201,6 +206,32 @@ impl Reading {
         // SAFETY: the reading is as a call of the library left it, and no other call has it: it is not `Sync`, and the library calls
         // nothing of this program but the allocator, which has no reading. The room is that of a reference. An event is a record.
         unsafe { limecove_sys::limecove_copy(self.reading.get(), from, records, room.len()) }
+    }
+}
+
+/// Ranges that the library refused, with the first that cannot be read behind the one before it.
+fn no_such_ranges(document: &[u8], ranges: &[Range<usize>]) -> Error {
+    let begins_line = |at: usize| match document[..at].last() {
+        Some(b'\r') => document.get(at) != Some(&b'\n'),
+        last => matches!(last, None | Some(b'\n')),
+    };
+    let has_ending = |bytes: &[u8]| bytes.iter().any(|byte| matches!(byte, b'\n' | b'\r'));
+    let is_whole = |range: &Range<usize>| range.start <= range.end && range.end <= document.len();
+    // from where a range ends, another goes on there, or later in the line that begins there
+    let goes_on = |end: usize, from: usize| {
+        from == end || from > end && begins_line(end) && !has_ending(&document[end..from])
+    };
+    let is_wrong = |&index: &usize| {
+        let range = &ranges[index];
+        !is_whole(range) || index > 0 && !goes_on(ranges[index - 1].end, range.start)
+    };
+    let index = (0..ranges.len()).find(is_wrong).unwrap_or(0);
+    let range = ranges.get(index).cloned().unwrap_or_default();
+    Error::NoSuchRanges {
+        index,
+        from: range.start,
+        to: range.end,
+        len: document.len(),
     }
 }
 
@@ -307,6 +338,6 @@ mod tests {
         assert_eq!(code(0), Ok(0));
         assert_eq!(code(1), Err(Error::OutOfMemory));
         assert_eq!(code(2), Err(Error::TooLong));
-        assert_eq!(code(8), Err(Error::NoSuchRanges));
+        assert!(matches!(code(8), Err(Error::NoSuchRanges { .. })));
     }
 }

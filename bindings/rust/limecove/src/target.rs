@@ -1,7 +1,11 @@
 //! Where links and images go.
 
+use crate::definitions::{copied, Definitions};
 use crate::tree::Text;
+#[cfg(doc)]
+use crate::Tree;
 use crate::{Error, Name, Node};
+use std::ops::Range;
 
 /// Where a link or an image goes, and what it shows, as [`Node::link`] finds it.
 #[derive(Clone, Debug, PartialEq, Eq, Hash)]
@@ -15,13 +19,16 @@ pub struct Target<'a> {
     /// The span of what is shown, or of an image described, if there is something. Its children are inline text; [`Node::decoded`] has
     /// its words.
     pub label: Option<Node<'a>>,
-    /// The definition that says so, if it is a link or an image by reference.
+    /// The definition that says so, if it is a link or an image by reference, or a definition, and if this is in the tree.
     pub definition: Option<Node<'a>>,
+    /// The bytes of the document that the definition covers that says so, also if it is [in another section](Tree::with_definitions).
+    pub defined_at: Option<Range<usize>>,
 }
 
 impl<'a> Node<'a> {
-    /// Where a link, an image or an autolink goes. `None` if it is none of these. By reference it goes where its
-    /// [`definition`](Node::definition) says; without one, as no document has it, that is `None` too.
+    /// Where a link, an image, an autolink or a definition goes. `None` if it is none of these. By reference it goes where its
+    /// [`definition`](Node::definition) says. Without one, as in a tree of a section [whose document's definitions](Tree::with_definitions) it does
+    /// not have, that is `None` too.
     ///
     /// It takes time in proportion to the destination, the title and the children of the label. Only by [`Machine::Document`](crate::Machine)
     /// are escapes and references in destinations and titles spans. They are found here, unless they are off.
@@ -44,16 +51,51 @@ impl<'a> Node<'a> {
     pub fn link(&self) -> Result<Option<Target<'a>>, Error> {
         match self.name() {
             Name::Link | Name::Image => {}
+            Name::Definition => return self.said(None, Some(*self)).map(Some),
             Name::Autolink => return self.autolink(),
             _ => return Ok(None),
         }
+        let label = self.child(Name::Label);
+        let label = label.and_then(|label| label.child(Name::LabelText));
+        if let Some(resource) = self.child(Name::Resource) {
+            return resource.said(label, None).map(Some);
+        }
         let definition = self.definition()?;
-        let said = match self.child(Name::Resource).or(definition) {
+        match self.tree().known {
+            Some(known) => self.elsewhere(known, label, definition),
+            None => definition.map(|it| it.said(label, definition)).transpose(),
+        }
+    }
+
+    /// Where a link by reference goes by the definitions of the whole document.
+    fn elsewhere(
+        &self,
+        known: &Definitions,
+        label: Option<Node<'a>>,
+        definition: Option<Node<'a>>,
+    ) -> Result<Option<Target<'a>>, Error> {
+        let asked = self.normalized_label()?;
+        let said = match asked.and_then(|it| known.find(&it)) {
             Some(said) => said,
             None => return Ok(None),
         };
+        Ok(Some(Target {
+            destination: copied(&said.destination)?,
+            title: said.title.as_deref().map(copied).transpose()?,
+            label,
+            definition,
+            defined_at: Some(said.bytes.clone()),
+        }))
+    }
+
+    /// Where a link goes by its resource, or by a definition.
+    fn said(
+        &self,
+        label: Option<Node<'a>>,
+        definition: Option<Node<'a>>,
+    ) -> Result<Target<'a>, Error> {
         let (mut destination, mut title) = (Text::new(), None);
-        for part in said.children() {
+        for part in self.children() {
             match part.name() {
                 Name::ResourceDestination | Name::DefinitionDestination => {
                     let mut forms = part.children();
@@ -67,13 +109,13 @@ impl<'a> Node<'a> {
                 _ => {}
             }
         }
-        let label = self.child(Name::Label);
-        Ok(Some(Target {
+        Ok(Target {
             destination: destination.into_bytes(),
             title,
-            label: label.and_then(|label| label.child(Name::LabelText)),
+            label,
             definition,
-        }))
+            defined_at: definition.map(|it| it.bytes()),
+        })
     }
 
     /// Where an autolink goes.
@@ -94,6 +136,7 @@ impl<'a> Node<'a> {
             title: None,
             label: Some(address),
             definition: None,
+            defined_at: None,
         }))
     }
 }

@@ -1,8 +1,8 @@
 //! The spans of a document as a tree, and what they say: levels of headings, info strings, text.
 
-use crate::definitions::Definitions;
+use crate::labels::Labels;
 use crate::references::{character_reference, numeric};
-use crate::{tokenize, Error, Event, Kind, Name, Options, Span, TextOptions};
+use crate::{tokenize, Definitions, Error, Event, Kind, Name, Options, Span, TextOptions};
 use limecove_sys::{CHARACTER_ESCAPE, CHARACTER_REFERENCE};
 use std::fmt;
 use std::hash::{Hash, Hasher};
@@ -28,8 +28,10 @@ pub struct Tree<'a> {
     /// How text was read.
     text: TextOptions,
     places: Vec<Place>,
-    /// What links by reference refer to.
-    pub(crate) definitions: Definitions,
+    /// What links by reference refer to, if nothing else is known.
+    pub(crate) labels: Labels,
+    /// The definitions of the whole document, if they are known.
+    pub(crate) known: Option<&'a Definitions>,
 }
 
 /// A span, and where it is in the tree.
@@ -57,9 +59,7 @@ impl<'a> Tree<'a> {
         options: &Options,
     ) -> Result<Tree<'a>, Error> {
         let events = tokenize(document, options)?;
-        let mut tree = Tree::new(document, &events)?;
-        tree.text = options.text;
-        Ok(tree)
+        Ok(Tree::new(document, &events)?.read_with(options.text))
     }
 
     /// The spans of events of this document, which were read with tab stops at every 4 columns. If the list is not whole, an enter
@@ -72,6 +72,49 @@ impl<'a> Tree<'a> {
         document: &'a T,
         events: &[Event],
     ) -> Result<Tree<'a>, Error> {
+        let mut tree = Tree::of(document.as_ref(), events)?;
+        tree.labels = Labels::of(&tree)?;
+        Ok(tree)
+    }
+
+    /// The same for events of some sections of a document, whose definitions these are: links by reference go where the whole document says. The
+    /// document is all of it, as events have its places.
+    ///
+    /// ```
+    /// use limecove::{Definitions, Document, Name, Options, Tree};
+    ///
+    /// let document = Document::new("[a]: b\n\n# c\n\n[A]\n", &Options::default())?;
+    /// let definitions = Definitions::of_document(&document)?;
+    /// let last = document.sections() - 1;
+    /// let events = document.events_in(last..last + 1)?;
+    /// let tree = Tree::with_definitions(document.bytes(), &events, &definitions)?;
+    /// let link = tree.nodes().find(|node| node.name() == Name::Link).unwrap();
+    /// let target = link.link()?.unwrap();
+    /// assert_eq!((target.destination.as_slice(), target.defined_at), (&b"b"[..], Some(0..6)));
+    /// # Ok::<(), limecove::Error>(())
+    /// ```
+    ///
+    /// # Errors
+    ///
+    /// If it runs out of memory.
+    pub fn with_definitions<T: AsRef<[u8]> + ?Sized>(
+        document: &'a T,
+        events: &[Event],
+        definitions: &'a Definitions,
+    ) -> Result<Tree<'a>, Error> {
+        let mut tree = Tree::of(document.as_ref(), events)?;
+        tree.known = Some(definitions);
+        Ok(tree)
+    }
+
+    /// The same, of text that was read so.
+    pub(crate) fn read_with(mut self, text: TextOptions) -> Tree<'a> {
+        self.text = text;
+        self
+    }
+
+    /// The spans of events.
+    fn of(document: &'a [u8], events: &[Event]) -> Result<Tree<'a>, Error> {
         let (mut places, mut open) = (Vec::<Place>::new(), Vec::<usize>::new());
         let got = places.try_reserve_exact(events.len() - events.len() / 2);
         got.map_err(|_| Error::OutOfMemory)?;
@@ -106,14 +149,23 @@ impl<'a> Tree<'a> {
         for enter in open {
             places[enter].behind = places.len();
         }
-        let mut tree = Tree {
-            document: document.as_ref(),
+        Ok(Tree {
+            document,
             text: TextOptions::default(),
             places,
-            definitions: Definitions::default(),
-        };
-        tree.definitions = Definitions::of(&tree)?;
-        Ok(tree)
+            labels: Labels::default(),
+            known: None,
+        })
+    }
+
+    /// The definition that begins at this byte.
+    pub(crate) fn definition_at(&self, byte: usize) -> Option<Node<'_>> {
+        let first = self
+            .places
+            .partition_point(|place| place.span.start.index < byte);
+        let begun = (first..self.places.len()).map(|index| self.node(index));
+        let mut begun = begun.take_while(|node| node.bytes().start == byte);
+        begun.find(|node| node.name() == Name::Definition)
     }
 
     /// The span of this index.
@@ -299,6 +351,30 @@ impl<'a> Node<'a> {
     /// The first child of this name, if there is one.
     pub fn child(&self, name: Name) -> Option<Node<'a>> {
         self.children().find(|child| child.name() == name)
+    }
+
+    /// The last line that something of it is on, from 1: that of its last byte that is no line ending. As a container and a fence may end where the
+    /// line behind them begins, this is where an editor ends what it folds. Of a span of line endings alone it is the line in which it begins.
+    ///
+    /// It takes time in proportion to the line endings at its end.
+    ///
+    /// ```
+    /// use limecove::{Name, Options, Tree};
+    ///
+    /// let tree = Tree::read("> a\n> b\n\nc", &Options::default())?;
+    /// let quote = tree.children().next().unwrap();
+    /// assert_eq!((quote.span().start.line, quote.last_line()), (1, 2));
+    /// # Ok::<(), limecove::Error>(())
+    /// ```
+    pub fn last_line(&self) -> usize {
+        let (Span { start, end, .. }, mut text, mut endings) = (self.span(), self.text(), 0);
+        while let [rest @ .., b'\r', b'\n'] | [rest @ .., b'\r' | b'\n'] = text {
+            (text, endings) = (rest, endings + 1);
+        }
+        match text {
+            [] => start.line,
+            _ => end.line.saturating_sub(endings),
+        }
     }
 
     /// The level of a heading, from 1 to 6. `None` if it is no heading.

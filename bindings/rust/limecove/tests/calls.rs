@@ -82,17 +82,22 @@ fn ranges_are_read_as_one_text() {
     let whole = tokenize_text_in(document, std::slice::from_ref(&(0..10)), &text);
     assert_eq!(whole, tokenize_text(document, &text));
     let backwards = std::ops::Range { start: 1, end: 0 };
-    for ranges in [
-        &[0..1, 1..11][..],
-        &[backwards],
-        &[0..2, 1..2],
-        &[0..1, 2..3],
-        &[0..3, 6..7],
+    for (ranges, wrong) in [
+        (&[0..1, 1..11][..], 1),
+        (&[backwards], 0),
+        (&[0..2, 1..2], 1),
+        (&[0..1, 2..3], 1),
+        (&[0..3, 6..7], 1),
+        (&[0..5, 7..9, 9..9, 10..10], 3),
+        (&[0..5, 5..5, 7..8, 0..1], 3),
+        (std::slice::from_ref(&(11..11)), 0),
     ] {
-        let refused = tokenize_text_in(document, ranges, &text);
-        assert_eq!(refused, Err(Error::NoSuchRanges), "{:?}", ranges);
+        let refused = tokenize_text_in(document, ranges, &text).unwrap_err();
+        let (from, to) = (ranges[wrong].start, ranges[wrong].end);
+        let said = format!("the ranges are no text: range {wrong} is {from}..{to} of 10");
+        assert_eq!(refused.to_string(), said, "{:?}", ranges);
+        assert!(matches!(refused, Error::NoSuchRanges { index, len: 10, .. } if index == wrong));
     }
-    assert_eq!(Error::NoSuchRanges.to_string(), "the ranges are no text");
 }
 
 #[test]
@@ -206,7 +211,10 @@ fn constructs_of_whole_documents_can_be_off() {
 fn strikethrough_can_be_on() {
     let found = |text: TextOptions| {
         let events = tokenize("~a~ ~~b~~", &Options::default().text(text)).unwrap();
-        events.iter().filter(|event| event.name() == Name::GfmStrikethrough).count()
+        events
+            .iter()
+            .filter(|event| event.name() == Name::GfmStrikethrough)
+            .count()
     };
     let on = TextOptions::default().gfm_strikethrough(true);
     assert_eq!((found(TextOptions::default()), found(on)), (0, 4));

@@ -5,8 +5,8 @@
 //! own, glibc's, do their work.
 
 use limecove::{
-    spans, spans_by_start, to_html, tokenize, tokenize_text, with_ranges, Document, Error, Event,
-    LineIndex, Machine, Options, TextOptions, Tree,
+    spans, spans_by_start, to_html, tokenize, tokenize_text, with_ranges, Definitions, Document,
+    Encoding, Error, Event, LineIndex, Machine, Options, TextOptions, Tree,
 };
 use std::ffi::c_void;
 use std::fmt::Debug;
@@ -131,8 +131,10 @@ impl Ends {
             self.of_call(|| node.cut_text());
             self.of_call(|| Ok(node.link()?.map(|to| (to.destination, to.title))));
             self.of_call(|| Ok(node.definition()?.map(|it| it.span())));
+            self.of_call(|| node.normalized_label());
         }
         self.of_call(|| Ok(LineIndex::new(document)?.line_count()));
+        self.of_call(|| LineIndex::new(document)?.places(&[0, 1, 2], Encoding::Utf16));
     }
 
     /// Edits a document and asks for its events, with each allocation failing. If an edit fails, the document is as it was.
@@ -147,6 +149,7 @@ impl Ends {
             let others = document.others()?;
             Ok((document.events()?, others))
         });
+        self.of_definitions(bytes, range.clone(), with);
         for left in 0.. {
             let mut document = made().expect("there is memory");
             let (result, failed) = failing(left, true, || document.replace(range.clone(), with));
@@ -158,6 +161,50 @@ impl Ends {
                 Err(error) => {
                     assert!(error == Error::OutOfMemory && failed > 0);
                     assert_eq!(document.events().expect("there is memory"), before);
+                    assert_eq!(document.bytes(), bytes.as_bytes());
+                    self.out += 1;
+                }
+            }
+        }
+    }
+
+    /// Makes and updates definitions, and asks trees of sections and a snapshot, with each allocation failing. If an update fails, they are as they
+    /// were.
+    fn of_definitions(&mut self, bytes: &str, range: Range<usize>, with: &str) {
+        let made = || Document::new(bytes, &Options::default());
+        let mut document = made().expect("there is memory");
+        let before = Definitions::of_document(&document).expect("there is memory");
+        let change = document.replace(range, with).expect("there is memory");
+        let after = Definitions::of_document(&document).expect("there is memory");
+        self.of_call(|| Definitions::of_document(&document));
+        self.of_call(|| Ok(after.get(b" b ")?.map(|it| it.bytes.clone())));
+        self.of_call(|| {
+            let tree = document.tree(0..document.sections(), &after)?;
+            let mut found = Vec::with_capacity(0);
+            for node in tree.nodes() {
+                if let Some(to) = node.link()? {
+                    found.try_reserve(1).map_err(|_| Error::OutOfMemory)?;
+                    found.push((to.destination, to.title, to.defined_at));
+                }
+            }
+            Ok(found)
+        });
+        self.of_call(|| {
+            let snapshot = document.snapshot()?;
+            let spans = snapshot.tree()?.nodes().count();
+            Ok((spans, snapshot.lines()?.line_count()))
+        });
+        for left in 0.. {
+            let mut definitions = before.clone();
+            let (result, failed) = failing(left, true, || definitions.update(&document, &change));
+            match result {
+                Ok(()) => {
+                    assert_eq!((definitions, failed), (after, 0));
+                    break;
+                }
+                Err(error) => {
+                    assert!(error == Error::OutOfMemory && failed > 0);
+                    assert_eq!(definitions, before);
                     self.out += 1;
                 }
             }

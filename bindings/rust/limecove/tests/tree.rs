@@ -162,7 +162,8 @@ fn lists_are_known() {
 /// Destination, title and label of the links and images of a document.
 fn targets(document: &str, options: &Options) -> Vec<[String; 3]> {
     let tree = Tree::read(document, options).unwrap();
-    let found = tree.nodes().filter_map(|node| node.link().unwrap());
+    let links = tree.nodes().filter(|it| it.name() != Name::Definition);
+    let found = links.filter_map(|node| node.link().unwrap());
     let text = |bytes: Vec<u8>| String::from_utf8(bytes).unwrap();
     found
         .map(|it| {
@@ -248,6 +249,84 @@ fn references_have_targets() {
         (definition.text(), definition.bytes()),
         (&b"[A]: b"[..], 7..13)
     );
+}
+
+/// Where a definition goes: its own destination and title, also if its label is defined before.
+#[test]
+fn definitions_have_targets() {
+    for (document, destination, title) in [
+        ("[a]: b", "b", None),
+        ("[a]: <>", "", None),
+        (
+            "> [a]:\n> <b\\*&amp;> 'c\n> &copy;d'\n",
+            "b*&",
+            Some("c\n\u{a9}d"),
+        ),
+        ("[a]: javascript:b \"\"", "javascript:b", Some("")),
+    ] {
+        let tree = Tree::read(document, &Options::default()).unwrap();
+        let node = tree
+            .nodes()
+            .find(|it| it.name() == Name::Definition)
+            .unwrap();
+        let target = node.link().unwrap().unwrap();
+        assert_eq!(target.destination, destination.as_bytes(), "{}", document);
+        assert_eq!(target.title.as_deref(), title.map(str::as_bytes));
+        assert_eq!((target.label, target.definition), (None, Some(node)));
+        assert_eq!(target.defined_at, Some(node.bytes()));
+    }
+    let tree = Tree::read("[a]: b\n[A]: c\n", &Options::default()).unwrap();
+    let found = tree.nodes().filter_map(|it| it.link().unwrap());
+    assert!(found.map(|it| it.destination).eq([b"b", b"c"]));
+}
+
+/// What is between the brackets of labels, as it is written and as it is compared.
+#[test]
+fn labels_are_found() {
+    let document = "[a](b) [c] ![ D ][] [*e*][ f\tG ] [h]\n\n> [i\n> J]\n\n\
+        [c]: x\n[d]: x\n[F  g]: x\n[I j]: x\n";
+    let tree = Tree::read(document, &Options::default()).unwrap();
+    let found: Vec<_> = tree
+        .nodes()
+        .filter_map(|it| Some((it.label()?.text(), it.normalized_label().unwrap()?)))
+        .collect();
+    let want: Vec<(&[u8], Vec<u8>)> = [
+        ("c", "C"),
+        (" D ", "D"),
+        (" f\tG ", "F G"),
+        ("i\n> J", "I J"),
+        ("c", "C"),
+        ("d", "D"),
+        ("F  g", "F G"),
+        ("I j", "I J"),
+    ]
+    .map(|(written, compared)| (written.as_bytes(), compared.into()))
+    .into();
+    assert_eq!(found, want);
+}
+
+/// The line of the last byte of a span that is no line ending.
+#[test]
+fn spans_have_last_lines() {
+    for (document, name, last) in [
+        ("> a\n> b\n\nc", Name::BlockQuote, 2),
+        ("> a\r\n>\r\n\r\nb", Name::BlockQuote, 2),
+        ("- a\n\n  b\n\n\nc", Name::ListUnordered, 3),
+        ("- a\n\n  b\n\n\nc", Name::ListItem, 3),
+        ("~~~\na\n~~~\nb", Name::CodeFenced, 3),
+        ("~~~\na\n\n", Name::CodeFenced, 2),
+        ("~~~\ra\r", Name::CodeFenced, 2),
+        ("    a\n\n    b\n\nc", Name::CodeIndented, 3),
+        ("a\nb\n\n", Name::Paragraph, 2),
+        ("a\n===\nb", Name::HeadingSetext, 2),
+        ("<!--\n\n-->\n\na", Name::HtmlFlow, 3),
+        ("a\nb", Name::LineEnding, 1),
+        ("a\n\nb", Name::BlankLineEnding, 2),
+    ] {
+        let tree = Tree::read(document, &Options::default()).unwrap();
+        let node = tree.nodes().find(|it| it.name() == name).unwrap();
+        assert_eq!(node.last_line(), last, "{:?}", document);
+    }
 }
 
 const DOCUMENT: &str = "# a *b **c** d*\r\n\n~~~ x\r`e\n~~~\nf `g\nh` é\n<!--\n-->\n\n    i\n";
@@ -352,8 +431,17 @@ fn random_documents_have_trees() {
         for node in tree.nodes() {
             let is_list = matches!(node.name(), Name::ListOrdered | Name::ListUnordered);
             assert_eq!(node.list().is_some(), is_list);
-            let is_link = matches!(node.name(), Name::Link | Name::Image | Name::Autolink);
+            let is_link = matches!(
+                node.name(),
+                Name::Link | Name::Image | Name::Autolink | Name::Definition
+            );
             assert_eq!(node.link().unwrap().is_some(), is_link);
+            assert_eq!(
+                node.label().is_some(),
+                node.normalized_label().unwrap().is_some()
+            );
+            let last = node.last_line();
+            assert!((node.span().start.line..=node.span().end.line).contains(&last));
             let text = node.decoded().unwrap();
             let info = node.fence_info().unwrap().unwrap_or_default();
             if std::str::from_utf8(&document).is_ok() {
