@@ -1,6 +1,6 @@
 //! What a section of a document has, by places in the section: so it stays when what is before the section changes.
 
-use limecove::{Error, Event, LineIndex, Name, Node, Tree};
+use limecove::{Definitions, Error, Event, LineIndex, Name, Node, Tree};
 use std::ops::Range;
 
 /// A place in a section: line and unit of UTF-16, both from 0.
@@ -38,7 +38,8 @@ pub enum Form {
 /// A link or an image by reference.
 #[derive(Clone, Debug, PartialEq, Eq)]
 pub struct Reference {
-    pub label: String,
+    /// In the form by which labels are compared.
+    pub label: Vec<u8>,
     pub form: Form,
     pub span: Span,
     /// What is between the brackets of the label.
@@ -47,7 +48,8 @@ pub struct Reference {
 
 #[derive(Clone, Debug, PartialEq, Eq)]
 pub struct Definition {
-    pub label: String,
+    /// In the form by which labels are compared.
+    pub label: Vec<u8>,
     pub span: Span,
     /// What is between the brackets of the label.
     pub name: Span,
@@ -63,6 +65,8 @@ pub struct Token {
 
 #[derive(Clone, Debug, Default, PartialEq, Eq)]
 pub struct Facts {
+    /// How many line endings there are.
+    pub lines: usize,
     pub headings: Vec<Heading>,
     pub definitions: Vec<Definition>,
     pub references: Vec<Reference>,
@@ -111,22 +115,6 @@ fn token(name: Name, is_in_heading: bool) -> Option<usize> {
     })
 }
 
-/// A label as it is compared: each run of white space is a space, none is at an end, and letters are in lower and then in upper case, but for
-/// `ı`, and NUL is U+FFFD. The library compares labels so, and gives none back; tests compare both.
-pub fn normalised(label: &str) -> String {
-    let words = label.split([' ', '\t', '\n', '\r']);
-    let words: Vec<&str> = words.filter(|it| !it.is_empty()).collect();
-    let mut normal = String::new();
-    for letter in words.join(" ").chars() {
-        match letter {
-            '\0' => normal.push(char::REPLACEMENT_CHARACTER),
-            'ı' => normal.push(letter),
-            _ => normal.extend(letter.to_lowercase().flat_map(char::to_uppercase)),
-        }
-    }
-    normal
-}
-
 struct Reader<'a> {
     /// Where the section starts in the document, and its lines.
     start: usize,
@@ -153,11 +141,10 @@ impl Reader<'_> {
     }
 
     fn fold(&mut self, node: &Node<'_>, is_comment: bool) {
-        let Span { from, to, .. } = self.span(node);
-        // a container and a fence end at the start of the line behind them, or at the end of their last one
-        let last = to.line - usize::from(to.unit == 0 && to.line > from.line);
-        if last > from.line {
-            self.facts.folds.push((from.line, last, is_comment));
+        let lines = node.last_line() - node.span().start.line;
+        if lines > 0 {
+            let from = self.span(node).from.line;
+            self.facts.folds.push((from, from + lines, is_comment));
         }
     }
 
@@ -165,7 +152,7 @@ impl Reader<'_> {
         let text = node.child(Name::HeadingAtxText);
         let text = text.or_else(|| node.child(Name::HeadingSetextText));
         let title = match text {
-            Some(text) => lossy(text.decoded()?),
+            Some(text) => lossy(&text.decoded()?),
             None => String::new(),
         };
         let name = self.span(&text.unwrap_or(*node));
@@ -181,55 +168,47 @@ impl Reader<'_> {
     }
 
     fn definition(&mut self, node: &Node<'_>) -> Result<(), Error> {
-        let label = node.child(Name::DefinitionLabel);
-        let label = match label.and_then(|it| it.child(Name::DefinitionLabelString)) {
-            Some(label) => label,
-            None => return Ok(()),
-        };
-        let to = node.descendants();
-        let mut to = to.filter(|it| it.name() == Name::DefinitionDestinationString);
-        if let Some(to) = to.next() {
-            let place = self.span(&to);
-            self.facts.links.push((to.decoded()?, place));
+        let mut inner = node.descendants();
+        let place = inner.find(|it| it.name() == Name::DefinitionDestinationString);
+        if let (Some(place), Some(to)) = (place, node.link()?) {
+            let place = self.span(&place);
+            self.facts.links.push((to.destination, place));
         }
-        let (span, name) = (self.span(node), self.span(&label));
-        let label = normalised(&written(&label));
-        self.facts
-            .definitions
-            .push(Definition { label, span, name });
+        if let (Some(name), Some(label)) = (node.label(), node.normalized_label()?) {
+            self.facts.definitions.push(Definition {
+                label,
+                span: self.span(node),
+                name: self.span(&name),
+            });
+        }
         Ok(())
     }
 
     fn link(&mut self, node: &Node<'_>) -> Result<(), Error> {
-        let shown = node.child(Name::Label);
-        let shown = shown.and_then(|it| it.child(Name::LabelText));
         if let Some(resource) = node.child(Name::Resource) {
-            let goes_to = node.link()?.map(|it| it.destination).unwrap_or_default();
             let mut inner = resource.descendants();
             let place = inner.find(|it| it.name() == Name::ResourceDestinationString);
             let place = self.span(&place.unwrap_or(resource));
-            let is_bare = shown.is_none() && node.name() == Name::Link;
-            if goes_to.is_empty() || is_bare {
-                self.facts.empty.push(self.span(node));
+            if let Some(to) = node.link()? {
+                let is_bare = to.label.is_none() && node.name() == Name::Link;
+                if to.destination.is_empty() || is_bare {
+                    self.facts.empty.push(self.span(node));
+                }
+                self.facts.links.push((to.destination, place));
             }
-            self.facts.links.push((goes_to, place));
-            return Ok(());
         }
-        let reference = node.child(Name::Reference);
-        let behind = reference.and_then(|it| it.child(Name::ReferenceString));
-        let form = match (reference.is_some(), behind.is_some()) {
-            (_, true) => Form::Full,
-            (true, _) => Form::Collapsed,
-            _ => Form::Shortcut,
-        };
-        if let Some(name) = behind.or(shown) {
-            let reference = Reference {
-                label: normalised(&written(&name)),
+        if let (Some(name), Some(label)) = (node.label(), node.normalized_label()?) {
+            let form = match (name.name(), node.child(Name::Reference)) {
+                (Name::ReferenceString, _) => Form::Full,
+                (_, Some(_)) => Form::Collapsed,
+                _ => Form::Shortcut,
+            };
+            self.facts.references.push(Reference {
+                label,
                 form,
                 span: self.span(node),
                 name: self.span(&name),
-            };
-            self.facts.references.push(reference);
+            });
         }
         Ok(())
     }
@@ -268,25 +247,9 @@ impl Reader<'_> {
     }
 }
 
-fn lossy(bytes: Vec<u8>) -> String {
-    String::from_utf8_lossy(&bytes).into_owned()
-}
-
-/// The text of a label without the marks of quotes and lists in it.
-fn written(node: &Node<'_>) -> String {
-    let (mut text, mut behind) = (Vec::new(), 0);
-    let all = std::iter::once(*node).chain(node.descendants());
-    for leaf in all.filter(|it| it.name().is_void()) {
-        let is_prefix =
-            |it: &Node<'_>| matches!(it.name(), Name::BlockQuotePrefix | Name::ListItemPrefix);
-        let is_left_out =
-            leaf.name() == Name::LinePrefix || leaf.ancestors().any(|it| is_prefix(&it));
-        if !is_left_out && leaf.bytes().start >= behind {
-            text.extend_from_slice(leaf.text());
-        }
-        behind = leaf.bytes().end;
-    }
-    lossy(text)
+/// Bytes as the text that they are: a client sends no others.
+pub fn lossy(bytes: &[u8]) -> String {
+    String::from_utf8_lossy(bytes).into_owned()
 }
 
 /// What a section has, from its bytes in the document and its events.
@@ -294,13 +257,16 @@ fn written(node: &Node<'_>) -> String {
 /// # Errors
 ///
 /// If memory runs out.
-pub fn facts_of(document: &str, range: Range<usize>, events: &[Event]) -> Result<Facts, Error> {
-    let tree = Tree::new(document, events)?;
+pub fn facts_of(document: &[u8], range: Range<usize>, events: &[Event]) -> Result<Facts, Error> {
+    // no link by reference is asked where it goes
+    let none = Definitions::default();
+    let tree = Tree::with_definitions(document, events, &none)?;
     let mut reader = Reader {
         start: range.start,
         lines: LineIndex::new(&document[range])?,
         facts: Facts::default(),
     };
+    reader.facts.lines = reader.lines.line_count() - 1;
     let mut heading_ends = 0;
     for node in tree.nodes() {
         if matches!(node.name(), Name::HeadingAtx | Name::HeadingSetext) {

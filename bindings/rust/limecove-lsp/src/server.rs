@@ -1,9 +1,9 @@
 //! Messages of the language server protocol, and their answers.
 
-use crate::facts::{normalised, Definition, Form, Heading, Reference, Span, TOKENS};
+use crate::facts::{lossy, Definition, Form, Heading, Reference, Span, TOKENS};
 use crate::json::{object, parse, Value};
 use crate::text::Text;
-use limecove::{read_document, Name};
+use limecove::{normalized_label, read_document, Name};
 use std::collections::HashMap;
 use std::io::{self, BufRead, Write};
 
@@ -55,7 +55,7 @@ pub struct Server {
 
 /// A label in a document, and the range of its name.
 struct Found {
-    label: String,
+    label: Vec<u8>,
     name: Value,
 }
 
@@ -165,7 +165,7 @@ impl Server {
         let found = self
             .label_at(params)?
             .ok_or_else(|| failed("no label is here"))?;
-        let other = normalised(new);
+        let other = normalized_label(new.as_bytes()).map_err(failed)?;
         if other != found.label && definitions(text, &other).next().is_some() {
             return Err(failed(format!("defined already: {new}")));
         }
@@ -224,7 +224,7 @@ impl Server {
         let (uri, text) = self.text(params)?;
         let difference = text.difference().map_err(failed)?;
         Ok(object([
-            ("text", text.bytes().into()),
+            ("text", lossy(text.bytes()).into()),
             ("diagnostics", self.diagnostics(uri).into()),
             ("difference", difference.map_or(Value::Null, Value::from)),
         ]))
@@ -282,7 +282,7 @@ impl Server {
         match method {
             "textDocument/didOpen" => {
                 let text = document.get("text").text().unwrap_or_default();
-                let text = Text::new(text.into()).map_err(|it| it.to_string())?;
+                let text = Text::new(text).map_err(|it| it.to_string())?;
                 self.texts.insert(uri.clone(), text);
             }
             "textDocument/didChange" => self.change(&uri, params)?,
@@ -381,7 +381,7 @@ fn nested(headings: &[(&Heading, usize)], last: &Value) -> Vec<Value> {
 
 fn definitions<'a>(
     text: &'a Text,
-    label: &'a str,
+    label: &'a [u8],
 ) -> impl Iterator<Item = (&'a Definition, usize)> {
     text.placed().flat_map(move |(section, _, first)| {
         let found = section.facts.definitions.iter();
@@ -391,7 +391,7 @@ fn definitions<'a>(
     })
 }
 
-fn references<'a>(text: &'a Text, label: &'a str) -> impl Iterator<Item = (&'a Reference, usize)> {
+fn references<'a>(text: &'a Text, label: &'a [u8]) -> impl Iterator<Item = (&'a Reference, usize)> {
     text.placed().flat_map(move |(section, _, first)| {
         let found = section.facts.references.iter();
         found
@@ -485,11 +485,11 @@ impl Diagnostics<'_> {
 
     /// Labels that are defined twice, and those that nothing refers to.
     fn labels(&mut self) {
-        let mut is_used = HashMap::<&str, bool>::new();
+        let mut is_used = HashMap::<&[u8], bool>::new();
         for (section, _, first) in self.text.placed() {
             for it in &section.facts.definitions {
                 if is_used.insert(&it.label, false).is_some() {
-                    let message = format!("[{}] is defined before", it.label);
+                    let message = format!("[{}] is defined before", lossy(&it.label));
                     self.say(&it.span, first, 2, "duplicate-definition", message);
                 }
             }
@@ -504,7 +504,7 @@ impl Diagnostics<'_> {
                 .iter()
                 .filter(|it| !is_used[&*it.label])
             {
-                let message = format!("nothing refers to [{}]", it.label);
+                let message = format!("nothing refers to [{}]", lossy(&it.label));
                 self.say(&it.span, first, 4, "unused-definition", message);
             }
         }

@@ -1,7 +1,6 @@
 //! The server as a client has it: a process, and messages. Texts are real files: the pages of the repository, or of the release.
 
-use limecove::{read_document, Name, Tree};
-use limecove_lsp::facts::normalised;
+use limecove::{normalized_label, read_document, Name, Tree};
 use limecove_lsp::json::{object, parse, Value};
 use limecove_lsp::server::{read, write};
 use std::fs;
@@ -539,7 +538,8 @@ fn labels_are_compared_as_the_library_does() {
             let text = format!("[{one}]: x\n\n[y][{other}]");
             let tree = Tree::new(&text, &read_document(&text).unwrap()).unwrap();
             let is_link = tree.nodes().any(|it| it.name() == Name::Link);
-            assert_eq!(is_link, normalised(one) == normalised(other), "{text}");
+            let [one, other] = [one, other].map(|it| normalized_label(it.as_bytes()).unwrap());
+            assert_eq!(is_link, one == other, "{text}");
         }
     }
 }
