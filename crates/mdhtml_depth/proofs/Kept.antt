@@ -1,7 +1,6 @@
 -- What a limit of depth leaves of balanced events.
-use Rattle.std.proofs.Common.{◌≡◌, ℕ, suc, ◌-◌, ◌<◌, ◌≤◌, ◌++◌, Bool, true, false, cond, List, [], ◌∷◌, refl, sym, ap, subst, ◌∙◌, arith}
-use Rattle.std.proofs.lemmas.Bool.{and_parts, false≢true}
-use Rattle.std.proofs.lemmas.Bool.Decides.{nat_tests}
+use Rattle.std.proofs.Common.{◌≡◌, ℕ, suc, ◌-◌, ◌++◌, Bool, true, false, cond, List, [], ◌∷◌, refl, sym, ap, subst, ◌∙◌, arith}
+use Rattle.std.proofs.lemmas.Bool.{and_parts, false≢true, leb-false, leb-true}
 use Rattle.std.proofs.lemmas.List.{append-nil, append_assoc}
 use Rattle.std.specs.Prelude.{◌&&◌, filter, min, nat_le, not}
 use Rattle.markdown_base.specs.declared.event.Event.{Event}
@@ -119,12 +118,6 @@ other-deep limit opened e h = ap (λ b. b && nat_le limit (cond (is_enter e.kind
 other-behind : (opened : ℕ) (e : Event) → nests e.name ≡ false → behind opened e ≡ opened
 other-behind opened e h = ap (λ b. cond b (cond (is_enter e.kind) (suc opened) (opened - 1)) opened) h
 
-below : (limit opened : ℕ) → nat_le limit opened ≡ false → opened < limit
-below limit opened h = grind (arith, nat_tests, h)
-
-at-most : (limit opened : ℕ) → nat_le limit opened ≡ true → limit ≤ opened
-at-most limit opened h = grind (arith, nat_tests, h)
-
 depth-left : (limit opened : ℕ) (xs rest : List Event) → IsBalanced xs → has_depth limit (min opened limit) (within limit opened xs ++ rest) ≡ has_depth limit (min opened limit) rest
 depth-left limit opened xs rest empty = refl
 depth-left limit opened xs rest (span e f us vs is enters exits same bu bv) =
@@ -154,10 +147,10 @@ depth-left limit opened xs rest (span e f us vs is enters exits same bu bv) =
         held limit p q e f u v rest inner outer (other-deep limit p e n) (other-behind p e n ∙ sym there) (other-deep limit q f m) (other-behind q f m ∙ there)
     by inner outer true true n h =
         let here : o ≡ suc opened = behind-enter opened e enters ∙ ap (λ b. cond b (suc opened) opened) n in
-        let many = at-most limit opened h in
+        let many = leb-true limit opened h in
         left-out limit p q e f u v rest inner outer (omega (arith, here, many))
     by inner outer true false n h =
-        let few = below limit opened h in
+        let few = leb-false limit opened h in
         let here : o ≡ suc opened = behind-enter opened e enters ∙ ap (λ b. cond b (suc opened) opened) n in
         let p-is : p ≡ opened = omega (arith, few) in
         let q-is : q ≡ suc opened = omega (arith, few, here) in
