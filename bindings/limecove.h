@@ -472,7 +472,7 @@ struct limecove_record {
     size_t next;      /* index of the enter after in the chain, or LIMECOVE_NO_INDEX */
 };
 
-/* How a call ended, and how many there are of what it writes: events, or bytes of HTML. */
+/* How a call ended, and how many there are of what it writes: events, or bytes. */
 struct limecove_answer {
     uint32_t code;    /* of limecove_code */
     uint32_t version; /* LIMECOVE_VERSION of the library */
@@ -513,6 +513,13 @@ struct limecove_changed {
 struct limecove_place {
     size_t line;      /* from 0 */
     size_t character; /* the units of the line in front of the place: bytes of UTF-8, or units of UTF-16 */
+};
+
+/* A definition in a document. */
+struct limecove_defined {
+    size_t section; /* the section in which it begins */
+    size_t from;    /* where it begins: a byte index into the document */
+    size_t to;      /* where it ends: the index of the byte behind it */
 };
 
 /* CommonMark's text, and tab stops at every 4 columns. */
@@ -649,8 +656,27 @@ LIMECOVE_API size_t limecove_document_section_at(struct limecove_document *docum
 /* Where a section starts: the index of its first byte. Behind the last section, how many bytes the document has. 0 if it is not open. */
 LIMECOVE_API size_t limecove_document_start_of(struct limecove_document *document, size_t section);
 
+/* Writes the bytes of a document from one index up to another over the first bytes of `out`, as many as fit. The count is how many they are.
+ * `out` may be NULL if out_len is 0. If the code is not LIMECOVE_READ, nothing is written, and the count is 0: it is LIMECOVE_NO_SUCH_BYTES
+ * for a range that is none of the document. */
+LIMECOVE_API struct limecove_answer limecove_document_bytes(struct limecove_document *document, size_t from, size_t to, uint8_t *out,
+                                                            size_t out_len);
+
+/* Writes where the first definition of a label is. The label is as it stands in brackets, and need not be normalized. It goes over all events.
+ * The count is 1, or 0 if nothing defines the label. Only for the count 1 it writes. */
+LIMECOVE_API struct limecove_answer limecove_document_definition_of(struct limecove_document *document, const uint8_t *label, size_t label_len,
+                                                                    struct limecove_defined *found);
+
 /* Gives back the memory of a document, which is then not open. If it is not open, nothing changes. */
 LIMECOVE_API void limecove_document_close(struct limecove_document *document);
+
+/* Whether bytes may stand between the brackets of a label: 1 if they may, else 0. There is no bracket in them that is not escaped, they have at
+ * most 999 characters, and are not only white space. */
+LIMECOVE_API uint32_t limecove_is_label(const uint8_t *bytes, size_t bytes_len);
+
+/* Writes the form of a label by which labels are compared over the first bytes of `out`, as many as fit. The count is how many bytes it has. If
+ * the code is not LIMECOVE_READ, it is LIMECOVE_OUT_OF_MEMORY, nothing is written, and the count is 0. */
+LIMECOVE_API struct limecove_answer limecove_normalized_label(const uint8_t *label, size_t label_len, uint8_t *out, size_t out_len);
 
 /* Writes back what it sees, so that a caller can compare its layout with the library's, field by field. `numbers` gets 1 to 9, a number
  * for each field in order. The other two records get the numbers of the options: the machine as the name, the size as the line, the tab

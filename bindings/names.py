@@ -180,7 +180,7 @@ def rust(names, machines):
 
 # What crosses the border: the name of each struct in both Rattle and Rust, and where Rattle declares it.
 RANGES = CRATES / "mddocument/src/ranges.rt"
-STRUCTS = {"Record": "record.rt", "TextOptions": "choose.rt", "Options": "choose.rt", "HtmlOptions": "choose.rt", "Answer": "lib.rt", "ByteRange": RANGES, "Changed": "edits.rt", "Place": "edits.rt"}
+STRUCTS = {"Record": "record.rt", "TextOptions": "choose.rt", "Options": "choose.rt", "HtmlOptions": "choose.rt", "Answer": "lib.rt", "ByteRange": RANGES, "Changed": "edits.rt", "Place": "edits.rt", "Defined": "labels.rt"}
 # The same type in Rattle and Rust, and in C.
 TYPES = {"u16": "uint16_t", "u32": "uint32_t", "u64": "uint64_t", "usize": "size_t"}
 # The fields of a reading, as the three declare them. `kept` is a struct of one pointer.

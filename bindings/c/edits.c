@@ -76,6 +76,78 @@ static void has_places(struct limecove_document *document) {
     CHECK(limecove_document_index(document, len + 1, 0, 0, &index) == LIMECOVE_NO_SUCH_BYTES && index == 7);
 }
 
+/* The bytes of a range are those of the document, as many as fit, and nothing else is written. */
+static void has_bytes(struct limecove_document *document) {
+    size_t from = below(len + 1), to = from + below(len - from + 1), fits = below(2) ? to - from + 1 : below(to - from + 1);
+    uint8_t *out = malloc(to - from + 2);
+    CHECK(out != NULL);
+    memset(out, 0xa5, to - from + 2);
+    struct limecove_answer answer = limecove_document_bytes(document, from, to, out, fits);
+    size_t some = fits < to - from ? fits : to - from;
+    CHECK(answer.code == LIMECOVE_READ && answer.version == LIMECOVE_VERSION && answer.count == to - from);
+    CHECK(memcmp(out, bytes + from, some) == 0 && untouched(out + some, to - from + 2 - some));
+    memset(out, 0xa5, to - from + 2);
+    answer = limecove_document_bytes(document, from, len + 1, out, fits);
+    CHECK(answer.code == LIMECOVE_NO_SUCH_BYTES && answer.count == 0 && untouched(out, to - from + 2));
+    answer = limecove_document_bytes(document, to + 1, to, out, fits);
+    CHECK(answer.code == LIMECOVE_NO_SUCH_BYTES && untouched(out, to - from + 2));
+    CHECK(limecove_document_bytes(document, from, to, NULL, 0).count == to - from);
+    free(out);
+}
+
+/* Two labels are the same. */
+static int same_label(const uint8_t *a, size_t a_len, const uint8_t *b, size_t b_len) {
+    static uint8_t forms[2][4096];
+    struct limecove_answer first = limecove_normalized_label(a, a_len, forms[0], 4096), second = limecove_normalized_label(b, b_len, forms[1], 4096);
+    CHECK(first.code == LIMECOVE_READ && second.code == LIMECOVE_READ && first.count <= 4096 && second.count <= 4096);
+    return first.count == second.count && memcmp(forms[0], forms[1], first.count) == 0;
+}
+
+static size_t defined; /* how many definitions were looked up */
+
+/* Each label of a definition that is in one line leads to the first definition with this label, which may have more lines. */
+static void has_definitions(struct limecove_document *document, size_t sections) {
+    size_t count;
+    struct limecove_record *all = records_of(document, 0, sections, &count);
+    for (size_t at = 0, begun = 0; at < count; at++) {
+        struct limecove_defined found;
+        memset(&found, 0xa5, sizeof found);
+        begun = all[at].kind == LIMECOVE_ENTER && all[at].name == LIMECOVE_NAME_DEFINITION ? at : begun;
+        if (all[at].kind != LIMECOVE_ENTER || all[at].name != LIMECOVE_NAME_DEFINITION_LABEL_STRING)
+            continue;
+        size_t end = at, first = begun;
+        while (all[end].kind != LIMECOVE_EXIT || all[end].name != LIMECOVE_NAME_DEFINITION_LABEL_STRING)
+            end++;
+        if (all[end].line != all[at].line)
+            continue;
+        const uint8_t *label = bytes + all[at].index;
+        size_t label_len = all[end].index - all[at].index;
+        CHECK(limecove_is_label(label, label_len) == 1);
+        struct limecove_answer answer = limecove_document_definition_of(document, label, label_len, &found);
+        CHECK(answer.code == LIMECOVE_READ && answer.count == 1 && found.from <= all[begun].index && found.from < found.to);
+        CHECK(found.section == limecove_document_section_at(document, found.from));
+        while (first > 0 && all[first].index >= found.from)
+            first--;
+        while (first < count && (all[first].index != found.from || all[first].kind != LIMECOVE_ENTER || all[first].name != LIMECOVE_NAME_DEFINITION))
+            first++;
+        CHECK(first <= begun);
+        /* none in front of it has this label */
+        for (size_t i = 0, start = 0; i < at; i++) {
+            start = all[i].name == LIMECOVE_NAME_DEFINITION_LABEL_STRING && all[i].kind == LIMECOVE_ENTER ? i : start;
+            if (all[i].name != LIMECOVE_NAME_DEFINITION_LABEL_STRING || all[i].kind != LIMECOVE_EXIT || all[i].line != all[start].line)
+                continue;
+            if (same_label(label, label_len, bytes + all[start].index, all[i].index - all[start].index))
+                CHECK(all[start].index > found.from);
+        }
+        defined++;
+    }
+    struct limecove_defined found;
+    memset(&found, 0xa5, sizeof found);
+    struct limecove_answer answer = limecove_document_definition_of(document, (const uint8_t *)"no such label", 13, &found);
+    CHECK(answer.code == LIMECOVE_READ && answer.count == 0 && untouched(&found, sizeof found));
+    free(all);
+}
+
 /* The same event, where the section starts is left aside: lines, indices in the document and links are not compared. */
 static int same_in_section(const struct limecove_record *a, size_t a_start, const struct limecove_record *b, size_t b_start) {
     return a->kind == b->kind && a->content == b->content && a->name == b->name && a->column == b->column && a->vs == b->vs &&
@@ -183,7 +255,10 @@ static void not_open(struct limecove_document *document) {
     struct limecove_record record;
     struct limecove_changed change;
     struct limecove_place place;
+    struct limecove_defined found;
+    uint8_t byte = 0xa5;
     size_t number = 7;
+    memset(&found, 0xa5, sizeof found);
     memset(&record, 0xa5, sizeof record);
     memset(&change, 0xa5, sizeof change);
     memset(&place, 0xa5, sizeof place);
@@ -193,6 +268,8 @@ static void not_open(struct limecove_document *document) {
     CHECK(limecove_document_place(document, 0, 0, &place) == LIMECOVE_NOT_OPEN && untouched(&place, sizeof place));
     CHECK(limecove_document_index(document, 0, 0, 0, &number) == LIMECOVE_NOT_OPEN && number == 7);
     CHECK(limecove_document_others(document, 0, &number, 1) == 0);
+    CHECK(limecove_document_bytes(document, 0, 0, &byte, 1).code == LIMECOVE_NOT_OPEN && byte == 0xa5);
+    CHECK(limecove_document_definition_of(document, &byte, 1, &found).code == LIMECOVE_NOT_OPEN && untouched(&found, sizeof found));
     CHECK(limecove_document_section_at(document, 0) == 0 && limecove_document_start_of(document, 0) == 0);
     limecove_document_close(document);
     CHECK(document->is_open == 0);
@@ -210,6 +287,8 @@ static void edit_all(size_t edits) {
         sections = edit(&document, sections);
         is_read_anew(&document, sections);
         has_places(&document);
+        has_bytes(&document);
+        has_definitions(&document, sections);
     }
     CHECK(limecove_document_events(&document, 0, sections + 1, &record, 1).code == LIMECOVE_NO_SUCH_RANGES);
     CHECK(sections == 0 || limecove_document_events(&document, 1, 0, &record, 1).code == LIMECOVE_NO_SUCH_RANGES);
@@ -271,6 +350,6 @@ int main(int argc, char **argv) {
     }
     for (int i = 4; i < argc; i++)
         edit_file(argv[i], edits);
-    printf("%zu sections stayed, and %zu others have other events than before\n", kept, others);
+    printf("%zu sections stayed, %zu others have other events than before, and %zu definitions were looked up\n", kept, others, defined);
     return 0;
 }

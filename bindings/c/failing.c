@@ -107,6 +107,26 @@ static void documents_in_turn(const uint8_t *document, size_t len, const uint8_t
         CHECK(failed > 0 && answer.code == LIMECOVE_OUT_OF_MEMORY && answer.count == 0 && kept.is_open == 0 && blocks == before);
         ended++;
     }
+    for (long n = 0;; n++) {
+        struct limecove_defined found;
+        uint8_t form[64];
+        memset(&found, 0xa5, sizeof found);
+        memset(form, 0xa5, sizeof form);
+        failed = 0;
+        left = n;
+        struct limecove_answer told = limecove_document_definition_of(&kept, (const uint8_t *)"A", 1, &found);
+        struct limecove_answer made = limecove_normalized_label((const uint8_t *)" a  b", 5, form, sizeof form);
+        struct limecove_answer copied = limecove_document_bytes(&kept, 0, 0, form, 0);
+        left = -1;
+        CHECK(copied.code == LIMECOVE_READ && copied.count == 0 && kept.is_open == 1);
+        if (failed == 0) {
+            CHECK(told.code == LIMECOVE_READ && made.code == LIMECOVE_READ && made.count == 3 && memcmp(form, "A B", 3) == 0);
+            break;
+        }
+        CHECK(told.code == LIMECOVE_READ || (told.code == LIMECOVE_OUT_OF_MEMORY && told.count == 0 && untouched(&found, sizeof found)));
+        CHECK(made.code == LIMECOVE_READ || (made.code == LIMECOVE_OUT_OF_MEMORY && made.count == 0 && untouched(form, sizeof form)));
+        ended += told.code == LIMECOVE_OUT_OF_MEMORY;
+    }
     count = limecove_document_events(&kept, 0, sections, all, 4096).count;
     for (long n = 0;; n++) {
         memset(records, 0xa5, sizeof records);

@@ -68,6 +68,11 @@ LIES(limecove_place, line, 0, 8);
 LIES(limecove_place, character, 8, 8);
 IS(sizeof(struct limecove_place) == 16);
 
+LIES(limecove_defined, section, 0, 8);
+LIES(limecove_defined, from, 8, 8);
+LIES(limecove_defined, to, 16, 8);
+IS(sizeof(struct limecove_defined) == 24);
+
 /* A number with bits in each byte of a field, so that a field that is cut or moved shows. */
 #define LONG(n) ((size_t)0x0101010101010101u * (n))
 

@@ -80,7 +80,7 @@ fn options_of(options: &HtmlOptions, tab: TabSize) -> Options
 }
 
 /// Writes bytes over the first of others, as many as fit. Returns how many there are.
-fn write_bytes(out: &mut [u8], bytes: &[u8]) -> usize
+pub(crate) fn write_bytes(out: &mut [u8], bytes: &[u8]) -> usize
     ensures written { out.new ≡ written out.old bytes.now }
     ensures count { result ≡ length bytes.now }
 {

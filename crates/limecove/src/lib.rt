@@ -32,6 +32,10 @@ pub mod edits;
 pub mod held;
 mod keeping;
 
+// bytes and labels: bytes of documents that a caller edits; labels, and where they are defined
+pub mod bytes;
+pub mod labels;
+
 ghost use Rattle.std.specs.Prelude.{◌≡◌, ◌≢◌, ◌<◌, ◌≤◌, ◌-◌, ◌↔◌, ◌⊎◌, Err, IfErr, IfOk, IsOkAnd, drop, length, min};
 ghost use Rattle.markdown.specs.Virtual.{IsWithinLimit};
 ghost use Rattle.mdconstructs.specs.ByteRanges.{AreRanges};

@@ -1,11 +1,12 @@
 //! Calls of the functions, as a program in C makes them: each that takes memory, with enough of it. What they do in every room, by each bit and each
 //! code, and how long fields are, is tested from C and from Rust, over the library as it is built (`bindings/c`, `bindings/rust`).
 
+use crate::bytes::limecove_document_bytes;
 use crate::choose::{
     ALL_CONSTRUCTS, BLOCK_QUOTE, COMMONMARK, HTML_OPTIONS_SIZE, HtmlOptions, OPTIONS_SIZE, Options,
     TEXT_OPTIONS_SIZE, TextOptions,
 };
-use crate::code::READ;
+use crate::code::{NO_SUCH_BYTES, READ};
 use crate::document::Document;
 use crate::editing::{
     limecove_document_close, limecove_document_events, limecove_document_new,
@@ -14,6 +15,9 @@ use crate::editing::{
 use crate::edits::Changed;
 use crate::html::limecove_html;
 use crate::kept::Reading;
+use crate::labels::{
+    Defined, limecove_document_definition_of, limecove_is_label, limecove_normalized_label,
+};
 use crate::record::{NO_INDEX, Record};
 use crate::{
     Answer, ended, limecove_close, limecove_copy, limecove_open, limecove_open_text,
@@ -312,6 +316,60 @@ fn is_defined(alloc: Global) -> bool {
 #[test]
 fn documents_are_edited(rt: HostRuntime) {
     assert!(rt; is_defined(rt.alloc()));
+}
+
+/// A link, and behind it two definitions of its label and one of another.
+const LABELS: &[u8] = b"[ Stra\xC3\x9Fe ]\n\n[x]: y\n\n> [STRASSE]: a\n> 'b'\n\n[strasse]: c\n";
+
+/// The first definition of the label.
+const DEFINED: Defined = Defined {
+    section: 2,
+    from: 23,
+    to: 41,
+};
+
+/// What was there before a call.
+const UNDEFINED: Defined = Defined {
+    section: 9,
+    from: 9,
+    to: 9,
+};
+
+/// Whether the label leads to its first definition, whose bytes are these, and another label to none.
+fn is_looked_up(alloc: Global) -> bool {
+    let mut document = Document::closed();
+    let (mut found, mut none) = (UNDEFINED, UNDEFINED);
+    let mut out = [9; 12];
+    let made = limecove_document_new(alloc, LABELS, &TEXT, &mut document);
+    let told = limecove_document_definition_of(alloc, &mut document, b"Stra\xC3\x9Fe", &mut found);
+    let untold = limecove_document_definition_of(alloc, &mut document, b"z", &mut none);
+    let copied = limecove_document_bytes(alloc, &mut document, 15, 26, &mut out);
+    let behind = limecove_document_bytes(alloc, &mut document, 15, 99, &mut out);
+    limecove_document_close(alloc, &mut document);
+    made == ended(READ, 4)
+        && (told, found) == (ended(READ, 1), DEFINED)
+        && (untold, none) == (ended(READ, 0), UNDEFINED)
+        && copied == ended(READ, 11)
+        && behind == ended(NO_SUCH_BYTES, 0)
+        && out.as_slice() == b"]: y\n\n> [ST\x09".as_slice()
+}
+
+#[test]
+fn labels_are_looked_up(rt: HostRuntime) {
+    assert!(rt; is_looked_up(rt.alloc()));
+}
+
+/// Whether a label has its normal form, of which four bytes fit.
+fn is_normalized(alloc: Global) -> bool {
+    let mut out = [9; 4];
+    let made = limecove_normalized_label(alloc, b" a\n\tb\xC3\x9F ", &mut out);
+    made == ended(READ, 5) && out.as_slice() == b"A BS".as_slice()
+}
+
+#[test]
+fn labels_are_normalized(rt: HostRuntime) {
+    assert!(rt; is_normalized(rt.alloc()));
+    assert!(rt; limecove_is_label(b"a \\] b") == 1 && limecove_is_label(b"a ] b") == 0);
 }
 
 /// Structs with a value of its own in each field, as `Debug` shows them.

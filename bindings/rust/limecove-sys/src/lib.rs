@@ -259,6 +259,18 @@ pub struct Place {
     pub character: usize,
 }
 
+/// A definition in a document.
+#[repr(C)]
+#[derive(Clone, Copy, Debug, Default, PartialEq, Eq)]
+pub struct Defined {
+    /// The section in which it begins.
+    pub section: usize,
+    /// Where it begins: a byte index into the document.
+    pub from: usize,
+    /// Where it ends: the index of the byte behind it.
+    pub to: usize,
+}
+
 extern "C" {
     /// The version of the library. If it is not [`VERSION`], no other function may be called.
     ///
@@ -481,12 +493,61 @@ extern "C" {
     /// As of [`limecove_document_section_at`].
     pub fn limecove_document_start_of(document: *mut Document, section: usize) -> usize;
 
+    /// Writes the bytes of a document from one index up to another over the first bytes of `out`, as many as fit. The count is how many they
+    /// are. If the code is not [`READ`], nothing is written: it is [`NO_SUCH_BYTES`] for a range that is none of the document.
+    ///
+    /// # Safety
+    ///
+    /// The document is [`NO_DOCUMENT`], or as a call of the library left it. `out` shares no byte with it, and has as many bytes as the length
+    /// says.
+    pub fn limecove_document_bytes(
+        document: *mut Document,
+        from: usize,
+        to: usize,
+        out: *mut u8,
+        out_len: usize,
+    ) -> Answer;
+
+    /// Writes where the first definition of a label is. The label is as it stands in brackets, and need not be normalized. It goes over all
+    /// events. The count is 1, or 0 if nothing defines the label. Only for the count 1 it writes.
+    ///
+    /// # Safety
+    ///
+    /// The document is [`NO_DOCUMENT`], or as a call of the library left it. The label has as many bytes as the length says, `found` is to what
+    /// its type says, and no two of the three share a byte.
+    pub fn limecove_document_definition_of(
+        document: *mut Document,
+        label: *const u8,
+        label_len: usize,
+        found: *mut Defined,
+    ) -> Answer;
+
     /// Gives back the memory of a document, which is then not open. If it is not open, nothing changes.
     ///
     /// # Safety
     ///
     /// As of [`limecove_document_section_at`].
     pub fn limecove_document_close(document: *mut Document);
+
+    /// Whether bytes may stand between the brackets of a label: 1 if they may, else 0.
+    ///
+    /// # Safety
+    ///
+    /// The library has this [`VERSION`]. There are as many bytes as the length says.
+    pub fn limecove_is_label(bytes: *const u8, bytes_len: usize) -> u32;
+
+    /// Writes the form of a label by which labels are compared over the first bytes of `out`, as many as fit. The count is how many bytes it
+    /// has. If the code is not [`READ`], it is [`OUT_OF_MEMORY`], and nothing is written.
+    ///
+    /// # Safety
+    ///
+    /// The library has this [`VERSION`]. Label and `out` have as many bytes as the lengths say, and share none.
+    pub fn limecove_normalized_label(
+        label: *const u8,
+        label_len: usize,
+        out: *mut u8,
+        out_len: usize,
+    ) -> Answer;
 
     /// Writes back what it sees, so that a caller can compare its layout with the library's, field by field. `numbers` gets 1 to 9, a
     /// number for each field in order. The other two records get the numbers of the options: the machine as the name, the size as the

@@ -133,6 +133,10 @@ impl Definitions {
     /// # Errors
     ///
     /// If it runs out of memory.
+    ///
+    /// # Panics
+    ///
+    /// As [`normalized_label`].
     pub fn get(&self, label: &[u8]) -> Result<Option<&Definition>, Error> {
         Ok(self.find(&normalized_label(label)?))
     }

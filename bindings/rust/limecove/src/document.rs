@@ -2,6 +2,7 @@
 
 use crate::definitions::copied;
 use crate::reading::assert_version;
+use crate::tree::Text;
 use crate::{Definitions, Error, Event, Options, Snapshot, TextOptions, Tree};
 use limecove_sys::{Record, NO_DOCUMENT};
 use std::cell::UnsafeCell;
@@ -123,6 +124,16 @@ pub struct Place {
     pub character: usize,
 }
 
+/// A definition in a document.
+#[derive(Clone, Debug, PartialEq, Eq, Hash)]
+#[non_exhaustive]
+pub struct Defined {
+    /// The section in which it begins.
+    pub section: usize,
+    /// The bytes of the document that it covers.
+    pub bytes: Range<usize>,
+}
+
 /// What the units of characters are.
 #[derive(Clone, Copy, Debug, PartialEq, Eq, Hash)]
 pub enum Encoding {
@@ -218,6 +229,42 @@ impl Document {
         })
     }
 
+    /// Puts bytes in the place of each of these ranges, as one edit: all or none. The ranges are those of the document as it is before, in
+    /// order, and none begins before the one in front of it ends. What changed is told of all of them together. Without ranges nothing changes.
+    ///
+    /// ```
+    /// use limecove::{Document, Options};
+    ///
+    /// let mut document = Document::new("[a][b] [b]\n\n[b]: c\n", &Options::default())?;
+    /// document.replace_all(&[(4..5, b"d"), (8..9, b"d"), (13..14, b"d")])?;
+    /// assert_eq!(document.bytes(), b"[a][d] [d]\n\n[d]: c\n");
+    /// # Ok::<(), limecove::Error>(())
+    /// ```
+    ///
+    /// # Errors
+    ///
+    /// If memory runs out, the document would be too long, or a range is none of it, or not in order: [`Error::NoSuchBytes`] says the first
+    /// such range. The document is then as it was.
+    pub fn replace_all(&mut self, edits: &[(Range<usize>, &[u8])]) -> Result<Changed, Error> {
+        let all = match (edits.first(), edits.last()) {
+            (Some((first, _)), Some((last, _))) => first.start..last.end,
+            _ => 0..0,
+        };
+        let (mut with, mut done) = (Text::new(), all.start);
+        for (range, new) in edits {
+            let kept = self.bytes.get(done..range.start);
+            let kept = kept.filter(|_| self.bytes.get(range.clone()).is_some());
+            with.add_bytes(kept.ok_or(Error::NoSuchBytes {
+                from: range.start,
+                to: range.end,
+                len: self.bytes.len(),
+            })?)?;
+            with.add_bytes(new)?;
+            done = range.end;
+        }
+        self.replace(all, with.into_bytes())
+    }
+
     /// The sections that the last edit did not replace and that have other events than before it, in order, as they are numbered now.
     ///
     /// # Errors
@@ -310,9 +357,67 @@ impl Document {
         ))
     }
 
+    /// The first definition of a label, which is what the label means in the whole document. `None` if nothing defines it. The label is what is
+    /// between brackets, in any form. It takes time and memory in proportion to all events: [`Definitions`] are for many labels.
+    ///
+    /// ```
+    /// use limecove::{Document, Options};
+    ///
+    /// let document = Document::new("[a][ B ]\n\n[b]: c\n", &Options::default())?;
+    /// let found = document.definition_of(" B ")?.unwrap();
+    /// assert_eq!((&document.bytes()[found.bytes], found.section), (&b"[b]: c"[..], 1));
+    /// # Ok::<(), limecove::Error>(())
+    /// ```
+    ///
+    /// # Errors
+    ///
+    /// If memory runs out.
+    pub fn definition_of(&self, label: impl AsRef<[u8]>) -> Result<Option<Defined>, Error> {
+        let label = label.as_ref();
+        let mut found = limecove_sys::Defined::default();
+        // SAFETY: as in `events_in`. The label lives for the call.
+        let answer = unsafe {
+            limecove_sys::limecove_document_definition_of(
+                self.document.get(),
+                label.as_ptr(),
+                label.len(),
+                &mut found,
+            )
+        };
+        read(answer.code, || unknown(answer.code))?;
+        Ok((answer.count == 1).then_some(Defined {
+            section: found.section,
+            bytes: found.from..found.to,
+        }))
+    }
+
     /// The bytes.
     pub fn bytes(&self) -> &[u8] {
         &self.bytes
+    }
+
+    /// The bytes of a section.
+    ///
+    /// ```
+    /// use limecove::{Document, Options};
+    ///
+    /// let document = Document::new("# a\n\nb\n", &Options::default())?;
+    /// assert_eq!(document.section_bytes(1)?, b"b\n");
+    /// # Ok::<(), limecove::Error>(())
+    /// ```
+    ///
+    /// # Errors
+    ///
+    /// If there is no such section.
+    pub fn section_bytes(&self, section: usize) -> Result<&[u8], Error> {
+        if section >= self.sections {
+            return Err(Error::NoSuchSections {
+                from: section,
+                to: section.saturating_add(1),
+                count: self.sections,
+            });
+        }
+        Ok(&self.bytes[self.start_of(section)..self.start_of(section + 1)])
     }
 
     /// How many sections there are.
@@ -457,5 +562,50 @@ impl fmt::Debug for Document {
         f.debug_struct("Document")
             .field("sections", &self.sections)
             .finish()
+    }
+}
+
+#[cfg(test)]
+mod tests {
+    use super::*;
+
+    /// The bytes that the library has.
+    fn bytes_of(document: &Document) -> Vec<u8> {
+        let mut bytes = vec![0; document.len() + 1];
+        // SAFETY: the document is as a call of the library left it, and is not shared. There are that many bytes.
+        let answer = unsafe {
+            limecove_sys::limecove_document_bytes(
+                document.document.get(),
+                0,
+                document.len(),
+                bytes.as_mut_ptr(),
+                bytes.len(),
+            )
+        };
+        assert_eq!(answer.code, limecove_sys::READ);
+        bytes.truncate(answer.count);
+        bytes
+    }
+
+    /// What is kept beside the library are the bytes that it has.
+    #[test]
+    fn bytes_are_those_of_the_library() {
+        let mut document = Document::new("# a\n\nb\n\n- c\n", &Options::default()).unwrap();
+        assert_eq!(bytes_of(&document), b"# a\n\nb\n\n- c\n");
+        for (range, with) in [
+            (2..3, "# d\n\n"),
+            (12..12, "e"),
+            (0..3, ""),
+            (4..9, "\n\n\n"),
+        ] {
+            document.replace(range.clone(), with).unwrap();
+            assert_eq!(bytes_of(&document), document.bytes(), "{range:?}");
+        }
+        document
+            .replace_all(&[(0..1, b"f\n"), (3..3, b"g")])
+            .unwrap();
+        assert_eq!(bytes_of(&document), document.bytes());
+        document.replace(0..document.len(), "").unwrap();
+        assert!(bytes_of(&document).is_empty() && document.bytes().is_empty());
     }
 }

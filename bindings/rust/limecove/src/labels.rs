@@ -1,8 +1,8 @@
-//! Labels: how they are compared, and what links and images by reference refer to.
+//! Labels: what one is, how they are compared, and what links and images by reference refer to.
 
+use crate::reading::assert_version;
 use crate::tree::{Text, Tree};
 use crate::{Error, Name, Node};
-use std::str;
 
 /// The labels that a tree defines: of each the first definition, by the label and the index of its span, in the order of labels.
 #[derive(Clone, Debug, Default)]
@@ -120,7 +120,7 @@ impl<'a> Node<'a> {
         };
         let mut written = Text::new();
         written.add_written(&label)?;
-        normalized_label(&written.into_bytes()).map(Some)
+        normalized_label(written.into_bytes()).map(Some)
     }
 }
 
@@ -129,46 +129,64 @@ impl<'a> Node<'a> {
 ///
 /// ```
 /// assert_eq!(limecove::normalized_label(b" foo\tBar")?, b"FOO BAR");
+/// assert_eq!(limecove::normalized_label("ẞ")?, limecove::normalized_label("ss")?);
 /// # Ok::<(), limecove::Error>(())
 /// ```
 ///
 /// # Errors
 ///
 /// If it runs out of memory.
-pub fn normalized_label(label: &[u8]) -> Result<Vec<u8>, Error> {
-    let mut collapsed = Text::new();
-    let words = label.split(|byte| matches!(byte, b' ' | b'\t' | b'\n' | b'\r'));
-    for (at, word) in words.filter(|word| !word.is_empty()).enumerate() {
-        collapsed.add_bytes(if at > 0 { b" " } else { b"" })?;
-        for (at, part) in word.split(|byte| *byte == 0).enumerate() {
-            collapsed.add_bytes(if at > 0 { b"\xEF\xBF\xBD" } else { b"" })?;
-            collapsed.add_bytes(part)?;
+///
+/// # Panics
+///
+/// As [`is_label`].
+pub fn normalized_label(label: impl AsRef<[u8]>) -> Result<Vec<u8>, Error> {
+    assert_version();
+    let label = label.as_ref();
+    let mut normal = Vec::new();
+    // room for the form of most labels, so that it is made once
+    let mut room = label.len();
+    loop {
+        let got = normal.try_reserve_exact(room);
+        got.map_err(|_| Error::OutOfMemory)?;
+        room = normal.capacity();
+        // SAFETY: the version was asked. Pointers and lengths are those of a reference that lives for the call, and of room for that many.
+        let answer = unsafe {
+            limecove_sys::limecove_normalized_label(
+                label.as_ptr(),
+                label.len(),
+                normal.as_mut_ptr(),
+                room,
+            )
+        };
+        if answer.code != limecove_sys::READ {
+            return Err(Error::OutOfMemory);
         }
+        if answer.count <= room {
+            // SAFETY: that many were written.
+            unsafe { normal.set_len(answer.count) };
+            return Ok(normal);
+        }
+        room = answer.count;
     }
-    let mut collapsed = collapsed.into_bytes();
-    let characters = match str::from_utf8(&collapsed) {
-        Ok(text) => text.chars(),
-        Err(_) => {
-            collapsed.make_ascii_uppercase();
-            return Ok(collapsed);
-        }
-    };
-    let mut folded = Text::new();
-    for letter in characters {
-        match letter {
-            'ı' => add_letter(&mut folded, letter)?,
-            _ => {
-                for upper in letter.to_lowercase().flat_map(char::to_uppercase) {
-                    add_letter(&mut folded, upper)?;
-                }
-            }
-        }
-    }
-    Ok(folded.into_bytes())
 }
 
-fn add_letter(folded: &mut Text, letter: char) -> Result<(), Error> {
-    folded.add_bytes(letter.encode_utf8(&mut [0; 4]).as_bytes())
+/// Whether bytes may stand between the brackets of a label, as `a` does in `[a]: b`: no bracket in them that is not escaped, at most 999
+/// characters, and not only white space. If they have no line ending, they are then the label of a definition.
+///
+/// ```
+/// assert!(limecove::is_label("a \\] b"));
+/// assert!(!limecove::is_label("a ] b") && !limecove::is_label(" "));
+/// ```
+///
+/// # Panics
+///
+/// If the library that is linked has another version. Nothing has been read or written then.
+pub fn is_label(bytes: impl AsRef<[u8]>) -> bool {
+    assert_version();
+    let bytes = bytes.as_ref();
+    // SAFETY: the version was asked. The bytes live for the call.
+    unsafe { limecove_sys::limecove_is_label(bytes.as_ptr(), bytes.len()) == 1 }
 }
 
 #[cfg(test)]

@@ -26,6 +26,7 @@
 //! | spans, as a tree | [`Tree`], [`Node`] | made in linear time; about 100 bytes a span |
 //! | the span at a byte | [`Tree::node_at`] | a logarithm, and the depth there |
 //! | what a span is | [`Node::heading_level`], [`list`](Node::list), [`link`](Node::link), [`definition`](Node::definition), [`label`](Node::label), [`fence_info`](Node::fence_info), [`decoded`](Node::decoded), [`last_line`](Node::last_line) | in the size of what it looks at |
+//! | labels | [`normalized_label`], [`is_label`] | linear in the label |
 //! | lines and columns | [`LineIndex`], both ways | made in linear time; a logarithm to look up; many [`places`](LineIndex::places) in one walk |
 //!
 //! The crate `limecove-sys` links `liblimecove.a`. If it is not found, set `LIMECOVE_LIB` to the folder that has it.
@@ -53,12 +54,12 @@ struct Readme;
 
 pub use crate::definitions::{Definition, Definitions};
 pub use crate::differing::differing;
-pub use crate::document::{Changed, Document, Encoding, Place};
+pub use crate::document::{Changed, Defined, Document, Encoding, Place};
 pub use crate::event::{
     spans, spans_by_start, with_ranges, Content, Event, Kind, Link, Point, Span, Spans, WithRanges,
 };
 pub use crate::html::{to_html, to_html_bytes, to_html_with_options, HtmlOptions};
-pub use crate::labels::normalized_label;
+pub use crate::labels::{is_label, normalized_label};
 pub use crate::lines::{LineColumn, LineIndex};
 pub use crate::list::{List, ListMarker};
 pub use crate::names::{Machine, Name, UnknownName};
@@ -413,7 +414,7 @@ pub enum Error {
         /// How many sections the document has.
         count: usize,
     },
-    /// The bytes that are to be replaced are none of the document.
+    /// The bytes that are to be replaced are none of the document, or those of [several edits](Document::replace_all) are not in order.
     #[non_exhaustive]
     NoSuchBytes {
         /// The index of the first of these bytes.

@@ -408,6 +408,11 @@ fn what_there_is_not_is_refused() {
     ));
     assert_eq!(refused.to_string(), "no such sections: 0..2 of 1");
     assert_eq!((document.len(), document.bytes()), (7, "a\n🌳b".as_bytes()));
+    let refused = document.section_bytes(1).unwrap_err();
+    assert_eq!(refused.to_string(), "no such sections: 1..2 of 1");
+    let refused = document.section_bytes(usize::MAX).unwrap_err();
+    assert!(matches!(refused, Error::NoSuchSections { count: 1, .. }));
+    assert_eq!(document.section_bytes(0).unwrap(), "a\n🌳b".as_bytes());
     assert_eq!(document.section_at(7), 1);
     let place = |line, character| Place { line, character };
     assert_eq!(document.place(6, Encoding::Utf16), Some(place(1, 2)));
@@ -417,4 +422,134 @@ fn what_there_is_not_is_refused() {
     assert_eq!(document.index(place(1, 9), Encoding::Utf16), Some(7));
     assert_eq!(document.index(place(2, 0), Encoding::Utf16), None);
     assert_eq!(format!("{:?}", document), "Document { sections: 1 }");
+}
+
+#[test]
+fn sections_have_the_bytes() {
+    let text = "# a\n\n[b][c]\r\n\n> d\n\n[C]: e\n";
+    let document = Document::new(text, &Options::default()).unwrap();
+    assert!(document.sections() > 2);
+    let bytes = (0..document.sections()).map(|it| document.section_bytes(it).unwrap());
+    let bytes: Vec<_> = bytes.collect();
+    assert_eq!(bytes[0], b"# a\n\n");
+    assert_eq!(bytes.concat(), text.as_bytes());
+}
+
+#[test]
+fn labels_lead_to_the_first_definition() {
+    let text = "# a\n\n> [ B\n> c ]: d 'e'\n\n[b c]: f\n\n[g]: h\n";
+    let mut document = Document::new(text, &Options::default()).unwrap();
+    let found = document.definition_of("b \n C").unwrap().unwrap();
+    assert_eq!(found.section, 1);
+    assert_eq!(&document.bytes()[found.bytes], b"[ B\n> c ]: d 'e'");
+    let found = document.definition_of("G").unwrap().unwrap();
+    assert_eq!(&document.bytes()[found.bytes], b"[g]: h");
+    assert_eq!(document.definition_of("b"), Ok(None));
+    assert_eq!(document.definition_of(""), Ok(None));
+    // the first one goes
+    document.replace(7..8, "x").unwrap();
+    let found = document.definition_of("b c").unwrap().unwrap();
+    assert_eq!(&document.bytes()[found.bytes], b"[b c]: f");
+    document.replace(0..document.len(), "").unwrap();
+    assert_eq!(document.definition_of("g"), Ok(None));
+}
+
+/// What is replaced, and by what.
+type Edit<'a> = (Range<usize>, &'a [u8]);
+
+#[test]
+fn several_edits_are_one() {
+    let mut document = Document::new("[a] [b]\n\n[b]: c\n", &Options::default()).unwrap();
+    let change = document
+        .replace_all(&[
+            (5..6, b"de"),
+            (10..11, b"de"),
+            (14..14, b"<"),
+            (15..15, b">"),
+        ])
+        .unwrap();
+    assert_eq!(change.new_sections(), 0..2);
+    let edited = "[a] [de]\n\n[de]: <c>\n";
+    assert_eq!(document.bytes(), edited.as_bytes());
+    assert_eq!(document.events().unwrap(), read_document(edited).unwrap());
+    #[allow(clippy::reversed_empty_ranges)]
+    let backwards = 3..2;
+    let refused: [(&[Edit<'_>], &str); 6] = [
+        (&[(5..6, b"x"), (4..5, b"x")], "4..5"),
+        (&[(0..2, b"x"), (1..3, b"x")], "1..3"),
+        (&[(0..1, b"x"), (20..30, b"x")], "20..30"),
+        (&[(30..30, b"x"), (30..31, b"x")], "30..30"),
+        (&[(0..1, b"x"), (backwards.clone(), b"x")], "3..2"),
+        (&[(backwards, b"x"), (4..5, b"x")], "3..2"),
+    ];
+    for (edits, which) in refused {
+        let refused = document.replace_all(edits).unwrap_err();
+        let shown = format!("no such bytes: {which} of {}", edited.len());
+        assert_eq!(refused.to_string(), shown);
+    }
+    let nothing = document.replace_all(&[]).unwrap();
+    assert!(nothing.new_sections().is_empty() && nothing.old_sections().is_empty());
+    assert_eq!(document.bytes(), edited.as_bytes());
+    assert_eq!(document.events().unwrap(), read_document(edited).unwrap());
+}
+
+/// Several random edits at once are those edits one after the other, from the last to the first.
+#[test]
+fn several_random_edits_are_one() {
+    let mut state = 7;
+    let mut document = Document::new("[a]: b\n\n[a]\n", &Options::default()).unwrap();
+    for _ in 0..500 {
+        let mut bytes = document.bytes().to_vec();
+        let (mut edits, mut at) = (Vec::<Edit<'_>>::new(), 0);
+        for _ in 0..below(&mut state, 4) {
+            let from = at + below(&mut state, bytes.len() - at + 1);
+            at = from + below(&mut state, (bytes.len() - from).min(3) + 1);
+            let with = PIECES[below(&mut state, PIECES.len())];
+            edits.push((from..at, with.as_bytes()));
+        }
+        let old = bytes.clone();
+        let change = document.replace_all(&edits).unwrap();
+        for (range, with) in edits.iter().rev() {
+            bytes.splice(range.clone(), with.iter().copied());
+        }
+        assert_eq!(document.bytes(), bytes);
+        assert_eq!(document.events().unwrap(), read_document(&bytes).unwrap());
+        let (was, is) = (change.old_bytes(), change.bytes());
+        assert_eq!(old[..was.start], bytes[..is.start]);
+        assert_eq!(old[was.end..], bytes[is.end..]);
+    }
+}
+
+/// A definition is told as definitions of the whole document have it.
+#[test]
+fn definitions_are_told() {
+    let (mut state, mut told) = (3, 0);
+    let pieces = [
+        "[a]: b\n",
+        "[A]:\nc\n",
+        "[B c]: d\n",
+        "\n",
+        "> ",
+        "- ",
+        "e\n",
+        "[b\nC]: f\n",
+    ];
+    for _ in 0..300 {
+        let text: String = (0..below(&mut state, 12))
+            .map(|_| pieces[below(&mut state, pieces.len())])
+            .collect();
+        let document = Document::new(&text, &Options::default()).unwrap();
+        let definitions = Definitions::of_document(&document).unwrap();
+        for label in ["a", " b\tC ", "e"] {
+            let found = document.definition_of(label).unwrap();
+            let want = definitions.get(label.as_bytes()).unwrap();
+            let bytes = found.as_ref().map(|it| it.bytes.clone());
+            assert_eq!(bytes, want.map(|it| it.bytes.clone()), "{text:?}");
+            if let Some(it) = found {
+                assert_eq!(document.section_at(it.bytes.start), it.section);
+                told += 1;
+            }
+        }
+    }
+    assert!(told > 100);
 }

@@ -5,8 +5,9 @@
 //! own, glibc's, do their work.
 
 use limecove::{
-    spans, spans_by_start, to_html, tokenize, tokenize_text, with_ranges, Definitions, Document,
-    Encoding, Error, Event, LineIndex, Machine, Options, TextOptions, Tree,
+    normalized_label, spans, spans_by_start, to_html, tokenize, tokenize_text, with_ranges,
+    Changed, Definitions, Document, Encoding, Error, Event, LineIndex, Machine, Options,
+    TextOptions, Tree,
 };
 use std::ffi::c_void;
 use std::fmt::Debug;
@@ -76,6 +77,9 @@ fn failing<T>(left: isize, stays: bool, call: impl FnOnce() -> T) -> (T, usize) 
     (result, FAILED.load(Relaxed))
 }
 
+/// An edit of a document.
+type Edit<'a> = dyn Fn(&mut Document) -> Result<Changed, Error> + 'a;
+
 /// How many calls ran out of memory, and how many managed without what they were refused.
 #[derive(Default)]
 struct Ends {
@@ -143,26 +147,40 @@ impl Ends {
         let made = || Document::new(bytes, &options);
         let before = made().and_then(|document| document.events());
         let before = before.expect("there is memory");
+        let several = [(0..0, &b"c"[..]), (range.clone(), with.as_bytes())];
         self.of_call(|| {
             let mut document = made()?;
             document.replace(range.clone(), with)?;
             let others = document.others()?;
-            Ok((document.events()?, others))
+            let definition = document.definition_of("B")?;
+            Ok((document.events()?, others, definition))
         });
+        self.of_call(|| {
+            let mut document = made()?;
+            document.replace_all(&several)?;
+            document.events()
+        });
+        self.of_call(|| normalized_label(bytes));
         self.of_definitions(bytes, range.clone(), with);
-        for left in 0.. {
-            let mut document = made().expect("there is memory");
-            let (result, failed) = failing(left, true, || document.replace(range.clone(), with));
-            match result {
-                Ok(_) => {
-                    assert_eq!(failed, 0);
-                    break;
-                }
-                Err(error) => {
-                    assert!(error == Error::OutOfMemory && failed > 0);
-                    assert_eq!(document.events().expect("there is memory"), before);
-                    assert_eq!(document.bytes(), bytes.as_bytes());
-                    self.out += 1;
+        let edits: [&Edit<'_>; 2] = [
+            &|document| document.replace(range.clone(), with),
+            &|document| document.replace_all(&several),
+        ];
+        for edit in edits {
+            for left in 0.. {
+                let mut document = made().expect("there is memory");
+                let (result, failed) = failing(left, true, || edit(&mut document));
+                match result {
+                    Ok(_) => {
+                        assert_eq!(failed, 0);
+                        break;
+                    }
+                    Err(error) => {
+                        assert!(error == Error::OutOfMemory && failed > 0);
+                        assert_eq!(document.events().expect("there is memory"), before);
+                        assert_eq!(document.bytes(), bytes.as_bytes());
+                        self.out += 1;
+                    }
                 }
             }
         }
