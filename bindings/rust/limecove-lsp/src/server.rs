@@ -3,7 +3,7 @@
 use crate::facts::{lossy, Definition, Form, Heading, Reference, Span, TOKENS};
 use crate::json::{object, parse, Value};
 use crate::text::Text;
-use limecove::{normalized_label, read_document, Name};
+use limecove::{is_label, normalized_label};
 use std::collections::HashMap;
 use std::io::{self, BufRead, Write};
 
@@ -159,13 +159,13 @@ impl Server {
     fn rename(&self, params: &Value) -> Answer {
         let (uri, text) = self.text(params)?;
         let new = params.get("newName").text().unwrap_or_default();
-        if !is_label(new)? {
+        if !is_label(new) || new.contains(['\n', '\r']) {
             return Err(failed(format!("no label: {new}")));
         }
         let found = self
             .label_at(params)?
             .ok_or_else(|| failed("no label is here"))?;
-        let other = normalized_label(new.as_bytes()).map_err(failed)?;
+        let other = normalized_label(new).map_err(failed)?;
         if other != found.label && definitions(text, &other).next().is_some() {
             return Err(failed(format!("defined already: {new}")));
         }
@@ -398,16 +398,6 @@ fn references<'a>(text: &'a Text, label: &'a [u8]) -> impl Iterator<Item = (&'a 
             .filter(move |it| it.label == label)
             .map(move |it| (it, first))
     })
-}
-
-/// Whether a name can be a label: the library is asked, by a definition.
-fn is_label(name: &str) -> Result<bool, (f64, String)> {
-    let events = read_document(format!("[{name}]: x")).map_err(failed)?;
-    let is_first = events
-        .first()
-        .map_or(false, |it| it.name() == Name::Definition);
-    let is_plain = |it: &limecove::Event| it.point().line == 1 && it.name() != Name::Paragraph;
-    Ok(is_first && events.iter().all(is_plain))
 }
 
 /// Where a link of a document goes. Bytes that no address has are written by `%`.

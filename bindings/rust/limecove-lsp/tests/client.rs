@@ -538,7 +538,7 @@ fn labels_are_compared_as_the_library_does() {
             let text = format!("[{one}]: x\n\n[y][{other}]");
             let tree = Tree::new(&text, &read_document(&text).unwrap()).unwrap();
             let is_link = tree.nodes().any(|it| it.name() == Name::Link);
-            let [one, other] = [one, other].map(|it| normalized_label(it.as_bytes()).unwrap());
+            let [one, other] = [one, other].map(|it| normalized_label(it).unwrap());
             assert_eq!(is_link, one == other, "{text}");
         }
     }
