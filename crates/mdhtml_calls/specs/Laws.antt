@@ -1,9 +1,13 @@
 -- Laws of the HTML of documents.
-use Rattle.std.specs.Prelude.{◌≡◌, ℕ, List}
+use Rattle.std.specs.Prelude.{◌≡◌, ℕ, ◌+◌, ◌*◌, ◌≤◌, max, true, List, length}
 use Rattle.markdown_base.specs.declared.configuration.CompileOptions.{CompileOptions}
 use Rattle.markdown_base.specs.declared.configuration.Options.{Options}
 use Rattle.markdown_base.specs.Presets.{default_compile_options}
-use Rattle.mdhtml_calls.specs.Document.{html_of_document}
+use Rattle.markdown_tokenizer.specs.Text.{IsDocument}
+use Rattle.mddocument.specs.Documents.{document}
+use Rattle.mdhtml_calls.specs.Document.{html_of_document, written_events}
+use Rattle.mdhtml_document.specs.HtmlLaws.{are_apart, rows}
+use Rattle.mdhtml_document.specs.Spans.{spans_of}
 
 -- CommonMark's options for HTML, but for what these let through
 abbrev pub as_let_through : CompileOptions → CompileOptions
@@ -17,3 +21,13 @@ as_let_through options = record default_compile_options {
 abbrev pub OtherOptionsDoNothing : Type 0
 OtherOptionsDoNothing =
     (options : Options) (bytes : List ℕ) → html_of_document options bytes ≡ html_of_document (record options { compile = as_let_through options.compile }) bytes
+
+-- The HTML of a document in which no link is in a link is in proportion to its bytes, or to 100,000 bytes, to its events, and to its rows of tables:
+-- whatever it refers to
+abbrev pub HtmlOfDocumentsIsLinear : Type 0
+HtmlOfDocumentsIsLinear =
+    (options : Options) (bytes : List ℕ) → IsDocument (document options.parse bytes) → let events = written_events options.parse bytes in
+    let tab = options.parse.tab_size in
+    are_apart (spans_of events) ≡ true
+    → length (html_of_document options bytes)
+    ≤ ((144 * length bytes + max 100000 (length bytes) * (18 * tab + 90)) + length events * (198 * tab + 60)) + 2500 * rows (spans_of events)

@@ -1,6 +1,8 @@
 //! Laws of the HTML of events. Each is a function that does nothing; its contract is the law.
 
 ghost use Rattle.mdhtml_laws.specs.Depth.{HtmlIsShallow};
+ghost use Rattle.mdhtml_laws.specs.DocumentSections.{HtmlOfDocumentSections};
+ghost use Rattle.mdhtml_laws.specs.Moved.{BytesBehindDoNothing, HtmlMoves, HtmlOfSections};
 ghost use Rattle.mdhtml_laws.specs.Parts.{HtmlEndsLines, HtmlOfParts};
 
 /// How deep the elements of HTML are within a limit: at most twice as deep, and five more.
@@ -13,4 +15,17 @@ pub fn html_is_shallow()
 pub fn html_of_parts()
     ensures lines { HtmlEndsLines }
     ensures parts { HtmlOfParts }
+{}
+
+/// HTML depends on places only through the bytes at them. So events of lines that are read alone have the same HTML, moved behind other lines, and before
+/// others; and the HTML of a document is that of its sections, one behind another, by what labels are defined as in all.
+pub fn html_of_sections()
+    ensures moved { HtmlMoves }
+    ensures behind { BytesBehindDoNothing }
+    ensures sections { HtmlOfSections }
+{}
+
+/// So the HTML of a document that is cut at a rest is that of its parts, each read alone by the same labels.
+pub fn html_of_document_sections()
+    ensures { HtmlOfDocumentSections }
 {}
