@@ -8,7 +8,8 @@ use Rattle.markdown_base.specs.Events.{is_enter}
 use Rattle.markdown_base.proofs.Common.{every-append, every-map}
 use Rattle.mdgfm_literals.specs.declared.stretches.Reach.{Reach}
 use Rattle.mdgfm_literals.specs.declared.texts.Literal.{Literal}
-use Rattle.mdgfm_literals.specs.Stretches.{depth_behind, is_fresh, is_text, literals_between, literals_of, one_more, reach, span_end, span_size}
+use Rattle.mdgfm_events.specs.Spans.{span_end, span_size}
+use Rattle.mdgfm_literals.specs.Stretches.{depth_behind, is_fresh, is_text, literals_between, literals_of, one_more, reach}
 use Rattle.mdgfm_literals.proofs.Fits.{LiesIn, between-lies}
 use Rattle.mdgfm_literals.proofs.Names.{either-all}
 

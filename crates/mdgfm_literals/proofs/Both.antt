@@ -1,5 +1,6 @@
 -- Literals of two parts: those of the one, and of the other.
 use Rattle.std.proofs.Common.{◌≡◌, ℕ, zero, suc, ◌+◌, ◌-◌, ◌≤◌, ◌<◌, ◌++◌, Bool, true, false, cond, List, [], ◌∷◌, length, take, refl, sym, ap, subst, ◌∙◌, arith, le-leb, le-ltb}
+use Rattle.std.proofs.Math.Bool.{and-false}
 use Rattle.std.proofs.lemmas.Bool.{false≢true}
 use Rattle.std.proofs.lemmas.List.{append_assoc, take-append-le}
 use Rattle.std.specs.List.{AllByRecursion}
@@ -9,18 +10,19 @@ use Rattle.markdown_base.specs.declared.event.Name.TheVariants.{Data}
 use Rattle.markdown_base.specs.declared.event.Point.{Point}
 use Rattle.markdown_base.specs.Events.{is_enter}
 use Rattle.markdown_base.specs.Virtual.{point}
-use Rattle.markdown_base.proofs.Common.{every-map}
+use Rattle.markdown_base.proofs.Common.{and-right, every-map}
+use Rattle.markdown_base.proofs.Facts.Bools.{and-left}
 use Rattle.mdgfm_literals.specs.declared.stretches.Reach.{Reach}
 use Rattle.mdgfm_literals.specs.declared.texts.Literal.{Literal}
 use Rattle.mdgfm_literals.specs.Laws.{LiteralsOfBoth, begins_block}
 use Rattle.mdgfm_literals.specs.LiteralEvents.{Written, end_of, events_with, left_over, with_one, written}
-use Rattle.mdgfm_literals.specs.Places.{later, leaf}
-use Rattle.mdgfm_literals.specs.Stretches.{depth_behind, is_fresh, is_plain, is_text, literals_between, literals_of, one_more, reach, span_end, span_size}
+use Rattle.mdgfm_events.specs.Places.{later, leaf}
+use Rattle.mdgfm_events.specs.Spans.{span_end, span_size}
+use Rattle.mdgfm_literals.specs.Stretches.{depth_behind, is_fresh, is_plain, is_text, literals_between, literals_of, one_more, reach}
 use Rattle.mdgfm_literals.proofs.Balance.{literals-other}
 use Rattle.mdgfm_literals.proofs.Below.{AreUpTo, end-below, literals-below}
 use Rattle.mdgfm_literals.proofs.EventSteps.{reach-end}
 use Rattle.mdgfm_literals.proofs.Fits.{Ascend, Fits, Past, Rise, all-fit, ascend-from, from-zero, literals-rise, past-start, text-flat}
-use Rattle.mdgfm_literals.proofs.LiteralEnds.{both-first, both-second}
 use Rattle.mdgfm_literals.proofs.Order.{Goes, fits-left, fits-low, forward-index, goes-rise, last-place, later-other, pairs-go-all, text-well, written-well}
 use Rattle.mdgfm_literals.proofs.Whole.{Ends, Whole, whole-balanced}
 
@@ -76,12 +78,8 @@ opens bytes (e ∷ zs) h = record {
     other true h = absurd (false≢true h)
     other false h = refl
 
-    none : (b : Bool) → (b && false) ≡ false
-    none true = refl
-    none false = refl
-
     isnt : is_text 0 e ≡ false
-    isnt = ap (λ t. is_enter e.kind && t) (other (is_plain e.name) (both-second (is_enter e.kind) (not (is_plain e.name)) h)) ∙ none (is_enter e.kind)
+    isnt = ap (λ t. is_enter e.kind && t) (other (is_plain e.name) (and-right (is_enter e.kind) (not (is_plain e.name)) h)) ∙ and-false (is_enter e.kind)
 
 -- ---- literals
 
@@ -101,7 +99,7 @@ reach-both zero stop (e ∷ xs) zs w k =
     by : (t : Bool) → (is_text 0 e && (e.point.index == stop)) ≡ t → (Whole 0 (span_size 0 xs) xs → reach (span_size 0 xs) (span_end e.point 0 xs).index all ≡ reach (span_size 0 xs) (span_end e.point 0 xs).index xs)
         → cond t (one_more (reach (span_size 0 all) (span_end e.point 0 all).index all)) none ≡ cond t (one_more (reach (span_size 0 xs) (span_end e.point 0 xs).index xs)) none
     by true goes more =
-        let text = w.0 (both-first (is_text 0 e) (e.point.index == stop) goes) in
+        let text = w.0 (and-left (is_text 0 e) (e.point.index == stop) goes) in
         ap one_more (ap (λ n. reach n (span_end e.point 0 all).index all) (size-both 0 xs zs text.0) ∙ ap (λ (p : Point). reach (span_size 0 xs) p.index all) (end-both e.point 0 xs zs text.0) ∙ more text.1)
     by false ends more = refl
 
@@ -117,7 +115,7 @@ whole-reach zero stop (e ∷ es) w = by (is_text 0 e && (e.point.index == stop))
     s = reach (span_size 0 es) (span_end e.point 0 es).index es
 
     by : (t : Bool) → (is_text 0 e && (e.point.index == stop)) ≡ t → (Whole 0 (span_size 0 es) es → Whole 0 s.size es) → Whole 0 (cond t (one_more s) (record { size = 0; stop = stop })).size (e ∷ es)
-    by true goes more = whole-one s.size e es (more (w.0 (both-first (is_text 0 e) (e.point.index == stop) goes)).1)
+    by true goes more = whole-one s.size e es (more (w.0 (and-left (is_text 0 e) (e.point.index == stop) goes)).1)
     by false ends more = w
 
 literals-both : (bytes : List ℕ) (fresh : Bool) (depth skip : ℕ) (xs zs : List Event) → Whole depth skip xs → Opens bytes zs

@@ -1,15 +1,15 @@
 -- In loops over events: what was passed, and what comes.
-use Rattle.std.proofs.Common.{◌≡◌, ℕ, suc, ◌+◌, ◌-◌, ◌≤◌, ◌++◌, Bool, true, false, cond, List, [], ◌∷◌, length, drop, take, sym, ap, subst, ◌∙◌, arith}
-use Rattle.std.proofs.lemmas.List.{append-nil, append_assoc, drop-drop, drop_all}
+use Rattle.std.proofs.Common.{◌≡◌, ℕ, suc, ◌+◌, ◌-◌, ◌≤◌, ◌++◌, Bool, true, false, cond, List, ◌∷◌, length, drop, take, sym, ap, subst, ◌∙◌, arith}
+use Rattle.std.proofs.lemmas.List.{append_assoc, drop-drop}
 use Rattle.std.specs.Prelude.{◌==◌, ◌&&◌}
 use Rattle.markdown_base.specs.declared.event.Event.{Event}
 use Rattle.markdown_base.specs.declared.event.Point.{Point}
 use Rattle.mdgfm_literals.specs.declared.stretches.Reach.{Reach}
 use Rattle.mdgfm_literals.specs.declared.texts.Literal.{Literal}
 use Rattle.mdgfm_literals.specs.LiteralEvents.{Written, events_with, left_over, written}
-use Rattle.mdgfm_literals.specs.Stretches.{depth_behind, is_fresh, is_text, literals_between, literals_of, reach, span_end, span_size}
-use Rattle.mdgfm_literals.proofs.Balance.{literals-other, with-other}
-use Rattle.mdgfm_literals.proofs.Slices.{tail}
+use Rattle.mdgfm_events.specs.Spans.{span_end, span_size}
+use Rattle.mdgfm_literals.specs.Stretches.{depth_behind, is_fresh, is_text, literals_between, literals_of, reach}
+use Rattle.mdgfm_events.proofs.Slices.{tail}
 use Rattle.mdgfm_literals.proofs.EventSteps.{literals-of-skip, more, more-more, reach-on, reach-skip, with-skip}
 
 -- the event at an index, and those behind it
@@ -60,10 +60,6 @@ module _ (events : List Event) (at : ℕ) (e : Event) (here : drop at events ≡
         of_text : is_text depth e ≡ true → literals_of bytes fresh depth 0 (e ∷ es) ≡ literals_between bytes fresh e.point.index (reach n p.index es).stop ++ literals_of bytes false depth (reach n p.index es).size es
         of_text h = ap (λ t. cond t (literals_between bytes fresh e.point.index (reach n p.index es).stop ++ literals_of bytes false depth (reach n p.index es).size es) (literals_of bytes (is_fresh e) (depth_behind depth e) 0 es)) h
 
-    pub literals-other-next : is_text depth e ≡ false → all ++ literals_of bytes (is_fresh e) (depth_behind depth e) 0 (drop (at + 1) events) ≡ whole
-    literals-other-next h =
-        ap (λ ls. all ++ ls) (sym (literals-other 0 bytes fresh depth e es h) ∙ ap (literals_of bytes fresh depth 0) (sym here)) ∙ so_far
-
   -- ---- events
 
   module _ (tab : ℕ) (bytes : List ℕ) (depth : ℕ) (place : Point) (ls : List Literal) (whole out : List Event)
@@ -86,23 +82,6 @@ module _ (events : List Event) (at : ℕ) (e : Event) (here : drop at events ≡
       where
         of_text : is_text depth e ≡ true → events_with tab bytes 0 depth place ls (e ∷ es) ≡ w.events ++ (left_over w.place e.point p (e ∷ take n es) ++ events_with tab bytes n depth w.place w.left es)
         of_text h = ap (λ t. cond t (w.events ++ (left_over w.place e.point p (e ∷ take n es) ++ events_with tab bytes n depth w.place w.left es)) (e ∷ events_with tab bytes 0 (depth_behind depth e) place ls es)) h
-
-    pub with-other-next : is_text depth e ≡ false → (out ++ e ∷ []) ++ events_with tab bytes 0 (depth_behind depth e) place ls (drop (at + 1) events) ≡ whole
-    with-other-next h =
-        append_assoc out (e ∷ []) (events_with tab bytes 0 (depth_behind depth e) place ls es)
-        ∙ ap (λ (ts : List Event). out ++ ts) (sym (with-other tab bytes depth place ls e es h) ∙ ap (events_with tab bytes 0 depth place ls) (sym here))
-        ∙ so_far
-
--- none come
-pub literals-end : (bytes : List ℕ) (fresh : Bool) (depth at : ℕ) (events : List Event) (whole all : List Literal) → length events ≤ at
-    → all ++ literals_of bytes fresh depth 0 (drop at events) ≡ whole → all ≡ whole
-literals-end bytes fresh depth at events whole all past so_far =
-    sym (append-nil all) ∙ ap (λ ts. all ++ literals_of bytes fresh depth 0 ts) (sym (drop_all at events past)) ∙ so_far
-
-pub with-end : (tab : ℕ) (bytes : List ℕ) (depth at : ℕ) (place : Point) (ls : List Literal) (events whole out : List Event) → length events ≤ at
-    → out ++ events_with tab bytes 0 depth place ls (drop at events) ≡ whole → out ≡ whole
-with-end tab bytes depth at place ls events whole out past so_far =
-    sym (append-nil out) ∙ ap (λ ts. out ++ events_with tab bytes 0 depth place ls ts) (sym (drop_all at events past)) ∙ so_far
 
 -- ---- the same, by what spans are in the code: their size and end, by what is left of the slice
 

@@ -10,8 +10,9 @@ use Rattle.markdown_base.specs.Virtual.{point}
 use Rattle.mdgfm_literals.specs.declared.stretches.Reach.{Reach}
 use Rattle.mdgfm_literals.specs.declared.texts.Literal.{Literal}
 use Rattle.mdgfm_literals.specs.LiteralEvents.{events_with}
-use Rattle.mdgfm_literals.specs.Places.{leaf}
-use Rattle.mdgfm_literals.specs.Stretches.{depth_behind, is_text, literals_of, one_more, reach, span_end, span_size}
+use Rattle.mdgfm_events.specs.Places.{leaf}
+use Rattle.mdgfm_events.specs.Spans.{span_end, span_size}
+use Rattle.mdgfm_literals.specs.Stretches.{depth_behind, is_text, literals_of, one_more, reach}
 
 -- ---- stretches
 

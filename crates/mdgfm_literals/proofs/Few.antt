@@ -1,5 +1,5 @@
 -- Literals are few: no more than bytes, and they make few events.
-use Rattle.std.proofs.Common.{◌≡◌, ℕ, zero, suc, ◌+◌, ◌-◌, ◌*◌, ◌≤◌, ◌++◌, Bool, true, false, cond, List, [], ◌∷◌, length, drop, take, refl, sym, ap, ◌∙◌, arith}
+use Rattle.std.proofs.Common.{◌≡◌, ℕ, zero, suc, ◌+◌, ◌*◌, ◌≤◌, ◌++◌, Bool, true, false, cond, List, [], ◌∷◌, length, drop, take, refl, sym, ap, ◌∙◌, arith}
 use Rattle.std.proofs.lemmas.List.{length-append, take-append-drop}
 use Rattle.std.specs.List.{AllByRecursion}
 use Rattle.std.specs.Prelude.{nat_le, nat_lt}
@@ -11,8 +11,9 @@ use Rattle.markdown_base.specs.Virtual.{point}
 use Rattle.mdgfm_literals.specs.declared.texts.Literal.{Literal}
 use Rattle.mdgfm_literals.specs.Laws.{EventsStayFew}
 use Rattle.mdgfm_literals.specs.LiteralEvents.{Written, end_of, events_with, left_over, start_of, with_one, written}
-use Rattle.mdgfm_literals.specs.Places.{later, leaf}
-use Rattle.mdgfm_literals.specs.Stretches.{depth_behind, is_text, literals_of, span_end, span_size}
+use Rattle.mdgfm_events.specs.Places.{later, leaf}
+use Rattle.mdgfm_events.specs.Spans.{span_end, span_size}
+use Rattle.mdgfm_literals.specs.Stretches.{depth_behind, is_text, literals_of}
 use Rattle.mdgfm_literals.proofs.Below.{literals-below}
 use Rattle.mdgfm_literals.proofs.Fits.{Ascend, Rise, from-zero, literals-rise}
 use Rattle.mdgfm_literals.proofs.Order.{goes-rise, leaf-events, pairs-go-all}

@@ -8,12 +8,14 @@ use Rattle.markdown_base.specs.declared.event.Event.{Event}
 use Rattle.markdown_base.specs.declared.event.Point.{Point}
 use Rattle.markdown_base.specs.Events.{is_enter}
 use Rattle.markdown_base.specs.Places.{follows_cr}
-use Rattle.markdown_base.proofs.Common.{every-append, every-map}
+use Rattle.markdown_base.proofs.Common.{and-right, every-append, every-map}
+use Rattle.markdown_base.proofs.Facts.Bools.{and-left}
 use Rattle.mdgfm_literals.specs.declared.stretches.Reach.{Reach}
 use Rattle.mdgfm_literals.specs.declared.texts.Literal.{Literal}
 use Rattle.mdgfm_literals.specs.Laws.{AreLiterals}
-use Rattle.mdgfm_literals.specs.Stretches.{before_stretch, depth_behind, is_fresh, is_plain, is_text, literals_between, literals_of, one_more, reach, span_end, span_size}
-use Rattle.mdgfm_literals.proofs.LiteralEnds.{both-first, both-second, found-ends}
+use Rattle.mdgfm_events.specs.Spans.{span_end, span_size}
+use Rattle.mdgfm_literals.specs.Stretches.{before_stretch, depth_behind, is_fresh, is_plain, is_text, literals_between, literals_of, one_more, reach}
+use Rattle.mdgfm_literals.proofs.LiteralEnds.{found-ends}
 use Rattle.mdgfm_literals.proofs.LiteralLaws.{literals-are}
 
 -- ---- indices of events
@@ -206,7 +208,7 @@ past-reach i zero stop (e ∷ es) r h =
 
     by : (t : Bool) → (is_text 0 e && (e.point.index == stop)) ≡ t → i ≤ (cond t (one_more s) (record { size = 0; stop = stop })).stop → (i ≤ s.stop → Past i 0 (span_size 0 es) es)
         → Past i 0 0 (e ∷ es)
-    by true goes h more = ((λ text. more h), (λ isnt. never (is_text 0 e) (both-first (is_text 0 e) (e.point.index == stop) goes) isnt))
+    by true goes h more = ((λ text. more h), (λ isnt. never (is_text 0 e) (and-left (is_text 0 e) (e.point.index == stop) goes) isnt))
     by false ends h more = past-rise i stop 0 0 (e ∷ es) h r
 
 fits-reach : (l : Literal) (skip stop : ℕ) (es : List Event) → Rise stop (drop skip es) → l.from < l.to → stop ≤ l.from → l.to ≤ (reach skip stop es).stop → Fits l 0 skip es
@@ -221,10 +223,10 @@ fits-reach l zero stop (e ∷ es) r some low high =
     by : (t : Bool) → (is_text 0 e && (e.point.index == stop)) ≡ t → l.to ≤ (cond t (one_more s) (record { size = 0; stop = stop })).stop
         → ((span_end e.point 0 es).index ≤ l.from → l.to ≤ s.stop → Fits l 0 (span_size 0 es) es) → Fits l 0 0 (e ∷ es)
     by true goes high more =
-        let here = eqb-true e.point.index stop (both-second (is_text 0 e) (e.point.index == stop) goes) in (
+        let here = eqb-true e.point.index stop (and-right (is_text 0 e) (e.point.index == stop) goes) in (
           omega (arith, here, low),
           (λ text. ((λ before. past-reach l.to (span_size 0 es) (span_end e.point 0 es).index es (rise-end e.point 0 es r.1).1 high), (λ behind. more behind high))),
-          (λ isnt. never (is_text 0 e) (both-first (is_text 0 e) (e.point.index == stop) goes) isnt),
+          (λ isnt. never (is_text 0 e) (and-left (is_text 0 e) (e.point.index == stop) goes) isnt),
         )
     by false ends high more = absurd (omega (arith, some, low, high))
 
@@ -248,17 +250,18 @@ fits-skip l zero stop (e ∷ es) r low f =
         let behind : s.stop ≤ l.from = low in (
           omega (arith, behind, end.0, far),
           (λ text. ((λ before. absurd (omega (arith, before, behind, far))), (λ later. more low (fits-one l 0 s.size e es f)))),
-          (λ isnt. never (is_text 0 e) (both-first (is_text 0 e) (e.point.index == stop) goes) isnt),
+          (λ isnt. never (is_text 0 e) (and-left (is_text 0 e) (e.point.index == stop) goes) isnt),
         )
     by false ends low f more = f
 
 -- text is in no span that holds no literal
 pub text-flat : (depth : ℕ) (e : Event) → is_text depth e ≡ true → depth ≡ 0
-text-flat depth e h = eqb-true depth 0 (both-first (depth == 0) (is_enter e.kind && is_plain e.name) h)
+text-flat depth e h = eqb-true depth 0 (and-left (depth == 0) (is_enter e.kind && is_plain e.name) h)
 
-pub every-both : {A : Type 0} (P Q : A → Type 0) (xs : List A) → AllByRecursion P xs → AllByRecursion Q xs → AllByRecursion (λ x. P x × Q x) xs
-every-both P Q [] h k = tt
-every-both P Q (x ∷ xs) h k = ((h.0, k.0), every-both P Q xs h.1 k.1)
+-- what holds of literals, where they begin at an index or behind it
+pub from-each : (i : ℕ) (P R : Literal → Type 0) → ((l : Literal) → i ≤ l.from → P l → R l) → (ls : List Literal) → AllByRecursion (λ l. i ≤ l.from) ls → AllByRecursion P ls → AllByRecursion R ls
+from-each i P R f [] h k = tt
+from-each i P R f (l ∷ ls) h k = (f l h.0 k.0, from-each i P R f ls h.1 k.1)
 
 -- all literals of events fit
 pub all-fit : (bytes : List ℕ) (fresh : Bool) (depth skip i : ℕ) (es : List Event) → Rise i (drop skip es) → AllByRecursion (λ l. Fits l depth skip es) (literals_of bytes fresh depth skip es)
@@ -308,16 +311,15 @@ all-fit bytes fresh depth zero i (e ∷ es) r =
               ((λ before. past-reach l.to n q.index es end.1 lies.before), (λ later. fits-reach l n q.index es end.1 lies.some later lies.before))),
           (λ isnt. never (is_text depth e) text isnt),
         ) in
-        let in_rest : (l : Literal) → (Fits l depth s.size es × (s.stop ≤ l.from)) → P l =
-        λ l h. (
-          omega (arith, end.0, far.0, h.1),
+        let in_rest : (l : Literal) → s.stop ≤ l.from → Fits l depth s.size es → P l =
+        λ l from fit. (
+          omega (arith, end.0, far.0, from),
           (λ is.
-              ((λ before. absurd (omega (arith, before, far.0, h.1))), (λ later. subst (λ d. Fits l d n es) (sym flat) (fits-skip l n q.index es end.1 h.1 (subst (λ d. Fits l d s.size es) flat h.0))))),
+              ((λ before. absurd (omega (arith, before, far.0, from))), (λ later. subst (λ d. Fits l d n es) (sym flat) (fits-skip l n q.index es end.1 from (subst (λ d. Fits l d s.size es) flat fit))))),
           (λ isnt. never (is_text depth e) text isnt),
         ) in
         every-append P here rest (every-map (LiesIn bytes e.point.index s.stop) P in_here here (between-lies bytes fresh e.point.index s.stop).1)
-        (every-map (λ l. Fits l depth s.size es × (s.stop ≤ l.from)) P in_rest rest
-        (every-both (λ l. Fits l depth s.size es) (λ l. s.stop ≤ l.from) rest behind (ascend-from s.stop rest (literals-rise bytes false depth s.size s.stop es far.1))))
+        (from-each s.stop (λ l. Fits l depth s.size es) P in_rest rest (ascend-from s.stop rest (literals-rise bytes false depth s.size s.stop es far.1)) behind)
     by false no_text rest_fits fit =
-        every-map (λ l. Fits l (depth_behind depth e) 0 es × (e.point.index ≤ l.from)) P (λ l h. (h.1, (λ text. never (is_text depth e) text no_text), (λ is. h.0))) other
-        (every-both (λ l. Fits l (depth_behind depth e) 0 es) (λ l. e.point.index ≤ l.from) other fit (ascend-from e.point.index other (literals-rise bytes (is_fresh e) (depth_behind depth e) 0 e.point.index es r.1)))
+        from-each e.point.index (λ l. Fits l (depth_behind depth e) 0 es) P (λ l from fit. (from, (λ text. never (is_text depth e) text no_text), (λ is. fit))) other
+        (ascend-from e.point.index other (literals-rise bytes (is_fresh e) (depth_behind depth e) 0 e.point.index es r.1)) fit

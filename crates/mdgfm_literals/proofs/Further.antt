@@ -18,8 +18,9 @@ use Rattle.mdgfm_literals.specs.Grammar.{literal_at}
 use Rattle.mdgfm_literals.specs.Laws.{further_event, further_literal, further_point}
 use Rattle.mdgfm_literals.specs.LiteralEvents.{Written, end_of, events_with, left_over, start_of, with_one, written}
 use Rattle.mdgfm_literals.specs.Literals.{literals_from, more_passed}
-use Rattle.mdgfm_literals.specs.Places.{column_behind, event, later, leaf, place_at}
-use Rattle.mdgfm_literals.specs.Stretches.{before_stretch, depth_behind, is_fresh, is_text, literals_between, literals_of, one_more, reach, span_end, span_size}
+use Rattle.mdgfm_events.specs.Places.{column_behind, event, later, leaf, place_at}
+use Rattle.mdgfm_events.specs.Spans.{span_end, span_size}
+use Rattle.mdgfm_literals.specs.Stretches.{before_stretch, depth_behind, is_fresh, is_text, literals_between, literals_of, one_more, reach}
 use Rattle.mdgfm_literals.proofs.Below.{AreUpTo, IsUpTo, end-below, reach-below}
 
 same-test : (s t : Bool) → (s ≡ true → t ≡ false → ⊥) → (s ≡ false → t ≡ true → ⊥) → s ≡ t

@@ -1,5 +1,4 @@
 -- grammar
-pub mod Slices
 pub mod ByteLemmas
 pub mod Domains
 pub mod Ends

@@ -7,6 +7,8 @@ use Rattle.std.proofs.lemmas.List.Sums.{prefix_len_passes, prefix_len-le-length}
 use Rattle.std.specs.Char.{is_ascii_alphabetic}
 use Rattle.std.specs.List.{prefix_len}
 use Rattle.std.specs.Prelude.{◌==◌, ◌&&◌, codes, nat_le, nat_lt, not, slice_index}
+use Rattle.markdown_base.proofs.Common.{and-right}
+use Rattle.markdown_base.proofs.Facts.Bools.{and-left}
 use Rattle.mdgfm_literals.specs.declared.found.Found.{Found}
 use Rattle.mdgfm_literals.specs.Bytes.{begins_with, count, ends_literal, first_passes, in_local, lower}
 use Rattle.mdgfm_literals.specs.Grammar.{address_size, closing_before, goes_on, host_size, is_host, left, literal_at, literal_size, off, size_with}
@@ -74,14 +76,6 @@ host-some : (m : ℕ) (text : List ℕ) → is_host m text ≡ true → 1 ≤ m
 host-some zero text h = absurd (false≢true h)
 host-some (suc m) text h = omega arith
 
-pub both-first : (a b : Bool) → (a && b) ≡ true → a ≡ true
-both-first true b h = refl
-both-first false b h = h
-
-pub both-second : (a b : Bool) → (a && b) ≡ true → b ≡ true
-both-second true b h = h
-both-second false b h = absurd (false≢true h)
-
 address-ends : (text : List ℕ) → 1 ≤ address_size text → HasEnds text (address_size text)
 address-ends text some = by (nat_le 1 n) (first_passes (λ b. b == 64) (drop n text)) (is_host m host) refl refl refl some
   where
@@ -105,7 +99,7 @@ address-ends text some = by (nat_le 1 n) (first_passes (λ b. b == 64) (drop n t
         let longer : length host ≡ length text - (n + 1) = length-drop (n + 1) text in
         let fits : m ≤ length host = host-le host in
         let some = host-some m host r in
-        let letter = both-first (is_ascii_alphabetic (slice_index host (m - 1))) (not (first_passes (λ b. b == 64) (drop m host))) (both-second (nat_le 1 (count 46 (take m host))) _ r) in
+        let letter = and-left (is_ascii_alphabetic (slice_index host (m - 1))) (not (first_passes (λ b. b == 64) (drop m host))) (and-right (nat_le 1 (count 46 (take m host))) _ r) in
         let here : n + 1 + (m - 1) ≡ n + 1 + m - 1 = omega (arith, some) in
         let byte : slice_index host (m - 1) ≡ slice_index text (n + 1 + m - 1) = get_or-drop (n + 1) text (m - 1) 0 ∙ ap (λ i. get_or text i 0) here in
         record {
@@ -119,11 +113,11 @@ address-ends text some = by (nat_le 1 n) (first_passes (λ b. b == 64) (drop n t
 word-le : (word text : List ℕ) → begins_with word text ≡ true → length word ≤ length text
 word-le [] text h = omega arith
 word-le (w ∷ ws) [] h = absurd (false≢true h)
-word-le (w ∷ ws) (b ∷ bs) h = let less = word-le ws bs (both-second (lower b == w) (begins_with ws bs) h) in omega (arith, less)
+word-le (w ∷ ws) (b ∷ bs) h = let less = word-le ws bs (and-right (lower b == w) (begins_with ws bs) h) in omega (arith, less)
 
 word-first : (w : ℕ) (ws text : List ℕ) → (lower 10 == w) ≡ false → begins_with (w ∷ ws) text ≡ true → (slice_index text 0 == 10) ≡ false
 word-first w ws [] isnt h = absurd (false≢true h)
-word-first w ws (b ∷ bs) isnt h = other (λ b. lower b == w) b 10 isnt (both-first (lower b == w) (begins_with ws bs) h)
+word-first w ws (b ∷ bs) isnt h = other (λ b. lower b == w) b 10 isnt (and-left (lower b == w) (begins_with ws bs) h)
 
 scheme-ends : (w : ℕ) (ws text : List ℕ) → (lower 10 == w) ≡ false → 1 ≤ size_with (w ∷ ws) text → HasEnds text (size_with (w ∷ ws) text)
 scheme-ends w ws text isnt some = by (begins_with scheme text) (nat_le 1 n) refl refl some

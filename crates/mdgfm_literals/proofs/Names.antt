@@ -3,7 +3,6 @@ use Rattle.std.proofs.Common.{◌≡◌, ℕ, zero, suc, ◌+◌, ◌-◌, ◌++
 use Rattle.std.specs.List.{AllByRecursion}
 use Rattle.std.specs.Prelude.{nat_le, nat_lt, slice_get}
 use Rattle.markdown_base.specs.declared.event.Event.{Event}
-use Rattle.markdown_base.specs.declared.event.Kind.TheVariants.{Enter, Exit}
 use Rattle.markdown_base.specs.declared.event.Name.{Name}
 use Rattle.markdown_base.specs.declared.event.Name.TheVariants.{Data}
 use Rattle.markdown_base.specs.declared.event.Point.{Point}
@@ -15,8 +14,10 @@ use Rattle.mdgfm_literals.specs.Grammar.{literal_at}
 use Rattle.mdgfm_literals.specs.Laws.{NamesAreKept, literal_names}
 use Rattle.mdgfm_literals.specs.LiteralEvents.{Written, end_of, events_with, left_over, start_of, with_one, written}
 use Rattle.mdgfm_literals.specs.Literals.{literals_from, more_passed}
-use Rattle.mdgfm_literals.specs.Places.{event, later, leaf}
-use Rattle.mdgfm_literals.specs.Stretches.{before_stretch, depth_behind, is_fresh, is_text, literals_between, literals_of, reach, span_end, span_size}
+use Rattle.mdgfm_events.specs.Places.{later, leaf}
+use Rattle.mdgfm_events.specs.Spans.{span_end, span_size}
+use Rattle.mdgfm_literals.specs.Stretches.{before_stretch, depth_behind, is_fresh, is_text, literals_between, literals_of, reach}
+use Rattle.mdgfm_events.proofs.Leaves.{leaf-passes}
 use Rattle.mdgfm_literals.proofs.LiteralLaws.{literal-has}
 
 pub either-all : {A : Type 0} (P : A → Type 0) (b : Bool) (xs ys : List A) → AllByRecursion P xs → AllByRecursion P ys → AllByRecursion P (cond b xs ys)
@@ -58,13 +59,10 @@ module _ (test : Name → Bool) (of_data : test Data ≡ true) (five : AllByRecu
         (every-append Named here (literals_of bytes false depth r.size es) (text-named 0 (before_stretch bytes fresh e.point.index) e.point.index _) (all-named false depth r.size es))
         (all-named (is_fresh e) (depth_behind depth e) 0 es)
 
-    leaf-passes : (n : Name) (p q : Point) → test n ≡ true → AllByRecursion Passes (leaf n p q)
-    leaf-passes n p q h = either-all Passes (nat_lt p.index q.index) (event Enter n p ∷ event Exit n q ∷ []) [] (h, (h, tt)) tt
-
     one-passes : (from : Point) (l : Literal) → Named l → AllByRecursion Passes (with_one tab bytes from l)
     one-passes from l h =
         every-append Passes (leaf Data from (start_of tab bytes from l)) (leaf l.name (start_of tab bytes from l) (end_of tab bytes from l))
-        (leaf-passes Data from (start_of tab bytes from l) of_data) (leaf-passes l.name (start_of tab bytes from l) (end_of tab bytes from l) h)
+        (leaf-passes test Data from (start_of tab bytes from l) of_data) (leaf-passes test l.name (start_of tab bytes from l) (end_of tab bytes from l) h)
 
     written-passes : (first : Point) (stop : ℕ) (place : Point) (ls : List Literal) → AllByRecursion Named ls
         → AllByRecursion Passes (written tab bytes first stop place ls).events × AllByRecursion Named (written tab bytes first stop place ls).left
@@ -92,7 +90,7 @@ module _ (test : Name → Bool) (of_data : test Data ≡ true) (five : AllByRecu
         either-all Passes (is_text depth e) (w.events ++ (here ++ rest)) (e ∷ events_with tab bytes 0 (depth_behind depth e) place ls es)
         (every-append Passes w.events (here ++ rest) p.0
         (every-append Passes here rest
-        (either-all Passes (nat_le w.place.index e.point.index) (e ∷ take n es) (leaf Data w.place last) (k.0, every-take Passes n es k.1) (leaf-passes Data w.place last of_data))
+        (either-all Passes (nat_le w.place.index e.point.index) (e ∷ take n es) (leaf Data w.place last) (k.0, every-take Passes n es k.1) (leaf-passes test Data w.place last of_data))
         (with-passes n depth w.place w.left es p.1 k.1)))
         (k.0, with-passes 0 (depth_behind depth e) place ls es h k.1)
 

@@ -1,9 +1,9 @@
 -- A text with no sign has no literals.
 use Rattle.std.proofs.Common.{◌≡◌, ℕ, zero, suc, ◌+◌, ◌-◌, ◌<◌, ◌≤◌, ◌++◌, Bool, true, false, cond, List, [], ◌∷◌, length, drop, get_or, Option, Some, None, refl, sym, ap, ◌∙◌, arith}
 use Rattle.std.proofs.Math.Bool.{and-false}
-use Rattle.std.proofs.lemmas.Bool.{false≢true}
+use Rattle.std.proofs.lemmas.Bool.{false≢true, or_parts}
 use Rattle.std.proofs.lemmas.Bool.Decides.{nat_tests}
-use Rattle.std.proofs.lemmas.List.{drop_all, drop_more}
+use Rattle.std.proofs.lemmas.List.{drop_more}
 use Rattle.std.specs.Char.{is_ascii_alphabetic, is_ascii_alphanumeric}
 use Rattle.std.specs.List.{prefix_len}
 use Rattle.std.specs.Prelude.{◌==◌, ◌&&◌, ◌||◌, codes, nat_le, not, slice_get, slice_index}
@@ -16,23 +16,7 @@ use Rattle.mdgfm_literals.specs.Grammar.{address_size, begins_domain, email_at, 
 use Rattle.mdgfm_literals.specs.Literals.{literals_from, more_passed}
 use Rattle.mdgfm_literals.specs.Signs.{begins_both, begins_sign, has_sign}
 
--- ---- tests
-
-or-first : (a b : Bool) → (a || b) ≡ false → a ≡ false
-or-first false b h = refl
-or-first true b h = h
-
-or-second : (a b : Bool) → (a || b) ≡ false → b ≡ false
-or-second false b h = h
-or-second true b h = absurd (false≢true (sym h))
-
 -- ---- in the loop over a text
-
--- a sign comes first
-pub sign-first : (text : List ℕ) (n : ℕ) → n < length text → begins_sign (drop n text) ≡ true → has_sign (drop n text) ≡ true
-sign-first text n inside first =
-    let here : drop n text ≡ get_or text n 0 ∷ drop (n + 1) text = drop_more text n 0 inside in
-    ap (λ ts. has_sign ts) here ∙ ap (λ b. b || has_sign (drop (n + 1) text)) (ap (λ ts. begins_sign ts) (sym here) ∙ first)
 
 -- none does
 pub sign-next : (text : List ℕ) (n : ℕ) → n < length text → begins_sign (drop n text) ≡ false → has_sign (drop (n + 1) text) ≡ has_sign (drop n text)
@@ -40,33 +24,29 @@ sign-next text n inside first =
     let here : drop n text ≡ get_or text n 0 ∷ drop (n + 1) text = drop_more text n 0 inside in
     sym (ap (λ ts. has_sign ts) here ∙ ap (λ b. b || has_sign (drop (n + 1) text)) (ap (λ ts. begins_sign ts) (sym here) ∙ first))
 
--- no byte comes
-pub sign-end : (text : List ℕ) (n : ℕ) → length text ≤ n → has_sign (drop n text) ≡ false
-sign-end text n past = ap (λ ts. has_sign ts) (drop_all n text past)
-
 -- ---- what has no sign
 
 none-behind : (n : ℕ) (text : List ℕ) → has_sign text ≡ false → has_sign (drop n text) ≡ false
 none-behind zero text h = h
 none-behind (suc n) [] h = refl
-none-behind (suc n) (b ∷ bs) h = none-behind n bs (or-second (begins_sign (b ∷ bs)) (has_sign bs) h)
+none-behind (suc n) (b ∷ bs) h = none-behind n bs (or_parts (begins_sign (b ∷ bs)) (has_sign bs) h).1
 
 none-first : (text : List ℕ) → has_sign text ≡ false → begins_sign text ≡ false
 none-first [] h = refl
-none-first (b ∷ bs) h = or-first (begins_sign (b ∷ bs)) (has_sign bs) h
+none-first (b ∷ bs) h = (or_parts (begins_sign (b ∷ bs)) (has_sign bs) h).0
 
 no-at : (text : List ℕ) → has_sign text ≡ false → first_passes (λ b. b == 64) text ≡ false
-no-at text h = or-first (first_passes (λ b. b == 64) text) (begins_both 58 47 text || begins_both 119 119 text) (none-first text h)
+no-at text h = (or_parts (first_passes (λ b. b == 64) text) (begins_both 58 47 text || begins_both 119 119 text) (none-first text h)).0
 
 no-marks : (text : List ℕ) → has_sign text ≡ false → begins_both 58 47 text ≡ false
 no-marks text h =
-    or-first (begins_both 58 47 text) (begins_both 119 119 text)
-    (or-second (first_passes (λ b. b == 64) text) (begins_both 58 47 text || begins_both 119 119 text) (none-first text h))
+    (or_parts (begins_both 58 47 text) (begins_both 119 119 text)
+    (or_parts (first_passes (λ b. b == 64) text) (begins_both 58 47 text || begins_both 119 119 text) (none-first text h)).1).0
 
 no-letters : (text : List ℕ) → has_sign text ≡ false → begins_both 119 119 text ≡ false
 no-letters text h =
-    or-second (begins_both 58 47 text) (begins_both 119 119 text)
-    (or-second (first_passes (λ b. b == 64) text) (begins_both 58 47 text || begins_both 119 119 text) (none-first text h))
+    (or_parts (begins_both 58 47 text) (begins_both 119 119 text)
+    (or_parts (first_passes (λ b. b == 64) text) (begins_both 58 47 text || begins_both 119 119 text) (none-first text h)).1).1
 
 -- ---- `www.`
 
@@ -110,7 +90,7 @@ no-word [] ws (b ∷ c ∷ bs) h =
     both true false u e = refl
     both true true u e = absurd (false≢true (sym e))
 no-word (u ∷ us) ws [] h = refl
-no-word (u ∷ us) ws (b ∷ bs) h = ap (λ t. (lower b == u) && t) (no-word us ws bs (or-second (begins_sign (b ∷ bs)) (has_sign bs) h)) ∙ and-false (lower b == u)
+no-word (u ∷ us) ws (b ∷ bs) h = ap (λ t. (lower b == u) && t) (no-word us ws bs (or_parts (begins_sign (b ∷ bs)) (has_sign bs) h).1) ∙ and-false (lower b == u)
 
 no-protocol : (text : List ℕ) → has_sign text ≡ false → protocol_size text ≡ 0
 no-protocol text h =
@@ -165,10 +145,10 @@ nothing before text h =
 -- none is in the text
 pub no-literals : (skip : ℕ) (before : Option ℕ) (at : ℕ) (text : List ℕ) → has_sign text ≡ false → literals_from skip before at text ≡ []
 no-literals skip before at [] h = refl
-no-literals (suc skip) before at (b ∷ bs) h = no-literals skip before (at + 1) bs (or-second (begins_sign (b ∷ bs)) (has_sign bs) h)
+no-literals (suc skip) before at (b ∷ bs) h = no-literals skip before (at + 1) bs (or_parts (begins_sign (b ∷ bs)) (has_sign bs) h).1
 no-literals zero before at (b ∷ bs) h =
     ap (λ (o : Option Found). elim o as (λ o. List Literal) [
       | Some f ↦ record { from = at; to = at + f.size; name = f.name } ∷ literals_from (f.size - 1) None (at + 1) bs
       | None ↦ literals_from (more_passed (b ∷ bs)) (slice_get (b ∷ bs) (more_passed (b ∷ bs))) (at + 1) bs
     ]) (nothing before (b ∷ bs) h)
-    ∙ no-literals (more_passed (b ∷ bs)) (slice_get (b ∷ bs) (more_passed (b ∷ bs))) (at + 1) bs (or-second (begins_sign (b ∷ bs)) (has_sign bs) h)
+    ∙ no-literals (more_passed (b ∷ bs)) (slice_get (b ∷ bs) (more_passed (b ∷ bs))) (at + 1) bs (or_parts (begins_sign (b ∷ bs)) (has_sign bs) h).1

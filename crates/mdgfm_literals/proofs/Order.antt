@@ -16,9 +16,10 @@ use Rattle.markdown_base.proofs.Orders.{InOrder, order-pairs, upto-upto}
 use Rattle.markdown_base.proofs.Seats.{stands-self}
 use Rattle.mdgfm_literals.specs.declared.texts.Literal.{Literal}
 use Rattle.mdgfm_literals.specs.LiteralEvents.{Written, end_of, events_with, left_over, start_of, with_one, written}
-use Rattle.mdgfm_literals.specs.Places.{column_behind, event, later, leaf, place_at}
-use Rattle.mdgfm_literals.specs.Stretches.{depth_behind, is_text, span_end, span_size}
-use Rattle.mdgfm_literals.proofs.Fits.{Ascend, Fits, Past, Rise, ascend-from, drop-one, every-both}
+use Rattle.mdgfm_events.specs.Places.{column_behind, event, later, leaf, place_at}
+use Rattle.mdgfm_events.specs.Spans.{span_end, span_size}
+use Rattle.mdgfm_literals.specs.Stretches.{depth_behind, is_text}
+use Rattle.mdgfm_literals.proofs.Fits.{Ascend, Fits, Past, Rise, ascend-from, drop-one, from-each}
 
 -- ---- events that go forward from a place
 
@@ -109,13 +110,6 @@ later-low p q i h k = by (nat_le p.index q.index)
     by : (t : Bool) → (cond t q p).index ≤ i
     by true = k
     by false = h
-
-later-high : (p q : Point) → q.index ≤ (later p q).index
-later-high p q = by (nat_le p.index q.index) refl
-  where
-    by : (t : Bool) → nat_le p.index q.index ≡ t → q.index ≤ (cond t q p).index
-    by true e = omega arith
-    by false e = let less = leb-false p.index q.index e in omega (arith, less)
 
 -- events come behind a last event, and behind a last literal
 abbrev pub Comes : (place b : Point) → List Event → Type 0
@@ -298,7 +292,7 @@ module _ (tab : ℕ) (bytes : List ℕ) where
   pub fits-left : (depth skip stop : ℕ) (es : List Event) (ls : List Literal) → AllByRecursion (λ l. stop ≤ l.from → Fits l depth skip es) ls → AllByRecursion (λ l. stop ≤ l.from) ls
       → AllByRecursion (λ l. Fits l depth skip es) ls
   fits-left depth skip stop es ls each late =
-      every-map (λ l. (stop ≤ l.from → Fits l depth skip es) × (stop ≤ l.from)) (λ l. Fits l depth skip es) (λ l h. h.0 h.1) ls (every-both (λ l. stop ≤ l.from → Fits l depth skip es) (λ l. stop ≤ l.from) ls each late)
+      from-each stop (λ l. stop ≤ l.from → Fits l depth skip es) (λ l. Fits l depth skip es) (λ l from fits. fits from) ls late each
 
   -- what is written in a span of text
   pub text-well : (depth : ℕ) (place : Point) (ls : List Literal) (e : Event) (es : List Event) → is_text depth e ≡ true → place.vs ≡ 0 → Ascend place.index ls

@@ -1,5 +1,6 @@
 -- The order of place is kept: events with literals go forward, and none is between a CR and its LF.
 use Rattle.std.proofs.Common.{◌≡◌, ℕ, zero, suc, ◌+◌, ◌-◌, ◌++◌, Bool, true, false, cond, List, [], ◌∷◌, take, refl, ap, ◌∙◌}
+use Rattle.std.proofs.Math.Bool.{and-false}
 use Rattle.std.proofs.lemmas.List.Elements.{All-from_recursion, recursion_from_All}
 use Rattle.std.specs.List.{AllByRecursion}
 use Rattle.std.specs.Prelude.{◌==◌, ◌&&◌, nat_le, nat_lt, slice_index}
@@ -15,8 +16,9 @@ use Rattle.markdown_base.proofs.Common.{every-append, every-map, every-take}
 use Rattle.mdgfm_literals.specs.declared.texts.Literal.{Literal}
 use Rattle.mdgfm_literals.specs.Laws.{OrderIsKept}
 use Rattle.mdgfm_literals.specs.LiteralEvents.{Written, end_of, events_with, left_over, start_of, with_one, written}
-use Rattle.mdgfm_literals.specs.Places.{event, later, leaf, place_at}
-use Rattle.mdgfm_literals.specs.Stretches.{depth_behind, is_fresh, is_text, literals_between, literals_of, reach, span_end, span_size}
+use Rattle.mdgfm_events.specs.Places.{event, later, leaf, place_at}
+use Rattle.mdgfm_events.specs.Spans.{span_end, span_size}
+use Rattle.mdgfm_literals.specs.Stretches.{depth_behind, is_fresh, is_text, literals_between, literals_of, reach}
 use Rattle.mdgfm_literals.proofs.Fits.{LiesIn, Rise, all-fit, between-lies, literals-rise, past-start}
 use Rattle.mdgfm_literals.proofs.Names.{either-all}
 use Rattle.mdgfm_literals.proofs.Order.{Goes, beyond, goes-pairs, goes-rise, pairs-go-all, start-comes, with-goes}
@@ -40,17 +42,13 @@ module _ (bytes : List ℕ) where
   abbrev Shows : Event → Type 0
   Shows e = IsShown bytes e.point
 
-  second-false : (b : Bool) → (b && false) ≡ false
-  second-false true = refl
-  second-false false = refl
-
   shown-from : (p : Point) → (slice_index bytes p.index == 10) ≡ false → IsShown bytes p
   shown-from p h = ap (λ t. cond (t && follows_cr bytes p.index) (record { line = p.line; column = p.column; index = p.index - 1; vs = p.vs }) p) h
 
   shown-to : (p : Point) → follows_cr bytes p.index ≡ false → IsShown bytes p
   shown-to p h =
       ap (λ t. cond ((slice_index bytes p.index == 10) && t) (record { line = p.line; column = p.column; index = p.index - 1; vs = p.vs }) p) h
-      ∙ ap (λ t. cond t (record { line = p.line; column = p.column; index = p.index - 1; vs = p.vs }) p) (second-false (slice_index bytes p.index == 10))
+      ∙ ap (λ t. cond t (record { line = p.line; column = p.column; index = p.index - 1; vs = p.vs }) p) (and-false (slice_index bytes p.index == 10))
 
   later-shown : (p q : Point) → IsShown bytes p → IsShown bytes q → IsShown bytes (later p q)
   later-shown p q h k = by (nat_le p.index q.index)

@@ -1,5 +1,6 @@
 -- Innermost spans of events with literals tile what those of the events did.
-use Rattle.std.proofs.Common.{◌≡◌, ℕ, zero, suc, ◌+◌, ◌-◌, ◌≤◌, ◌<◌, ◌++◌, Bool, true, false, cond, List, [], ◌∷◌, drop, take, refl, sym, ap, subst, ◌∙◌, arith, leb-true, leb-false, ltb-true, ltb-false}
+use Rattle.std.proofs.Common.{◌≡◌, ℕ, zero, suc, ◌≤◌, ◌<◌, ◌++◌, Bool, true, false, cond, List, [], ◌∷◌, drop, take, refl, sym, ap, subst, ◌∙◌, arith, leb-true, leb-false, ltb-true, ltb-false}
+use Rattle.std.proofs.Math.Bool.{and-false}
 use Rattle.std.proofs.lemmas.Bool.{true≢false}
 use Rattle.std.proofs.lemmas.List.{append_assoc}
 use Rattle.std.specs.List.{AllByRecursion}
@@ -10,15 +11,16 @@ use Rattle.markdown_base.specs.declared.event.Name.TheVariants.{Data}
 use Rattle.markdown_base.specs.declared.event.Point.{Point}
 use Rattle.markdown_base.specs.Events.{is_enter}
 use Rattle.markdown_base.specs.Virtual.{point}
-use Rattle.markdown_base.proofs.Common.{every-map}
+use Rattle.markdown_base.proofs.Common.{and-right, every-map}
+use Rattle.markdown_base.proofs.Facts.Bools.{and-left}
 use Rattle.mdgfm_literals.specs.declared.texts.Literal.{Literal}
 use Rattle.mdgfm_literals.specs.Laws.{TileBytes, TilesAreKept, innermost_ranges}
 use Rattle.mdgfm_literals.specs.LiteralEvents.{Written, end_of, events_with, left_over, start_of, with_one, written}
-use Rattle.mdgfm_literals.specs.Places.{later, leaf}
-use Rattle.mdgfm_literals.specs.Stretches.{depth_behind, is_plain, is_text, literals_of, span_end, span_size}
+use Rattle.mdgfm_events.specs.Places.{later, leaf}
+use Rattle.mdgfm_events.specs.Spans.{span_end, span_size}
+use Rattle.mdgfm_literals.specs.Stretches.{depth_behind, is_plain, is_text, literals_of}
 use Rattle.mdgfm_literals.proofs.Below.{literals-below}
 use Rattle.mdgfm_literals.proofs.Fits.{Ascend, Fits, Past, Rise, all-fit, from-zero, literals-rise, past-start}
-use Rattle.mdgfm_literals.proofs.LiteralEnds.{both-first, both-second}
 use Rattle.mdgfm_literals.proofs.Order.{end-behind, end-is, fits-left, fits-low, goes-rise, later-low, later-self, leaf-events, pairs-go-all, start-is, text-well, written-well}
 use Rattle.mdgfm_literals.proofs.Tiles.{Tiled, ends_inner, tiled-end, tiled-from, tiled-take, tiles}
 use Rattle.mdgfm_literals.proofs.Whole.{Whole, whole-balanced}
@@ -27,14 +29,10 @@ none-below : (n : ℕ) → n < 0 → ⊥
 none-below n h = absurd (omega (arith, h))
 
 text-enters : (depth : ℕ) (e : Event) → is_text depth e ≡ true → is_enter e.kind ≡ true
-text-enters depth e h = both-first (is_enter e.kind) (is_plain e.name) (both-second (depth == 0) (is_enter e.kind && is_plain e.name) h)
+text-enters depth e h = and-left (is_enter e.kind) (is_plain e.name) (and-right (depth == 0) (is_enter e.kind && is_plain e.name) h)
 
 no-end : (inside : Bool) (e : Event) → is_enter e.kind ≡ true → ends_inner inside e ≡ false
-no-end inside e h = ap (λ k. inside && not k) h ∙ by inside
-  where
-    by : (b : Bool) → (b && false) ≡ false
-    by true = refl
-    by false = refl
+no-end inside e h = ap (λ k. inside && not k) h ∙ and-false inside
 
 no-end-behind : (inside : Bool) (e : Event) → inside ≡ false → ends_inner inside e ≡ false
 no-end-behind inside e h = ap (λ i. ends_inner i e) h

@@ -7,7 +7,7 @@ use Rattle.markdown_base.specs.declared.event.Event.{Event}
 use Rattle.markdown_base.specs.declared.event.Point.{Point}
 use Rattle.markdown_base.specs.Events.{is_enter}
 use Rattle.mdgfm_literals.specs.Laws.{TileBytes, ended_behind, innermost_ranges}
-use Rattle.mdgfm_literals.specs.Stretches.{span_end, span_size}
+use Rattle.mdgfm_events.specs.Spans.{span_end, span_size}
 use Rattle.mdgfm_literals.proofs.Fits.{Rise, drop-one, never}
 use Rattle.mdgfm_literals.proofs.Whole.{Ends}
 

@@ -4,6 +4,7 @@ use Rattle.std.proofs.Math.Bool.{and-false}
 use Rattle.std.proofs.lemmas.Bool.{false≢true}
 use Rattle.std.specs.List.{list_any}
 use Rattle.std.specs.Prelude.{◌&&◌, ◌||◌}
+use Rattle.markdown_base.proofs.Facts.Bools.{cond-same}
 use Rattle.markdown_base.specs.declared.event.Event.{Event}
 use Rattle.markdown_base.specs.declared.event.Name.{Name}
 use Rattle.markdown_base.specs.declared.event.Name.TheVariants.{CodeFencedFence, Definition, GfmFootnoteCall, GfmFootnoteDefinitionPrefix, Image, Link, Reference, Resource}
@@ -20,14 +21,10 @@ pub off-changes-nothing : OffChangesNothing
 off-changes-nothing options bytes events off =
     ap (λ b. cond b (events_with options.tab_size bytes 0 0 (point 1 1 0 0) (literals_of bytes true 0 0 events) events) events) off
 
-either : (b : Bool) (xs events : List Event) → xs ≡ events → cond b xs events ≡ events
-either true xs events e = e
-either false xs events e = refl
-
 pub none-changes-nothing : NoLiteralChangesNothing
 none-changes-nothing options bytes events none =
-    either options.constructs.gfm_autolink_literal (events_with options.tab_size bytes 0 0 (point 1 1 0 0) (literals_of bytes true 0 0 events) events) events
-    (ap (λ ls. events_with options.tab_size bytes 0 0 (point 1 1 0 0) ls events) none ∙ with-none options.tab_size bytes 0 0 events)
+    let on = options.constructs.gfm_autolink_literal in
+    ap (λ es. cond on es events) (ap (λ ls. events_with options.tab_size bytes 0 0 (point 1 1 0 0) ls events) none ∙ with-none options.tab_size bytes 0 0 events) ∙ cond-same on events
 
 pub balance-kept : BalanceIsKept
 balance-kept options bytes events b = by options.constructs.gfm_autolink_literal

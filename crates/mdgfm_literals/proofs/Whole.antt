@@ -6,8 +6,10 @@ use Rattle.std.specs.Prelude.{◌==◌}
 use Rattle.markdown_base.specs.declared.event.Event.{Event}
 use Rattle.markdown_base.specs.declared.event.Kind.TheVariants.{Exit}
 use Rattle.markdown_base.specs.Events.{IsBalanced, empty, span, is_enter}
-use Rattle.mdgfm_literals.specs.Stretches.{depth_behind, is_text, span_size}
-use Rattle.mdgfm_literals.proofs.Balance.{depth-back, exit-no-text, size-last, size-over, split}
+use Rattle.mdgfm_events.specs.Spans.{span_size}
+use Rattle.mdgfm_literals.specs.Stretches.{depth_behind, is_text}
+use Rattle.mdgfm_events.proofs.Sizes.{size-last, size-over, split}
+use Rattle.mdgfm_literals.proofs.Balance.{depth-back, exit-no-text}
 use Rattle.mdgfm_literals.proofs.Fits.{never}
 
 -- the span ends in which so many others are open

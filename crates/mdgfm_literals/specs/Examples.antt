@@ -8,7 +8,7 @@ use Rattle.markdown_base.specs.Virtual.{point}
 use Rattle.mdgfm_literals.specs.declared.texts.Literal.{Literal}
 use Rattle.mdgfm_literals.specs.LiteralEvents.{events_with}
 use Rattle.mdgfm_literals.specs.Literals.{literals_from}
-use Rattle.mdgfm_literals.specs.Places.{event}
+use Rattle.mdgfm_events.specs.Places.{event}
 use Rattle.mdgfm_literals.specs.Stretches.{literals_of}
 
 -- ---- texts

@@ -7,7 +7,6 @@ pub mod Literals
 pub mod Signs
 -- events
 pub mod Stretches
-pub mod Places
 pub mod LiteralEvents
 -- laws
 pub mod Laws

@@ -6,8 +6,9 @@ use Rattle.markdown_base.specs.declared.event.Name.TheVariants.{Data}
 use Rattle.markdown_base.specs.declared.event.Point.{Point}
 use Rattle.markdown_base.specs.Virtual.{point}
 use Rattle.mdgfm_literals.specs.declared.texts.Literal.{Literal}
-use Rattle.mdgfm_literals.specs.Places.{later, leaf, place_at}
-use Rattle.mdgfm_literals.specs.Stretches.{depth_behind, is_text, literals_of, span_end, span_size}
+use Rattle.mdgfm_events.specs.Places.{later, leaf, place_at}
+use Rattle.mdgfm_events.specs.Spans.{span_end, span_size}
+use Rattle.mdgfm_literals.specs.Stretches.{depth_behind, is_text, literals_of}
 
 -- where a literal begins that comes behind a place, and where it ends
 abbrev pub start_of : (tab : ℕ) → List ℕ → (from : Point) → Literal → Point

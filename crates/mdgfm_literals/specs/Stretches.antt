@@ -5,8 +5,8 @@ use Rattle.std.specs.List.{list_any}
 use Rattle.markdown_base.specs.declared.event.Event.{Event}
 use Rattle.markdown_base.specs.declared.event.Name.{Name}
 use Rattle.markdown_base.specs.declared.event.Name.TheVariants.{BlockQuotePrefix, CharacterEscape, CharacterReference, CodeFencedFence, Data, Definition, GfmFootnoteCall, GfmFootnoteDefinitionPrefix, Image, LineEnding, Link, Reference, Resource, SpaceOrTab}
-use Rattle.markdown_base.specs.declared.event.Point.{Point}
 use Rattle.markdown_base.specs.Events.{is_enter, same_name}
+use Rattle.mdgfm_events.specs.Spans.{span_end, span_size}
 use Rattle.mdgfm_literals.specs.declared.stretches.Reach.{Reach}
 use Rattle.mdgfm_literals.specs.declared.texts.Literal.{Literal}
 use Rattle.mdgfm_literals.specs.Literals.{literals_from}
@@ -37,22 +37,6 @@ depth_behind depth e = cond (holds_none e.name) (cond (is_enter e.kind) (depth +
 -- a line or a text begins behind an event
 abbrev pub is_fresh : Event → Bool
 is_fresh e = is_enter e.kind || begins_line e.name
-
--- How many events a span has behind its enter, by the events there: up to its exit, and with it. So many spans in it are open
-abbrev pub span_size : (opened : ℕ) → List Event → ℕ
-span_size opened [] = 0
-span_size opened (e ∷ es) =
-    let inside = span_size (opened + 1) es + 1 in
-    let outside = span_size (opened - 1) es + 1 in
-    cond (is_enter e.kind) inside (cond (opened == 0) 1 outside)
-
--- the place of its exit; that of its enter, if there is none
-abbrev pub span_end : (enter : Point) → (opened : ℕ) → List Event → Point
-span_end p opened [] = p
-span_end p opened (e ∷ es) =
-    let inside = span_end p (opened + 1) es in
-    let outside = span_end p (opened - 1) es in
-    cond (is_enter e.kind) inside (cond (opened == 0) e.point outside)
 
 abbrev pub one_more : Reach → Reach
 one_more r = record r { size = r.size + 1 }

@@ -1,7 +1,7 @@
 //! Bytes of autolink literals.
 
 ghost use Rattle.std.specs.List.{prefix_len};
-ghost use Rattle.std.specs.Prelude.{ℕ, ◌≡◌, ◌||◌, ◌≤◌, Bool, IsTrue, length, not, slice_range};
+ghost use Rattle.std.specs.Prelude.{ℕ, ◌≡◌, ◌||◌, ◌≤◌, Bool, IsTrue, length, not};
 ghost use Rattle.mdgfm_literals.specs.Bytes.{begins_with, count, ends_literal, in_domain, in_host, in_local, is_escape, is_space, is_trailing, is_wide, lower};
 
 /// White space or a line ending.
@@ -158,12 +158,4 @@ pub(crate) fn is_escape(text: &[u8]) -> bool
         [first, second, ..] => *first == b'\\' && second.is_ascii_punctuation(),
         _ => false,
     }
-}
-
-/// The bytes from an index up to another, as far as there are any.
-pub(crate) fn slice(bytes: &[u8], from: usize, to: usize) -> &[u8]
-    ensures { result.now ≡ slice_range bytes.now from to }
-{
-    let end = to.min(bytes.len());
-    if from < end { &bytes[from..end] } else { &[] }
 }

@@ -4,11 +4,12 @@ ghost use Rattle.std.specs.Prelude.{ℕ, ◌≡◌, ◌+◌, ◌++◌, ◌<◌, 
 ghost use Rattle.markdown_base.specs.Virtual.{point};
 ghost use Rattle.mdgfm_literals.specs.LiteralEvents.{end_of, events_with, left_over, literal_events, with_one, written};
 
-use crate::places::{later, place_at, push_leaf};
-use crate::stretches::{depth_behind, is_text, literals_of, span_of};
+use crate::stretches::{depth_behind, is_text, literals_of};
 use crate::texts::Literal;
 use markdown_base::configuration::ParseOptions;
 use markdown_base::event::{Event, Name, Point};
+use mdgfm_events::places::{later, place_at, push_leaf};
+use mdgfm_events::spans::span_of;
 use std::alloc::{AllocError, Global};
 
 /// How far literals were written.

@@ -9,9 +9,8 @@ pub mod grammar;
 // texts: all literals of a text, and whether there can be any
 mod signs;
 pub mod texts;
-// events: stretches of text among them, places in a line, and the events with literals
+// events: stretches of text among them, and the events with literals
 pub mod events;
-mod places;
 pub mod stretches;
 // laws: what literals are, and what they leave as it was; examples
 pub mod laws;

@@ -1,12 +1,13 @@
 //! Stretches of text among events: which bytes of a document are searched for literals.
 
 ghost use Rattle.std.specs.Prelude.{ℕ, ◌≡◌, ◌+◌, ◌++◌, ◌==◌, ◌<◌, ◌^◌, ◌≤◌, ◌&&◌, ◌||◌, IfOk, OnOk, Option, length, true};
-ghost use Rattle.mdgfm_literals.specs.Stretches.{before_stretch, begins_line, byte_before, depth_behind, holds_none, is_fresh, is_plain, is_text, literals_between, literals_of, reach, span_end, span_size};
+ghost use Rattle.mdgfm_literals.specs.Stretches.{before_stretch, begins_line, byte_before, depth_behind, holds_none, is_fresh, is_plain, is_text, literals_between, literals_of, reach};
 
-use crate::bytes::slice;
 use crate::signs::has_sign;
 use crate::texts::{Literal, push_literals};
-use markdown_base::event::{Event, Kind, Name, Point};
+use markdown_base::event::{Event, Kind, Name};
+use mdgfm_events::places::slice;
+use mdgfm_events::spans::span_of;
 use std::alloc::{AllocError, Global};
 
 /// How far a stretch of text reaches.
@@ -16,15 +17,6 @@ pub struct Reach {
     pub size: usize,
     /// The byte index of its end.
     pub stop: usize,
-}
-
-/// A span, by the events behind its enter.
-#[derive(Clone, Copy, PartialEq, Eq, Debug)]
-pub(crate) struct Span {
-    /// How many of them it has, with its exit.
-    pub(crate) size: usize,
-    /// The place of its exit.
-    pub(crate) end: Point,
 }
 
 /// Whether a span of this name is text.
@@ -82,35 +74,6 @@ fn is_fresh(event: &Event) -> bool
     ensures { result ≡ is_fresh event.now }
 {
     event.kind == Kind::Enter || begins_line(event.name)
-}
-
-/// A span that is entered at a place, by the events behind its enter.
-pub(crate) fn span_of(enter: Point, behind: &[Event]) -> Span
-    ensures size { result.size ≡ span_size 0 behind.now }
-    ensures end { result.end ≡ span_end enter 0 behind.now }
-    ensures within { result.size ≤ length behind.now }
-{
-    let mut opened = 0usize;
-    let mut next = 0;
-    while next < behind.len() {
-        match behind[next].kind {
-            Kind::Enter => opened += 1,
-            Kind::Exit => {
-                if opened == 0 {
-                    return Span {
-                        size: next + 1,
-                        end: behind[next].point,
-                    };
-                }
-                opened -= 1;
-            }
-        }
-        next += 1;
-    }
-    Span {
-        size: next,
-        end: enter,
-    }
 }
 
 /// Whether an event enters a span with which a stretch goes on that has come to a byte index.

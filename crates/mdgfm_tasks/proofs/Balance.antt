@@ -11,7 +11,7 @@ use Rattle.markdown_base.specs.Events.{IsBalanced, empty, span}
 use Rattle.markdown_edits.specs.OpenNames.{names_after, names_after_all}
 use Rattle.markdown_edits.proofs.Balanced.{IsBalanced-append, IsBalanced-pair, balanced_from_open, names_after_balanced, none_is_not_some}
 use Rattle.mdblock_tables.specs.Tasks.{value_name}
-use Rattle.mdgfm_literals.specs.Places.{event, leaf}
+use Rattle.mdgfm_events.specs.Places.{event, leaf}
 use Rattle.mdgfm_tasks.specs.declared.awaited.Awaited.{Awaited}
 use Rattle.mdgfm_tasks.specs.declared.awaited.Awaited.TheVariants.{Nothing}
 use Rattle.mdgfm_tasks.specs.declared.checks.Found.{Found}
@@ -19,15 +19,9 @@ use Rattle.mdgfm_tasks.specs.Awaits.{awaited_behind}
 use Rattle.mdgfm_tasks.specs.Checks.{check_of}
 use Rattle.mdgfm_tasks.specs.Laws.{BalanceIsKept}
 use Rattle.mdgfm_tasks.specs.TaskEvents.{check_events, events_with, further}
+use Rattle.mdgfm_events.proofs.Leaves.{leaf-balanced}
 use Rattle.mdgfm_tasks.proofs.Covers.{Covers, found-covers, names-over}
 use Rattle.mdgfm_tasks.proofs.Steps.{with-found}
-
-leaf-balanced : (n : Name) (p q : Point) → IsBalanced (leaf n p q)
-leaf-balanced n p q = by (nat_lt p.index q.index)
-  where
-    by : (b : Bool) → IsBalanced (cond b (event Enter n p ∷ event Exit n q ∷ []) [])
-    by true = IsBalanced-pair (event Enter n p) (event Exit n q) refl refl refl
-    by false = empty
 
 module _ (tab : ℕ) (bytes : List ℕ) where
   -- white space, a check and the data behind it, by their places

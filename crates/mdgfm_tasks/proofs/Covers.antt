@@ -1,7 +1,7 @@
 -- What has the bytes of a check.
 use Rattle.std.proofs.Common.{◌≡◌, ℕ, suc, ◌+◌, ◌-◌, ◌<◌, ◌≤◌, ◌++◌, Bool, true, false, cond, List, [], ◌∷◌, length, drop, Option, Some, None, refl, sym, ap, subst, ◌∙◌, arith, eqb-true, ne_eqb}
 use Rattle.std.specs.Prelude.{◌==◌, ◌&&◌, not, nat_le, IfSome, option_map}
-use Rattle.std.proofs.lemmas.Bool.{leb-true, false≢true}
+use Rattle.std.proofs.lemmas.Bool.{and_parts, leb-true, false≢true}
 use Rattle.markdown_base.specs.declared.event.Event.{Event}
 use Rattle.markdown_base.specs.declared.event.Kind.{Kind}
 use Rattle.markdown_base.specs.declared.event.Kind.TheVariants.{Enter, Exit}
@@ -9,9 +9,10 @@ use Rattle.markdown_base.specs.declared.event.Name.{Name}
 use Rattle.markdown_base.specs.declared.event.Name.TheVariants.{Data, Link}
 use Rattle.markdown_base.specs.declared.event.Point.{Point}
 use Rattle.markdown_base.specs.Events.{IsBalanced, is_enter, same_name}
+use Rattle.markdown_base.proofs.Facts.Kinds.{enter-is, exit-is}
 use Rattle.markdown_edits.specs.OpenNames.{names_after, names_after_all}
 use Rattle.markdown_edits.proofs.Balanced.{IsBalanced-pair, names_after_all-append, names_after_balanced, none_is_not_some, same_name-true}
-use Rattle.mdgfm_literals.specs.Stretches.{span_end, span_size}
+use Rattle.mdgfm_events.specs.Spans.{span_end, span_size}
 use Rattle.mdblock_tables.specs.declared.tasks.Check.{Check}
 use Rattle.mdblock_tables.specs.Pieces.{size_of}
 use Rattle.mdblock_tables.specs.Tasks.{check_at, check_pieces}
@@ -24,31 +25,21 @@ use Rattle.mdgfm_tasks.specs.Awaits.{enters, exits}
 use Rattle.mdgfm_tasks.specs.Checks.{check_of, data_over, found, is_data, line_from, linked, text_over, two_more}
 use Rattle.mdgfm_tasks.specs.Laws.{GoForward}
 
--- ---- tests of events
-
-pub both : (a b : Bool) → (a && b) ≡ true → (a ≡ true) × (b ≡ true)
-both true b h = (refl, h)
-both false b h = absurd (false≢true h)
-
-pub is-enter : (k : Kind) → is_enter k ≡ true → k ≡ Enter
-is-enter Enter h = refl
-is-enter Exit h = absurd (false≢true h)
-
-pub is-exit : (k : Kind) → not (is_enter k) ≡ true → k ≡ Exit
-is-exit Enter h = absurd (false≢true h)
-is-exit Exit h = refl
-
-pub data-balanced : (e f : Event) → is_data e f ≡ true → IsBalanced (e ∷ f ∷ [])
-data-balanced e f h =
-    let two = both (enters Data e) (exits Data f) h in
-    let first = both (is_enter e.kind) (same_name e.name Data) two.0 in
-    let last = both (not (is_enter f.kind)) (same_name f.name Data) two.1 in
-    IsBalanced-pair e f (is-enter e.kind first.0) (is-exit f.kind last.0) (same_name-true f.name Data last.1 ∙ sym (same_name-true e.name Data first.1))
+-- ---- balanced events
 
 -- balanced events leave open names as they are
 pub names-over : (xs es : List Event) → IsBalanced xs → (o : Option (List Name)) → names_after_all o (xs ++ es) ≡ names_after_all o es
 names-over xs es b None = refl
 names-over xs es b (Some st) = names_after_all-append (Some st) xs es ∙ ap (λ o. names_after_all o es) (names_after_balanced b st)
+
+-- and so does data
+data-over : (e f : Event) → is_data e f ≡ true → (st : List Name) (es : List Event) → names_after_all (Some st) (e ∷ f ∷ es) ≡ names_after_all (Some st) es
+data-over e f h st es =
+    let two = and_parts (enters Data e) (exits Data f) h in
+    let first = and_parts (is_enter e.kind) (same_name e.name Data) two.0 in
+    let last = and_parts (not (is_enter f.kind)) (same_name f.name Data) two.1 in
+    names-over (e ∷ f ∷ []) es
+    (IsBalanced-pair e f (enter-is e.kind first.0) (exit-is f.kind last.0) (same_name-true f.name Data last.1 ∙ sym (same_name-true e.name Data first.1))) (Some st)
 
 -- ---- spans
 
@@ -134,7 +125,7 @@ data-covers at many (e ∷ f ∷ es) = by (is_data e f) (nat_le many (f.point.in
           least = omega arith;
           most = omega arith;
           far = leb-true many (f.point.index - at) k;
-          names = λ st p. sym (names-over (e ∷ f ∷ []) es (data-balanced e f h) (Some st)) ∙ p;
+          names = λ st p. sym (data-over e f h st es) ∙ p;
           forward = λ from p. p.1.1;
         }
     by true false h k None more = tt
@@ -146,7 +137,7 @@ data-covers at many (e ∷ f ∷ es) = by (is_data e f) (nat_le many (f.point.in
           far = more.far;
           names = λ st p.
               ap (λ n. names_after_all (Some st) (drop n (e ∷ f ∷ es))) sum
-              ∙ more.names st (sym (names-over (e ∷ f ∷ []) es (data-balanced e f h) (Some st)) ∙ p);
+              ∙ more.names st (sym (data-over e f h st es) ∙ p);
           forward = λ from p. subst (λ n. GoForward c.end.index (drop n (e ∷ f ∷ es))) (sym sum) (more.forward f.point.index p.1.1);
         }
 
@@ -168,7 +159,7 @@ link-covers at many e es enters = by (((span_end e.point 0 es).index - at) == ma
           far = omega (arith, same);
           names = λ st p.
               ap (names_after_all (Some st)) one
-              ∙ span-names 0 e.name [] st es refl (ap (λ k. names_after_all (names_after k e.name st) es) (sym (is-enter e.kind enters)) ∙ p);
+              ∙ span-names 0 e.name [] st es refl (ap (λ k. names_after_all (names_after k e.name st) es) (sym (enter-is e.kind enters)) ∙ p);
           forward = λ from p. subst (GoForward (span_end e.point 0 es).index) (sym one) (span-forward 0 e.point.index e.point es p.1);
         }
 
@@ -177,7 +168,7 @@ covers at many [] = tt
 covers at many (e ∷ es) = by (enters Link e) refl
   where
     by : (t : Bool) → enters Link e ≡ t → IfSome (cond t (linked at many e es) (data_over at many (e ∷ es))) (Covers at many (e ∷ es))
-    by true h = link-covers at many e es (both (is_enter e.kind) (same_name e.name Link) h).0
+    by true h = link-covers at many e es (and_parts (is_enter e.kind) (same_name e.name Link) h).0
     by false h = data-covers at many (e ∷ es)
 
 -- ---- of a check

@@ -8,7 +8,7 @@ use Rattle.markdown_base.specs.declared.event.Name.TheVariants.{Data, GfmTaskLis
 use Rattle.markdown_base.specs.declared.event.Point.{Point}
 use Rattle.markdown_base.specs.Events.{same_name}
 use Rattle.mdblock_tables.specs.Tasks.{value_name}
-use Rattle.mdgfm_literals.specs.Places.{event, leaf}
+use Rattle.mdgfm_events.specs.Places.{event, leaf}
 use Rattle.mdgfm_tasks.specs.declared.awaited.Awaited.{Awaited}
 use Rattle.mdgfm_tasks.specs.declared.awaited.Awaited.TheVariants.{Nothing, Block, DefinitionEnd, Text}
 use Rattle.mdgfm_tasks.specs.declared.checks.Found.{Found}

@@ -9,7 +9,7 @@ use Rattle.markdown_base.specs.declared.event.Name.{Name}
 use Rattle.markdown_base.specs.declared.event.Name.TheVariants.{Data, GfmTaskListItemCheck, GfmTaskListItemMarker, SpaceOrTab}
 use Rattle.markdown_base.specs.declared.event.Point.{Point}
 use Rattle.mdblock_tables.specs.Tasks.{value_name}
-use Rattle.mdgfm_literals.specs.Places.{column_behind, event, leaf}
+use Rattle.mdgfm_events.specs.Places.{column_behind, event, leaf}
 use Rattle.mdgfm_tasks.specs.declared.awaited.Awaited.{Awaited}
 use Rattle.mdgfm_tasks.specs.declared.awaited.Awaited.TheVariants.{Nothing}
 use Rattle.mdgfm_tasks.specs.declared.checks.Found.{Found}

@@ -4,7 +4,7 @@ use Rattle.std.proofs.lemmas.List.{append-nil, append_assoc, drop-drop, drop_all
 use Rattle.std.proofs.lemmas.Bool.{leb-true}
 use Rattle.std.specs.Prelude.{◌||◌, nat_le, option_map}
 use Rattle.markdown_base.specs.declared.event.Event.{Event}
-use Rattle.mdgfm_literals.proofs.Slices.{tail}
+use Rattle.mdgfm_events.proofs.Slices.{tail}
 use Rattle.mdgfm_tasks.specs.declared.awaited.Awaited.{Awaited}
 use Rattle.mdgfm_tasks.specs.declared.awaited.Awaited.TheVariants.{Nothing}
 use Rattle.mdgfm_tasks.specs.declared.checks.Covered.{Covered}
@@ -29,13 +29,6 @@ behind-two : (n : ℕ) (o : Option Covered) → behind n (option_map two_more o)
 behind-two n None = refl
 behind-two n (Some c) = let sum : n + (c.size + 2) ≡ n + 2 + c.size = omega arith in ap (λ k. Some (let v : Covered = record c { size = k } in v)) sum
 
-pub not_least : (many k : ℕ) → k < many → nat_le many k ≡ false
-not_least many k h = by (nat_le many k) refl
-  where
-    by : (b : Bool) → nat_le many k ≡ b → b ≡ false
-    by true e = let least = leb-true many k e in absurd (omega (arith, h, least))
-    by false e = refl
-
 module _ (at many : ℕ) where
   pub data-short : (es : List Event) → length es < 2 → data_over at many es ≡ None
   data-short [] h = refl
@@ -57,11 +50,6 @@ module _ (at many : ℕ) where
     pub data-other : (whole : Option Covered) → behind n (data_over at many (drop n events)) ≡ whole → is_data e f ≡ false → whole ≡ None
     data-other whole so_far p = sym so_far ∙ ap (behind n) (by_tests false (nat_le many (f.point.index - at)) p refl)
 
-    -- data that is enough
-    pub data-last : (whole : Option Covered) → behind n (data_over at many (drop n events)) ≡ whole → is_data e f ≡ true → nat_le many (f.point.index - at) ≡ true
-        → whole ≡ Some (let v : Covered = record { size = n + 2; end = f.point } in v)
-    data-last whole so_far p q = sym so_far ∙ ap (behind n) (by_tests true true p q)
-
     -- data that is not
     pub data-next : (whole : Option Covered) → behind n (data_over at many (drop n events)) ≡ whole → is_data e f ≡ true → nat_le many (f.point.index - at) ≡ false
         → behind (n + 2) (data_over at many (drop (n + 2) events)) ≡ whole
@@ -74,9 +62,6 @@ module _ (bytes : List ℕ) (events : List Event) (at : ℕ) (e : Event) (here :
   has-by a o h =
       ap (has_check bytes a) here
       ∙ ap (λ p. is_found p || has_check bytes (awaited_behind a e) (drop (at + 1) events)) (ap (check_of bytes a) (sym here) ∙ h)
-
-  pub has-found : (a : Awaited) (f : Found) → check_of bytes a (drop at events) ≡ Some f → has_check bytes a (drop at events) ≡ true
-  has-found a f h = has-by a (Some f) h
 
   pub has-next : (a : Awaited) → check_of bytes a (drop at events) ≡ None → has_check bytes (awaited_behind a e) (drop (at + 1) events) ≡ has_check bytes a (drop at events)
   has-next a h = sym (has-by a None h)
@@ -107,11 +92,6 @@ module _ (bytes : List ℕ) (events : List Event) (at : ℕ) (e : Event) (here :
 pub has-end : (bytes : List ℕ) (a : Awaited) (at : ℕ) (events : List Event) → length events ≤ at → has_check bytes a (drop at events) ≡ false
 has-end bytes a at events past = ap (has_check bytes a) (drop_all at events past)
 
-pub with-end : (tab : ℕ) (bytes : List ℕ) (a : Awaited) (at : ℕ) (events whole out : List Event) → length events ≤ at
-    → out ++ events_with tab bytes 0 a (drop at events) ≡ whole → out ≡ whole
-with-end tab bytes a at events whole out past so_far =
-    sym (append-nil out) ∙ ap (λ ts. out ++ events_with tab bytes 0 a ts) (sym (drop_all at events past)) ∙ so_far
-
 -- ---- the same, by what is left of a slice
 
 module _ (bytes : List ℕ) (events : List Event) (at : ℕ) (d : Event) (more : at < length events) where
@@ -121,9 +101,6 @@ module _ (bytes : List ℕ) (events : List Event) (at : ℕ) (d : Event) (more :
   of_slice : (a : Awaited) (o : Option Found) → o ≡ check_of bytes a (take (length events - at) (drop at events)) → check_of bytes a (drop at events) ≡ o
   of_slice a o h = ap (check_of bytes a) (sym (tail at events)) ∙ sym h
 
-  pub has_first : (a : Awaited) (f : Found) → Some f ≡ check_of bytes a (take (length events - at) (drop at events)) → true ≡ has_check bytes a (drop at events)
-  has_first a f h = sym (has-found bytes events at (get_or events at d) here a f (of_slice a (Some f) h))
-
   pub has_more : (a : Awaited) (whole : Bool) → None ≡ check_of bytes a (take (length events - at) (drop at events)) → has_check bytes a (drop at events) ≡ whole
       → has_check bytes (awaited_behind a (get_or events at d)) (drop (at + 1) events) ≡ whole
   has_more a whole h so_far = has-next bytes events at (get_or events at d) here a (of_slice a None h) ∙ so_far
@@ -132,11 +109,6 @@ module _ (bytes : List ℕ) (events : List Event) (at : ℕ) (d : Event) (more :
       → Some f ≡ check_of bytes a (take (length events - at) (drop at events)) → 1 ≤ f.text.size
       → (out ++ check_events tab bytes (get_or events at d).point f) ++ events_with tab bytes 0 Nothing (drop (at + f.text.size) events) ≡ whole
   check_step tab a whole out f so_far h some = with-check bytes events at (get_or events at d) here tab a whole out so_far f (of_slice a (Some f) h) some
-
-  pub other_step : (tab : ℕ) (a : Awaited) (whole out : List Event) → out ++ events_with tab bytes 0 a (drop at events) ≡ whole
-      → None ≡ check_of bytes a (take (length events - at) (drop at events))
-      → (out ++ get_or events at d ∷ []) ++ events_with tab bytes 0 (awaited_behind a (get_or events at d)) (drop (at + 1) events) ≡ whole
-  other_step tab a whole out so_far h = with-other bytes events at (get_or events at d) here tab a whole out so_far (of_slice a None h)
 
   pub check_room : (a : Awaited) (f : Found) → Some f ≡ check_of bytes a (take (length events - at) (drop at events))
       → (get_or events at d).point.index + f.check.columns + 3 ≤ f.text.end.index
@@ -151,13 +123,6 @@ module _ (at many : ℕ) (events : List Event) (n : ℕ) (d : Event) (more : 2 �
 
   second : drop (n + 1) events ≡ get_or events (n + 1) d ∷ drop (n + 1 + 1) events
   second = drop_more events (n + 1) d (omega (arith, more))
-
-  pub data_stops : is_data (get_or events n d) (get_or events (n + 1) d) ≡ false → None ≡ whole
-  data_stops p = sym (data-other at many events n (get_or events n d) (get_or events (n + 1) d) first second whole so_far p)
-
-  pub data_found : is_data (get_or events n d) (get_or events (n + 1) d) ≡ true → nat_le many ((get_or events (n + 1) d).point.index - at) ≡ true
-      → Some (let v : Covered = record { size = n + 2; end = (get_or events (n + 1) d).point } in v) ≡ whole
-  data_found p q = sym (data-last at many events n (get_or events n d) (get_or events (n + 1) d) first second whole so_far p q)
 
   pub data_goes_on : is_data (get_or events n d) (get_or events (n + 1) d) ≡ true → nat_le many ((get_or events (n + 1) d).point.index - at) ≡ false
       → behind (n + 2) (data_over at many (drop (n + 2) events)) ≡ whole

@@ -9,7 +9,7 @@ use Rattle.markdown_base.specs.declared.event.Name.TheVariants.{Data, GfmTaskLis
 use Rattle.markdown_base.specs.declared.event.Point.{Point}
 use Rattle.markdown_base.proofs.Common.{every-append}
 use Rattle.mdblock_tables.specs.Tasks.{value_name}
-use Rattle.mdgfm_literals.specs.Places.{event, leaf}
+use Rattle.mdgfm_events.specs.Places.{event, leaf}
 use Rattle.mdgfm_tasks.specs.declared.awaited.Awaited.{Awaited}
 use Rattle.mdgfm_tasks.specs.declared.awaited.Awaited.TheVariants.{Nothing}
 use Rattle.mdgfm_tasks.specs.declared.checks.Found.{Found}
@@ -17,18 +17,12 @@ use Rattle.mdgfm_tasks.specs.Awaits.{awaited_behind}
 use Rattle.mdgfm_tasks.specs.Checks.{check_of}
 use Rattle.mdgfm_tasks.specs.Laws.{NamesAreKept, check_names}
 use Rattle.mdgfm_tasks.specs.TaskEvents.{check_events, events_with, further}
+use Rattle.mdgfm_events.proofs.Leaves.{leaf-passes}
 use Rattle.mdgfm_tasks.proofs.Steps.{taken, with-found}
 
 module _ (test : Name → Bool) (six : AllByRecursion (λ n. test n ≡ true) check_names) (tab : ℕ) (bytes : List ℕ) where
   abbrev Passes : Event → Type 0
   Passes e = test e.name ≡ true
-
-  leaf-passes : (n : Name) (p q : Point) → test n ≡ true → AllByRecursion Passes (leaf n p q)
-  leaf-passes n p q h = by (nat_lt p.index q.index)
-    where
-      by : (b : Bool) → AllByRecursion Passes (cond b (event Enter n p ∷ event Exit n q ∷ []) [])
-      by true = (h, (h, tt))
-      by false = tt
 
   value-passes : (k : Bool) → test (value_name k) ≡ true
   value-passes true = six.1.1.0
@@ -46,12 +40,12 @@ module _ (test : Name → Bool) (six : AllByRecursion (λ n. test n ≡ true) ch
       let left = leaf Data end f.text.end in
       let opens = event Enter GfmTaskListItemCheck start in
       let closes = event Exit GfmTaskListItemCheck end in
-      every-append Passes (leaf SpaceOrTab p start) (opens ∷ (one ++ (two ++ (three ++ closes ∷ left)))) (leaf-passes SpaceOrTab p start six.1.1.1.1.0) (
+      every-append Passes (leaf SpaceOrTab p start) (opens ∷ (one ++ (two ++ (three ++ closes ∷ left)))) (leaf-passes test SpaceOrTab p start six.1.1.1.1.0) (
         six.0,
-        every-append Passes one (two ++ (three ++ closes ∷ left)) (leaf-passes GfmTaskListItemMarker start value six.1.0)
-            (every-append Passes two (three ++ closes ∷ left) (leaf-passes (value_name f.check.is_checked) value closing (value-passes f.check.is_checked))
-            (every-append Passes three (closes ∷ left) (leaf-passes GfmTaskListItemMarker closing end six.1.0)
-            (six.0, leaf-passes Data end f.text.end six.1.1.1.1.1.0))),
+        every-append Passes one (two ++ (three ++ closes ∷ left)) (leaf-passes test GfmTaskListItemMarker start value six.1.0)
+            (every-append Passes two (three ++ closes ∷ left) (leaf-passes test (value_name f.check.is_checked) value closing (value-passes f.check.is_checked))
+            (every-append Passes three (closes ∷ left) (leaf-passes test GfmTaskListItemMarker closing end six.1.0)
+            (six.0, leaf-passes test Data end f.text.end six.1.1.1.1.1.0))),
       )
 
   with-passes : (skip : ℕ) (a : Awaited) (es : List Event) → AllByRecursion Passes es → AllByRecursion Passes (events_with tab bytes skip a es)

@@ -7,7 +7,7 @@ use Rattle.markdown_base.specs.declared.event.Name.{Name}
 use Rattle.markdown_base.specs.declared.event.Name.TheVariants.{Data, GfmTaskListItemCheck, GfmTaskListItemMarker, SpaceOrTab}
 use Rattle.markdown_base.specs.declared.event.Point.{Point}
 use Rattle.mdblock_tables.specs.Tasks.{value_name}
-use Rattle.mdgfm_literals.specs.Places.{event, leaf, place_at}
+use Rattle.mdgfm_events.specs.Places.{event, leaf, place_at}
 use Rattle.mdgfm_tasks.specs.declared.checks.Found.{Found}
 use Rattle.mdgfm_tasks.specs.TaskEvents.{check_events, further}
 

@@ -2,6 +2,7 @@
 use Rattle.std.proofs.Common.{◌≡◌, ℕ, Bool, true, false, cond, List, [], ◌∷◌, Option, Some, None, refl, sym, ap, ◌∙◌}
 use Rattle.std.proofs.lemmas.Bool.{false≢true}
 use Rattle.std.specs.Prelude.{◌||◌}
+use Rattle.markdown_base.proofs.Facts.Bools.{cond-same}
 use Rattle.markdown_base.specs.declared.event.Event.{Event}
 use Rattle.mdgfm_tasks.specs.declared.awaited.Awaited.{Awaited}
 use Rattle.mdgfm_tasks.specs.declared.awaited.Awaited.TheVariants.{Nothing}
@@ -25,10 +26,6 @@ with-none tab bytes a (e ∷ es) h = by (λ b. with-none tab bytes b es) (check_
     by more None q k = with-found tab bytes a e es None q ∙ ap (λ (ts : List Event). e ∷ ts) (more (awaited_behind a e) k)
     by more (Some f) q k = absurd (false≢true (sym k))
 
-either : (b : Bool) (xs events : List Event) → xs ≡ events → cond b xs events ≡ events
-either true xs events e = e
-either false xs events e = refl
-
 pub none-changes-nothing : NoCheckChangesNothing
 none-changes-nothing options bytes events none =
-    either options.constructs.gfm_task_list_item (events_with options.tab_size bytes 0 Nothing events) events (with-none options.tab_size bytes Nothing events none)
+    let on = options.constructs.gfm_task_list_item in ap (λ es. cond on es events) (with-none options.tab_size bytes Nothing events none) ∙ cond-same on events

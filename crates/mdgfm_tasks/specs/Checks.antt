@@ -6,7 +6,7 @@ use Rattle.markdown_base.specs.declared.event.Name.TheVariants.{Data, Link}
 use Rattle.mdblock_lines.specs.Lines.{is_in_line}
 use Rattle.mdblock_tables.specs.declared.tasks.Check.{Check}
 use Rattle.mdblock_tables.specs.Tasks.{check_at}
-use Rattle.mdgfm_literals.specs.Stretches.{span_end, span_size}
+use Rattle.mdgfm_events.specs.Spans.{span_end, span_size}
 use Rattle.mdgfm_tasks.specs.declared.awaited.Awaited.{Awaited}
 use Rattle.mdgfm_tasks.specs.declared.awaited.Awaited.TheVariants.{Nothing, Block, DefinitionEnd, Text}
 use Rattle.mdgfm_tasks.specs.declared.checks.Covered.{Covered}

@@ -5,7 +5,7 @@ use Rattle.markdown_base.specs.declared.event.Kind.TheVariants.{Enter, Exit}
 use Rattle.markdown_base.specs.declared.event.Name.{Name}
 use Rattle.markdown_base.specs.declared.event.Name.TheVariants.{BlankLineEnding, BlockQuote, BlockQuoteMarker, BlockQuotePrefix, Data, Definition, Emphasis, GfmTaskListItemCheck, GfmTaskListItemMarker, GfmTaskListItemValueChecked, GfmTaskListItemValueUnchecked, HeadingSetext, LineEnding, Link, ListItem, ListItemMarker, ListItemPrefix, ListUnordered, Paragraph, SpaceOrTab}
 use Rattle.markdown_base.specs.Virtual.{point}
-use Rattle.mdgfm_literals.specs.Places.{event}
+use Rattle.mdgfm_events.specs.Places.{event}
 use Rattle.mdgfm_tasks.specs.declared.awaited.Awaited.TheVariants.{Nothing}
 use Rattle.mdgfm_tasks.specs.TaskEvents.{events_with}
 

@@ -9,7 +9,7 @@ use Rattle.mdblock_tables.specs.declared.pieces.Piece.{Piece}
 use Rattle.mdblock_tables.specs.declared.pieces.Step.TheVariants.{Enter, Whole, Exit}
 use Rattle.mdblock_tables.specs.Pieces.{told}
 use Rattle.mdblock_tables.specs.Tasks.{check_pieces}
-use Rattle.mdgfm_literals.specs.Places.{event, leaf, place_at}
+use Rattle.mdgfm_events.specs.Places.{event, leaf, place_at}
 use Rattle.mdgfm_tasks.specs.declared.awaited.Awaited.{Awaited}
 use Rattle.mdgfm_tasks.specs.declared.awaited.Awaited.TheVariants.{Nothing}
 use Rattle.mdgfm_tasks.specs.declared.checks.Found.{Found}

@@ -7,10 +7,10 @@ ghost use Rattle.mdgfm_tasks.specs.declared.awaited.Awaited.TheVariants.{Nothing
 ghost use Rattle.mdgfm_tasks.specs.Checks.{check_in, check_of, data_over, has_check, is_data, line_from, linked, text_over};
 
 use crate::awaited::{Awaited, awaited_behind, enters, exits};
-use crate::places::span_of;
 use markdown_base::event::{Event, Name, Point};
 use mdblock_tables::tasks::{Check, check_at};
 use mdconstructs_loop_counts::Turns;
+use mdgfm_events::spans::span_of;
 use std::sync::ledger::Ledger;
 
 /// What is at the front of events, over the bytes of a check.

@@ -8,10 +8,10 @@ ghost use Rattle.mdgfm_tasks.specs.TaskEvents.{check_events, events_with, task_e
 
 use crate::awaited::{Awaited, awaited_behind};
 use crate::checks::{Found, check_of, has_check};
-use crate::places::{event, place_at, push_leaf};
 use markdown_base::configuration::ParseOptions;
 use markdown_base::event::{Event, Kind, Name, Point};
 use mdconstructs_loop_counts::Turns;
+use mdgfm_events::places::{event, place_at, push_leaf};
 use std::alloc::{AllocError, Global};
 use std::marker::Brand;
 use std::sync::ledger::{Blank, Ledger};

@@ -5,8 +5,6 @@
 pub mod awaited;
 // checks: the one at the front of events, if one is there
 pub mod checks;
-// places: spans among events, and places in a line
-mod places;
 // events: with their checks
 pub mod events;
 // laws: what checks are, and what they leave as it was; examples

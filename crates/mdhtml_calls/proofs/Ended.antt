@@ -10,8 +10,8 @@ use Rattle.markdown_base.specs.declared.event.Point.{Point}
 use Rattle.markdown_base.specs.Events.{is_enter, same_name}
 use Rattle.markdown_base.specs.Places.{stands_before}
 use Rattle.mddocument_link_targets.specs.Spans.{enters}
-use Rattle.mdgfm_literals.specs.Places.{event, leaf}
-use Rattle.mdgfm_literals.specs.Stretches.{span_size}
+use Rattle.mdgfm_events.specs.Places.{event, leaf}
+use Rattle.mdgfm_events.specs.Spans.{span_size}
 
 abbrev pub IsNext : Event → List Event → Type 0
 IsNext e [] = ⊥

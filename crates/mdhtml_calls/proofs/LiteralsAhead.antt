@@ -16,8 +16,9 @@ use Rattle.mdgfm_literals.specs.declared.texts.Literal.{Literal}
 use Rattle.mdgfm_literals.specs.Grammar.{literal_at}
 use Rattle.mdgfm_literals.specs.Literals.{literals_from, more_passed}
 use Rattle.mdgfm_literals.specs.LiteralEvents.{Written, end_of, events_with, left_over, start_of, with_one, written}
-use Rattle.mdgfm_literals.specs.Places.{event, later, leaf, place_at}
-use Rattle.mdgfm_literals.specs.Stretches.{before_stretch, depth_behind, is_fresh, is_plain, is_text, literals_between, literals_of, reach, span_end, span_size}
+use Rattle.mdgfm_events.specs.Places.{event, later, leaf, place_at}
+use Rattle.mdgfm_literals.specs.Stretches.{before_stretch, depth_behind, is_fresh, is_plain, is_text, literals_between, literals_of, reach}
+use Rattle.mdgfm_events.specs.Spans.{span_end, span_size}
 use Rattle.mdgfm_literals.proofs.Below.{IsUpTo, literals-up-to}
 use Rattle.mdgfm_literals.proofs.Fits.{Ascend, Past, Rise, all-fit, literals-rise, past-start}
 use Rattle.mdgfm_literals.proofs.LiteralLaws.{literal-has}

@@ -16,8 +16,8 @@ use Rattle.mdblock_tables.specs.declared.tasks.Check.{Check}
 use Rattle.mdblock_tables.specs.Tasks.{check_at, value_name}
 use Rattle.mdgfm_literals.proofs.Fits.{drop-one}
 use Rattle.mdgfm_literals.proofs.Order.{Goes}
-use Rattle.mdgfm_literals.specs.Places.{column_behind, event, leaf}
-use Rattle.mdgfm_literals.specs.Stretches.{span_end, span_size}
+use Rattle.mdgfm_events.specs.Places.{column_behind, event, leaf}
+use Rattle.mdgfm_events.specs.Spans.{span_end, span_size}
 use Rattle.mdgfm_tasks.specs.declared.awaited.Awaited.{Awaited}
 use Rattle.mdgfm_tasks.specs.declared.awaited.Awaited.TheVariants.{Nothing, Block, DefinitionEnd, Text}
 use Rattle.mdgfm_tasks.specs.declared.checks.Covered.{Covered}

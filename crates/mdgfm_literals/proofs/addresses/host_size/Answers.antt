@@ -1,7 +1,7 @@
 use Rattle.std.proofs.Common.{◌∙◌, sym, ap, arith}
 use Rattle.mdgfm_literals.specs.Grammar.{goes_on}
 use Rattle.mdgfm_literals.proofs.ByteLemmas.{host_next}
-use Rattle.mdgfm_literals.proofs.Slices.{tail}
+use Rattle.mdgfm_events.proofs.Slices.{tail}
 use Rattle.mdgfm_literals.proofs.addresses.host_size.Goals as goal
 
 pub loop-next-preserved : goal.loop-next-preserved

@@ -1,7 +1,7 @@
 use Rattle.std.proofs.Common.{◌∙◌, ◌+◌, length, drop, sym, ap, arith}
 use Rattle.std.proofs.lemmas.List.{drop_more, length-drop}
 use Rattle.mdgfm_literals.proofs.EventLoops.{with-step}
-use Rattle.mdgfm_literals.proofs.Slices.{tail}
+use Rattle.mdgfm_events.proofs.Slices.{tail}
 use Rattle.mdgfm_literals.proofs.events.events_with.Goals as goal
 
 pub loop-at-preserved-then-is_text : goal.loop-at-preserved-then-is_text

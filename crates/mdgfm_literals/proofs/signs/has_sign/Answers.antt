@@ -1,7 +1,7 @@
 use Rattle.std.proofs.Common.{◌∙◌, sym, ap, arith}
 use Rattle.mdgfm_literals.specs.Signs.{begins_sign}
 use Rattle.mdgfm_literals.proofs.NoSigns.{sign-next}
-use Rattle.mdgfm_literals.proofs.Slices.{tail}
+use Rattle.mdgfm_events.proofs.Slices.{tail}
 use Rattle.mdgfm_literals.proofs.signs.has_sign.Goals as goal
 
 pub loop-next-preserved : goal.loop-next-preserved

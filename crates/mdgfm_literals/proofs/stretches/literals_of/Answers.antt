@@ -1,7 +1,7 @@
 use Rattle.std.proofs.Common.{◌∙◌, ◌+◌, length, sym, ap, arith}
 use Rattle.std.proofs.lemmas.List.{drop_more, length-drop}
 use Rattle.mdgfm_literals.proofs.EventLoops.{literals-step}
-use Rattle.mdgfm_literals.proofs.Slices.{tail}
+use Rattle.mdgfm_events.proofs.Slices.{tail}
 use Rattle.mdgfm_literals.proofs.stretches.literals_of.Goals as goal
 
 pub loop-at-preserved-then-is_text : goal.loop-at-preserved-then-is_text

@@ -1,7 +1,7 @@
 use Rattle.std.proofs.Common.{◌∙◌, ◌+◌, length, sym, ap, arith}
 use Rattle.std.proofs.lemmas.List.{drop_more, length-drop}
 use Rattle.mdgfm_literals.proofs.EventLoops.{reach-step}
-use Rattle.mdgfm_literals.proofs.Slices.{tail}
+use Rattle.mdgfm_events.proofs.Slices.{tail}
 use Rattle.mdgfm_literals.proofs.stretches.stretch_from.Goals as goal
 
 pub loop-size-preserved : goal.loop-size-preserved

@@ -4,7 +4,7 @@ use Rattle.std.specs.Prelude.{slice_get}
 use Rattle.mdgfm_literals.specs.Grammar.{IsKnown, literal_at}
 use Rattle.mdgfm_literals.specs.Literals.{literals_from, more_passed}
 use Rattle.mdgfm_literals.proofs.Domains.{known-by, none-known}
-use Rattle.mdgfm_literals.proofs.Slices.{tail}
+use Rattle.mdgfm_events.proofs.Slices.{tail}
 use Rattle.mdgfm_literals.proofs.TextSteps.{found-next, none-next}
 use Rattle.mdgfm_literals.proofs.texts.push_literals.Goals as goal
 

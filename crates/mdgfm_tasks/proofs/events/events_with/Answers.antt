@@ -1,6 +1,6 @@
 use Rattle.std.proofs.Common.{◌∙◌, ◌+◌, ◌++◌, length, drop, ap, arith}
 use Rattle.std.proofs.lemmas.List.{length-drop}
-use Rattle.mdgfm_literals.proofs.Slices.{tail}
+use Rattle.mdgfm_events.proofs.Slices.{tail}
 use Rattle.mdgfm_tasks.specs.declared.awaited.Awaited.TheVariants.{Nothing}
 use Rattle.mdgfm_tasks.specs.TaskEvents.{events_with}
 use Rattle.mdgfm_tasks.proofs.Loops.{check_room, check_step}

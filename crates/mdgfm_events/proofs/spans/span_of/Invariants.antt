@@ -1,6 +1,6 @@
 use Rattle.std.proofs.Common.{◌≡◌, ◌+◌, ◌-◌, ◌≤◌, drop, length}
-use Rattle.mdgfm_literals.specs.Stretches.{span_end, span_size}
-use Rattle.mdgfm_tasks.proofs.places.span_of.Given as goal
+use Rattle.mdgfm_events.specs.Spans.{span_end, span_size}
+use Rattle.mdgfm_events.proofs.spans.span_of.Given as goal
 
 -- what was passed, and what is left
 abbrev pub invariant-loop-next : goal.invariant-loop-next

@@ -1,52 +1,13 @@
-//! Spans among events, and places in a line.
+//! Places in a line, by the indices of bytes, and spans between them.
 
-ghost use Rattle.std.specs.Prelude.{ℕ, ◌≡◌, ◌++◌, ◌<◌, ◌≤◌, OnOk, length, slice_range};
-ghost use Rattle.mdgfm_literals.specs.Places.{column_behind, event, leaf, next_column, place_at};
-ghost use Rattle.mdgfm_literals.specs.Stretches.{span_end, span_size};
+ghost use Rattle.std.specs.Prelude.{ℕ, ◌≡◌, ◌++◌, ◌<◌, OnOk, slice_range};
+ghost use Rattle.mdgfm_events.specs.Places.{column_behind, event, later, leaf, next_column, place_at};
 
 use markdown_base::event::{Event, Kind, Name, Point};
 use std::alloc::AllocError;
 
-/// A span, by the events behind its enter.
-#[derive(Clone, Copy, PartialEq, Eq, Debug)]
-pub(crate) struct Span {
-    /// How many of them it has, with its exit.
-    pub(crate) size: usize,
-    /// The place of its exit.
-    pub(crate) end: Point,
-}
-
-/// A span that is entered at a place, by the events behind its enter.
-pub(crate) fn span_of(enter: Point, behind: &[Event]) -> Span
-    ensures size { result.size ≡ span_size 0 behind.now }
-    ensures end { result.end ≡ span_end enter 0 behind.now }
-    ensures within { result.size ≤ length behind.now }
-{
-    let mut opened = 0usize;
-    let mut next = 0;
-    while next < behind.len() {
-        match behind[next].kind {
-            Kind::Enter => opened += 1,
-            Kind::Exit => {
-                if opened == 0 {
-                    return Span {
-                        size: next + 1,
-                        end: behind[next].point,
-                    };
-                }
-                opened -= 1;
-            }
-        }
-        next += 1;
-    }
-    Span {
-        size: next,
-        end: enter,
-    }
-}
-
 /// The bytes from an index up to another, as far as there are any.
-fn slice(bytes: &[u8], from: usize, to: usize) -> &[u8]
+pub fn slice(bytes: &[u8], from: usize, to: usize) -> &[u8]
     ensures { result.now ≡ slice_range bytes.now from to }
 {
     let end = to.min(bytes.len());
@@ -80,7 +41,7 @@ fn column_behind(tab: usize, first: usize, text: &[u8]) -> usize
 }
 
 /// The place at a byte index that is further on in the line of a place.
-pub(crate) fn place_at(bytes: &[u8], tab: usize, place: Point, index: usize) -> Point
+pub fn place_at(bytes: &[u8], tab: usize, place: Point, index: usize) -> Point
     requires { 0 < tab }
     ensures { result ≡ place_at tab bytes.now place index }
 {
@@ -95,8 +56,19 @@ pub(crate) fn place_at(bytes: &[u8], tab: usize, place: Point, index: usize) -> 
     }
 }
 
+/// The place that is further on.
+pub fn later(place: Point, other: Point) -> Point
+    ensures { result ≡ later place other }
+{
+    if place.index <= other.index {
+        other
+    } else {
+        place
+    }
+}
+
 /// An event without a link.
-pub(crate) fn event(kind: Kind, name: Name, place: Point) -> Event
+pub fn event(kind: Kind, name: Name, place: Point) -> Event
     ensures { result ≡ event kind name place }
 {
     Event {
@@ -108,12 +80,7 @@ pub(crate) fn event(kind: Kind, name: Name, place: Point) -> Event
 }
 
 /// Adds a span between two places with nothing in it, if there are bytes between them. It fails only if it runs out of memory.
-pub(crate) fn push_leaf(
-    out: &mut Vec<Event>,
-    name: Name,
-    from: Point,
-    to: Point,
-) -> Result<(), AllocError>
+pub fn push_leaf(out: &mut Vec<Event>, name: Name, from: Point, to: Point) -> Result<(), AllocError>
     ensures { OnOk result (out.new.items ≡ out.old.items ++ leaf name from to) }
 {
     if from.index < to.index {

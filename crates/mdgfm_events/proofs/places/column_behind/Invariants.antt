@@ -1,6 +1,6 @@
 use Rattle.std.proofs.Common.{◌≡◌, ◌-◌, ◌≤◌, drop, length}
-use Rattle.mdgfm_literals.specs.Places.{column_behind}
-use Rattle.mdgfm_literals.proofs.places.column_behind.Given as goal
+use Rattle.mdgfm_events.specs.Places.{column_behind}
+use Rattle.mdgfm_events.proofs.places.column_behind.Given as goal
 
 -- the column behind what was passed, and what comes
 abbrev pub invariant-loop-next : goal.invariant-loop-next

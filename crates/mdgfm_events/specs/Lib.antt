@@ -1,0 +1,4 @@
+-- places
+pub mod Places
+-- spans
+pub mod Spans
