@@ -22,6 +22,7 @@ pub mod Named
 pub mod Rooms
 pub mod Safe
 pub mod Short
+pub mod ShortShapes
 -- spans
 pub mod SpanFacts
 -- HTML
