@@ -85,9 +85,6 @@ module _ (bytes : List ℕ) where
       ap (λ (x : List ℕ). x ++ alt_from bytes n es) added ∙ ap (λ m. (old ++ own i) ++ alt_from bytes m es) few ∙ append_assoc old (own i) (alt_from bytes (passed i es) es)
       ∙ ap (λ j. old ++ (own j ++ alt_from bytes (passed j es) es)) (sym is) ∙ ap (λ (x : List ℕ). old ++ x) (sym (enter-alt e es enters))
 
-  pub exited-alt : (e : Event) (es : List Event) (old : List ℕ) → e.kind ≡ Exit → old ++ alt_from bytes 0 es ≡ old ++ alt_from bytes 0 (e ∷ es)
-  exited-alt e es old exits = ap (λ (x : List ℕ). old ++ x) (sym (exit-alt e es exits))
-
   -- what is passed over
   pub alt-drop : (n : ℕ) (es : List Event) → alt_from bytes n es ≡ alt_from bytes 0 (drop n es)
   alt-drop zero es = refl
@@ -200,41 +197,7 @@ module _ (bytes : List ℕ) (size : (label : List ℕ) → ℕ) where
       let e = ap (references_from bytes size 0) (sym (append-nil (events_of s))) ∙ references-spans s h [] in
       omega (arith, e)
 
-  pub entered-references : (i : Inline) (n own : ℕ) (e : Event) (es : List Event) → e.kind ≡ Enter → inline_of e.name ≡ i → own ≡ referred bytes size i (inside es) 0 → n ≡ left i es
-      → own + references_from bytes size n es ≡ references_from bytes size 0 (e ∷ es)
-  entered-references i n own e es enters is one few =
-      ap (λ m. m + references_from bytes size n es) one ∙ ap (λ m. referred bytes size i (inside es) 0 + references_from bytes size m es) few
-      ∙ ap (λ j. referred bytes size j (inside es) 0 + references_from bytes size (left j es) es) (sym is) ∙ sym (enter-references e es enters)
-
-  pub exited-references : (e : Event) (es : List Event) → e.kind ≡ Exit → 0 + references_from bytes size 0 es ≡ references_from bytes size 0 (e ∷ es)
-  exited-references e es exits = let h = exit-references e es exits in omega (arith, h)
-
   pub references-drop : (n : ℕ) (es : List Event) → references_from bytes size n es ≡ references_from bytes size 0 (drop n es)
   references-drop zero es = refl
   references-drop (suc n) [] = refl
   references-drop (suc n) (e ∷ es) = references-drop n es
-
-  -- a span that is neither a link nor an image
-  pub none-referred : (i : Inline) (es : List Event) → (i ≡ inline.Link → ⊥) → (i ≡ inline.Image → ⊥) → (0 ≡ referred bytes size i es 0) × (is_left i ≡ false)
-  none-referred inline.Ending es a b = (refl, refl)
-  none-referred inline.Break es a b = (refl, refl)
-  none-referred inline.Emphasis es a b = (refl, refl)
-  none-referred inline.Strong es a b = (refl, refl)
-  none-referred inline.Struck es a b = (refl, refl)
-  none-referred inline.Code es a b = (refl, refl)
-  none-referred inline.Html es a b = (refl, refl)
-  none-referred inline.Autolink es a b = (refl, refl)
-  none-referred inline.Www es a b = (refl, refl)
-  none-referred inline.Email es a b = (refl, refl)
-  none-referred inline.Address es a b = (refl, refl)
-  none-referred inline.Check es a b = (refl, refl)
-  none-referred inline.Link es a b = absurd (a refl)
-  none-referred inline.Image es a b = absurd (b refl)
-  none-referred inline.Tail es a b = (refl, refl)
-  none-referred inline.Other es a b = (refl, refl)
-
-  pub default-references : (i : Inline) (e : Event) (es : List Event) → e.kind ≡ Enter → inline_of e.name ≡ i → (i ≡ inline.Link → ⊥) → (i ≡ inline.Image → ⊥)
-      → 0 + references_from bytes size 0 es ≡ references_from bytes size 0 (e ∷ es)
-  default-references i e es enters is a b =
-      let none = none-referred i (inside es) a b in
-      entered-references i 0 0 e es enters is none.0 (sym (ap (λ c. cond c (length (inside es)) 0) none.1))

@@ -37,7 +37,7 @@ use Rattle.mdhtml_document.proofs.SpanFacts.{AreKinded, opened-kinded, passed-si
 
 -- ---- room
 
-none-there : (f : Event) (rest : List Event) → [] ≡ f ∷ rest → ⊥
+pub none-there : (f : Event) (rest : List Event) → [] ≡ f ∷ rest → ⊥
 none-there f rest e = cc
 
 module _ (tab most : ℕ) where

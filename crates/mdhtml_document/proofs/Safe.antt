@@ -21,6 +21,7 @@ use Rattle.mdhtml_document.specs.HtmlLaws.{AreSafeOptions, HtmlIsSafe, HtmlKeeps
 use Rattle.mdhtml_document.specs.Names.{block_of, inline_of}
 use Rattle.mdhtml_document.specs.Spans.{Nothing, Span, Spans, events_of, spans_of}
 use Rattle.mdhtml_document.specs.Values.{autolink_address, behind_first_line, cell_text, code_lines, code_text, html_flow, html_text, is_email, title_from}
+use Rattle.mdhtml_markup.proofs.FlowSafe.{blocks-text}
 use Rattle.mdhtml_markup.specs.Addresses.{allowed}
 use Rattle.mdhtml_markup.specs.declared.addresses.Place.{Place}
 use Rattle.mdhtml_markup.specs.declared.addresses.Place.TheVariants as place
@@ -58,15 +59,6 @@ record Keep (m : Mode) (ps : List Piece) : Type 0 where
 record KeepsShape (m : Mode) (s : Shape) : Type 0 where
   around : (inner : List Piece) → Keep s.inside inner → (tags : List Element) (k : List Piece) → Stands m tags → AreSafe tags k
       → AreSafe tags (s.opened ++ (inner ++ (s.closed ++ k)))
-
--- where blocks stand, text may stand
-blocks-text : (tags : List Element) → holds_blocks tags ≡ true → holds_text tags ≡ true
-blocks-text [] h = refl
-blocks-text (Table ∷ tags) h = absurd (false≢true h)
-blocks-text (TableBody ∷ tags) h = absurd (false≢true h)
-blocks-text (TableHead ∷ tags) h = absurd (false≢true h)
-blocks-text (TableRow ∷ tags) h = absurd (false≢true h)
-blocks-text (e ∷ tags) h = refl
 
 -- an element of text: it is closed, stands where text does, and text in it
 record IsPlain (e : Element) : Type 0 where

@@ -1,7 +1,7 @@
 -- HTML whose tree is read as it is written is safe.
 use Rattle.std.proofs.Common.{◌≡◌, ℕ, List, [], ◌∷◌, ◌++◌, ap, sym, refl, subst, ◌∙◌, append_assoc, append-nil, Option, None, Some}
 use Rattle.std.specs.Prelude.{◌==◌, ◌||◌, not, Bool, true, false, cond, is_some}
-use Rattle.std.proofs.lemmas.Bool.{false≢true}
+use Rattle.std.proofs.lemmas.Bool.{false≢true, or_right}
 use Rattle.mdhtml_markup.specs.declared.elements.AttributeName.{AttributeName}
 use Rattle.mdhtml_markup.specs.declared.elements.AttributeName.TheVariants as name
 use Rattle.mdhtml_markup.specs.declared.elements.Element.{Element}
@@ -54,7 +54,7 @@ Fits Cells tags = holds_cells tags ≡ true
 Fits m tags = holds_text tags ≡ true
 
 -- where blocks or items stand, text may stand
-blocks-text : (tags : List Element) → holds_blocks tags ≡ true → holds_text tags ≡ true
+pub blocks-text : (tags : List Element) → holds_blocks tags ≡ true → holds_text tags ≡ true
 blocks-text [] h = refl
 blocks-text (Table ∷ tags) h = absurd (false≢true h)
 blocks-text (TableBody ∷ tags) h = absurd (false≢true h)
@@ -62,17 +62,13 @@ blocks-text (TableHead ∷ tags) h = absurd (false≢true h)
 blocks-text (TableRow ∷ tags) h = absurd (false≢true h)
 blocks-text (e ∷ tags) h = refl
 
-or-right : (c d : Bool) → d ≡ true → (c || d) ≡ true
-or-right true d h = refl
-or-right false d h = h
-
 said-fits : (m : Model) (tags : List Element) (b : ℕ) → may_say m b ≡ true → Fits m tags → is_said tags b ≡ true
 said-fits Blocks tags b h f = ap (λ c. c || (b == 10)) (blocks-text tags f)
 said-fits (Phrases in_link) tags b h f = ap (λ c. c || (b == 10)) f
-said-fits Items tags b h f = or-right (holds_text tags) (b == 10) h
-said-fits Parts tags b h f = or-right (holds_text tags) (b == 10) h
-said-fits Rows tags b h f = or-right (holds_text tags) (b == 10) h
-said-fits Cells tags b h f = or-right (holds_text tags) (b == 10) h
+said-fits Items tags b h f = or_right (holds_text tags) (b == 10) h
+said-fits Parts tags b h f = or_right (holds_text tags) (b == 10) h
+said-fits Rows tags b h f = or_right (holds_text tags) (b == 10) h
+said-fits Cells tags b h f = or_right (holds_text tags) (b == 10) h
 said-fits BeforeCode tags b h f = absurd (false≢true h)
 said-fits BehindCode tags b h f = absurd (false≢true h)
 said-fits Words tags b h f = ap (λ c. c || (b == 10)) f

@@ -246,7 +246,3 @@ mark-step tags b l o r e k =
     let shorter = mark-shorter tags l o r k in
     ap (λ c. byte_step c tags b l) e ∙ ap (λ x. elim x as (λ _. Bool) [ None ↦ false | Some rest ↦ is_safe_below (suc (length l)) rest.0 rest.1 ]) k
     ∙ enough (suc (length l)) (suc (length r)) o r (omega (arith, shorter)) (omega arith)
-
-pub mark-refused : (tags : List Element) (b : ℕ) (l : List ℕ) → (b == 60) ≡ true → behind_mark tags l ≡ None → is_safe_behind tags (b ∷ l) ≡ false
-mark-refused tags b l e k =
-    ap (λ c. byte_step c tags b l) e ∙ ap (λ x. elim x as (λ _. Bool) [ None ↦ false | Some rest ↦ is_safe_below (suc (length l)) rest.0 rest.1 ]) k
