@@ -3,6 +3,7 @@ use Rattle.std.proofs.Common.{◌≡◌, ℕ, zero, suc, ◌+◌, ◌-◌, ◌*�
 use Rattle.std.proofs.lemmas.Bool.{false≢true}
 use Rattle.std.specs.List.{AllByRecursion, list_any}
 use Rattle.std.specs.Prelude.{◌||◌, max, not}
+use Rattle.markdown_base.proofs.Common.{or-leads}
 use Rattle.markdown_base.specs.declared.configuration.CompileOptions.{CompileOptions}
 use Rattle.markdown_base.specs.declared.event.Event.{Event}
 use Rattle.markdown_base.specs.declared.event.Name.{Name}
@@ -94,17 +95,13 @@ grows_inline inline.Struck = true
 grows_inline inline.Link = true
 grows_inline _ = false
 
-implied : (a b : Bool) → (not a || b) ≡ true → a ≡ true → b ≡ true
-implied true b h g = h
-implied false b h g = absurd (false≢true g)
-
 table : {A : Type 0} (grows : A → Bool) (ps : List (Name × A)) (other : A) → AllByRecursion (λ (p : Name × A). (not (grows p.1) || nests p.0) ≡ true) ps → grows other ≡ false → (n : Name)
     → grows (named ps other n) ≡ true → nests n ≡ true
 table grows [] other h last n g = absurd (false≢true (sym last ∙ g))
 table {A} grows (p ∷ ps) other h last n g = by (table grows ps other h.1 last n) (same_name n p.0) refl g
   where
     by : (grows (named ps other n) ≡ true → nests n ≡ true) → (c : Bool) → same_name n p.0 ≡ c → grows (cond c p.1 (named ps other n)) ≡ true → nests n ≡ true
-    by more true is x = ap nests (same_name-true n p.0 is) ∙ implied (grows p.1) (nests p.0) h.0 x
+    by more true is x = ap nests (same_name-true n p.0 is) ∙ or-leads (grows p.1) (nests p.0) h.0 x
     by more false is x = more x
 
 block-nests : (n : Name) → grows_block (block_of n) ≡ true → nests n ≡ true

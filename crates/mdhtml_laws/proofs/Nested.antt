@@ -1,7 +1,6 @@
 -- Within a limit of depth no more spans that nest are in one another than it says, and elements are as deep.
 use Rattle.std.proofs.Common.{◌≡◌, ℕ, suc, ◌+◌, ◌*◌, ◌<◌, ◌≤◌, ◌++◌, Bool, true, false, cond, List, [], ◌∷◌, length, drop, refl, sym, ap, subst, ◌∙◌, arith}
-use Rattle.std.proofs.lemmas.Bool.{and_parts, not-true}
-use Rattle.std.proofs.lemmas.Bool.Decides.{nat_tests}
+use Rattle.std.proofs.lemmas.Bool.{and_parts, leb-false, not-true}
 use Rattle.std.proofs.lemmas.List.{append-nil, drop_at}
 use Rattle.std.specs.Prelude.{⊤, ◌&&◌, max, nat_le, not}
 use Rattle.markdown_base.specs.declared.event.Event.{Event}
@@ -12,6 +11,7 @@ use Rattle.mdhtml_laws.specs.Depth.{HtmlIsShallow}
 use Rattle.mdhtml_laws.proofs.Levels.{nest, stays}
 use Rattle.mdhtml_depth.proofs.Kept.{balance-kept, behind-enter, deep-enter, depth-kept, span-back}
 use Rattle.mdhtml_depth.specs.Depth.{behind, has_depth, is_deep, nests, within}
+use Rattle.mdhtml_document.proofs.Linear.{none-there}
 use Rattle.mdhtml_document.specs.declared.shapes.Mode.TheVariants as mode
 use Rattle.mdhtml_document.specs.Spans.{Nothing, Span, Spans, events_of, spans_of}
 use Rattle.mdhtml_document.proofs.Both.{keep-events}
@@ -25,12 +25,9 @@ AreNamed (Span e f s t) = (f.name ≡ e.name) × AreNamed s × AreNamed t
 head-name : (e f : Event) (es fs : List Event) → e ∷ es ≡ f ∷ fs → e ≡ f
 head-name e f es fs h = cc
 
-none-some : (e : Event) (es : List Event) → [] ≡ e ∷ es → ⊥
-none-some e es h = cc
-
 named : (s : Spans) (l : List Event) → AreKinded s → IsBalanced l → l ≡ events_of s → AreNamed s
 named Nothing l h b is = tt
-named (Span e f s t) l h empty is = absurd (none-some e (events_of s ++ f ∷ events_of t) is)
+named (Span e f s t) l h empty is = absurd (none-there e (events_of s ++ f ∷ events_of t) is)
 named (Span e f s t) l h (span d g xs ys whole enters exits same bx by) is =
     let all : d ∷ (xs ++ g ∷ ys) ≡ e ∷ (events_of s ++ f ∷ events_of t) = sym whole ∙ is in
     let rest : xs ++ g ∷ ys ≡ events_of s ++ f ∷ events_of t = ap (drop 1) all in
@@ -50,12 +47,9 @@ record IsWithin (limit o : ℕ) (s : Spans) (zs : List Event) : Type 0 where
   few : o + nest s ≤ limit
   rest : has_depth limit o zs ≡ true
 
-below : (limit o : ℕ) → nat_le limit o ≡ false → o < limit
-below limit o h = grind (arith, nat_tests, h)
-
 -- one more is open in a span that nests
 inner-few : (b : Bool) (limit o : ℕ) → (b && nat_le limit o) ≡ false → o ≤ limit → cond b (suc o) o ≤ limit
-inner-few true limit o h k = below limit o h
+inner-few true limit o h k = leb-false limit o h
 inner-few false limit o h k = k
 
 span-few : (b : Bool) (limit o inner outer : ℕ) → cond b (suc o) o + inner ≤ limit → o + outer ≤ limit → o + max (cond b (suc inner) inner) outer ≤ limit
