@@ -1,6 +1,7 @@
 -- What the proofs of this crate cite from below them: words of std, of the crates below and of specs.
 pub use Rattle.std.proofs.Common.{Bool, List, None, Option, Some, [], ap, cond, false, refl, sym, take, true, true≢false, ℕ, ◌∙◌, ◌∷◌, ◌≡◌}
 pub use Rattle.std.proofs.KnownBytes.{Keeps-refl}
+pub use Rattle.std.proofs.lemmas.Bool.{or_parts}
 pub use Rattle.std.proofs.lemmas.Result.{IfErr-at_err, err_from_is_err_and, on_ok_weaker}
 pub use Rattle.std.specs.Io.KnownBytes.{Appends}
 pub use Rattle.std.specs.List.{list_any}

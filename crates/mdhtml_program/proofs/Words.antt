@@ -1,7 +1,7 @@
 -- Words among which `--unsafe` is not choose safe HTML.
 use Rattle.std.specs.Prelude.{◌||◌, IfSome}
 use Rattle.mdprograms.specs.Numbers.{decimal_of, tab_size_of}
-use Rattle.mdhtml_program.proofs.Prelude.{◌≡◌, ℕ, Bool, true, false, true≢false, cond, List, [], ◌∷◌, Option, None, Some, option_and_then, option_map, refl, list_any, Choice, choice_of_words, chosen_after, lets_all, asks_gfm, nothing_chosen, once, stands_alone, with_value, with_word}
+use Rattle.mdhtml_program.proofs.Prelude.{◌≡◌, ℕ, Bool, true, false, true≢false, cond, List, [], ◌∷◌, Option, None, Some, option_and_then, option_map, refl, list_any, Choice, choice_of_words, chosen_after, lets_all, asks_gfm, nothing_chosen, once, stands_alone, with_value, with_word, or_parts}
 
 -- a choice is safe, if there is one
 abbrev IsSafeIfSome : Option Choice → Type 0
@@ -23,10 +23,6 @@ next (Some c) words h k = k c h
 not-first : (b c : Bool) (x y : Option Choice) → (b || c) ≡ false → IsSafeIfSome y → IsSafeIfSome (cond b x y)
 not-first true c x y h k = absurd (true≢false h)
 not-first false c x y h k = k
-
-behind : (b c : Bool) → (b || c) ≡ false → c ≡ false
-behind true c h = absurd (true≢false h)
-behind false c h = h
 
 -- an option without a value, if it did not come before
 new : (given had : Bool) (next : Choice) → next.is_unsafe ≡ false → IsSafeIfSome (cond given (cond had None (Some next)) None)
@@ -51,8 +47,8 @@ safe-after : (choice : Choice) (words : List (List ℕ)) → choice.is_unsafe �
 safe-after choice [] is h = is
 safe-after choice (a ∷ []) is h = either (stands_alone a) _ _ (word-safe choice a false is h) tt
 safe-after choice (a ∷ b ∷ words) is h =
-    let others = behind (lets_all a) (list_any lets_all (b ∷ words)) h in
-    let more = behind (lets_all b) (list_any lets_all words) others in
+    let others = (or_parts (lets_all a) (list_any lets_all (b ∷ words)) h).1 in
+    let more = (or_parts (lets_all b) (list_any lets_all words) others).1 in
     either (stands_alone a) _ _ (next (with_word choice a) (b ∷ words) (word-safe choice a _ is h) (λ c k. safe-after c (b ∷ words) k others))
     (next (with_value choice a b) words (value-safe choice a b is) (λ c k. safe-after c words k more))
 
