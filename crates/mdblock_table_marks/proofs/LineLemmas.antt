@@ -61,9 +61,6 @@ pub write-both : (old mid new : List Event) (a b : List Mark) → mid ≡ old ++
 write-both old mid new a b e f =
     f ∙ ap (λ l. l ++ events_of b) e ∙ append_assoc old (events_of a) (events_of b) ∙ ap (λ l. old ++ l) (sym (map-append (λ (m : Mark). m.0) a b))
 
-pub write-as : (old new : List Event) (a b : List Mark) → new ≡ old ++ events_of a → a ≡ b → new ≡ old ++ events_of b
-write-as old new a b e f = e ∙ ap (λ l. old ++ events_of l) f
-
 pub write-span : (bytes : List ℕ) (n : Name) (p q : Point) (ss : List Seat) (inside : List Mark) → FromTo bytes p q ss → 1 ≤ length ss
     → (old first mid new : List Event) → first ≡ old ++ event_at Enter n p ∷ [] → mid ≡ first ++ events_of inside → new ≡ mid ++ event_at Exit n q ∷ []
     → new ≡ old ++ events_of (span_marks bytes n ss inside)
@@ -153,17 +150,6 @@ module _ (t : ℕ) (bytes : List ℕ) (some : 0 < t) (limit : IsWithinLimit t by
       (subst (λ (q : Point). FromTo bytes (place_after t bytes (begin_at x) r.columns) q (drop r.columns (line_text (line-of x)))) (sym end)
       (from-run bytes _ _ _ run))
 
-  -- a line that can be a row has text
-  pub row-has-text : (x : RowAt) (r : Row) → IsLine t bytes x r → is_row (rest_of r) ≡ true → HasText x
-  row-has-text x r is row = by (rest_of r) refl row
-    where
-      by : (l : List ℕ) → rest_of r ≡ l → is_row l ≡ true → HasText x
-      by [] e f = absurd (false≢true f)
-      by (b ∷ bs) e f =
-          let size : length (line_text r.line) ≡ x.span.size = ap (λ l. length (line_text l)) is.line ∙ size-is x is.stands in
-          let long : length (rest_of r) ≡ suc (length bs) = ap (λ (l : List ℕ). length l) e in
-          omega (arith, long, rest-size r, size, is.columns, length-drop r.columns (line_text r.line))
-
   -- ---- the next line
   module _ (stack : List Container) where
     next-columns : (end : Point) (r : Row) (y : RowAt) (s : Row) → IsNext t bytes stack end r y s → columns_of s.went_on ≡ s.columns
@@ -216,14 +202,12 @@ module _ (t : ℕ) (bytes : List ℕ) (some : 0 < t) (limit : IsWithinLimit t by
 
     -- ---- lines of a part, one behind another
 
-    own-row : (number start : ℕ) (y : RowAt) (s : Row) → IsRowIn t bytes stack number start y s → IsRowIn t bytes stack y.span.number y.span.start y s
-    own-row number start y s row =
-        subst (λ (n : ℕ). IsRowIn t bytes stack n y.span.start y s) (sym row.placed.number_is) (subst (λ (k : ℕ). IsRowIn t bytes stack number k y s) (sym row.placed.start_is) row)
-
     next-is : (x y : RowAt) (r s : Row) → IsLine t bytes x r → IsRowIn t bytes stack (suc x.span.number) x.span.next y s → s.begun ≡ [] → IsNext t bytes stack (end_at t bytes x) r y s
     next-is x y r s is given none =
         let h = is.stands in
-        let row = own-row (suc x.span.number) x.span.next y s given in
+        let row : IsRowIn t bytes stack y.span.number y.span.start y s =
+        subst (λ (n : ℕ). IsRowIn t bytes stack n y.span.start y s) (sym given.placed.number_is)
+        (subst (λ (k : ℕ). IsRowIn t bytes stack (suc x.span.number) k y s) (sym given.placed.start_is) given) in
         let outside = subst (IsOutside bytes) (sym given.placed.start_is) (behind_line t bytes some limit x.span.number x.span.start x h.placed (line-of x) refl h.outside) in
         let end = behind_text t bytes some limit x.span.number x.span.start x h.placed (line-of x) refl h.outside in
         let run = end_run t bytes some limit x.span.number x.span.start x h.placed (line-of x) refl h.outside in

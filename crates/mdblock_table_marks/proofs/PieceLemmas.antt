@@ -16,6 +16,7 @@ use Rattle.mdblock_tables.specs.declared.rows.RowKind.{RowKind}
 use Rattle.mdblock_tables.specs.TablePieces.{row_pieces}
 use Rattle.mdblock_tables.proofs.RowLemmas.{rows_are_whole}
 use Rattle.mdblock_tables.specs.Pieces.{Pieces, nothing, leaf, span, piece, placed, size_of, told}
+use Rattle.mdblock_containers.proofs.PrefixLemmas.{seats_take}
 use Rattle.mdblock_containers.specs.PlaceEvents.{HasColumns, event_at}
 use Rattle.mdblock_containers.specs.SeatPlaces.{AreSeatsAt, events_of}
 use Rattle.mdblock_containers.proofs.SeatLemmas.{here, seats_drop, span_is_full, span_is_leaf}
@@ -36,11 +37,6 @@ pub width-all : (ps : Pieces) → width_of (told ps) ≡ size_of ps
 width-all ps = ap width_of (sym (append-nil (told ps))) ∙ width-told ps [] ∙ omega arith
 
 module _ (t : ℕ) (bytes : List ℕ) where
-  seats-front : (p : Point) (ss : List Seat) (n : ℕ) → AreSeatsAt t bytes p ss → AreSeatsAt t bytes p (take n ss)
-  seats-front p ss zero h = here t bytes p ss h
-  seats-front p [] (suc n) h = h
-  seats-front p (s ∷ ss) (suc n) h = (h.0, h.1, h.2, seats-front s.end ss n h.3)
-
   -- a span that is entered and exited, if it is over some columns
   abbrev around : Name → Point → (size : ℕ) → List Event → List Event → List Event
   around n p k inside rest = cond (k == 0) [] (event_at kind.Enter n p ∷ []) ++ (inside ++ (cond (k == 0) [] (event_at kind.Exit n (place_after t bytes p k) ∷ []) ++ rest))
@@ -82,7 +78,7 @@ module _ (t : ℕ) (bytes : List ℕ) where
       let exit = piece step.Exit n k in
       let enter = cond (k == 0) [] (event_at kind.Enter n p ∷ []) in
       let size : length front ≡ k = length-take-le k ss (omega (arith, w)) in
-      let at = seats-front p ss k h in
+      let at = seats_take t bytes p ss k h in
       let inside = told-at within (exit ∷ (told more ++ rest)) p front at (omega (arith, size)) in
       let next = told-at more rest q (drop k ss) (seats_drop t bytes p ss k h (omega (arith, w))) (omega (arith, w, length-drop k ss)) in
       ap (λ l. enter ++ pieces_at t bytes p l) (append_assoc (told within) (exit ∷ told more) rest)

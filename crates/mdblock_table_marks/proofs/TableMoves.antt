@@ -3,6 +3,7 @@ use Rattle.std.proofs.Common.{◌≡◌, ℕ, Bool, true, false, cond, not, List
 use Rattle.std.specs.Prelude.{None}
 use Rattle.std.specs.List.{AllByRecursion}
 use Rattle.std.proofs.lemmas.List.{drop-map, map-append, take-map}
+use Rattle.std.proofs.lemmas.Simd.{map-map}
 use Rattle.markdown_base.proofs.Common.{every-append, every-drop, every-filter, every-take}
 use Rattle.markdown_base.specs.declared.event.Event.{Event}
 use Rattle.markdown_base.specs.declared.event.Kind.{Kind}
@@ -92,10 +93,6 @@ module _ (old new : List ℕ) (f : Point → Point) (known : Point → Bool) (h 
       by true e = ap (λ l. moved f s ∷ l) e
       by false e = e
 
-  bytes-moved : (seats : List Seat) → bytes_of (ms seats) ≡ bytes_of seats
-  bytes-moved [] = refl
-  bytes-moved (s ∷ ss) = ap (λ l. s.byte ∷ l) (bytes-moved ss)
-
   -- a line, and where it moves
   pub record IsMovedBy (r s : Row) : Type 0 where
     pub line : s.line ≡ ms r.line
@@ -161,7 +158,7 @@ module _ (old new : List ℕ) (f : Point → Point) (known : Point → Bool) (h 
   row-moved kind r s m =
       let seats = row_seats r in
       let there = row-there r s m in
-      let rest : rest_of s ≡ rest_of r = rest-is s ∙ ap bytes_of there ∙ bytes-moved seats ∙ sym (rest-is r) in
+      let rest : rest_of s ≡ rest_of r = rest-is s ∙ ap bytes_of there ∙ map-map (λ (s : Seat). s.byte) (moved f) seats ∙ sym (rest-is r) in
       (λ i. placed new (row_pieces kind (rest i)) (there i)) ∙ placed-moved (row_pieces kind (rest_of r)) seats (known-row r s m)
 
   between-moved : (r s r2 s2 : Row) → IsMovedBy r s → IsMovedBy r2 s2 → marks_between new s s2 ≡ mk (marks_between old r r2)

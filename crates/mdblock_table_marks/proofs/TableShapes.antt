@@ -101,38 +101,6 @@ module _ (bytes : List ℕ) where
   pub tables-are-spans : (header : Row) (rows : List Row) → AreSpans bytes (rows_marks bytes header rows) (rows_seats (header ∷ rows))
   tables-are-spans header rows = tables-keep bytes (AreSpans bytes) accounts-in-tables header rows
 
-  -- ---- marks in order, at places
-  forms-in-tables : (t : ℕ) → IsKeptInTables bytes AnyName IsOpenName (Forms t bytes)
-  forms-in-tables t = record {
-    none = no-spans bytes (Forms t bytes) (forms-kept t bytes);
-    both = λ xs ys a b h k. spans-both bytes (Forms t bytes) (forms-kept t bytes) h k;
-    alone = λ n ss any. alone n ss;
-    around = λ n ss inside void h. spans-around bytes (Forms t bytes) (forms-kept t bytes) n ss inside void h;
-    leafs = any-leafs;
-    spans = open-spans;
-  }
-    where
-      alone : (n : Name) (ss : List Seat) → Forms t bytes (leaf_marks bytes n ss) ss
-      alone n [] = no-spans bytes (Forms t bytes) (forms-kept t bytes)
-      alone n (s ∷ ss) = λ p rest track.
-          let q = end_after s.end ss in
-          let there : IsPlaceOf t bytes q = track-place t bytes q rest (track-on t bytes p (s ∷ ss) rest track) in
-          let same : shown bytes s.point ≡ p = track.1.meets in
-          let upto : stands_before q p ≡ false = track-upto t bytes p (s ∷ ss) rest track in
-          let shows : shown bytes q ≡ q = there.is_shown in
-          record {
-            balanced = λ st. ap (λ b. names_after_all (cond b (Some st) None) []) (same_name-refl n);
-            tight = ((λ enter void. (refl, refl)), ((λ enter void. absurd (let both : Exit ≡ Enter = enter in cc)), tt));
-            order = (
-              ap (λ r. stands_before r p) same ∙ stands-self p,
-              ((λ k. stands_before (shows k) (same k)) ∙ upto, ap (stands_before q) shows ∙ stands-self q),
-            );
-            places = (track.1.seat.here, (subst (IsPlaceOf t bytes) (sym shows) there, tt));
-          }
-
-  pub tables-form : (t : ℕ) (header : Row) (rows : List Row) → Forms t bytes (rows_marks bytes header rows) (rows_seats (header ∷ rows))
-  tables-form t header rows = tables-keep bytes (Forms t bytes) (forms-in-tables t) header rows
-
   -- ---- marks with no links, of which each enter of a void span is followed by its exit
   abbrev AreShaped : List Mark → List Seat → Type 0
   AreShaped marks seats = Tight marks × Unlinked marks

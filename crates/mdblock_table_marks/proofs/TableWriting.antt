@@ -174,9 +174,9 @@ module _ (t : ℕ) (bytes : List ℕ) (stack : List Container) where
         (table-events x y zs begin head last old e1 e2 e3 e4 columns place at end f1 f2 f3 f4 r rs (subst (λ (l : List RowAt). AreLines t bytes stack l (r ∷ rs)) split are)) w
 
 -- ---- whether there are rows
-pub some-rows : (n : ℕ) (b : Bool) → b ≡ (n == 0) → b ≡ false → 0 < n
-some-rows zero b e f = absurd (false≢true (sym f ∙ e))
-some-rows (suc n) b e f = omega arith
+pub some-rows : (rows : List RowAt) (b : Bool) → b ≡ (length rows == 0) → b ≡ false → 0 < length rows
+some-rows [] b e f = absurd (false≢true (sym f ∙ e))
+some-rows (x ∷ xs) b e f = omega arith
 
 pub no-rows : (rows : List RowAt) (b : Bool) → b ≡ (length rows == 0) → b ≡ true → rows ≡ []
 no-rows [] b e f = refl

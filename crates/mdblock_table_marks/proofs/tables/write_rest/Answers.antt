@@ -21,14 +21,14 @@ returns-then-is_empty g c =
     }
 
 pub rows_behind-more-requires : goal.rows_behind-more-requires
-rows_behind-more-requires g c = let some : 0 < length c.args.rows.now = some-rows (length c.args.rows.now) c.is_empty.result c.is_empty.ensures c.if-is_empty.false in omega (arith, some)
+rows_behind-more-requires g c = let some : 0 < length c.args.rows.now = some-rows c.args.rows.now c.is_empty.result c.is_empty.ensures c.if-is_empty.false in omega (arith, some)
 
 pub write_body-requires : goal.write_body-requires
 write_body-requires g c =
     let rows = c.args.rows.now in
     let x = c.index-rows-0.result in
     let P = IsFurther c.args.tab c.args.bytes.now (map open_of c.args.stack.now) in
-    let split : rows ≡ x ∷ drop 1 rows = rows-split rows 0 x c.index-rows-0.is (some-rows (length rows) c.is_empty.result c.is_empty.ensures c.if-is_empty.false) in
+    let split : rows ≡ x ∷ drop 1 rows = rows-split rows 0 x c.index-rows-0.is (some-rows rows c.is_empty.result c.is_empty.ensures c.if-is_empty.false) in
     let further : AllByRecursion P (x ∷ drop 1 rows) = subst (AllByRecursion P) split c.requires.further in
     let text : AllByRecursion HasText (x ∷ drop 1 rows) = subst (AllByRecursion HasText) split c.requires.text in
     record { limit = c.requires.limit; first = further.0; text = text.0; more = subst (AllByRecursion P) (sym c.rows_behind-more.ensures) further.1 }
@@ -37,7 +37,7 @@ pub returns-in_err-last-clause-turns : goal.returns-in_err-last-clause-turns
 returns-in_err-last-clause-turns g c =
     let rows = c.args.rows.now in
     let x = c.index-rows-0.result in
-    let split : rows ≡ x ∷ drop 1 rows = rows-split rows 0 x c.index-rows-0.is (some-rows (length rows) c.is_empty.result c.is_empty.ensures c.if-is_empty.false) in
+    let split : rows ≡ x ∷ drop 1 rows = rows-split rows 0 x c.index-rows-0.is (some-rows rows c.is_empty.result c.is_empty.ensures c.if-is_empty.false) in
     let cost = ap columns_in (split ∙ ap (λ l. x ∷ l) (sym c.rows_behind-more.ensures)) in
     omega (arith, c.write_body.ensures.turns, cost)
 
@@ -48,7 +48,7 @@ returns g c =
     let stack = map open_of c.args.stack.now in
     let rows = c.args.rows.now in
     let x = c.index-rows-0.result in
-    let split : rows ≡ x ∷ drop 1 rows = rows-split rows 0 x c.index-rows-0.is (some-rows (length rows) c.is_empty.result c.is_empty.ensures c.if-is_empty.false) in
+    let split : rows ≡ x ∷ drop 1 rows = rows-split rows 0 x c.index-rows-0.is (some-rows rows c.is_empty.result c.is_empty.ensures c.if-is_empty.false) in
     let whole : rows ≡ x ∷ c.rows_behind-more.result.now = split ∙ ap (λ l. x ∷ l) (sym c.rows_behind-more.ensures) in
     let cost = ap columns_in whole in
     record {
