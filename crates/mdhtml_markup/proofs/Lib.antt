@@ -10,6 +10,8 @@ pub mod CheckSteps
 pub mod FlowSafe
 -- safe HTML
 pub mod Orders
+-- text
+pub mod Runs
 -- pieces
 pub mod SafeLemmas
 -- text
