@@ -1,24 +1,26 @@
 -- Lemmas on what is known of the parts of spans from an event on.
-use Rattle.std.proofs.Common.{◌≡◌, ℕ, zero, suc, ◌≤◌, Bool, true, false, cond, List, [], ◌∷◌, drop, refl, sym, ap, ◌∙◌, subst, arith}
+use Rattle.std.proofs.Common.{◌≡◌, ℕ, zero, suc, ◌≤◌, ◌<◌, Bool, true, false, cond, List, [], ◌∷◌, drop, length, refl, sym, ap, ◌∙◌, subst, arith}
+use Rattle.std.proofs.Math.Bool.{not-not}
 use Rattle.std.specs.Prelude.{◌==◌, ◌&&◌, ◌||◌, max, not, nat_lt, filter, map, Option, None, Some, option_and_then}
 use Rattle.std.specs.List.{list_any, take_while}
-use Rattle.std.proofs.lemmas.Bool.{false≢true}
+use Rattle.std.proofs.lemmas.Bool.{false≢true, false_from_ne_true, or_parts}
 use Rattle.std.proofs.lemmas.Bool.Decides.{nat_tests}
 use Rattle.std.proofs.lemmas.List.Sums.{take_while-cons}
 use Rattle.markdown_base.specs.declared.event.Event.{Event}
 use Rattle.markdown_base.specs.declared.event.Kind.{Kind}
 use Rattle.markdown_base.specs.declared.event.Kind.TheVariants.{Enter, Exit}
 use Rattle.markdown_base.specs.declared.event.Name.{Name}
-use Rattle.markdown_base.specs.declared.event.Name.TheVariants.{BlankLineEnding, ListItem}
+use Rattle.markdown_base.specs.declared.event.Name.TheVariants.{BlankLineEnding, BlockQuote, ListItem, ListOrdered, ListUnordered}
 use Rattle.markdown_base.specs.declared.event.Point.{Point}
 use Rattle.markdown_base.specs.Events.{is_enter, same_name}
+use Rattle.markdown_edits.proofs.Balanced.{same_name-true}
 use Rattle.markdown_edits.specs.SpanWalks.{is_wanted}
 use Rattle.mdblock_containers.specs.declared.list_shapes.ListShape.{ListShape}
 use Rattle.mdblock_containers.specs.declared.list_shapes.Parts.{Parts}
 use Rattle.mdblock_containers.specs.declared.list_shapes.Seen.{Seen}
 use Rattle.mdblock_containers.specs.Lists.{Met, behind_enter, behind_first, block_names, directly_by, directly_from, directly_in, is_apart, is_apart_behind, is_blank_behind, is_loose, is_spread, item_names, list_marker, list_names, list_start}
 use Rattle.mdblock_containers.specs.ListShapes.{shape_of, shapes_from}
-use Rattle.mdblock_containers.specs.ListSeen.{AreSeen, IsParts, IsSeen, blank_before, has_blank, is_list, line_of, nothing_seen, parts_before, seen_before, shape_at, stack_at_enter, stack_at_exit, stack_before, top_of}
+use Rattle.mdblock_containers.specs.ListSeen.{AreSeen, IsParts, IsSeen, blank_before, has_blank, is_list, is_quiet, line_of, nothing_seen, parts_before, seen_before, shape_at, stack_at_enter, stack_at_exit, stack_before, top_of}
 use Rattle.mdblock_containers.specs.ListWalks.{is_item}
 
 -- the greatest of lines
@@ -197,3 +199,87 @@ module _ (e : Event) (es : List Event) where
       by : (b : Bool) → is_list e ≡ b → told (is_list e) ≡ cond (is_list e) (shape_at bytes events at s ∷ lists) lists
       by true q = ap told q ∙ ap (λ v. v ∷ shapes_from bytes (suc at) es) (shape q) ∙ ap (λ v. shape_at bytes events at s ∷ v) r ∙ sym (ap (λ w. cond w (shape_at bytes events at s ∷ lists) lists) q)
       by false q = ap told q ∙ r ∙ sym (ap (λ w. cond w (shape_at bytes events at s ∷ lists) lists) q)
+
+-- the same of the same events
+pub seen_same : (ss : List Seen) (es fs : List Event) → es ≡ fs → AreSeen ss 0 fs → AreSeen ss 0 es
+seen_same ss es fs q h = subst (λ (l : List Event). AreSeen ss 0 l) (sym q) h
+
+-- some span is open
+pub some_seen : (ss : List Seen) → (length ss == 0) ≡ false → 0 < length ss
+some_seen [] h = absurd (false≢true (sym h))
+some_seen (s ∷ ss) h = omega arith
+
+-- An event of whose name nothing is to be known
+same_swapped : (m n : Name) → same_name m m ≡ true → same_name m n ≡ false → same_name n m ≡ false
+same_swapped m n all off = false_from_ne_true (same_name n m) (λ e. false≢true (sym off ∙ ap (same_name m) (same_name-true n m e) ∙ all))
+
+module _ (e : Event) (quiet : is_quiet e.name ≡ true) where
+  none : is_wanted (BlankLineEnding ∷ ListItem ∷ block_names) e.name ≡ false
+  none = sym (not-not (is_wanted (BlankLineEnding ∷ ListItem ∷ block_names) e.name)) ∙ ap not quiet
+
+  no_blank : same_name e.name BlankLineEnding ≡ false
+  no_blank = same_swapped BlankLineEnding e.name refl (or_parts (same_name BlankLineEnding e.name) (is_wanted (ListItem ∷ block_names) e.name) none).0
+
+  no_item_or_block : is_wanted (ListItem ∷ block_names) e.name ≡ false
+  no_item_or_block = (or_parts (same_name BlankLineEnding e.name) (is_wanted (ListItem ∷ block_names) e.name) none).1
+
+  item_off : same_name ListItem e.name ≡ false
+  item_off = (or_parts (same_name ListItem e.name) (is_wanted block_names e.name) no_item_or_block).0
+
+  block_off : is_wanted block_names e.name ≡ false
+  block_off = (or_parts (same_name ListItem e.name) (is_wanted block_names e.name) no_item_or_block).1
+
+  blank_off : (blank : Option ℕ) → blank_before e blank ≡ blank
+  blank_off blank = by (is_enter e.kind) (same_name e.name BlankLineEnding) no_blank
+    where
+      by : (k s : Bool) → s ≡ false → cond (k && s) (Some (max e.point.line (line_of blank))) blank ≡ blank
+      by true s q = ap (λ v. cond v (Some (max e.point.line (line_of blank))) blank) q
+      by false s q = refl
+
+  parts_off : (names : List Name) (p : Parts) → is_wanted names e.name ≡ false → parts_before names e p ≡ p
+  parts_off names p q =
+      ap (λ w. cond w (record { any = true; is_apart = (p.any && has_blank e.point p.blank) || p.is_apart; blank = None }) (record { any = p.any; is_apart = p.is_apart; blank = blank_before e p.blank })) q
+      ∙ ap (λ b. record { any = p.any; is_apart = p.is_apart; blank = b }) (blank_off p.blank)
+
+  item_event_off : is_item e ≡ false
+  item_event_off = by (is_enter e.kind) (same_name e.name ListItem) (same_swapped ListItem e.name refl item_off)
+    where
+      by : (k s : Bool) → s ≡ false → (k && s) ≡ false
+      by true s q = q
+      by false s q = refl
+
+  quiet_same : (spread : Bool) (s : Seen) → seen_before e spread s ≡ s
+  quiet_same spread s =
+      ap (λ p. record { items = p; blocks = parts_before block_names e s.blocks; has_spread_item = (is_item e && spread) || s.has_spread_item })
+      (parts_off item_names s.items (ap (λ v. v || false) item_off))
+      ∙ ap (λ p. record { items = s.items; blocks = p; has_spread_item = (is_item e && spread) || s.has_spread_item }) (parts_off block_names s.blocks block_off)
+      ∙ ap (λ v. record { items = s.items; blocks = s.blocks; has_spread_item = (v && spread) || s.has_spread_item }) item_event_off
+
+  quiet_exit : (ss : List Seen) → 0 < length ss → stack_at_exit e ss ≡ nothing_seen ∷ ss
+  quiet_exit [] some = absurd (omega (arith, some))
+  quiet_exit (s ∷ ss) some = ap (λ t. nothing_seen ∷ t ∷ ss) (quiet_same false s)
+
+  quiet_enter : (ss : List Seen) → 1 < length ss → stack_at_enter e ss ≡ drop 1 ss
+  quiet_enter [] some = absurd (omega (arith, some))
+  quiet_enter (s ∷ []) some = absurd (omega (arith, some))
+  quiet_enter (s ∷ t ∷ ss) some = ap (λ u. u ∷ ss) (quiet_same s.blocks.is_apart t)
+
+  abbrev stack_by : Kind → List Seen → List Seen
+  stack_by k ss = elim k [ Enter ↦ stack_at_enter e ss | Exit ↦ stack_at_exit e ss ]
+
+  pub before_exit : (ss : List Seen) → 0 < length ss → e.kind ≡ Exit → stack_before e ss ≡ nothing_seen ∷ ss
+  before_exit ss some q = ap (λ k. stack_by k ss) q ∙ quiet_exit ss some
+
+  pub before_enter : (ss : List Seen) → 1 < length ss → e.kind ≡ Enter → stack_before e ss ≡ drop 1 ss
+  before_enter ss some q = ap (λ k. stack_by k ss) q ∙ quiet_enter ss some
+
+  pub quiet_list : is_list e ≡ false
+  quiet_list =
+      let behind = (or_parts (same_name BlockQuote e.name) (is_wanted (ListOrdered ∷ ListUnordered ∷ drop 3 block_names) e.name) block_off).1 in
+      let ordered = or_parts (same_name ListOrdered e.name) (is_wanted (ListUnordered ∷ drop 3 block_names) e.name) behind in
+      let unordered = or_parts (same_name ListUnordered e.name) (is_wanted (drop 3 block_names) e.name) ordered.1 in
+      by (is_enter e.kind) (same_name ListOrdered e.name) (same_name ListUnordered e.name) ordered.0 unordered.0
+    where
+      by : (k a b : Bool) → a ≡ false → b ≡ false → (k && (a || (b || false))) ≡ false
+      by true a b p q = ap (λ v. v || (b || false)) p ∙ ap (λ v. v || false) q
+      by false a b p q = refl

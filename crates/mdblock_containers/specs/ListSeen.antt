@@ -4,7 +4,7 @@ use Rattle.std.specs.List.{list_any, take_while}
 use Rattle.markdown_base.specs.declared.event.Event.{Event}
 use Rattle.markdown_base.specs.declared.event.Kind.TheVariants.{Enter, Exit}
 use Rattle.markdown_base.specs.declared.event.Name.{Name}
-use Rattle.markdown_base.specs.declared.event.Name.TheVariants.{BlankLineEnding}
+use Rattle.markdown_base.specs.declared.event.Name.TheVariants.{BlankLineEnding, ListItem}
 use Rattle.markdown_base.specs.declared.event.Point.{Point}
 use Rattle.markdown_base.specs.Events.{is_enter, same_name}
 use Rattle.markdown_edits.specs.SpanWalks.{is_wanted}
@@ -53,6 +53,10 @@ stack_at_enter e ss = seen_before e (top_of ss).blocks.is_apart (top_of (drop 1 
 
 abbrev pub stack_before : Event → List Seen → List Seen
 stack_before e ss = elim e.kind [ Enter ↦ stack_at_enter e ss | Exit ↦ stack_at_exit e ss ]
+
+-- spans of this name are no parts of lists and of items, and no blank lines
+abbrev pub is_quiet : Name → Bool
+is_quiet n = not (is_wanted (BlankLineEnding ∷ ListItem ∷ block_names) n)
 
 -- what is said of the list whose enter is at an index, by what is known of its parts
 abbrev pub shape_at : (bytes : List ℕ) → List Event → (at : ℕ) → Seen → ListShape

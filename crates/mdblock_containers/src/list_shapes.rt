@@ -2,8 +2,8 @@
 //!
 //! Behind an event it is known, for each span that is open there, what is in the rest of it: that of the innermost span comes last.
 
-ghost use Rattle.std.specs.Prelude.{◌≡◌, ◌∷◌, IfOk, cond, drop, reverse};
-ghost use Rattle.mdblock_containers.specs.ListSeen.{blank_before, has_blank, is_list, parts_before, seen_before, shape_at, stack_at_enter, stack_at_exit, stack_before, top_of};
+ghost use Rattle.std.specs.Prelude.{◌≡◌, ◌∷◌, IfOk, OnOk, cond, drop, reverse, true};
+ghost use Rattle.mdblock_containers.specs.ListSeen.{blank_before, has_blank, is_list, is_quiet, parts_before, seen_before, shape_at, stack_at_enter, stack_at_exit, stack_before, top_of};
 ghost use Rattle.mdblock_containers.specs.ListShapes.{shapes_from};
 
 use crate::lists::{BLOCKS, ITEMS, LISTS, Marker, is_item, is_wanted, marker_of, start_of};
@@ -150,6 +150,42 @@ fn before(stack: &mut Vec<Seen>, event: &Event) -> Result<Seen, AllocError>
     }
 }
 
+/// Whether spans of a name are no parts of lists and of items, and no blank lines.
+fn is_quiet(name: Name) -> bool
+    ensures { result ≡ is_quiet name }
+{
+    !(Name::BlankLineEnding == name
+        || Name::ListItem == name
+        || Name::BlockQuote == name
+        || Name::ListOrdered == name
+        || Name::ListUnordered == name
+        || Name::Paragraph == name
+        || Name::HeadingAtx == name
+        || Name::HeadingSetext == name
+        || Name::CodeIndented == name
+        || Name::CodeFenced == name
+        || Name::HtmlFlow == name
+        || Name::ThematicBreak == name
+        || Name::Definition == name)
+}
+
+/// An event comes before of whose name nothing is to be known.
+fn before_quiet(stack: &mut Vec<Seen>, event: &Event) -> Result<(), AllocError>
+    requires { is_quiet event.now.name ≡ true }
+    ensures { OnOk result (reverse stack.new.items ≡ stack_before event.now (reverse stack.old.items)) }
+{
+    match event.kind {
+        Kind::Exit if !stack.is_empty() => stack.push(NOTHING)?,
+        Kind::Enter if stack.len() > 1 => {
+            take_last(stack);
+        }
+        _ => {
+            before(stack, event)?;
+        }
+    }
+    Ok(())
+}
+
 /// Whether an event is the enter of a list.
 fn is_list(event: &Event) -> bool
     ensures { result ≡ is_list event.now }
@@ -187,6 +223,28 @@ fn push_list(
     Ok(())
 }
 
+/// An event comes before, at an index. If it enters a list, that goes to the lists.
+#[tactic(auto, using(crate::proofs::ListSeenLemmas::quiet_list))]
+fn meet(
+    stack: &mut Vec<Seen>,
+    lists: &mut Vec<ListShape>,
+    bytes: &[u8],
+    events: &[Event],
+    at: usize,
+    event: &Event,
+) -> Result<(), AllocError>
+    ensures lists { OnOk result (reverse lists.new.items ≡ cond (is_list event.now) (shape_at bytes.now events.now at (top_of (reverse stack.old.items)) ∷ reverse lists.old.items) (reverse lists.old.items)) }
+    ensures stack { OnOk result (reverse stack.new.items ≡ stack_before event.now (reverse stack.old.items)) }
+{
+    if is_quiet(event.name) {
+        before_quiet(stack, event)?;
+        return Ok(());
+    }
+    let inside = before(stack, event)?;
+    push_list(lists, bytes, events, at, event, inside)?;
+    Ok(())
+}
+
 /// All lists among the events of a document, in order of their enters, in time linear in the number of events. Fails only for want of memory.
 pub fn lists_of(alloc: Global, bytes: &[u8], events: &[Event]) -> Result<Vec<ListShape>, AllocError>
     ensures { IfOk result (λ lists. lists.items ≡ shapes_from bytes.now 0 events.now) }
@@ -196,8 +254,7 @@ pub fn lists_of(alloc: Global, bytes: &[u8], events: &[Event]) -> Result<Vec<Lis
     let mut at = events.len();
     while at > 0 {
         at -= 1;
-        let inside = before(&mut stack, &events[at])?;
-        push_list(&mut lists, bytes, events, at, &events[at], inside)?;
+        meet(&mut stack, &mut lists, bytes, events, at, &events[at])?;
     }
     lists.reverse();
     Ok(lists)

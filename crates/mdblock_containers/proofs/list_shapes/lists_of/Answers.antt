@@ -2,12 +2,10 @@ use Rattle.std.proofs.Common.{◌≡◌, suc, ◌+◌, ◌-◌, ◌<◌, length,
 use Rattle.std.specs.Prelude.{reverse}
 use Rattle.std.proofs.lemmas.List.{drop_more}
 use Rattle.markdown_base.proofs.SliceLemmas.{filler}
-use Rattle.markdown_base.specs.declared.event.Event.{Event}
 use Rattle.mdblock_containers.specs.declared.list_shapes.Seen.{Seen}
-use Rattle.mdblock_containers.specs.Lists.{directly_in}
-use Rattle.mdblock_containers.specs.ListSeen.{AreSeen, IsSeen}
+use Rattle.mdblock_containers.specs.ListSeen.{AreSeen, top_of}
 use Rattle.mdblock_containers.specs.ListShapes.{shapes_from}
-use Rattle.mdblock_containers.proofs.ListSeenLemmas.{seen_step, seen_top, shapes_step}
+use Rattle.mdblock_containers.proofs.ListSeenLemmas.{seen_same, seen_step, seen_top, shapes_step}
 use Rattle.mdblock_containers.proofs.list_shapes.lists_of.Goals as goal
 
 pub loop-at-preserved : goal.loop-at-preserved
@@ -26,12 +24,9 @@ loop-at-preserved c =
     record {
       lists =
           ap (shapes_from bytes at) first
-          ∙ shapes_step e es bytes events at c.in_ok-inside.inside (reverse c.loop-at.lists.items) first
-          (subst (λ (s : Seen). IsSeen s (directly_in es)) (sym c.in_ok-inside.ensures.last) (seen_top ss 0 es seen))
+          ∙ shapes_step e es bytes events at (top_of ss) (reverse c.loop-at.lists.items) first (seen_top ss 0 es seen)
           (ap (λ n. shapes_from bytes n es) next ∙ ap (λ n. shapes_from bytes c.loop-at.at (drop n events)) same ∙ c.loop-at.invariant.lists)
-          ∙ sym c.in_ok-push_list.ensures;
-      stack =
-          subst (λ (l : List Event). AreSeen (reverse c.before-in-loop-at.new.stack.items) 0 l) (sym first)
-          (subst (λ (l : List Seen). AreSeen l 0 (e ∷ es)) (sym c.in_ok-inside.ensures.stack) (seen_step e es ss seen));
+          ∙ sym c.in_ok-meet.ensures.lists;
+      stack = seen_same _ _ _ first (subst (λ (l : List Seen). AreSeen l 0 (e ∷ es)) (sym c.in_ok-meet.ensures.stack) (seen_step e es ss seen));
       room = omega arith;
     }
