@@ -5,11 +5,13 @@ pub mod Listed
 pub mod Places
 pub mod PlainRanges
 pub mod Ranges
+mod Together
 -- strings
 pub mod Added
 pub mod Kept
 pub mod Laid
 pub mod Nexts
+mod Outside
 pub mod Plain
 pub mod Rewritten
 pub mod Stretches

@@ -1,5 +1,5 @@
 -- Inner: how far the code has come. No public contract cites this file.
-use Rattle.std.specs.Prelude.{◌≡◌, ◌≤◌, ℕ, Bool, false, List, [], ◌∷◌, ◌++◌, filter, length, drop, map}
+use Rattle.std.specs.Prelude.{◌≡◌, ◌≢◌, ◌+◌, ◌<◌, ◌≤◌, ℕ, Bool, false, List, [], ◌∷◌, ◌++◌, filter, length, drop, map, slice_index}
 use Rattle.std.specs.List.{flat_map}
 use Rattle.markdown_base.specs.declared.configuration.Constructs.{Constructs}
 use Rattle.markdown_base.specs.declared.event.Event.{Event}
@@ -39,6 +39,17 @@ pub record IsPlainUpto (t : ℕ) (bytes : List ℕ) (seats : List Seat) (from to
   pub passed : IsPassedUpto t bytes seats from to place done
   pub plain : ArePlain done
   pub first : done ≡ [] → place ≡ from
+
+-- a byte that is data wherever it stands in a string: above CR, no backslash and no `&`
+abbrev pub IsDataByte : ℕ → Type 0
+IsDataByte b = (13 < b) × (b ≢ 92) × (b ≢ 38)
+
+-- so many bytes from a place on are data: all before an index, and if there is one, the place is in no tab
+pub record IsDataAhead (bytes : List ℕ) (place : Point) (end n : ℕ) : Type 0 where
+  pub flat : 0 < n → place.vs ≡ 0
+  pub before : 0 < n → place.index + n ≤ end
+  pub inside : 0 < n → place.index + n ≤ length bytes
+  pub each : (k : ℕ) → k < n → IsDataByte (slice_index bytes (place.index + k))
 
 -- Virtual bytes from a place up to another are plain data: there is one, none is special, and the places are where they begin and end as they are shown
 pub record ArePlainBetween (t : ℕ) (bytes : List ℕ) (from to : Point) : Type 0 where

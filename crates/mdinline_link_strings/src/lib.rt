@@ -5,10 +5,12 @@
 mod items;
 
 // places: bytes between places; events at them
+mod data;
 mod placed;
 mod seats;
 
 // strings: of links in a list
+mod names;
 mod rewriting;
 pub mod strings;
 

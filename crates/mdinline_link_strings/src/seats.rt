@@ -9,6 +9,7 @@ ghost use Rattle.mdinline_link_strings.specs.Laid.{IsRange, IsRangeOf};
 ghost use Rattle.mdinline_link_strings.specs.Reached.{ArePlainBetween};
 ghost use Rattle.mdinline_link_strings.specs.Strings.{seats_between};
 
+use crate::data::{behind, data_ahead};
 use crate::items::is_special;
 use markdown_base::configuration::TabSize;
 use markdown_base::event::Point;
@@ -179,6 +180,14 @@ fn are_ends(bytes: &[u8], from: &Point, to: &Point, place: &Point) -> bool
     place == to && from != to && shown(bytes, *from) == *from && shown(bytes, *to) == *to
 }
 
+/// Whether a place that is so many bytes behind another is behind one at least, and is the one up to which bytes are passed.
+fn is_behind(ahead: usize, place: &Point, to: &Point) -> bool
+    ensures some { result ≡ true → 0 < ahead }
+    ensures passed { result ≡ true → place.now ≡ to.now }
+{
+    ahead > 0 && place == to
+}
+
 /// Whether the virtual bytes of a document from a place up to another are plain data: there is one, none is a line feed, a backslash or `&`, and both
 /// places are shown where they are. May return false where they are.
 pub(crate) fn are_plain_between<L: Ledger>(
@@ -194,7 +203,11 @@ pub(crate) fn are_plain_between<L: Ledger>(
     ensures turns { turns.new ≤ turns.old + length (seats_between tab bytes.now from.now to.now) }
 {
     let t = tab.get();
-    let mut place = *from;
+    let ahead = data_ahead(bytes, from, to.index, turns);
+    let mut place = behind(from, ahead);
+    if is_behind(ahead, &place, to) {
+        return true;
+    }
     while let Some((byte, seat)) = seat_at(bytes, place) {
         if !is_before(&seat, to) {
             return are_ends(bytes, from, to, &place);

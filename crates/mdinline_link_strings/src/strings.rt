@@ -1,14 +1,15 @@
 //! Strings among events: each line of a string that stands as data is read, and its escapes and character references come in its place.
 
-ghost use Rattle.std.specs.Prelude.{◌≡◌, ◌+◌, ◌*◌, ◌<◌, ◌≤◌, ◌++◌, ◌∷◌, [], ◌&&◌, drop, take, length, true, None, IfOk, OnOk};
+ghost use Rattle.std.specs.Prelude.{◌≡◌, ◌+◌, ◌*◌, ◌<◌, ◌≤◌, ◌++◌, ◌∷◌, [], ◌&&◌, ℕ, List, drop, take, length, true, None, IfOk, OnOk};
 ghost use Rattle.markdown_base.specs.declared.configuration.Constructs.{Constructs};
 ghost use Rattle.markdown_base.specs.Places.{IsPointOf};
 ghost use Rattle.markdown_base.specs.Virtual.{IsWithinLimit};
 ghost use Rattle.markdown_tokenizer.specs.AtPlaces.{AreAtPlaces};
 ghost use Rattle.mdinline_link_strings.specs.Costs.{string_size, string_size_from};
 ghost use Rattle.mdinline_link_strings.specs.Reached.{begins_with_data};
-ghost use Rattle.mdinline_link_strings.specs.Strings.{in_string_after, is_data, is_string, line_as_string, seats_between, with_strings, with_strings_from};
+ghost use Rattle.mdinline_link_strings.specs.Strings.{in_string_after, is_data, line_as_string, seats_between, with_strings, with_strings_from};
 
+use crate::names::{events_outside, is_string};
 use crate::placed::{push_items, write_items};
 use crate::rewriting::Rewriting;
 use crate::seats::{are_plain_between, range_between};
@@ -40,18 +41,6 @@ pub fn read_line_counted<L: Ledger>(
 {
     let range = range_between(alloc, bytes, tab, from, to, turns)?;
     push_items(on, &range, out, turns)
-}
-
-/// Whether a name is of a string: of a destination, a title or a label.
-fn is_string(name: Name) -> bool
-    ensures { result ≡ is_string name }
-{
-    name == Name::ResourceDestinationString
-        || name == Name::ResourceTitleString
-        || name == Name::ReferenceString
-        || name == Name::DefinitionDestinationString
-        || name == Name::DefinitionTitleString
-        || name == Name::DefinitionLabelString
 }
 
 /// Whether an event stands in a string behind this one.
@@ -236,6 +225,20 @@ fn is_plain_data<L: Ledger>(
     are_plain_between(bytes, tab, &enter.point, &exit.point, turns)
 }
 
+/// How many events come before the first at which a string begins, or all; none if the first one stands in a string. They stay as they are.
+#[inline(always)]
+fn kept_events<L: Ledger>(events: &[Event], inside: bool, turns: &mut Turns<L>) -> usize
+    ensures within { result ≤ length events.now }
+    ensures events { (on : Constructs) → (t : ℕ) → (bytes : List ℕ) → with_strings_from on t bytes inside events.now ≡ take result events.now ++ with_strings_from on t bytes inside (drop result events.now) }
+    ensures size { (t : ℕ) → (bytes : List ℕ) → string_size_from t bytes inside events.now ≡ string_size_from t bytes inside (drop result events.now) }
+    ensures turns { turns.new ≤ turns.old + result }
+{
+    if inside {
+        return 0;
+    }
+    events_outside(events, turns)
+}
+
 /// How many events come before the first data of a string that is not plain, or all; and whether the event behind them stands in a string, by
 /// whether the first one does. Data that is plain may be taken for some that is not.
 fn plain_events<L: Ledger>(
@@ -256,6 +259,11 @@ fn plain_events<L: Ledger>(
     let mut inside = first;
     let mut next = 0;
     while next < events.len() {
+        let kept = kept_events(&events[next..], inside, turns);
+        next += kept;
+        if next >= events.len() {
+            return (next, inside);
+        }
         turns.add_one();
         if is_string_data(inside, events, next) {
             if !is_plain_data(bytes, tab, &events[next], &events[next + 1], turns) {

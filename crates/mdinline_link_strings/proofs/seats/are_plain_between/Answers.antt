@@ -1,20 +1,70 @@
 use Rattle.std.proofs.Common.{◌≡◌, ◌∙◌, ◌++◌, [], ◌∷◌, ap, arith, length, length-append, refl, subst, sym}
 use Rattle.std.specs.Prelude.{filter}
+use Rattle.markdown_base.specs.declared.event.Point.{Point}
 use Rattle.markdown_base.specs.Places.{IsPointOf, stands_before}
-use Rattle.markdown_base.specs.Virtual.{Seat}
+use Rattle.markdown_base.specs.Virtual.{IsWithinLimit, Seat}
 use Rattle.markdown_tokenizer.specs.Cursor.{rest_at}
 use Rattle.markdown_tokenizer.proofs.Positions.Standing.{steps}
-use Rattle.mdinline_link_strings.proofs.PlainRanges.{begins-plain, passed-few, passed-fewer, plain-all, plain-more}
+use Rattle.mdinline_link_strings.proofs.PlainRanges.{data-all, data-fits, data-upto, passed-few, passed-fewer, plain-all, plain-more}
 use Rattle.mdinline_link_strings.proofs.Ranges.{left-none}
-use Rattle.mdinline_link_strings.specs.Reached.{ArePlainBetween}
+use Rattle.mdinline_link_strings.specs.Reached.{ArePlainBetween, IsPlainUpto}
 use Rattle.mdinline_link_strings.specs.Strings.{seats_between}
 use Rattle.mdinline_link_strings.proofs.seats.are_plain_between.Goals as goal
+
+pub behind-place-requires-clause-column : goal.behind-place-requires-clause-column
+behind-place-requires-clause-column g c =
+    let t = c.get-t.result in
+    let bytes = c.args.bytes.now in
+    let from = c.args.from.now in
+    let is = subst (λ k. IsPointOf k bytes from) (sym c.get-t.ensures.columns) c.requires.place in
+    let limit = subst (λ k. IsWithinLimit k bytes) (sym c.get-t.ensures.columns) c.requires.limit in
+    (data-fits t bytes c.get-t.ensures.least from c.args.to.now c.data_ahead-ahead.result is c.data_ahead-ahead.ensures.ahead limit).0
+
+pub behind-place-requires-clause-index : goal.behind-place-requires-clause-index
+behind-place-requires-clause-index g c =
+    let t = c.get-t.result in
+    let bytes = c.args.bytes.now in
+    let from = c.args.from.now in
+    let is = subst (λ k. IsPointOf k bytes from) (sym c.get-t.ensures.columns) c.requires.place in
+    let limit = subst (λ k. IsWithinLimit k bytes) (sym c.get-t.ensures.columns) c.requires.limit in
+    (data-fits t bytes c.get-t.ensures.least from c.args.to.now c.data_ahead-ahead.result is c.data_ahead-ahead.ensures.ahead limit).1
 
 pub loop-byte-init : goal.loop-byte-init
 loop-byte-init g c =
     let from = c.args.from.now in
+    let to = c.args.to.now in
     let bytes = c.args.bytes.now in
-    ([], begins-plain c.get-t.result bytes c.get-t.ensures.least from c.args.to.now (subst (λ t. IsPointOf t bytes from) (sym c.get-t.ensures.columns) c.requires.place), omega arith)
+    let t = c.get-t.result in
+    let is = subst (λ t. IsPointOf t bytes from) (sym c.get-t.ensures.columns) c.requires.place in
+    let upto = data-upto t bytes c.get-t.ensures.least from to c.data_ahead-ahead.result is c.data_ahead-ahead.ensures.ahead in
+    let long = upto.1 in
+    let few = c.data_ahead-ahead.ensures.turns in
+    (upto.0, subst (λ (p : Point). IsPlainUpto t bytes (seats_between t bytes from to) from to p upto.0) (sym c.behind-place.ensures) upto.2, omega (arith, long, few))
+
+pub returns-then-is_behind-clause-plain : goal.returns-then-is_behind-clause-plain
+returns-then-is_behind-clause-plain g c = λ h.
+    let t = c.get-t.result in
+    let bytes = c.args.bytes.now in
+    let from = c.args.from.now in
+    let to = c.args.to.now in
+    let is = subst (λ k. IsPointOf k bytes from) (sym c.get-t.ensures.columns) c.requires.place in
+    let there = sym c.behind-place.ensures ∙ c.is_behind.ensures.passed c.if-is_behind.true in
+    subst (λ k. ArePlainBetween k bytes from to) c.get-t.ensures.columns
+    (data-all t bytes c.get-t.ensures.least from to c.data_ahead-ahead.result is c.data_ahead-ahead.ensures.ahead (c.is_behind.ensures.some c.if-is_behind.true) there)
+
+pub returns-then-is_behind-clause-turns : goal.returns-then-is_behind-clause-turns
+returns-then-is_behind-clause-turns g c =
+    let t = c.get-t.result in
+    let bytes = c.args.bytes.now in
+    let from = c.args.from.now in
+    let to = c.args.to.now in
+    let is = subst (λ k. IsPointOf k bytes from) (sym c.get-t.ensures.columns) c.requires.place in
+    let upto = data-upto t bytes c.get-t.ensures.least from to c.data_ahead-ahead.result is c.data_ahead-ahead.ensures.ahead in
+    let long = upto.1 in
+    let few = passed-few t bytes c.get-t.ensures.least from to _ upto.0 upto.2.passed in
+    let taken = c.data_ahead-ahead.ensures.turns in
+    let same = ap (λ k. length (seats_between k bytes from to)) c.get-t.ensures.columns in
+    omega (arith, long, few, taken, same)
 
 pub returns-then-not-is_before-clause-plain : goal.returns-then-not-is_before-clause-plain
 returns-then-not-is_before-clause-plain g c = λ h.

@@ -1,4 +1,4 @@
-use Rattle.std.proofs.Common.{◌≡◌, ◌+◌, ◌*◌, ◌≤◌, ◌++◌, false, ap, arith, length, subst, sym}
+use Rattle.std.proofs.Common.{◌++◌, false, ap, arith, length, subst, sym}
 use Rattle.markdown_tokenizer.specs.AtPlaces.{AreAtPlaces}
 use Rattle.mdinline_link_strings.specs.Costs.{string_size_from}
 use Rattle.mdinline_link_strings.specs.Strings.{with_strings_from}

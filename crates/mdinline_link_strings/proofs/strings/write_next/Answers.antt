@@ -9,7 +9,7 @@ use Rattle.mdinline_link_strings.proofs.Listed.{no_event, read-at}
 use Rattle.mdinline_link_strings.proofs.Nexts.{line_at, some-left, string-there}
 use Rattle.mdinline_link_strings.specs.Costs.{string_size_from}
 use Rattle.mdinline_link_strings.specs.Reached.{begins_with_data}
-use Rattle.mdinline_link_strings.specs.Strings.{line_as_string, seats_between, with_strings_from}
+use Rattle.mdinline_link_strings.specs.Strings.{seats_between, with_strings_from}
 use Rattle.mdinline_link_strings.proofs.strings.write_next.Goals as goal
 
 pub write_line-requires-clause-place : goal.write_line-requires-clause-place

@@ -1,4 +1,4 @@
-use Rattle.std.proofs.Common.{◌≡◌, ◌∙◌, ◌+◌, ◌<◌, ◌≤◌, ◌++◌, ap, arith, drop, length, take}
+use Rattle.std.proofs.Common.{◌≡◌, ◌∙◌, ◌+◌, ◌≤◌, ◌++◌, ap, arith, drop, length, take}
 use Rattle.std.proofs.lemmas.List.{length-drop}
 use Rattle.mdinline_link_strings.proofs.Rewritten.{kept-moved, kept-there}
 use Rattle.mdinline_link_strings.proofs.rewriting.Rewriting.keep.Goals as goal
