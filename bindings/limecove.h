@@ -85,11 +85,12 @@ enum limecove_construct {
     LIMECOVE_DEFINITION = 524288,         /* link reference definitions */
     LIMECOVE_COMMONMARK = 1048575,        /* all of these: the constructs of CommonMark */
     LIMECOVE_GFM_STRIKETHROUGH = 1048576, /* strikethrough of GFM, which is on only if it is asked for */
-    LIMECOVE_ALL_CONSTRUCTS = 2097151,
-    /* of GFM, for limecove_html alone: elsewhere there is no such construct. Off unless it is asked for */
+    LIMECOVE_ALL_CONSTRUCTS = 2097151,    /* all that each call takes */
+    /* of GFM, for limecove_html, and for limecove_read and limecove_open by LIMECOVE_DOCUMENT with deep: elsewhere, as for texts and for
+     * documents that are edited, there is no such construct. Off unless it is asked for */
     LIMECOVE_GFM_AUTOLINK_LITERAL = 2097152, /* autolink literals */
     LIMECOVE_GFM_TASK_LIST_ITEM = 4194304,   /* checks of task list items */
-    LIMECOVE_HTML_CONSTRUCTS = 8388607       /* all that limecove_html takes */
+    LIMECOVE_HTML_CONSTRUCTS = 8388607       /* all of these and those before */
 };
 
 /* What HTML may let through, as bits. If none is set, the HTML is safe, whatever the document is. */
@@ -580,7 +581,8 @@ LIMECOVE_INLINE const char *limecove_code_text(uint32_t code) {
 /* The version of the library. If it is not LIMECOVE_VERSION, no other function may be called. */
 LIMECOVE_API uint32_t limecove_version(void);
 
-/* Reads a document. Writes the first events over the first records, as many as fit, and nothing else. */
+/* Reads a document. Writes the first events over the first records, as many as fit, and nothing else. By LIMECOVE_DOCUMENT with deep it takes
+ * LIMECOVE_HTML_CONSTRUCTS, and so does limecove_open. */
 LIMECOVE_API struct limecove_answer limecove_read(const uint8_t *document, size_t document_len, const struct limecove_options *options,
                                                   struct limecove_record *records, size_t records_len);
 

@@ -50,7 +50,8 @@ static void refused(void) {
         texts[i] = limecove_default_text_options();
     options[0].size = texts[0].size = 32;
     options[1].tab_size = texts[1].tab_size = 17;
-    options[2].constructs = texts[2].constructs = LIMECOVE_ALL_CONSTRUCTS + 1;
+    options[2].constructs = LIMECOVE_HTML_CONSTRUCTS + 1;
+    texts[2].constructs = LIMECOVE_ALL_CONSTRUCTS + 1;
     options[3].machine = 9;
     options[4].machine = UINT32_MAX;
     options[5].machine = LIMECOVE_LINES;
@@ -63,6 +64,35 @@ static void refused(void) {
     for (size_t i = 0; i < 3; i++) {
         struct limecove_answer answer = limecove_read_text((const uint8_t *)"a", 1, &texts[i], &record, 1);
         CHECK(answer.code == codes[i] && answer.count == 0 && untouched(&record, sizeof record));
+    }
+}
+
+/* Literals and checks are only in whole documents with their texts: elsewhere there is no such construct, and nothing is written. */
+static void literals_need_documents(void) {
+    static const uint64_t bits[] = {LIMECOVE_GFM_AUTOLINK_LITERAL, LIMECOVE_GFM_TASK_LIST_ITEM};
+    struct limecove_record record;
+    memset(&record, 0xa5, sizeof record);
+    for (size_t i = 0; i < 2; i++) {
+        struct limecove_document document = LIMECOVE_NO_DOCUMENT;
+        struct limecove_options options = limecove_default_options();
+        struct limecove_text_options text = limecove_default_text_options();
+        struct limecove_answer answer;
+        options.constructs = text.constructs = LIMECOVE_COMMONMARK + bits[i];
+        answer = limecove_read((const uint8_t *)"a", 1, &options, NULL, 0);
+        CHECK(answer.code == LIMECOVE_READ && answer.count == 4);
+        for (uint32_t machine = 0; machine < LIMECOVE_DOCUMENT; machine++) {
+            options.machine = machine;
+            answer = limecove_read((const uint8_t *)"a", 1, &options, &record, 1);
+            CHECK(answer.code == LIMECOVE_NO_SUCH_CONSTRUCT && answer.count == 0);
+        }
+        options.machine = LIMECOVE_DOCUMENT;
+        options.deep = 0;
+        answer = limecove_read((const uint8_t *)"a", 1, &options, &record, 1);
+        CHECK(answer.code == LIMECOVE_NO_SUCH_CONSTRUCT && answer.count == 0);
+        answer = limecove_read_text((const uint8_t *)"a", 1, &text, &record, 1);
+        CHECK(answer.code == LIMECOVE_NO_SUCH_CONSTRUCT && answer.count == 0 && untouched(&record, sizeof record));
+        answer = limecove_document_new((const uint8_t *)"a", 1, &text, &document);
+        CHECK(answer.code == LIMECOVE_NO_SUCH_CONSTRUCT && answer.count == 0 && document.is_open == 0);
     }
 }
 
@@ -177,8 +207,8 @@ static int has(const char *document, uint64_t constructs, uint32_t name) {
     return 0;
 }
 
-/* Each construct has its bit: without it there is none, and with all there is one. So there is with that of a quote, a list, a definition or
- * strikethrough alone, and for a label with those of its start and its end. */
+/* Each construct has its bit: without it there is none, and with all there is one. So there is with that of a quote, a list, a definition,
+ * strikethrough or a literal alone, for a label with those of its start and its end, and for a check with that of a list. */
 static void constructs_have_bits(void) {
     static const struct {
         const char *document;
@@ -206,21 +236,27 @@ static void constructs_have_bits(void) {
         {"[a](b)", LIMECOVE_LABEL_END, LIMECOVE_NAME_LINK},
         {"[a]: b", LIMECOVE_DEFINITION, LIMECOVE_NAME_DEFINITION},
         {"~a~", LIMECOVE_GFM_STRIKETHROUGH, LIMECOVE_NAME_GFM_STRIKETHROUGH},
+        {"www.a.b", LIMECOVE_GFM_AUTOLINK_LITERAL, LIMECOVE_NAME_GFM_AUTOLINK_LITERAL_WWW},
+        {"- [x] a", LIMECOVE_GFM_TASK_LIST_ITEM, LIMECOVE_NAME_GFM_TASK_LIST_ITEM_CHECK},
     };
     uint64_t bits = 0;
     for (size_t i = 0; i < sizeof each / sizeof *each; i++) {
-        CHECK(has(each[i].document, LIMECOVE_ALL_CONSTRUCTS, each[i].name));
-        CHECK(!has(each[i].document, LIMECOVE_ALL_CONSTRUCTS - each[i].bit, each[i].name));
+        CHECK(has(each[i].document, LIMECOVE_HTML_CONSTRUCTS, each[i].name));
+        CHECK(!has(each[i].document, LIMECOVE_HTML_CONSTRUCTS - each[i].bit, each[i].name));
         uint64_t alone = each[i].bit;
         if (alone == LIMECOVE_LABEL_START_LINK || alone == LIMECOVE_LABEL_START_IMAGE)
             alone += LIMECOVE_LABEL_END;
         else if (alone == LIMECOVE_LABEL_END)
             alone += LIMECOVE_LABEL_START_LINK;
+        else if (alone == LIMECOVE_GFM_TASK_LIST_ITEM)
+            alone += LIMECOVE_LIST_ITEM;
         CHECK(each[i].bit < LIMECOVE_BLOCK_QUOTE || has(each[i].document, alone, each[i].name));
         bits += each[i].bit;
     }
-    CHECK(bits == LIMECOVE_ALL_CONSTRUCTS);
+    CHECK(bits == LIMECOVE_HTML_CONSTRUCTS);
     CHECK(!has("~a~", LIMECOVE_COMMONMARK, LIMECOVE_NAME_GFM_STRIKETHROUGH));
+    CHECK(!has("www.a.b", LIMECOVE_ALL_CONSTRUCTS, LIMECOVE_NAME_GFM_AUTOLINK_LITERAL_WWW));
+    CHECK(!has("- [x] a", LIMECOVE_ALL_CONSTRUCTS, LIMECOVE_NAME_GFM_TASK_LIST_ITEM_CHECK));
 }
 
 /* Without quotes, lists and definitions, a document without links is read as its leaf blocks are. */
@@ -245,6 +281,7 @@ int main(int argc, char **argv) {
     constructs_have_bits();
     null_is_none();
     refused();
+    literals_need_documents();
     no_ranges();
     texts_of_numbers();
     documents_are_html();

@@ -1,5 +1,5 @@
 -- The machine, tab size, cut and constructs that options choose, given as numbers.
-use Rattle.std.specs.Prelude.{ℕ, not, true, Bool, List, Option, Some, None, Result, cond, nat_eq, nat_lt, bit_and}
+use Rattle.std.specs.Prelude.{ℕ, ◌&&◌, ◌||◌, not, true, Bool, List, Option, Some, None, Result, cond, nat_eq, nat_lt, bit_and}
 use Rattle.std.specs.declared.result.Result.TheVariants.{Ok, Err}
 use Rattle.std.specs.Option.{option_map_or}
 use Rattle.markdown.specs.declared.configuration.Constructs.{Constructs}
@@ -34,13 +34,25 @@ cut_of n = cond (nat_eq n 0) None (Some n)
 abbrev pub is_yes : ℕ → Bool
 is_yes n = not (nat_eq n 0)
 
--- a sum of bits has the bits of constructs alone
+-- a sum of bits has alone the bits of constructs that events have by each machine
 abbrev pub are_constructs : ℕ → Bool
 are_constructs bits = nat_lt bits 2097152
 
 -- the same of those that HTML has
 abbrev pub are_html_constructs : ℕ → Bool
 are_html_constructs bits = nat_lt bits 8388608
+
+-- literals or checks are on: a sum of bits is greater than that of all constructs that events have by each machine
+abbrev pub has_rewritten : ℕ → Bool
+has_rewritten bits = nat_lt 2097151 bits
+
+-- options choose whole documents with their texts: the machine of documents, and `deep`
+abbrev pub are_of_documents : Options → Bool
+are_of_documents options = nat_eq options.machine 8 && is_yes options.deep
+
+-- a sum of bits has the bits of constructs that such options may have: for whole documents with their texts also those that HTML has
+abbrev pub have_constructs : Options → Bool
+have_constructs options = are_constructs options.constructs || (are_of_documents options && are_html_constructs options.constructs)
 
 -- why options choose nothing, as codes
 abbrev pub other_size : ℕ
@@ -71,7 +83,7 @@ together options t =
 abbrev pub choice_of : Options → Result Choice ℕ
 choice_of options =
     cond (nat_eq options.size 40)
-    (option_map_or (λ t. cond (are_constructs options.constructs) (together options t) (Err no_such_construct)) (tab_of options.tab_size) (Err no_such_tab_size))
+    (option_map_or (λ t. cond (have_constructs options) (together options t) (Err no_such_construct)) (tab_of options.tab_size) (Err no_such_tab_size))
     (Err other_size)
 
 -- the tab size that options of text choose, or such a code
@@ -125,7 +137,7 @@ constructs_of bits = record default_constructs {
   thematic_break = has_bit bits 8192;
 }
 
--- the constructs that have a bit: CommonMark's, and GFM's strikethrough; in HTML its literals and checks too
+-- the constructs that have a bit: CommonMark's, and GFM's strikethrough; in HTML and whole documents its literals and checks too
 abbrev pub constructs_with_bits : Constructs
 constructs_with_bits = record default_constructs { gfm_strikethrough = true }
 

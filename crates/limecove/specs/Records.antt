@@ -1,7 +1,8 @@
 -- Events as records of numbers.
-use Rattle.std.specs.Prelude.{ℕ, ◌≡◌, List, ◌++◌, map, take, drop, length, unwrap_or}
+use Rattle.std.specs.Prelude.{ℕ, ◌≡◌, Bool, true, false, List, ◌++◌, map, take, drop, length, unwrap_or}
 use Rattle.std.specs.declared.result.Result.TheVariants.{Ok}
 use Rattle.std.specs.Option.{option_and_then, option_map_or}
+use Rattle.markdown_base.specs.declared.configuration.ParseOptions.{ParseOptions}
 use Rattle.markdown.specs.declared.event.Content.{Content}
 use Rattle.markdown.specs.declared.event.Content.TheVariants.{Flow, Content as ContentOfContent, String, Text}
 use Rattle.markdown.specs.declared.event.Event.{Event}
@@ -10,14 +11,16 @@ use Rattle.markdown.specs.declared.event.Kind.TheVariants.{Enter, Exit}
 use Rattle.markdown.specs.Engine.{whole_text}
 use Rattle.mdconstructs.specs.ByteRanges.{text_events_in}
 use Rattle.mdconstructs.specs.declared.choice.Choice.{Choice}
+use Rattle.mdconstructs.specs.declared.choice.Which.TheVariants.{Document}
 use Rattle.mdconstructs.specs.declared.ranges.ByteRange.{ByteRange}
 use Rattle.mdconstructs.specs.Documents.{AreEventsOf, options_with}
 use Rattle.mdconstructs.specs.TextEvents.{text_events}
+use Rattle.mdgfm_documents.specs.Documents.{gfm_events}
 use Rattle.limecove.specs.declared.choose.HtmlOptions.{HtmlOptions}
 use Rattle.limecove.specs.declared.choose.Options.{Options}
 use Rattle.limecove.specs.declared.choose.TextOptions.{TextOptions}
 use Rattle.limecove.specs.declared.record.Record.{Record}
-use Rattle.limecove.specs.Choices.{choice_of, constructs_of, text_choice_of, text_document}
+use Rattle.limecove.specs.Choices.{choice_of, constructs_of, has_rewritten, text_choice_of, text_document}
 use Rattle.limecove.specs.Names.{number_of}
 
 -- the number of a kind
@@ -54,11 +57,20 @@ record_of event = record {
 abbrev pub filled : List Record → List Event → List Record
 filled old events = take (length old) (map record_of events) ++ drop (length events) old
 
+-- Events are those of a document by a choice. If literals or checks are on, they are those of the whole document with these
+abbrev pub AreEventsBy : (with_these : Bool) → Choice → ParseOptions → List ℕ → List Event → Type 0
+AreEventsBy false choice options bytes events = AreEventsOf choice.deep choice.machine options bytes events
+AreEventsBy true choice options bytes events = events ≡ gfm_events options bytes
+
+-- Options that choose something with literals or checks choose the machine of documents, with its texts
+abbrev pub RewrittenAreDocuments : Type 0
+RewrittenAreDocuments = (options : Options) (choice : Choice) → choice_of options ≡ Ok choice → has_rewritten options.constructs ≡ true → (choice.machine ≡ Document) × (choice.deep ≡ true)
+
 -- Events that are this many, and that are those of a document, as the options choose them
 pub record AreRead (options : Options) (bytes : List ℕ) (n : ℕ) (events : List Event) : Type 0 where
   pub choice : Choice
   pub chosen : choice_of options ≡ Ok choice
-  pub are : AreEventsOf choice.deep choice.machine (options_with (constructs_of options.constructs) choice.tab) bytes events
+  pub are : AreEventsBy (has_rewritten options.constructs) choice (options_with (constructs_of options.constructs) choice.tab) bytes events
   pub count : n ≡ length events
 
 -- Events that are this many, and that are those of a document, read as text with the constructs and the tab size of the options

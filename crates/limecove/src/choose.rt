@@ -2,7 +2,7 @@
 
 ghost use Rattle.std.specs.Prelude.{◌≡◌, ◌<◌, ◌≤◌, ◌⊎◌, IfErr, IfOk};
 ghost use Rattle.mdconstructs.specs.Choices.{CanCut};
-ghost use Rattle.limecove.specs.Choices.{choice_of, constructs_of, html_choice_of, machine_of, tab_of, text_choice_of};
+ghost use Rattle.limecove.specs.Choices.{choice_of, constructs_of, has_rewritten, have_constructs, html_choice_of, machine_of, tab_of, text_choice_of};
 
 use crate::code::{
     LINKS_NO_TEXT, NO_SUCH_CONSTRUCT, NO_SUCH_MACHINE, NO_SUCH_PERMISSION, NO_SUCH_TAB_SIZE,
@@ -55,13 +55,13 @@ pub const DEFINITION: u64 = 524288;
 pub const COMMONMARK: u64 = 1048575;
 /// The bit of strikethrough, which is GFM's.
 pub const GFM_STRIKETHROUGH: u64 = 1048576;
-/// The bits of all constructs that events have.
+/// The bits of all constructs that events have by each machine.
 pub const ALL_CONSTRUCTS: u64 = 2097151;
-/// The bit of autolink literals, which are GFM's, in HTML alone.
+/// The bit of autolink literals, which are GFM's: in HTML, and in whole documents with their texts.
 pub const GFM_AUTOLINK_LITERAL: u64 = 2097152;
-/// The bit of checks of task list items, which are GFM's, in HTML alone.
+/// The bit of checks of task list items, which are GFM's: in HTML, and in whole documents with their texts.
 pub const GFM_TASK_LIST_ITEM: u64 = 4194304;
-/// The bits of all constructs that HTML has.
+/// The bits of all constructs that HTML has, and whole documents with their texts.
 pub const HTML_CONSTRUCTS: u64 = 8388607;
 
 /// The bit of HTML in the document, which is kept as HTML. Without it, it is shown as text.
@@ -79,6 +79,9 @@ pub const TEXT_OPTIONS_SIZE: usize = 24;
 pub const OPTIONS_SIZE: usize = 40;
 /// How many bytes `HtmlOptions` has.
 pub const HTML_OPTIONS_SIZE: usize = 32;
+
+/// The number of the machine of documents.
+const DOCUMENT: u32 = 8;
 
 /// How text is read.
 #[repr(C)]
@@ -100,7 +103,7 @@ pub struct Options {
     pub size: usize,
     /// The distance from one tab stop to the next, from 1 to 16 columns. 0 is 4.
     pub tab_size: usize,
-    /// The constructs that are on: the sum of their bits.
+    /// The constructs that are on: the sum of their bits, of [`ALL_CONSTRUCTS`]; of [`HTML_CONSTRUCTS`], if the machine is document and `deep` is not 0.
     pub constructs: u64,
     /// After how many virtual bytes the document is cut each time. If it is 0, the document is not cut.
     pub cut: usize,
@@ -138,7 +141,7 @@ pub(crate) fn choose(options: &Options) -> Result<Choice, u32>
     let Some(tab) = tab_of(options.tab_size) else {
         return Err(NO_SUCH_TAB_SIZE);
     };
-    if options.constructs > ALL_CONSTRUCTS {
+    if !have_constructs(options) {
         return Err(NO_SUCH_CONSTRUCT);
     }
     let Some(machine) = machine_of(options.machine) else {
@@ -159,6 +162,22 @@ pub(crate) fn choose(options: &Options) -> Result<Choice, u32>
         machine,
         tab,
     })
+}
+
+/// Whether the constructs of options are some that there are.
+fn have_constructs(options: &Options) -> bool
+    ensures { result ≡ have_constructs options.now }
+{
+    let is_of_document = options.machine == DOCUMENT && options.deep != 0;
+    options.constructs <= ALL_CONSTRUCTS
+        || (is_of_document && options.constructs <= HTML_CONSTRUCTS)
+}
+
+/// Whether literals or checks are on, by a sum of bits.
+pub(crate) fn has_rewritten(bits: u64) -> bool
+    ensures { result ≡ has_rewritten bits }
+{
+    bits > ALL_CONSTRUCTS
 }
 
 /// The tab size that options of text choose. If they choose nothing, it returns the code that says why.

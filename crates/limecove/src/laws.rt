@@ -3,6 +3,7 @@
 ghost use Rattle.std.specs.Prelude.{◌≡◌};
 ghost use Rattle.markdown.specs.Presets.{default_constructs};
 ghost use Rattle.limecove.specs.Choices.{constructs_of, constructs_of_html, constructs_with_bits};
+ghost use Rattle.limecove.specs.Records.{RewrittenAreDocuments};
 
 use crate::choose::{
     ALL_CONSTRUCTS, ALLOW_ALL, ALLOW_ANY_IMG_SRC, ALLOW_DANGEROUS_HTML, ALLOW_DANGEROUS_PROTOCOL,
@@ -44,4 +45,9 @@ pub fn numbers_are_stated()
     ensures all_constructs { constructs_of ALL_CONSTRUCTS ≡ constructs_with_bits }
     ensures html_constructs { constructs_of HTML_CONSTRUCTS ≡ constructs_of_html }
     ensures sizes { (TEXT_OPTIONS_SIZE ≡ 24) × (OPTIONS_SIZE ≡ 40) × (HTML_OPTIONS_SIZE ≡ 32) }
+{}
+
+/// Literals and checks are accepted only for whole documents with their texts.
+pub fn literals_are_of_documents()
+    ensures { RewrittenAreDocuments }
 {}

@@ -39,20 +39,26 @@ pub mod labels;
 ghost use Rattle.std.specs.Prelude.{◌≡◌, ◌≢◌, ◌<◌, ◌≤◌, ◌-◌, ◌↔◌, ◌⊎◌, Err, IfErr, IfOk, IsOkAnd, drop, length, min};
 ghost use Rattle.markdown.specs.Virtual.{IsWithinLimit};
 ghost use Rattle.mdconstructs.specs.ByteRanges.{AreRanges};
-ghost use Rattle.limecove.specs.Choices.{choice_of, text_choice_of};
+ghost use Rattle.mdconstructs.specs.Choices.{CanCut};
+ghost use Rattle.mdconstructs.specs.Documents.{options_with};
+ghost use Rattle.limecove.specs.Choices.{choice_of, constructs_of, has_rewritten, text_choice_of};
 ghost use Rattle.limecove.specs.Readings.{IsClosed, events_in};
-ghost use Rattle.limecove.specs.Records.{AreRead, AreReadAsText, AreReadInRanges, HoldsEventsOf, HoldsTextIn, HoldsTextOf, echoed, echoed_html, echoed_range, echoed_text, filled, numbered};
+ghost use Rattle.limecove.specs.Records.{AreEventsBy, AreRead, AreReadAsText, AreReadInRanges, HoldsEventsOf, HoldsTextIn, HoldsTextOf, echoed, echoed_html, echoed_range, echoed_text, filled, numbered};
 
-use crate::choose::{HtmlOptions, Options, TextOptions, choose, choose_text, constructs_of};
+use crate::choose::{
+    HtmlOptions, Options, TextOptions, choose, choose_text, constructs_of, has_rewritten,
+};
 use crate::code::{LINKS_NO_TEXT, NO_SUCH_RANGES, OUT_OF_MEMORY, READ, TOO_LONG, VERSION};
 use crate::echo::{echo_of, echo_of_html, echo_of_range, echo_of_text, numbered};
 use crate::kept::Reading;
 use crate::reading::copy_from;
 use crate::record::{Record, write_records};
 use markdown::event::Event;
+use mdconstructs::choice::Choice;
 use mdconstructs::ranges::{ByteRange, are_ranges, text_events_in};
 use mdconstructs::{events_of, limit_of, options_with, text_events_of};
-use std::alloc::Global;
+use mdgfm_documents::documents::read_gfm_document;
+use std::alloc::{AllocError, Global};
 
 /// How a call ended, and how many events there are.
 #[repr(C)]
@@ -99,7 +105,8 @@ pub extern "C" fn limecove_read_text(
     }
 }
 
-/// Reads a whole document as the options say, and writes its events over the first records, as many as fit.
+/// Reads a whole document as the options say, and writes its events over the first records, as many as fit. Autolink literals and checks of task list
+/// items stand among them, if these are on: only by the machine of documents, with `deep`.
 #[unsafe(no_mangle)]
 pub extern "C" fn limecove_read(
     alloc: Global,
@@ -359,9 +366,28 @@ fn events(alloc: Global, bytes: &[u8], options: &Options) -> Result<Vec<Event>, 
     if bytes.len() > limit_of(choice.tab) {
         return Err(TOO_LONG);
     }
-    match events_of(alloc, bytes, constructs_of(options.constructs), &choice) {
+    match events_by(alloc, bytes, options.constructs, &choice) {
         Ok(events) => Ok(events),
         Err(_) => Err(OUT_OF_MEMORY),
+    }
+}
+
+/// The events of a document that is read by a choice, with the constructs of these bits. With bits of literals or of checks the whole document is read.
+fn events_by(
+    alloc: Global,
+    bytes: &[u8],
+    bits: u64,
+    choice: &Choice,
+) -> Result<Vec<Event>, AllocError>
+    requires limit { IsWithinLimit choice.now.tab bytes.now }
+    requires cut { CanCut choice.now }
+    ensures { IfOk result (λ list. AreEventsBy (has_rewritten bits) choice.now (options_with (constructs_of bits) choice.now.tab) bytes.now list.items) }
+{
+    let constructs = constructs_of(bits);
+    if has_rewritten(bits) {
+        read_gfm_document(alloc, bytes, &options_with(constructs, choice.tab))
+    } else {
+        events_of(alloc, bytes, constructs, choice)
     }
 }
 

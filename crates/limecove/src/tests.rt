@@ -3,8 +3,8 @@
 
 use crate::bytes::limecove_document_bytes;
 use crate::choose::{
-    ALL_CONSTRUCTS, BLOCK_QUOTE, COMMONMARK, HTML_OPTIONS_SIZE, HtmlOptions, OPTIONS_SIZE, Options,
-    TEXT_OPTIONS_SIZE, TextOptions,
+    ALL_CONSTRUCTS, BLOCK_QUOTE, COMMONMARK, HTML_CONSTRUCTS, HTML_OPTIONS_SIZE, HtmlOptions,
+    OPTIONS_SIZE, Options, TEXT_OPTIONS_SIZE, TextOptions,
 };
 use crate::code::{NO_SUCH_BYTES, READ};
 use crate::document::Document;
@@ -135,6 +135,130 @@ const PARAGRAPH: &[Row] = &[
     (1, 0, Name::Paragraph, 1, 4, 3, NO_INDEX, NO_INDEX),
 ];
 
+/// Of `a@b.c`, as a paragraph with a literal.
+const LITERAL: &[Row] = &[
+    (0, 0, Name::Paragraph, 1, 1, 0, NO_INDEX, NO_INDEX),
+    (
+        0,
+        0,
+        Name::GfmAutolinkLiteralEmail,
+        1,
+        1,
+        0,
+        NO_INDEX,
+        NO_INDEX,
+    ),
+    (
+        1,
+        0,
+        Name::GfmAutolinkLiteralEmail,
+        1,
+        6,
+        5,
+        NO_INDEX,
+        NO_INDEX,
+    ),
+    (1, 0, Name::Paragraph, 1, 6, 5, NO_INDEX, NO_INDEX),
+];
+
+/// Of `- [x] a`, as an item with a check.
+const CHECKED: &[Row] = &[
+    (0, 0, Name::ListUnordered, 1, 1, 0, NO_INDEX, NO_INDEX),
+    (0, 0, Name::ListItem, 1, 1, 0, NO_INDEX, NO_INDEX),
+    (0, 0, Name::ListItemPrefix, 1, 1, 0, NO_INDEX, NO_INDEX),
+    (0, 0, Name::ListItemMarker, 1, 1, 0, NO_INDEX, NO_INDEX),
+    (1, 0, Name::ListItemMarker, 1, 2, 1, NO_INDEX, NO_INDEX),
+    (0, 0, Name::SpaceOrTab, 1, 2, 1, NO_INDEX, NO_INDEX),
+    (1, 0, Name::SpaceOrTab, 1, 3, 2, NO_INDEX, NO_INDEX),
+    (1, 0, Name::ListItemPrefix, 1, 3, 2, NO_INDEX, NO_INDEX),
+    (0, 0, Name::Paragraph, 1, 3, 2, NO_INDEX, NO_INDEX),
+    (
+        0,
+        0,
+        Name::GfmTaskListItemCheck,
+        1,
+        3,
+        2,
+        NO_INDEX,
+        NO_INDEX,
+    ),
+    (
+        0,
+        0,
+        Name::GfmTaskListItemMarker,
+        1,
+        3,
+        2,
+        NO_INDEX,
+        NO_INDEX,
+    ),
+    (
+        1,
+        0,
+        Name::GfmTaskListItemMarker,
+        1,
+        4,
+        3,
+        NO_INDEX,
+        NO_INDEX,
+    ),
+    (
+        0,
+        0,
+        Name::GfmTaskListItemValueChecked,
+        1,
+        4,
+        3,
+        NO_INDEX,
+        NO_INDEX,
+    ),
+    (
+        1,
+        0,
+        Name::GfmTaskListItemValueChecked,
+        1,
+        5,
+        4,
+        NO_INDEX,
+        NO_INDEX,
+    ),
+    (
+        0,
+        0,
+        Name::GfmTaskListItemMarker,
+        1,
+        5,
+        4,
+        NO_INDEX,
+        NO_INDEX,
+    ),
+    (
+        1,
+        0,
+        Name::GfmTaskListItemMarker,
+        1,
+        6,
+        5,
+        NO_INDEX,
+        NO_INDEX,
+    ),
+    (
+        1,
+        0,
+        Name::GfmTaskListItemCheck,
+        1,
+        6,
+        5,
+        NO_INDEX,
+        NO_INDEX,
+    ),
+    (0, 0, Name::Data, 1, 6, 5, NO_INDEX, NO_INDEX),
+    (1, 0, Name::Data, 1, 8, 7, NO_INDEX, NO_INDEX),
+    (1, 0, Name::Paragraph, 1, 8, 7, NO_INDEX, NO_INDEX),
+    (1, 0, Name::ListItem, 1, 8, 7, NO_INDEX, NO_INDEX),
+    (1, 0, Name::ListUnordered, 1, 8, 7, NO_INDEX, NO_INDEX),
+];
+
 /// Documents, the constructs that are on, the cut, the machine, whether its chunks are read too, and the events. The machine of documents, 8, reads
 /// block quotes, also where the document is to be cut; that of leaf blocks, 7, has none.
 const READS: &[(&[u8], u64, usize, u32, u32, &[Row])] = &[
@@ -148,11 +272,14 @@ const READS: &[(&[u8], u64, usize, u32, u32, &[Row])] = &[
     (b"> a", BLOCK_QUOTE, 1, 8, 1, QUOTE),
     (b"> a", BLOCK_QUOTE, 0, 7, 1, PARAGRAPH),
     (b"> a", 7, 0, 8, 1, PARAGRAPH),
+    (b"> a", HTML_CONSTRUCTS, 1, 8, 1, QUOTE),
+    (b"a@b.c", HTML_CONSTRUCTS, 0, 8, 1, LITERAL),
+    (b"- [x] a", HTML_CONSTRUCTS, 0, 8, 1, CHECKED),
 ];
 
 /// Whether a document is read into records, and by a reading, which is closed then.
 fn is_read(alloc: Global, document: &[u8], options: &Options, rows: &[Row]) -> bool {
-    let (mut records, mut copied) = ([OLD; 12], [OLD; 12]);
+    let (mut records, mut copied) = ([OLD; 24], [OLD; 24]);
     let mut reading = Reading::closed();
     let answer = limecove_read(alloc, document, options, &mut records);
     let opened = limecove_open(alloc, document, options, &mut reading);

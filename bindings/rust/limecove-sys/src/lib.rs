@@ -84,14 +84,14 @@ pub const DEFINITION: u64 = 524288;
 pub const COMMONMARK: u64 = 1048575;
 /// The bit of strikethrough of GFM.
 pub const GFM_STRIKETHROUGH: u64 = 1048576;
-/// The bits of all constructs. Up to version 3 they were 16383, and those from [`BLOCK_QUOTE`] on were on without bits. They grow with each construct
+/// The bits of all constructs that each call takes. Up to version 3 they were 16383, and those from [`BLOCK_QUOTE`] on were on without bits. They grow with each construct
 /// that is added; [`COMMONMARK`] stays.
 pub const ALL_CONSTRUCTS: u64 = 2097151;
-/// The bit of autolink literals of GFM, in HTML alone.
+/// The bit of autolink literals of GFM: in HTML, and in whole documents with their texts (machine 8, `deep`).
 pub const GFM_AUTOLINK_LITERAL: u64 = 2097152;
-/// The bit of checks of task list items of GFM, in HTML alone.
+/// The bit of checks of task list items of GFM: in HTML, and in whole documents with their texts.
 pub const GFM_TASK_LIST_ITEM: u64 = 4194304;
-/// The bits of all constructs that HTML has.
+/// The bits of all constructs that HTML has, and whole documents with their texts.
 pub const HTML_CONSTRUCTS: u64 = 8388607;
 
 /// The bit of HTML in the document, which is kept as HTML. Without it, it is shown as text.
@@ -138,7 +138,7 @@ pub struct Options {
     pub size: usize,
     /// The distance from one tab stop to the next, from 1 to 16 columns. 0 is 4.
     pub tab_size: usize,
-    /// The constructs that are on: the sum of their bits.
+    /// The constructs that are on: the sum of their bits, of [`ALL_CONSTRUCTS`]; of [`HTML_CONSTRUCTS`], if the machine is 8 and `deep` is not 0.
     pub constructs: u64,
     /// After how many virtual bytes the document is cut each time. If it is 0, the document is not cut.
     pub cut: usize,

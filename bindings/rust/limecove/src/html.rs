@@ -18,15 +18,17 @@ use std::mem::size_of;
 #[derive(Clone, Copy, Debug, Default, PartialEq, Eq, Hash)]
 pub struct HtmlOptions {
     parse: Options,
-    extensions: u64,
     allow: u64,
 }
 
 impl HtmlOptions {
-    /// The same, with the constructs and the tab size of these options. The rest of them is not looked at.
+    /// The same, with the constructs and the tab size of these options. Literals and task list items that were on stay on. The rest of them is not
+    /// looked at.
     #[must_use]
     pub const fn parse(mut self, parse: Options) -> HtmlOptions {
+        let extensions = self.parse.extensions | parse.extensions;
         self.parse = parse;
+        self.parse.extensions = extensions;
         self
     }
 
@@ -41,8 +43,9 @@ impl HtmlOptions {
     /// # Ok::<(), limecove::Error>(())
     /// ```
     #[must_use]
-    pub const fn gfm_autolink_literal(self, is_on: bool) -> HtmlOptions {
-        self.extended(limecove_sys::GFM_AUTOLINK_LITERAL, is_on)
+    pub const fn gfm_autolink_literal(mut self, is_on: bool) -> HtmlOptions {
+        self.parse = self.parse.gfm_autolink_literal(is_on);
+        self
     }
 
     /// The same, with or without task list items of GFM: `[ ]` and `[x]` in front of an item are checkboxes. The default is without.
@@ -56,8 +59,9 @@ impl HtmlOptions {
     /// # Ok::<(), limecove::Error>(())
     /// ```
     #[must_use]
-    pub const fn gfm_task_list_item(self, is_on: bool) -> HtmlOptions {
-        self.extended(limecove_sys::GFM_TASK_LIST_ITEM, is_on)
+    pub const fn gfm_task_list_item(mut self, is_on: bool) -> HtmlOptions {
+        self.parse = self.parse.gfm_task_list_item(is_on);
+        self
     }
 
     /// The same, with HTML in the document kept as HTML, or shown as text.
@@ -76,16 +80,6 @@ impl HtmlOptions {
     #[must_use]
     pub const fn allow_any_img_src(self, is_on: bool) -> HtmlOptions {
         self.with(limecove_sys::ALLOW_ANY_IMG_SRC, is_on)
-    }
-
-    /// The same, with an extension on or off.
-    const fn extended(mut self, bit: u64, is_on: bool) -> HtmlOptions {
-        self.extensions = if is_on {
-            self.extensions | bit
-        } else {
-            self.extensions & !bit
-        };
-        self
     }
 
     /// The same, with something let through or not.
@@ -150,7 +144,7 @@ pub fn to_html_bytes(document: impl AsRef<[u8]>, options: &HtmlOptions) -> Resul
     let options = limecove_sys::HtmlOptions {
         size: size_of::<limecove_sys::HtmlOptions>(),
         tab_size: text.tab_size.get(),
-        constructs: text.constructs | options.parse.blocks | options.extensions,
+        constructs: text.constructs | options.parse.blocks | options.parse.extensions,
         allow: options.allow,
     };
     let mut html = Vec::new();

@@ -25,7 +25,7 @@
 //! | spans, flat | [`spans`], [`spans_by_start`] | linear in the events, in any nesting |
 //! | spans, as a tree | [`Tree`], [`Node`] | made in linear time; about 100 bytes a span |
 //! | the span at a byte | [`Tree::node_at`] | a logarithm, and the depth there |
-//! | what a span is | [`Node::heading_level`], [`list`](Node::list), [`link`](Node::link), [`definition`](Node::definition), [`label`](Node::label), [`fence_info`](Node::fence_info), [`decoded`](Node::decoded), [`last_line`](Node::last_line) | in the size of what it looks at |
+//! | what a span is | [`Node::heading_level`], [`list`](Node::list), [`link`](Node::link), [`definition`](Node::definition), [`label`](Node::label), [`is_checked`](Node::is_checked), [`fence_info`](Node::fence_info), [`decoded`](Node::decoded), [`last_line`](Node::last_line) | in the size of what it looks at |
 //! | labels | [`normalized_label`], [`is_label`] | linear in the label |
 //! | lines and columns | [`LineIndex`], both ways | made in linear time; a logarithm to look up; many [`places`](LineIndex::places) in one walk |
 //!
@@ -253,6 +253,8 @@ pub struct Options {
     deep: bool,
     cut: Option<NonZeroUsize>,
     blocks: u64,
+    /// The constructs that only whole documents have, with their texts.
+    extensions: u64,
     text: TextOptions,
 }
 
@@ -263,6 +265,7 @@ impl Default for Options {
             deep: true,
             cut: None,
             blocks: BLOCKS,
+            extensions: 0,
             text: TextOptions::default(),
         }
     }
@@ -351,12 +354,67 @@ impl Options {
         self.with(limecove_sys::THEMATIC_BREAK, is_on)
     }
 
+    /// The same, with or without autolink literals of GFM: `www.a.b`, `https://a.b` and `a@b.c` in a text are links. The default is without.
+    ///
+    /// [`Machine::Document`] finds them, if it is deep. If another machine reads, it makes no difference, nor in a [`Document`].
+    ///
+    /// ```
+    /// use limecove::{Name, Options, Tree};
+    ///
+    /// let tree = Tree::read("see www.a.b.", &Options::default().gfm_autolink_literal(true))?;
+    /// let literal = tree.node_at(4).unwrap();
+    /// assert_eq!((literal.name(), literal.text()), (Name::GfmAutolinkLiteralWww, &b"www.a.b"[..]));
+    /// assert_eq!(literal.link()?.unwrap().destination, b"http://www.a.b");
+    /// # Ok::<(), limecove::Error>(())
+    /// ```
+    #[must_use]
+    pub const fn gfm_autolink_literal(self, is_on: bool) -> Options {
+        self.extended(limecove_sys::GFM_AUTOLINK_LITERAL, is_on)
+    }
+
+    /// The same, with or without task list items of GFM: `[ ]` and `[x]` in front of an item are checks. The default is without. It makes a
+    /// difference where [`gfm_autolink_literal`](Options::gfm_autolink_literal) does.
+    ///
+    /// ```
+    /// use limecove::{Options, Tree};
+    ///
+    /// let tree = Tree::read("- [ ] a\n- [x] b\n- c", &Options::default().gfm_task_list_item(true))?;
+    /// let list = tree.children().next().unwrap();
+    /// let items = list.children().filter(|part| part.name() == limecove::Name::ListItem);
+    /// let checks: Vec<_> = items.map(|item| item.is_checked()).collect();
+    /// assert_eq!(checks, [Some(false), Some(true), None]);
+    /// # Ok::<(), limecove::Error>(())
+    /// ```
+    #[must_use]
+    pub const fn gfm_task_list_item(self, is_on: bool) -> Options {
+        self.extended(limecove_sys::GFM_TASK_LIST_ITEM, is_on)
+    }
+
+    /// The bits of its constructs, as its machine takes them.
+    const fn constructs(&self) -> u64 {
+        let extensions = match self.machine {
+            Machine::Document if self.deep => self.extensions,
+            _ => 0,
+        };
+        self.text.constructs | self.blocks | extensions
+    }
+
     /// The same, with a construct of blocks on or off.
     const fn with(mut self, bit: u64, is_on: bool) -> Options {
         self.blocks = if is_on {
             self.blocks | bit
         } else {
             self.blocks & !bit
+        };
+        self
+    }
+
+    /// The same, with an extension on or off.
+    const fn extended(mut self, bit: u64, is_on: bool) -> Options {
+        self.extensions = if is_on {
+            self.extensions | bit
+        } else {
+            self.extensions & !bit
         };
         self
     }

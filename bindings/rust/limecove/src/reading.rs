@@ -69,7 +69,7 @@ impl Reading {
         let options = limecove_sys::Options {
             size: size_of::<limecove_sys::Options>(),
             tab_size: options.text.tab_size.get(),
-            constructs: options.text.constructs | options.blocks,
+            constructs: options.constructs(),
             cut: options.cut.map_or(0, NonZeroUsize::get),
             machine: options.machine as u32,
             deep: u32::from(options.deep && options.machine.links_text()),

@@ -12,7 +12,7 @@ use std::ops::Range;
 #[non_exhaustive]
 pub struct Target<'a> {
     /// The destination, with what escapes and references stand for. It is as the document has it: any scheme, and no `%` added. An
-    /// address of mail begins with `mailto:`.
+    /// address of mail begins with `mailto:`, and that of a literal of GFM that begins with `www.`, with `http://`.
     pub destination: Vec<u8>,
     /// The title, if there is one, with what escapes and references stand for.
     pub title: Option<Vec<u8>>,
@@ -26,9 +26,9 @@ pub struct Target<'a> {
 }
 
 impl<'a> Node<'a> {
-    /// Where a link, an image, an autolink or a definition goes. `None` if it is none of these. By reference it goes where its
-    /// [`definition`](Node::definition) says. Without one, as in a tree of a section [whose document's definitions](Tree::with_definitions) it does
-    /// not have, that is `None` too.
+    /// Where a link, an image, an autolink, an autolink literal of GFM or a definition goes. `None` if it is none of these. By reference it goes
+    /// where its [`definition`](Node::definition) says. Without one, as in a tree of a section
+    /// [whose document's definitions](Tree::with_definitions) it does not have, that is `None` too.
     ///
     /// It takes time in proportion to the destination, the title and the children of the label. Only by [`Machine::Document`](crate::Machine)
     /// are escapes and references in destinations and titles spans. They are found here, unless they are off.
@@ -53,6 +53,11 @@ impl<'a> Node<'a> {
             Name::Link | Name::Image => {}
             Name::Definition => return self.said(None, Some(*self)).map(Some),
             Name::Autolink => return self.autolink(),
+            Name::GfmAutolinkLiteralWww => return self.address(b"http://").map(Some),
+            Name::GfmAutolinkLiteralEmail => return self.address(b"mailto:").map(Some),
+            Name::GfmAutolinkLiteralMailto
+            | Name::GfmAutolinkLiteralProtocol
+            | Name::GfmAutolinkLiteralXmpp => return self.address(b"").map(Some),
             _ => return Ok(None),
         }
         let label = self.child(Name::Label);
@@ -122,22 +127,27 @@ impl<'a> Node<'a> {
     fn autolink(&self) -> Result<Option<Target<'a>>, Error> {
         let is_address =
             |part: &Node<'_>| matches!(part.name(), Name::AutolinkProtocol | Name::AutolinkEmail);
-        let address = match self.children().find(is_address) {
-            Some(address) => address,
-            None => return Ok(None),
-        };
-        let mut destination = Text::new();
-        if address.name() == Name::AutolinkEmail {
-            destination.add_bytes(b"mailto:")?;
+        match self.children().find(is_address) {
+            Some(address) if address.name() == Name::AutolinkEmail => {
+                address.address(b"mailto:").map(Some)
+            }
+            Some(address) => address.address(b"").map(Some),
+            None => Ok(None),
         }
-        destination.add_text(address.text())?;
-        Ok(Some(Target {
+    }
+
+    /// Where what is written in it as an address goes, with a scheme before it.
+    fn address(&self, scheme: &[u8]) -> Result<Target<'a>, Error> {
+        let mut destination = Text::new();
+        destination.add_bytes(scheme)?;
+        destination.add_text(self.text())?;
+        Ok(Target {
             destination: destination.into_bytes(),
             title: None,
-            label: Some(address),
+            label: Some(*self),
             definition: None,
             defined_at: None,
-        }))
+        })
     }
 }
 

@@ -408,6 +408,31 @@ impl<'a> Node<'a> {
         }
     }
 
+    /// Whether a check of GFM is checked, or an item of a list with one. `None` if it is no check and has none.
+    ///
+    /// ```
+    /// use limecove::{Name, Options, Tree};
+    ///
+    /// let tree = Tree::read("- [x] a", &Options::default().gfm_task_list_item(true))?;
+    /// let check = tree.nodes().find(|node| node.name() == Name::GfmTaskListItemCheck).unwrap();
+    /// assert_eq!((check.text(), check.is_checked()), (&b"[x]"[..], Some(true)));
+    /// # Ok::<(), limecove::Error>(())
+    /// ```
+    pub fn is_checked(&self) -> Option<bool> {
+        let check = match self.name() {
+            Name::GfmTaskListItemCheck => *self,
+            Name::ListItem => self
+                .child(Name::Paragraph)?
+                .child(Name::GfmTaskListItemCheck)?,
+            _ => return None,
+        };
+        check.children().find_map(|part| match part.name() {
+            Name::GfmTaskListItemValueChecked => Some(true),
+            Name::GfmTaskListItemValueUnchecked => Some(false),
+            _ => None,
+        })
+    }
+
     /// The info string of fenced code, as CommonMark has it: all that follows the opening fence, but for blanks at its ends, with escapes
     /// and references decoded. `None` if there is none, or it is no fenced code. The language is its first word.
     ///

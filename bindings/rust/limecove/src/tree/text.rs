@@ -73,6 +73,11 @@ impl Text {
             | Name::CharacterEscapeValue
             | Name::AutolinkProtocol
             | Name::AutolinkEmail
+            | Name::GfmAutolinkLiteralEmail
+            | Name::GfmAutolinkLiteralMailto
+            | Name::GfmAutolinkLiteralProtocol
+            | Name::GfmAutolinkLiteralWww
+            | Name::GfmAutolinkLiteralXmpp
             | Name::CodeTextData => self.add_text(node.text())?,
             Name::CodeFlowChunk => self.add_cut(node)?,
             Name::LineEnding | Name::BlankLineEnding => self.add_bytes(b"\n")?,

@@ -1,0 +1,4 @@
+-- documents
+pub mod Documents
+-- laws
+pub mod Laws

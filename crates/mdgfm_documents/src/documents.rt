@@ -1,0 +1,46 @@
+//! The events of a document with checks of task list items and with autolink literals.
+
+ghost use Rattle.std.specs.Prelude.{◌≡◌, IfOk, IsOk, false};
+ghost use Rattle.markdown_base.specs.Events.{IsBalanced, IsInOrder};
+ghost use Rattle.markdown_base.specs.Virtual.{IsWithinLimit};
+ghost use Rattle.mdgfm_documents.specs.Documents.{gfm_events, with_gfm};
+
+use markdown_base::configuration::ParseOptions;
+use markdown_base::event::Event;
+use mddocument::documents::read_document;
+use mdgfm_literals::events::with_literals;
+use mdgfm_tasks::events::with_tasks;
+use std::alloc::{AllocError, Global};
+
+/// The events of a document with checks of task list items, and then with autolink literals, each if its option is on. It fails only if it runs out of
+/// memory.
+///
+/// Without these options they are returned as they are, and not copied.
+pub fn with_gfm(
+    alloc: Global,
+    bytes: &[u8],
+    options: &ParseOptions,
+    events: Vec<Event>,
+) -> Result<Vec<Event>, AllocError>
+    ensures events { IfOk result (λ all. all.items ≡ with_gfm options.now bytes.now events.items) }
+    ensures off { options.now.constructs.gfm_task_list_item ≡ false → options.now.constructs.gfm_autolink_literal ≡ false → IsOk result }
+{
+    let tasks = with_tasks(alloc, bytes, options, events)?;
+    with_literals(alloc, bytes, options, tasks)
+}
+
+/// The events of a document: those of `read_document`, with checks of task list items and with autolink literals, each if its option is on. They are
+/// balanced, and in order of place. It fails only if it runs out of memory.
+pub fn read_gfm_document(
+    alloc: Global,
+    bytes: &[u8],
+    options: &ParseOptions,
+) -> Result<Vec<Event>, AllocError>
+    requires limit { IsWithinLimit options.now.tab_size bytes.now }
+    ensures events { IfOk result (λ all. all.items ≡ gfm_events options.now bytes.now) }
+    ensures balanced { IfOk result (λ all. IsBalanced all.items) }
+    ensures order { IfOk result (λ all. IsInOrder bytes.now all.items) }
+{
+    let events = read_document(alloc, bytes, options)?;
+    with_gfm(alloc, bytes, options, events)
+}

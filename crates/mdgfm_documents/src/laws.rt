@@ -1,0 +1,24 @@
+//! Laws of documents with checks and literals. Each is a function that does nothing; its contract is the law.
+
+ghost use Rattle.mdgfm_documents.specs.Laws.{GfmIsBalanced, GfmIsInOrder, GfmIsNamed, OffIsDocument, OrderIsKept};
+
+/// Without both options the events are those of the document.
+pub fn gfm_off()
+    ensures { OffIsDocument }
+{}
+
+/// The events of each document are balanced.
+pub fn gfm_documents_are_balanced()
+    ensures { GfmIsBalanced }
+{}
+
+/// The events of each document are in order of place, and so are events in order with checks and literals.
+pub fn gfm_documents_are_in_order()
+    ensures kept { OrderIsKept }
+    ensures documents { GfmIsInOrder }
+{}
+
+/// They bring no names but those of checks and literals, and those of white space and data.
+pub fn gfm_documents_have_names()
+    ensures { GfmIsNamed }
+{}

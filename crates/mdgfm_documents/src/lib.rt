@@ -1,0 +1,7 @@
+//! Documents with what GFM adds by rewriting events: checks of task list items, and autolink literals.
+#![tactic(auto)]
+
+// documents: their events
+pub mod documents;
+// laws: what these events are
+pub mod laws;
