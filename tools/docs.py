@@ -37,7 +37,7 @@ PATHS = set(FILES) | {f[:i] for f in FILES for i in range(len(f)) if f[i] == "/"
 PAGES = ["README.md", "CHANGELOG.md"] + [f for f in FILES if f.startswith("docs/") and f.endswith(".md")]
 MAP = "docs/maintaining/MAP.md"
 # Words in backticks that are of Rust, of the system or of the prover
-FOREIGN = set("unsafe debug_assert unwrap respects_eq allocate cap ptr grep steal Lts rattle-kit-13f _rows NAME_in".split())
+FOREIGN = set("unsafe debug_assert unwrap respects_eq allocate cap ptr grep steal Lts rattle-kit-13b rattle-kit-13f _rows NAME_in".split())
 TRAITS = {"Read", "Write"}  # their methods are used without their names
 FENCE = re.compile(r"^```(\w+) (\S+)((?: \S+)*)\n(.*?)^```$", flags=re.S | re.M)
 FILE = re.compile(r"[\w./+-]+\.(?:rt|antt|md|py|sh|edit|txt)|(?:crates|docs|tools|bench|bindings|wrong-bodies|specs|proofs|src)/[\w./+-]*")
