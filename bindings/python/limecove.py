@@ -169,7 +169,7 @@ NAMES = (
 # Bits of constructs: those of CommonMark, which are on by default, and three of GFM. The other bits are in limecove.h.
 COMMONMARK = 1048575
 GFM_STRIKETHROUGH = 1048576
-# these two for HTML alone
+# these two rewrite the events of a document
 GFM_AUTOLINK_LITERAL = 2097152
 GFM_TASK_LIST_ITEM = 4194304
 

@@ -69,11 +69,14 @@ class Calls(unittest.TestCase):
                 self.assertEqual((raised.exception.code, str(raised.exception)), (code, said))
         with self.assertRaisesRegex(limecove.Error, "no such permission"):
             limecove.html("a", allow=8)
-        with self.assertRaises(limecove.Error):
-            limecove.events("a", constructs=limecove.GFM_TASK_LIST_ITEM)
         for other in (5, None, ["a"]):
             self.assertRaises(TypeError, limecove.events, other)
         self.assertEqual(limecove.events(bytearray(b"a")), limecove.events("a"))
+
+    def test_tasks_are_checks_if_their_bit_is_on(self):
+        for constructs, wanted in [(limecove.COMMONMARK, 0), (limecove.COMMONMARK | limecove.GFM_TASK_LIST_ITEM, 1)]:
+            found = [it.name for it in limecove.events("- [x] a", constructs=constructs) if it.is_enter]
+            self.assertEqual(found.count("GfmTaskListItemCheck"), wanted)
 
     def test_threads_call_at_the_same_time(self):
         document = "a `b` *c*\n" * 200
