@@ -16,3 +16,7 @@ pub mod Innermost
 mod Tiled
 -- ranges
 mod RangeReads
+-- walks, for laws: what holds of single marks holds of skeletons and leaf blocks
+pub mod Walks
+-- references: their bytes stand side by side in the document
+pub mod ReferenceBytes

@@ -56,7 +56,7 @@ pub use Rattle.mdblock_definitions.specs.Rows.{Known, is_behind_text, is_used_up
 pub use Rattle.mddocument.proofs.Innermost.Lined.{LinedFor, lined-cut}
 pub use Rattle.mddocument.specs.DocumentEvents.{document_events}
 pub use Rattle.mddocument.specs.Documents.{AreDocumentEvents, document}
-pub use Rattle.mddocument_laws.proofs.ReferenceBytes.{IsWritten, dark-shown, is_dark, written-virtual}
+pub use Rattle.mddocument.proofs.ReferenceBytes.{IsWritten, dark-shown, is_dark, written-virtual}
 pub use Rattle.mddocument_parts.proofs.ChildrenOfBoth.{no-further}
 pub use Rattle.mddocument_parts.proofs.LineFronts.{line-ahead, line-behind}
 pub use Rattle.mddocument_parts.specs.Asked.{asked_from, asked_labels, if_label, label_ahead, label_behind, labels_at, looked_up, own_label}

@@ -2,9 +2,9 @@
 use Rattle.mddocument_laws.proofs.Prelude.{◌≡◌, ℕ, zero, suc, ◌+◌, ◌⊎◌, List, [], ◌∷◌, ◌++◌, inl, inr, Some, None, Option, refl, ap, take, drop, length, All-contains_itself, All-from_recursion, recursion_from_All, AllByRecursion, Contains, every-append, every-drop, every-take, Constructs, Event, Name, shown, Seat, end_after, every-back, every-front, all_of, lines_in, block_lines, Line, LeafBlock, atx_heading, blank_line, block_of_kind, blocks_in, ends_text, further_code, lines_through, lines_until, text_of, underlined, fenced_code, leaf_blocks, paragraph, setext_heading, Chunk, Mark, chunk_span, flow_events, leaf_block_marks, leaf_blocks_marks, linked_from, LineKind, blank, closes, fence, heading, html, indented, line_kind, text, thematic_break, underline_rank}
 use Rattle.mdblock_containers.proofs.PlainLetters.{lines_each}
 use Rattle.markdown_base.specs.declared.event.Name.TheVariants as name
-use Rattle.mddocument_laws.proofs.BlockWalk.{MayBlock, block-are}
-use Rattle.mddocument_laws.proofs.InnerTexts.{AnySeat, any-lines}
-use Rattle.mddocument_laws.proofs.MarksWalk.{Walk}
+use Rattle.mddocument.proofs.Walks.BlockWalk.{MayBlock, block-are}
+use Rattle.mddocument.proofs.Walks.InnerTexts.{AnySeat, any-lines}
+use Rattle.mddocument.proofs.Walks.MarksWalk.{Walk}
 use Rattle.mddocument_laws.specs.BlockPlaces.{BlocksStandInLines, LeafBlocksStandInTexts, StandsAtOne}
 
 -- names do not matter

@@ -11,7 +11,7 @@ use Rattle.mddocument_laws.proofs.DocumentNames.{skeleton-around}
 use Rattle.mddocument_laws.proofs.FlowNames.{flow-named-by}
 use Rattle.mddocument_laws.proofs.Inside.{around-other}
 use Rattle.mddocument_laws.proofs.Named.{Named, weaker}
-use Rattle.mddocument_laws.proofs.ReferenceBytes.{IsWritten, written-virtual}
+use Rattle.mddocument.proofs.ReferenceBytes.{IsWritten, written-virtual}
 use Rattle.mddocument_laws.proofs.ReferenceItems.{NoReference, Fits, read-has, string-has}
 use Rattle.markdown_children.proofs.Parts.TextGaps.{lone-untorn}
 use Rattle.mddocument_laws.proofs.ReferenceChildren.{children-whole}

@@ -1,8 +1,8 @@
 -- The events of leaf blocks have names of the constructs that are on.
 use Rattle.mddocument_laws.proofs.Prelude.{◌≡◌, ℕ, zero, suc, List, [], ◌∷◌, true, false, cond, not, Some, None, Option, refl, length, and_parts, cond_both, or_left, or_right, none-some, AllByRecursion, ◌&&◌, ◌||◌, Constructs, Name, Seat, lines_in, block_lines, HtmlKind, html_kind, Line, LeafBlock, atx_heading, blank_line, block_of_kind, blocks_in, break_line, content_at, fenced_code, html_block, indented_code, leaf_blocks, paragraph, setext_heading, text_of, underlined, Mark, flow_events, leaf_block_marks, LineKind, blank, fence, heading, html, indent, indented, is_atx_heading, is_blank_line, is_far, is_fence_of, is_thematic_break, is_underline_of_marks, kind_of_rest, line_kind, run, text, thematic_break, underline_rank, unindented, may_be_named}
 use Rattle.markdown_base.specs.declared.event.Name.TheVariants as name
-use Rattle.mddocument_laws.proofs.BlockWalk.{MayBlock, block-are}
-use Rattle.mddocument_laws.proofs.InnerTexts.{AnySeat, any-each, any-lines}
+use Rattle.mddocument.proofs.Walks.BlockWalk.{MayBlock, block-are}
+use Rattle.mddocument.proofs.Walks.InnerTexts.{AnySeat, any-each, any-lines}
 use Rattle.mddocument_laws.proofs.Named.{Marked, Named, around, linked-named, marked-flat-by, names-walk, none}
 
 -- ---- a block's construct is on

@@ -13,11 +13,8 @@ pub mod RowNames
 pub mod RunNames
 pub mod SkeletonNames
 pub mod SpanNames
--- walks: what holds of single marks holds of skeletons and leaf blocks, and what holds of spans holds of links
-pub mod BlockWalk
+-- walks: what holds of spans holds of links
 pub mod LinkWalk
-pub mod MarksWalk
-pub mod SkeletonWalk
 -- beginnings
 pub mod BlockPlaces
 mod Examples
@@ -34,7 +31,6 @@ pub mod Emphasis
 pub mod EmphasisEvents
 -- references
 pub mod DocumentReferences
-pub mod ReferenceBytes
 pub mod ReferenceChildren
 mod ReferenceExamples
 pub mod ReferenceItems
@@ -46,6 +42,5 @@ pub mod ReferenceSpelling
 pub mod ReferencesStand
 -- children: where chains are replaced by what they are read as, or brackets by links: which events there are
 pub mod ChildEvents
-pub mod InnerTexts
 pub mod LinkEvents
 pub mod WholeSpans

@@ -1,8 +1,8 @@
 -- What names lists of events and of marks have, by what they are made of.
 use Rattle.mddocument_laws.proofs.Prelude.{ℕ, ◌+◌, Bool, true, List, [], ◌∷◌, ◌++◌, Some, None, Option, AllByRecursion, flat_map, every-append, every-map, Event, Name, Seat, ending_of, line_text, leaf, span, Line, Chunk, Mark, chunk_span, last_end, leaf_marks, linked_from, sequence_marks, text_marks}
 use Rattle.markdown_base.specs.declared.event.Name.TheVariants as name
-use Rattle.mddocument_laws.proofs.InnerTexts.{AnySeat}
-use Rattle.mddocument_laws.proofs.MarksWalk.{Walk, walk-of-marks}
+use Rattle.mddocument.proofs.Walks.InnerTexts.{AnySeat}
+use Rattle.mddocument.proofs.Walks.MarksWalk.{Walk, walk-of-marks}
 
 module _ (P : Name → Type 0) where
   -- each event has a name of P

@@ -1,7 +1,7 @@
 -- What bytes begin with, where a character reference is.
 use Rattle.mddocument_laws.proofs.Prelude.{◌≡◌, ℕ, List, Bool, true, false, cond, drop, Some, None, refl, sym, ap, ◌∙◌, subst, take, and_parts, false≢true, drop-drop, prefix_len, is_some, ◌&&◌, has_byte_at, is_ampersand, passes, Kind, body_at, decimal, hexadecimal, is_number_sign, is_semicolon, is_value, is_value_byte, is_x, marks, named, number_at, reference, reference_at, value_at, BeginsWithReference, ReferencesAreWritten}
 use Rattle.markdown_base.proofs.Facts.Lists.{get-dropped}
-use Rattle.mddocument_laws.proofs.ReferenceBytes.{some-cond}
+use Rattle.mddocument.proofs.ReferenceBytes.{some-cond}
 
 -- a value, with its semicolon, and how many bytes it has
 record IsValued (kind : Kind) (text : List ℕ) : Type 0 where

@@ -8,7 +8,7 @@ use Rattle.mdinline_characters.specs.References.{characters_of}
 use Rattle.mdinline_text_machine.proofs.Autolinks.Calls.{byte-within}
 use Rattle.mdinline_text_machine.specs.Parts.{bytes_of}
 use Rattle.mddocument_laws.proofs.Named.{Named, and, leafed, spanned}
-use Rattle.mddocument_laws.proofs.ReferenceBytes.{IsWritten, dark-shown, front-reference, is_dark, next-dark, reference-there, text-agrees}
+use Rattle.mddocument.proofs.ReferenceBytes.{IsWritten, dark-shown, front-reference, is_dark, next-dark, reference-there, text-agrees}
 use Rattle.mddocument_laws.proofs.ReferenceKinds.{references-are-written}
 use Rattle.mddocument_laws.proofs.ReferenceSpans.{AreWhole, Begins, Closes, Goes, GoesOn, behind, outside}
 

@@ -1,12 +1,12 @@
 -- The events of containers and of definitions have names of the constructs that are on.
 use Rattle.mddocument_laws.proofs.Prelude.{◌≡◌, ℕ, suc, List, [], ◌∷◌, true, Some, None, Option, refl, AllByRecursion, every-map, Constructs, Name, Seat, every-all, line_text, lines_in, Mark, Container, Prefix, item, quote, Row, Part, chained_from, rows, Inside, Section, defined, lines, all_rows, sections_in_seats, sections_marks, skeleton}
 use Rattle.markdown_base.specs.declared.event.Name.TheVariants as name
-use Rattle.mddocument_laws.proofs.InnerTexts.{AnySeat, any-seats}
-use Rattle.mddocument_laws.proofs.MarksWalk.{Walk}
+use Rattle.mddocument.proofs.Walks.InnerTexts.{AnySeat, any-seats}
+use Rattle.mddocument.proofs.Walks.MarksWalk.{Walk}
 use Rattle.mddocument_laws.proofs.Named.{Marked, Named, around, names-walk, none}
 use Rattle.mddocument_laws.proofs.PlainNames.{stands_bare}
 use Rattle.mddocument_laws.proofs.RowNames.{InsideIsOn, IsOn, PartIsOn, PrefixesAreOn, RowIsOn, SectionIsOn, SectionsAreOn, list-on, rows-on, sections-on}
-use Rattle.mddocument_laws.proofs.SkeletonWalk.{AreOfDefinition, InsideMay, MayHold, PartMay, PrefixesMay, RowAt, SectionMay, sections-are}
+use Rattle.mddocument.proofs.Walks.SkeletonWalk.{AreOfDefinition, InsideMay, MayHold, PartMay, PrefixesMay, RowAt, SectionMay, sections-are}
 
 module _ (on : Constructs) (bytes : List ℕ) where
   abbrev May : Name → Type 0

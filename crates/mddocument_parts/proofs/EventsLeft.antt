@@ -65,10 +65,10 @@ use Rattle.mddocument.proofs.InContainers.Skeletons.{skeleton-laws}
 use Rattle.mddocument.proofs.InContainers.Texts.{blocks-textual}
 use Rattle.mddocument.proofs.InContainers.TextsFormed.{content-ready, strings-ready}
 use Rattle.mddocument.specs.DocumentEvents.{document_events, document_texts, is_defined_in}
-use Rattle.mddocument_laws.proofs.BlockWalk.{MayBlock, block-are}
-use Rattle.mddocument_laws.proofs.InnerTexts.{AnySeat, any-each}
-use Rattle.mddocument_laws.proofs.MarksWalk.{Walk, walk-of-marks}
-use Rattle.mddocument_laws.proofs.SkeletonWalk.{AreOfDefinition, InsideMay, MayHold, PrefixesMay, RowAt, SectionMay, sections-are}
+use Rattle.mddocument.proofs.Walks.BlockWalk.{MayBlock, block-are}
+use Rattle.mddocument.proofs.Walks.InnerTexts.{AnySeat, any-each}
+use Rattle.mddocument.proofs.Walks.MarksWalk.{Walk, walk-of-marks}
+use Rattle.mddocument.proofs.Walks.SkeletonWalk.{AreOfDefinition, InsideMay, MayHold, PrefixesMay, RowAt, SectionMay, sections-are}
 use Rattle.mddocument_parts.proofs.TextLines.{AreInner, AreTextLines, AreTextSeats, lines-of-texts, text-blocks}
 
 -- ==== Where chains are replaced by children, each event is one of the list that no chunk removes, or one of a child, but for the ends of its link.

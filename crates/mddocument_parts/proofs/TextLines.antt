@@ -10,8 +10,8 @@ use Rattle.mdblock_leaf_blocks.proofs.Marks.Cuts.{leaf-blocks-lines}
 use Rattle.mdblock_leaf_blocks.specs.BlockLines.{block_lines}
 use Rattle.mdblock_leaf_blocks.specs.LeafBlocks.{LeafBlock, Line, leaf_blocks}
 use Rattle.mdblock_leaf_blocks.specs.LeafEvents.{body}
-pub use Rattle.mddocument_laws.proofs.InnerTexts.{AnySeat, AreInner, AreTextLines, inner-text, texts-front}
-use Rattle.mddocument_laws.proofs.InnerTexts.{any-lines}
+pub use Rattle.mddocument.proofs.Walks.InnerTexts.{AnySeat, AreInner, AreTextLines, inner-text, texts-front}
+use Rattle.mddocument.proofs.Walks.InnerTexts.{any-lines}
 use Rattle.mddocument_parts.specs.Moved.{begins_line}
 use Rattle.mddocument_parts.specs.ReadTexts.{StandsBefore}
 use Rattle.mddocument_parts.proofs.Virtual.{step}

@@ -2,7 +2,7 @@
 use Rattle.mddocument_rules.proofs.Prelude.{◌≡◌, ℕ, List, [], ◌++◌, true, refl, AllByRecursion, Name, Seat, every-all, Definition, line_text, Mark, leaf_marks, span_marks, Container, Prefix, item, quote, Row, begun_marks, prefixes_marks, AnySeat, any-seats, Walk, leafs, AreInDefinition, MayPrefix, RowAt, definitions-are, places, prefixes}
 use Rattle.markdown_base.specs.declared.event.Name.TheVariants as name
 use Rattle.mdblock_definitions.specs.Definitions.{definitions_marks, places_in}
-use Rattle.mddocument_laws.proofs.SkeletonWalk.{begins}
+use Rattle.mddocument.proofs.Walks.SkeletonWalk.{begins}
 use Rattle.mddocument_rules.proofs.Places.{is_free}
 
 abbrev pub FreeName : Name → Type 0

@@ -3,7 +3,7 @@ use Rattle.mddocument_rules.proofs.Prelude.{◌≡◌, ◌+◌, ◌-◌, ℕ, Li
 use Rattle.markdown_base.specs.declared.event.Content.TheVariants as content
 use Rattle.markdown_base.specs.declared.event.Name.TheVariants as name
 use Rattle.mdconstructs_tables.proofs.Rows.Misfits.{none-left}
-use Rattle.mddocument_laws.proofs.BlockWalk.{breaks, codes, fenced, headings, htmls, in-lines, last-ends, underlines}
+use Rattle.mddocument.proofs.Walks.BlockWalk.{breaks, codes, fenced, headings, htmls, in-lines, last-ends, underlines}
 use Rattle.mddocument_rules.proofs.Definitions.{IsKept}
 use Rattle.mddocument_rules.proofs.Passes.{free-kept, AsBlocks, Free, Passes, alone-stand, blocks-both, blocks-flat, chunk-passes, free-as-blocks, free-leaf, linked-stand, passes-both, passes-none, span-passes, string-free}
 use Rattle.mddocument_rules.proofs.Places.{NotInList, Stands, blocks-apart, free-may, texts-apart, walks-stand}

@@ -38,9 +38,9 @@ pub use Rattle.mdblock_definitions.specs.Blocks.{document_blocks, document_skele
 pub use Rattle.mdblock_definitions.specs.Rows.{Known, known_after, row_of, rows, rows_from}
 pub use Rattle.mdblock_definitions.specs.Sections.{Inside, Section, before_defined, begins_text, cut, defined, defined_in, defining, in_same, lines, paragraph_of, sections, sections_in, sections_of, text_in, undefined}
 pub use Rattle.mdblock_definitions.specs.Skeleton.{all_rows, behind_marks, inside_marks, section_marks, sections_marks}
-pub use Rattle.mddocument_laws.proofs.InnerTexts.{AnySeat, any-each, any-lines, any-seats}
-pub use Rattle.mddocument_laws.proofs.MarksWalk.{Walk, leafs, whites}
-pub use Rattle.mddocument_laws.proofs.SkeletonWalk.{AreInDefinition, MayPrefix, PieceIs, RowAt, definitions-are, places, prefixes, stretch-is}
+pub use Rattle.mddocument.proofs.Walks.InnerTexts.{AnySeat, any-each, any-lines, any-seats}
+pub use Rattle.mddocument.proofs.Walks.MarksWalk.{Walk, leafs, whites}
+pub use Rattle.mddocument.proofs.Walks.SkeletonWalk.{AreInDefinition, MayPrefix, PieceIs, RowAt, definitions-are, places, prefixes, stretch-is}
 pub use Rattle.mddocument_rules.specs.Standing.{all_stand, between_names, holds_blocks, inline_names, is_in, may_stand, text_names}
 pub use Rattle.mddocument_rules.specs.StandingLaws.{BlocksStand, LeafBlocksStand, SkeletonsStand}
 pub use Rattle.mddocument_rules.specs.TextLaws.{EmphasisStands, IsPiece, LinksStand, StandApart, StandInTexts}

@@ -16,14 +16,14 @@ pub use Rattle.std.specs.Str.{bytes_eq}
 pub use Rattle.markdown.specs.Virtual.{IsWithinLimit}
 pub use Rattle.markdown.specs.declared.event.Event.{Event}
 pub use lib.Ieee.Fits.{and_l, and_r}
-pub use Rattle.mdconstructs.specs.Choices.{choice_together}
+pub use Rattle.mddocument.specs.Choices.{choice_together}
 pub use Rattle.mdevents_program.specs.Arguments.{Spelled, at_most_one, cut, cut_in, deep, deep_in, machine, machine_in, options_of, tab, tab_in, which_of}
 pub use Rattle.mdevents_program.specs.ArgumentsInner.{chosen_after, with_value}
 pub use Rattle.mdevents_program.specs.Printed.{event_line, printed_events, printed_point}
 pub use Rattle.mdevents_program.specs.Program.{ArePrintedEvents}
 pub use Rattle.mdprograms.specs.Numbers.{decimal_of, tab_size_of}
-pub use Rattle.mdconstructs.specs.declared.choice.Choice.{Choice}
+pub use Rattle.mddocument.specs.declared.choice.Choice.{Choice}
 pub use Rattle.mdevents_program.specs.declared.arguments.SoFar.{SoFar}
-pub use Rattle.mdconstructs.specs.declared.choice.Which.{Which}
-pub use Rattle.mdconstructs.specs.declared.choice.Which.TheVariants.{Lines}
+pub use Rattle.mddocument.specs.declared.choice.Which.{Which}
+pub use Rattle.mddocument.specs.declared.choice.Which.TheVariants.{Lines}
 pub use Rattle.mdevents_program.specs.declared.digits.TheConstants.{PAIRS}

@@ -2,10 +2,10 @@
 use Rattle.std.specs.Prelude.{ℕ, Bool, true, false, List, [], ◌∷◌, Option, Some, None, unwrap_or, codes, cond, filter_map}
 use Rattle.std.specs.Option.{option_and_then, option_map}
 use Rattle.std.specs.Str.{bytes_eq}
-use Rattle.mdconstructs.specs.declared.choice.Choice.{Choice}
-use Rattle.mdconstructs.specs.declared.choice.Which.{Which}
-use Rattle.mdconstructs.specs.declared.choice.Which.TheVariants.{Lines, Paragraphs, Peek, Deep, Back, Save, Text, Flow, Document}
-use Rattle.mdconstructs.specs.Choices.{choice_together}
+use Rattle.mddocument.specs.declared.choice.Choice.{Choice}
+use Rattle.mddocument.specs.declared.choice.Which.{Which}
+use Rattle.mddocument.specs.declared.choice.Which.TheVariants.{Lines, Paragraphs, Peek, Deep, Back, Save, Text, Flow, Document}
+use Rattle.mddocument.specs.Choices.{choice_together}
 use Rattle.mdprograms.specs.Numbers.{decimal_of, tab_size_of}
 
 -- the machine of a name

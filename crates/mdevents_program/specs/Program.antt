@@ -2,8 +2,8 @@
 use Rattle.std.specs.Prelude.{◌≡◌, ℕ, List, Option}
 use Rattle.markdown.specs.declared.event.Event.{Event}
 use Rattle.markdown.specs.Presets.{default_constructs}
-use Rattle.mdconstructs.specs.declared.choice.Choice.{Choice}
-use Rattle.mdconstructs.specs.Documents.{AreEventsOf, options_with}
+use Rattle.mddocument.specs.declared.choice.Choice.{Choice}
+use Rattle.mddocument.specs.Documents.{AreEventsOf, options_with}
 use Rattle.mdevents_program.specs.Printed.{printed_events}
 use Rattle.mdprograms.specs.Input.{IsReadToEnd}
 

@@ -1,13 +1,13 @@
 //! The program's command-line arguments.
 
 ghost use Rattle.std.specs.Prelude.{◌≡◌, ◌≤◌, IfSome, map, string_bytes};
-ghost use Rattle.mdconstructs.specs.Choices.{CanCut};
+ghost use Rattle.mddocument.specs.Choices.{CanCut};
 ghost use Rattle.mdevents_program.specs.Arguments.{choice_of_words, which_of};
 ghost use Rattle.mdevents_program.specs.ArgumentsInner.{once, with_value, taken_of, chosen_after};
 
 use markdown::configuration::TabSize;
-use mdconstructs::choice::links_text;
-pub use mdconstructs::choice::{Choice, Which};
+use mddocument::choice::links_text;
+pub use mddocument::choice::{Choice, Which};
 use mdprograms::numbers::{read_number, read_tab_size};
 
 /// The usage line. It is shown if the arguments are not accepted.

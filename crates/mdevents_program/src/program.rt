@@ -2,7 +2,7 @@
 
 ghost use Rattle.std.specs.Prelude.{◌≢◌, IfErr, OnOk, IsErrOf};
 ghost use Rattle.std.specs.Io.KnownBytes.{Keeps};
-ghost use Rattle.mdconstructs.specs.Choices.{CanCut};
+ghost use Rattle.mddocument.specs.Choices.{CanCut};
 ghost use Rattle.mdevents_program.specs.Program.{ArePrintedEvents};
 ghost use Rattle.mdprograms.specs.Input.{ReadsWithinLimit, ReadsPastLimit};
 ghost use Rattle.mdprograms.specs.Output.{Writes, WritesFront};
@@ -11,7 +11,7 @@ use crate::arguments::Choice;
 use crate::read::read_to_end;
 use crate::write::write_lines;
 use markdown::configuration::Constructs;
-use mdconstructs::documents::events_of;
+use mddocument::documents::events_of;
 use mdprograms::failure::Failure;
 use std::alloc::Global;
 use std::io::{Read, Write};

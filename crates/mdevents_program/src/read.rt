@@ -7,7 +7,7 @@ ghost use Rattle.mdprograms.specs.Input.{ReadsWithinLimit, ReadsPastLimit};
 ghost use Rattle.markdown.specs.Virtual.{IsWithinLimit};
 
 use markdown::configuration::TabSize;
-use mdconstructs::limit::limit_of;
+use mddocument::limit::limit_of;
 use mdprograms::failure::Failure;
 use std::alloc::Global;
 use std::io::Read;

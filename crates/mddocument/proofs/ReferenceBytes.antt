@@ -1,5 +1,21 @@
 -- Character references of a text are those of the document: their bytes stand side by side in it, as a gap is only where a line begins.
-use Rattle.mddocument_laws.proofs.Prelude.{◌≡◌, ℕ, zero, suc, ◌+◌, ◌<◌, List, [], ◌∷◌, ◌++◌, Bool, true, false, cond, drop, inl, inr, Option, Some, None, refl, sym, ap, ◌∙◌, subst, arith, and_parts, eq-eqb, eqb-true, false≢true, or_cases, nat_tests, AllByRecursion, prefix_len, is_some, ◌&&◌, ◌||◌, nat_lt, slice_get, slice_index, drop-at, Point, shown, Seat, begins_with_lf, in_tab, line_feed, other_byte, point, tab_width, virtual_from, later, is_line_ending, Course, AcrossGap, has_byte_at, is_ampersand, Found, Kind, body_at, decimal, hexadecimal, is_number_sign, is_semicolon, is_value, is_value_byte, is_x, named, number_at, reference, reference_at, value_at, ◌==◌, take}
+use Rattle.std.proofs.Common.{◌≡◌, ℕ, zero, suc, ◌+◌, ◌<◌, List, [], ◌∷◌, ◌++◌, Bool, true, false, cond, drop, inl, inr, Option, Some, None, refl, sym, ap, ◌∙◌, subst, arith, ◌==◌, take}
+use Rattle.std.proofs.lemmas.Bool.{and_parts, eq-eqb, eqb-true, false≢true, or_cases}
+use Rattle.std.proofs.lemmas.Bool.Decides.{nat_tests}
+use Rattle.std.specs.List.{AllByRecursion, prefix_len}
+use Rattle.std.specs.Option.{is_some}
+use Rattle.std.specs.Prelude.{◌&&◌, ◌||◌, nat_lt, slice_get, slice_index}
+use Rattle.markdown_base.proofs.Common.{drop-at}
+use Rattle.markdown_base.specs.declared.event.Point.{Point}
+use Rattle.markdown_base.specs.Places.{shown}
+use Rattle.markdown_base.specs.Virtual.{Seat, begins_with_lf, in_tab, line_feed, other_byte, point, tab_width, virtual_from}
+use Rattle.mdinline_emphasis.specs.Emphasis.{later}
+use Rattle.mdconstructs_machines.specs.LineEvents.{is_line_ending}
+use Rattle.mdblock_leaf_blocks.proofs.Marks.Courses.{Course}
+use Rattle.mdblock_leaf_blocks.specs.ChunksJoin.{AcrossGap}
+use Rattle.mdinline_text_machine.specs.Bytes.{has_byte_at, is_ampersand}
+use Rattle.mdinline_text_machine.specs.Construct.{Found}
+use Rattle.mdinline_constructs.specs.Reference.{Kind, body_at, decimal, hexadecimal, is_number_sign, is_semicolon, is_value, is_value_byte, is_x, named, number_at, reference, reference_at, value_at}
 use Rattle.markdown_tokenizer.proofs.Positions.Chains.{shown-other}
 use Rattle.mdinline_text_machine.specs.Parts.{bytes_of}
 

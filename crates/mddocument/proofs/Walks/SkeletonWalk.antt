@@ -1,13 +1,34 @@
 -- What lists of marks have, if lists of spans with such names have it, and data and chunks: the marks of containers, of definitions and of sections have it.
-use Rattle.mddocument_laws.proofs.Prelude.{ℕ, ◌+◌, ◌-◌, ◌==◌, List, [], ◌∷◌, ◌++◌, Bool, true, false, cond, Some, None, Option, take, drop, length, map, reverse, cond_both, AllByRecursion, flat_map, prefix_len, every-append, every-drop, every-reverse, every-take, Enter, Exit, Name, Point, Seat, Definition, Stretch, end, ending_of, line_text, event, bytes_of, Chunk, Mark, chunk_span, leaf_marks, span_marks, white, indent, Container, Prefix, item, quote, columns_of, Row, has_none, rest_of, Frame, Part, Piece, begin_of, begun_all, begun_marks, chunks_of, end_of, ending_marks, enters_of, exits, going_marks, inside_of, is_held, joined_pieces, last_line, list_name, pieces_of, prefixes_marks, shared, Inside, Section, defined, lines, all_rows, behind_definitions, behind_marks, inside_marks, section_marks, sections_marks}
+use Rattle.std.proofs.Common.{ℕ, ◌+◌, ◌-◌, ◌==◌, List, [], ◌∷◌, ◌++◌, Bool, true, false, cond, Some, None, Option, take, drop, length, map, reverse}
+use Rattle.std.proofs.lemmas.Bool.{cond_both}
+use Rattle.std.specs.List.{AllByRecursion, flat_map, prefix_len}
+use Rattle.markdown_base.proofs.Common.{every-append, every-drop, every-reverse, every-take}
+use Rattle.markdown_base.specs.declared.event.Kind.TheVariants.{Enter, Exit}
+use Rattle.markdown_base.specs.declared.event.Name.{Name}
+use Rattle.markdown_base.specs.declared.event.Point.{Point}
+use Rattle.markdown_base.specs.Virtual.{Seat}
+use Rattle.mdinline_labels.specs.declared.definitions.Definition.{Definition}
+use Rattle.mdinline_labels.specs.declared.definitions.Stretch.{Stretch}
+use Rattle.mdinline_labels.specs.Definitions.{end}
+use Rattle.mdconstructs_machines.specs.LineEvents.{ending_of, line_text}
+use Rattle.mdconstructs_machines.specs.Spans.{event}
+use Rattle.mdblock_leaf_blocks.specs.LeafBlocks.{bytes_of}
+use Rattle.mdblock_leaf_blocks.specs.LeafEvents.{Chunk, Mark, chunk_span, leaf_marks, span_marks, white}
+use Rattle.mdblock_leaf_blocks.specs.LineKinds.{indent}
+use Rattle.mdblock_lines.specs.Containers.{Container, Prefix, item, quote}
+use Rattle.mdblock_containers.specs.Prefixes.{columns_of}
+use Rattle.mdblock_containers.specs.Rows.{Row, has_none, rest_of}
+use Rattle.mdblock_containers.specs.Skeleton.{Frame, Part, Piece, begin_of, begun_all, begun_marks, chunks_of, end_of, ending_marks, enters_of, exits, going_marks, inside_of, is_held, joined_pieces, last_line, list_name, pieces_of, prefixes_marks, shared}
+use Rattle.mdblock_definitions.specs.Sections.{Inside, Section, defined, lines}
+use Rattle.mdblock_definitions.specs.Skeleton.{all_rows, behind_definitions, behind_marks, inside_marks, section_marks, sections_marks}
 use Rattle.markdown_base.specs.declared.event.Kind.{Kind}
 use Rattle.markdown_base.specs.declared.event.Name.TheVariants as name
 use Rattle.mdinline_labels.specs.Definitions.{end_of as end_of_title}
 use Rattle.mdinline_labels.specs.Tails.{begins_with}
 use Rattle.mdblock_definitions.specs.Definitions.{Place, StringLine, byte_at, definitions_marks, destination_marks, ending_at, further_line, gap_marks, is_byte, line_marks, marked, places_in, places_of, seats_of, string, string_lines, text_of}
 use Rattle.mdblock_definitions.specs.Definitions as definitions
-use Rattle.mddocument_laws.proofs.InnerTexts.{AnySeat, any-seats}
-use Rattle.mddocument_laws.proofs.MarksWalk.{Walk, leafs, whites}
+use Rattle.mddocument.proofs.Walks.InnerTexts.{AnySeat, any-seats}
+use Rattle.mddocument.proofs.Walks.MarksWalk.{Walk, leafs, whites}
 
 -- ---- the names that spans of a skeleton have
 module _ (May : Name → Type 0) where

@@ -1,5 +1,11 @@
 -- Virtual bytes of texts of lines: of the last line those of its text, and of the others all.
-use Rattle.mddocument_laws.proofs.Prelude.{not, List, [], ◌∷◌, ◌++◌, AllByRecursion, every-filter, Seat, every-all, is_line_ending, line_text, Line}
+use Rattle.std.proofs.Common.{not, List, [], ◌∷◌, ◌++◌}
+use Rattle.std.specs.List.{AllByRecursion}
+use Rattle.markdown_base.proofs.Common.{every-filter}
+use Rattle.markdown_base.specs.Virtual.{Seat}
+use Rattle.markdown_tokenizer.proofs.Positions.Order.{every-all}
+use Rattle.mdconstructs_machines.specs.LineEvents.{is_line_ending, line_text}
+use Rattle.mdblock_leaf_blocks.specs.LeafBlocks.{Line}
 
 module _ (Inner : Seat → Type 0) where
   abbrev pub AreInner : List Seat → Type 0

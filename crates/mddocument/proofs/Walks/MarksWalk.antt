@@ -1,7 +1,15 @@
 -- Lists of marks, made of spans over such virtual bytes that have such names, one behind another and one in another.
-use Rattle.mddocument_laws.proofs.Prelude.{ℕ, List, [], ◌∷◌, ◌++◌, None, AllByRecursion, Enter, Exit, Name, BlankLineEnding, LineEnding, SpaceOrTab, Point, Seat, end_after, event, Mark, leaf_marks, span_marks, white}
+use Rattle.std.proofs.Common.{ℕ, List, [], ◌∷◌, ◌++◌, None}
+use Rattle.std.specs.List.{AllByRecursion}
+use Rattle.markdown_base.specs.declared.event.Kind.TheVariants.{Enter, Exit}
+use Rattle.markdown_base.specs.declared.event.Name.{Name}
+use Rattle.markdown_base.specs.declared.event.Name.TheVariants.{BlankLineEnding, LineEnding, SpaceOrTab}
+use Rattle.markdown_base.specs.declared.event.Point.{Point}
+use Rattle.markdown_base.specs.Virtual.{Seat, end_after}
+use Rattle.mdconstructs_machines.specs.Spans.{event}
+use Rattle.mdblock_leaf_blocks.specs.LeafEvents.{Mark, leaf_marks, span_marks, white}
 use Rattle.markdown_base.specs.declared.event.Kind.{Kind}
-use Rattle.mddocument_laws.proofs.InnerTexts.{AnySeat}
+use Rattle.mddocument.proofs.Walks.InnerTexts.{AnySeat}
 
 pub record Walk (bytes : List ℕ) (Are : List Mark → Type 0) (May : Name → Type 0) (Q : Seat → Type 0) : Type 0 where
   pub none : Are []

@@ -1,8 +1,19 @@
 -- What lists of marks have, if lists of spans with such names have it, and chunks: the marks of leaf blocks have it.
-use Rattle.mddocument_laws.proofs.Prelude.{ℕ, zero, suc, ◌+◌, ◌-◌, List, [], ◌∷◌, ◌++◌, Bool, true, false, cond, not, Some, take, drop, length, min, AllByRecursion, prefix_len, every-append, every-drop, every-filter, every-take, Name, Seat, every-back, every-front, is_white, all_of, ending_of, is_line_ending, line_text, block_lines, Line, LeafBlock, atx_heading, blank_line, break_line, bytes_of, fenced_code, html_block, indented_code, paragraph, setext_heading, Chunk, Mark, block_span, body, break_marks, chunk_span, code_fenced_around, code_marks, fence_around, fenced_marks, heading_around, html_marks, last_end, leaf_block_marks, leaf_marks, line_end, lines_marks, sequence_marks, span_marks, string_chunk, text_chunk, text_marks, underline_marks, Fence, heading_text, indent, run, unindented}
+use Rattle.std.proofs.Common.{ℕ, zero, suc, ◌+◌, ◌-◌, List, [], ◌∷◌, ◌++◌, Bool, true, false, cond, not, Some, take, drop, length, min}
+use Rattle.std.specs.List.{AllByRecursion, prefix_len}
+use Rattle.markdown_base.proofs.Common.{every-append, every-drop, every-filter, every-take}
+use Rattle.markdown_base.specs.declared.event.Name.{Name}
+use Rattle.markdown_base.specs.Virtual.{Seat}
+use Rattle.markdown_tokenizer.proofs.Positions.Order.{every-back, every-front}
+use Rattle.mdconstructs_tables.specs.Breaks.{is_white}
+use Rattle.mdconstructs_machines.specs.LineEvents.{all_of, ending_of, is_line_ending, line_text}
+use Rattle.mdblock_leaf_blocks.specs.BlockLines.{block_lines}
+use Rattle.mdblock_leaf_blocks.specs.LeafBlocks.{Line, LeafBlock, atx_heading, blank_line, break_line, bytes_of, fenced_code, html_block, indented_code, paragraph, setext_heading}
+use Rattle.mdblock_leaf_blocks.specs.LeafEvents.{Chunk, Mark, block_span, body, break_marks, chunk_span, code_fenced_around, code_marks, fence_around, fenced_marks, heading_around, html_marks, last_end, leaf_block_marks, leaf_marks, line_end, lines_marks, sequence_marks, span_marks, string_chunk, text_chunk, text_marks, underline_marks}
+use Rattle.mdblock_leaf_blocks.specs.LineKinds.{Fence, heading_text, indent, run, unindented}
 use Rattle.markdown_base.specs.declared.event.Name.TheVariants as name
-use Rattle.mddocument_laws.proofs.InnerTexts.{AreTextLines, inner-text, texts-front}
-use Rattle.mddocument_laws.proofs.MarksWalk.{Walk, leafs, whites}
+use Rattle.mddocument.proofs.Walks.InnerTexts.{AreTextLines, inner-text, texts-front}
+use Rattle.mddocument.proofs.Walks.MarksWalk.{Walk, leafs, whites}
 
 -- ---- the names that spans of a block have
 module _ (May : Name → Type 0) where

@@ -1,0 +1,4 @@
+pub mod BlockWalk
+pub mod InnerTexts
+pub mod MarksWalk
+pub mod SkeletonWalk
