@@ -1,7 +1,7 @@
 -- Literals of two parts: those of the one, and of the other.
 use Rattle.std.proofs.Common.{◌≡◌, ℕ, zero, suc, ◌+◌, ◌-◌, ◌≤◌, ◌<◌, ◌++◌, Bool, true, false, cond, List, [], ◌∷◌, length, take, refl, sym, ap, subst, ◌∙◌, arith, le-leb, le-ltb}
 use Rattle.std.proofs.Math.Bool.{and-false}
-use Rattle.std.proofs.lemmas.Bool.{false≢true}
+use Rattle.std.proofs.lemmas.Bool.{not-true}
 use Rattle.std.proofs.lemmas.List.{append_assoc, take-append-le}
 use Rattle.std.specs.List.{AllByRecursion}
 use Rattle.std.specs.Prelude.{◌==◌, ◌&&◌, nat_lt, not}
@@ -74,12 +74,8 @@ opens bytes (e ∷ zs) h = record {
   fresh = λ b. literals-other 4 bytes b 0 e zs isnt ∙ sym (literals-other 4 bytes true 0 e zs isnt);
 }
   where
-    other : (b : Bool) → not b ≡ true → b ≡ false
-    other true h = absurd (false≢true h)
-    other false h = refl
-
     isnt : is_text 0 e ≡ false
-    isnt = ap (λ t. is_enter e.kind && t) (other (is_plain e.name) (and-right (is_enter e.kind) (not (is_plain e.name)) h)) ∙ and-false (is_enter e.kind)
+    isnt = ap (λ t. is_enter e.kind && t) (not-true (is_plain e.name) (and-right (is_enter e.kind) (not (is_plain e.name)) h)) ∙ and-false (is_enter e.kind)
 
 -- ---- literals
 

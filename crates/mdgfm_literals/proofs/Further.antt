@@ -34,12 +34,12 @@ le-on n i j =
     same-test (nat_le (i + n) (j + n)) (nat_le i j) (λ h k. let a = leb-true (i + n) (j + n) h in let b = leb-false i j k in omega (arith, a, b))
     (λ h k. let a = leb-false (i + n) (j + n) h in let b = leb-true i j k in omega (arith, a, b))
 
-lt-on : (n i j : ℕ) → nat_lt (i + n) (j + n) ≡ nat_lt i j
+pub lt-on : (n i j : ℕ) → nat_lt (i + n) (j + n) ≡ nat_lt i j
 lt-on n i j =
     same-test (nat_lt (i + n) (j + n)) (nat_lt i j) (λ h k. let a = ltb-true (i + n) (j + n) h in let b = ltb-false i j k in omega (arith, a, b))
     (λ h k. let a = ltb-false (i + n) (j + n) h in let b = ltb-true i j k in omega (arith, a, b))
 
-eq-on : (n i j : ℕ) → ((i + n) == (j + n)) ≡ (i == j)
+pub eq-on : (n i j : ℕ) → ((i + n) == (j + n)) ≡ (i == j)
 eq-on n i j =
     same-test ((i + n) == (j + n)) (i == j) (λ h k. let a = eqb-true (i + n) (j + n) h in let b : i ≡ j = omega (arith, a) in false≢true (sym k ∙ eq-eqb i j b))
     (λ h k. let a = eqb-true i j k in let b : i + n ≡ j + n = omega (arith, a) in false≢true (sym h ∙ eq-eqb (i + n) (j + n) b))

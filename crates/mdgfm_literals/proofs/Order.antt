@@ -27,25 +27,26 @@ abbrev pub Goes : Point → List Event → Type 0
 Goes p [] = Unit {0}
 Goes p (e ∷ es) = (stands_before e.point p ≡ false) × Goes e.point es
 
-goes-less : (b p : Point) (es : List Event) → stands_before p b ≡ false → Goes p es → Goes b es
+pub goes-less : (b p : Point) (es : List Event) → stands_before p b ≡ false → Goes p es → Goes b es
 goes-less b p [] h g = tt
 goes-less b p (e ∷ es) h g = (upto-upto b p e.point h g.0, g.1)
 
 pub forward-index : (p q : Point) → stands_before q p ≡ false → p.index ≤ q.index
 forward-index p q h = grind (arith, nat_tests)
 
-lower-index : (p q : Point) → p.index < q.index → stands_before q p ≡ false
+pub lower-index : (p q : Point) → p.index < q.index → stands_before q p ≡ false
 lower-index p q h = grind (arith, nat_tests)
 
 -- behind a place that is in no tab
-flat-index : (p q : Point) → p.vs ≡ 0 → p.index ≤ q.index → stands_before q p ≡ false
+pub flat-index : (p q : Point) → p.vs ≡ 0 → p.index ≤ q.index → stands_before q p ≡ false
 flat-index p q v h = grind (arith, nat_tests)
 
 pub goes-rise : (p : Point) (es : List Event) → Goes p es → Rise p.index es
 goes-rise p [] g = tt
 goes-rise p (e ∷ es) g = (forward-index p e.point g.0, goes-rise e.point es g.1)
 
-goes-end : (p : Point) (n : ℕ) (es : List Event) → Goes p es → (stands_before (span_end p n es) p ≡ false) × Goes (span_end p n es) (drop (span_size n es) es)
+-- behind a span
+pub goes-end : (p : Point) (n : ℕ) (es : List Event) → Goes p es → (stands_before (span_end p n es) p ≡ false) × Goes (span_end p n es) (drop (span_size n es) es)
 goes-end p n [] g = (stands-self p, tt)
 goes-end p n (e ∷ es) g = by (is_enter e.kind) (n == 0) (goes-end p (n + 1) es (goes-less p e.point es g.0 g.1)) (goes-end p (n - 1) es (goes-less p e.point es g.0 g.1))
   where
@@ -135,6 +136,14 @@ comes-literal place b c (e ∷ es) flat h g = (by (nat_le place.index e.point.in
 abbrev pub leaf-events : Name → (from to : Point) → List Event
 leaf-events n p q = event Enter n p ∷ event Exit n q ∷ []
 
+-- a span with nothing in it, and what is behind it
+pub leaf-goes : (n : Name) (b p q : Point) (rest : List Event) → stands_before p b ≡ false → stands_before q p ≡ false → Goes q rest → Goes b (leaf n p q ++ rest)
+leaf-goes n b p q rest h k g = by (nat_lt p.index q.index)
+  where
+    by : (t : Bool) → Goes b (cond t (leaf-events n p q) [] ++ rest)
+    by true = (h, (k, g))
+    by false = goes-less b q rest (upto-upto b p q h k) g
+
 module _ (tab : ℕ) (bytes : List ℕ) where
   abbrev pub beyond : Point → ℕ → Point
   beyond p i = record { line = p.line; column = column_behind tab p.column (slice_range bytes p.index i); index = i; vs = 0 }
@@ -146,14 +155,14 @@ module _ (tab : ℕ) (bytes : List ℕ) where
       by true e = let less = leb-true i p.index e in omega (arith, less, h)
       by false e = refl
 
-  at-flat : (p : Point) (i : ℕ) → p.index < i → (place_at tab bytes p i).vs ≡ 0
+  pub at-flat : (p : Point) (i : ℕ) → p.index < i → (place_at tab bytes p i).vs ≡ 0
   at-flat p i h = by (nat_le i p.index) refl
     where
       by : (t : Bool) → nat_le i p.index ≡ t → (cond t p (beyond p i)).vs ≡ 0
       by true e = let less = leb-true i p.index e in absurd (omega (arith, less, h))
       by false e = refl
 
-  at-on : (p : Point) (i : ℕ) → stands_before (place_at tab bytes p i) p ≡ false
+  pub at-on : (p : Point) (i : ℕ) → stands_before (place_at tab bytes p i) p ≡ false
   at-on p i = by (nat_le i p.index) refl
     where
       by : (t : Bool) → nat_le i p.index ≡ t → stands_before (cond t p (beyond p i)) p ≡ false
@@ -211,13 +220,6 @@ module _ (tab : ℕ) (bytes : List ℕ) where
               kept = p;
               each = (each.0.0, every-map (λ l. Q l × (l.from < stop → P l.to)) Q (λ l h. h.0) ls each.1);
             }
-
-    leaf-goes : (n : Name) (b p q : Point) (rest : List Event) → stands_before p b ≡ false → stands_before q p ≡ false → Goes q rest → Goes b (leaf n p q ++ rest)
-    leaf-goes n b p q rest h k g = by (nat_lt p.index q.index)
-      where
-        by : (t : Bool) → Goes b (cond t (leaf-events n p q) [] ++ rest)
-        by true = (h, (k, g))
-        by false = goes-less b q rest (upto-upto b p q h k) g
 
     written-goes : (place : Point) (ls : List Literal) (b : Point) (rest : List Event) → Ascend place.index ls → AllByRecursion (λ l. first.index ≤ l.from) ls
         → stands_before (later place first) b ≡ false

@@ -39,10 +39,10 @@ module _ (bytes : List ℕ) where
       (have-none false depth s.size es))
       (have-none (is_fresh e) (depth_behind depth e) 0 es)
 
-  abbrev Shows : Event → Type 0
+  abbrev pub Shows : Event → Type 0
   Shows e = IsShown bytes e.point
 
-  shown-from : (p : Point) → (slice_index bytes p.index == 10) ≡ false → IsShown bytes p
+  pub shown-from : (p : Point) → (slice_index bytes p.index == 10) ≡ false → IsShown bytes p
   shown-from p h = ap (λ t. cond (t && follows_cr bytes p.index) (record { line = p.line; column = p.column; index = p.index - 1; vs = p.vs }) p) h
 
   shown-to : (p : Point) → follows_cr bytes p.index ≡ false → IsShown bytes p
@@ -66,6 +66,9 @@ module _ (bytes : List ℕ) where
       by false true i o = all.0
       by false false i o = o
 
+  pub leaf-shows : (n : Name) (p q : Point) → IsShown bytes p → IsShown bytes q → AllByRecursion Shows (leaf n p q)
+  leaf-shows n p q h k = either-all Shows (nat_lt p.index q.index) (event Enter n p ∷ event Exit n q ∷ []) [] (h, (k, tt)) tt
+
   module _ (tab : ℕ) where
     at-shown : (p : Point) (i : ℕ) → IsShown bytes p → IsShown bytes (beyond tab bytes p i) → IsShown bytes (place_at tab bytes p i)
     at-shown p i h k = by (nat_le i p.index)
@@ -79,9 +82,6 @@ module _ (bytes : List ℕ) where
 
     end-of-shown : (p : Point) (l : Literal) → IsShown bytes p → HasNone l → IsShown bytes (end_of tab bytes p l)
     end-of-shown p l h k = at-shown (start_of tab bytes p l) l.to (start-shown p l h k) (shown-to (beyond tab bytes (start_of tab bytes p l) l.to) k.1)
-
-    leaf-shows : (n : Name) (p q : Point) → IsShown bytes p → IsShown bytes q → AllByRecursion Shows (leaf n p q)
-    leaf-shows n p q h k = either-all Shows (nat_lt p.index q.index) (event Enter n p ∷ event Exit n q ∷ []) [] (h, (k, tt)) tt
 
     one-shows : (p : Point) (l : Literal) → IsShown bytes p → HasNone l → AllByRecursion Shows (with_one tab bytes p l)
     one-shows p l h k =

@@ -39,7 +39,7 @@ from-line b at (x ∷ xs) h =
       | None ↦ literals_from (more_passed (x ∷ xs)) (slice_get (x ∷ xs) (more_passed (x ∷ xs))) (at + 1) xs
     ]) (literal-line b (x ∷ xs) h)
 
-get-behind : (before bytes : List ℕ) (i : ℕ) → slice_get (before ++ bytes) (length before + i) ≡ slice_get bytes i
+pub get-behind : (before bytes : List ℕ) (i : ℕ) → slice_get (before ++ bytes) (length before + i) ≡ slice_get bytes i
 get-behind [] bytes i = let z : 0 + i ≡ i = omega arith in ap (λ k. slice_get bytes k) z
 get-behind (b ∷ bs) bytes i = let z : suc (length bs) + i ≡ suc (length bs + i) = omega arith in ap (λ k. slice_get (b ∷ (bs ++ bytes)) k) z ∙ get-behind bs bytes i
 
@@ -51,7 +51,7 @@ from-end (b ∷ c ∷ cs) bytes at text h = from-end (c ∷ cs) bytes at text h
 
 -- ---- slices
 
-slice-behind : (before bytes : List ℕ) (i j : ℕ) → slice_range (before ++ bytes) (i + length before) (j + length before) ≡ slice_range bytes i j
+pub slice-behind : (before bytes : List ℕ) (i j : ℕ) → slice_range (before ++ bytes) (i + length before) (j + length before) ≡ slice_range bytes i j
 slice-behind before bytes i j =
     let size : j + length before - (i + length before) ≡ j - i = omega arith in
     let first : i + length before ≡ length before + i = omega arith in
@@ -138,7 +138,7 @@ literals-move options lines before bytes links events ends no_link = by options.
 
 -- ---- before others
 
-abbrev same-link : Option Link → Option Link
+abbrev pub same-link : Option Link → Option Link
 same-link l = l
 
 event-stays : (e : Event) → further_event same-link 0 0 e ≡ e
@@ -150,7 +150,7 @@ event-stays e =
     made : (line index : ℕ) → Event
     made line index = record { kind = e.kind; name = e.name; point = record { line = line; column = e.point.column; index = index; vs = e.point.vs }; link = e.link }
 
-events-stay : (es : List Event) → map (further_event same-link 0 0) es ≡ es
+pub events-stay : (es : List Event) → map (further_event same-link 0 0) es ≡ es
 events-stay [] = refl
 events-stay (e ∷ es) = ap (λ f. f ∷ map (further_event same-link 0 0) es) (event-stays e) ∙ ap (λ ts. e ∷ ts) (events-stay es)
 
@@ -162,7 +162,7 @@ before-front bytes behind false (suc i) at text h =
     let z : suc i + 0 ≡ suc i = omega arith in
     ap (λ k. literals_from 0 (byte_before (bytes ++ behind) k) at text) z ∙ ap (λ p. literals_from 0 p at text) (get-front bytes behind i (omega (arith, h)))
 
-slice-stays : (bytes behind : List ℕ) (i j : ℕ) → j ≤ length bytes → slice_range (bytes ++ behind) (i + 0) (j + 0) ≡ slice_range bytes i j
+pub slice-stays : (bytes behind : List ℕ) (i j : ℕ) → j ≤ length bytes → slice_range (bytes ++ behind) (i + 0) (j + 0) ≡ slice_range bytes i j
 slice-stays bytes behind i j h =
     let first : i + 0 ≡ i = omega arith in
     let last : j + 0 ≡ j = omega arith in

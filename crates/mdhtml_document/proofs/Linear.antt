@@ -86,10 +86,10 @@ module _ (bytes : List ℕ) where
   given-take (suc n) e [] = omega arith
   given-take (suc n) e (f ∷ fs) = omega arith
 
-  abbrev said_in : List Event → ℕ
+  abbrev pub said_in : List Event → ℕ
   said_in es = length (text bytes Decoded es)
 
-  text-more : (e : Event) (es : List Event) → said_in (e ∷ es) ≡ length (given_at bytes Decoded e es) + said_in es
+  pub text-more : (e : Event) (es : List Event) → said_in (e ∷ es) ≡ length (given_at bytes Decoded e es) + said_in es
   text-more e es = length-append (given_at bytes Decoded e es) (text bytes Decoded es)
 
   text-take : (n : ℕ) (es : List Event) → said_in (take n es) ≤ said_in es
@@ -132,7 +132,7 @@ module _ (bytes : List ℕ) where
   title-said : (t n : Name) (es : List Event) → option_map_or length (option_map (string_in bytes n) (first_in t es)) 0 ≤ said_in es
   title-said t n es = through _ _ _ (title-by n (first_in t es)) (text-first t es)
 
-  parts-said : (es : List Event) → length_of_parts (Some (definition_parts bytes es)) ≤ 2 * said_in es
+  pub parts-said : (es : List Event) → length_of_parts (Some (definition_parts bytes es)) ≤ 2 * said_in es
   parts-said es =
       let d = string-said name.DefinitionDestinationString es in
       let t = title-said name.DefinitionTitle name.DefinitionTitleString es in
@@ -158,10 +158,10 @@ module _ (bytes : List ℕ) where
 
 -- ---- the exits of spans
 
-record HasExit (es : List Event) : Type 0 where
-  exit : Event
-  rest : List Event
-  there : drop (size_from 0 es) es ≡ exit ∷ rest
+pub record HasExit (es : List Event) : Type 0 where
+  pub exit : Event
+  pub rest : List Event
+  pub there : drop (size_from 0 es) es ≡ exit ∷ rest
 
 exit-behind : (s : Spans) (f : Event) (ys : List Event) → AreKinded s → f.kind ≡ Exit → HasExit (events_of s ++ f ∷ ys)
 exit-behind s f ys h exits =
@@ -186,8 +186,9 @@ behind-all (suc at) (x ∷ xs) ys h =
     let is = b.is in
     record { past = b.past; is = omega (arith, is); same = b.same }
 
-first-kind : (e f : Event) (es fs : List Event) → e ∷ es ≡ f ∷ fs → e.kind ≡ f.kind
-first-kind e f es fs h = ap (λ (l : List Event). elim l as (λ (_ : List Event). Kind) [ [] ↦ e.kind | d ∷ ds ↦ d.kind ]) h
+-- the first of the same events
+pub same-first : (e f : Event) (es fs : List Event) → e ∷ es ≡ f ∷ fs → e ≡ f
+same-first e f es fs h = cc
 
 no-exit : (k : Kind) → k ≡ Exit → k ≡ Enter → ⊥
 no-exit k h e = absurd (no (sym h ∙ e))
@@ -197,7 +198,7 @@ no-exit k h e = absurd (no (sym h ∙ e))
 
 -- behind an exit, or that itself
 past-by : (past : ℕ) (f e : Event) (bs es : List Event) → f.kind ≡ Exit → drop past (f ∷ bs) ≡ e ∷ es → e.kind ≡ Enter → ((k : ℕ) → past ≡ suc k → drop k bs ≡ e ∷ es → HasExit es) → HasExit es
-past-by zero f e bs es exits is enter more = absurd (no-exit f.kind exits (first-kind f e bs es is ∙ enter))
+past-by zero f e bs es exits is enter more = absurd (no-exit f.kind exits (ap (λ (d : Event). d.kind) (same-first f e bs es is) ∙ enter))
 past-by (suc k) f e bs es exits is enter more = more k refl is
 
 -- in a span, or behind it
@@ -209,7 +210,7 @@ span-by false at f e xs bs es h exits is enter inner outer =
     past-by b.past f e bs es exits (sym b.same ∙ is) enter (λ k same there. outer k (b.is ∙ ap (λ n. length xs + n) same) there)
 
 -- each enter has its exit behind it
-exit-at : (s : Spans) (zs : List Event) (at : ℕ) (e : Event) (es : List Event) → AreKinded s → drop at (events_of s ++ zs) ≡ e ∷ es → at < length (events_of s) → e.kind ≡ Enter → HasExit es
+pub exit-at : (s : Spans) (zs : List Event) (at : ℕ) (e : Event) (es : List Event) → AreKinded s → drop at (events_of s ++ zs) ≡ e ∷ es → at < length (events_of s) → e.kind ≡ Enter → HasExit es
 exit-at Nothing zs at e es h there below enter = absurd (omega (arith, below))
 exit-at (Span d f s behind) zs zero e es h there below enter =
     let ys = events_of behind ++ zs in
@@ -322,7 +323,7 @@ module _ (bytes : List ℕ) where
   referred-none inline.Tail es a h = h
   referred-none inline.Other es a h = h
 
-  references-none : (s : Spans) → references bytes (λ label. 0) s ≡ 0
+  pub references-none : (s : Spans) → references bytes (λ label. 0) s ≡ 0
   references-none Nothing = refl
   references-none (Span e f s behind) =
       let here = referred-none (inline_of e.name) (events_of s) (references bytes (λ label. 0) s) (references-none s) in
