@@ -7,15 +7,16 @@ ghost use Rattle.markdown_tokenizer.specs.Engine.{AreCuts, IsWellFormed, given_b
 ghost use Rattle.markdown_tokenizer.specs.Text.{IsDocument};
 ghost use Rattle.mdinline_text_machine.specs.TextEvents.{text_events};
 ghost use Rattle.mdinline_labels.specs.Defined.{defines};
+ghost use Rattle.mdinline_machine.specs.InlineChains.{with_inlines};
 ghost use Rattle.mddocument.specs.Choices.{CanCut};
 ghost use Rattle.mddocument.specs.DocumentEvents.{document_events_by};
-ghost use Rattle.mddocument.specs.Documents.{document, options_with, cut_places, AreEventsOf, AreDocumentEvents, AreFlowEvents, AreFlowInlines};
+ghost use Rattle.mddocument.specs.Documents.{document, options_with, cut_places, AreEventsOf, AreDocumentEvents, AreFlowEvents, AreFlowInlines, IsReadable};
 
 use crate::choice::{Choice, Which};
 use crate::making::{Unmade, read_by, read_deep_by, read_resolved_by, with_ready_children};
-use crate::nested::{read_blocks, read_nested_events, read_nested_events_by};
+use crate::nested::{is_document, read_blocks, read_nested_events, read_nested_events_by};
 use markdown_base::configuration::{Constructs, ParseOptions, TabSize};
-use markdown_base::event::Event;
+use markdown_base::event::{Content, Event};
 use markdown_base::state::Name;
 use markdown_tokenizer::tokenizer::{Fault, cuts_every};
 use mdblock_leaf_machine::flow::Flow;
@@ -97,6 +98,45 @@ pub fn read_document_by(
         Err(Unmade::Fault(Fault::Memory)) => Err(AllocError),
         Err(_) => unreachable!(),
     }
+}
+
+/// A list of events with the inline text of each of its chains of text in place of the chain's chunks, by the labels that this machine knows. Its
+/// chains of text can be read. It fails only if it runs out of memory.
+pub fn read_texts(
+    alloc: Global,
+    bytes: &[u8],
+    options: &ParseOptions,
+    events: Vec<Event>,
+    machine: &Inlines,
+) -> Result<Vec<Event>, AllocError>
+    requires limit { IsWithinLimit options.now.tab_size bytes.now }
+    requires ready { IsReadable options.now bytes.now events.items }
+    ensures { IfOk result (λ new. new.items ≡ with_inlines (defines machine.now.labels) (document options.now bytes.now) events.items) }
+{
+    is_document(bytes, options);
+    match with_texts_read(alloc, bytes, options, events, machine) {
+        Ok(events) => Ok(events),
+        Err(Unmade::Fault(Fault::Memory)) => Err(AllocError),
+        Err(_) => unreachable!(),
+    }
+}
+
+/// As [`read_texts`], with the reason for which there are no events.
+fn with_texts_read(
+    alloc: Global,
+    bytes: &[u8],
+    options: &ParseOptions,
+    events: Vec<Event>,
+    machine: &Inlines,
+) -> Result<Vec<Event>, Unmade>
+    requires limit { IsWithinLimit options.now.tab_size bytes.now }
+    requires document { IsDocument (document options.now bytes.now) }
+    requires ready { IsReadable options.now bytes.now events.items }
+    ensures events { IfOk result (λ new. new.items ≡ with_inlines (defines machine.now.labels) (document options.now bytes.now) events.items) }
+    ensures err { IfErr result (λ unmade. unmade ≡ Unmade.Fault Fault.Memory) }
+{
+    let wanted = Some(&Content::Text);
+    with_ready_children(alloc, machine, bytes, options, events, wanted)
 }
 
 /// The events of a document as leaf blocks alone: a marker of a block quote or list is text there, and so is a definition. Each text

@@ -101,7 +101,7 @@ fn with_blocks(
 }
 
 /// Bytes within the limit, with options, are a document.
-fn is_document(bytes: &[u8], options: &ParseOptions)
+pub(crate) fn is_document(bytes: &[u8], options: &ParseOptions)
     requires limit { IsWithinLimit options.now.tab_size bytes.now }
     ensures { IsDocument (document options.now bytes.now) }
 {
