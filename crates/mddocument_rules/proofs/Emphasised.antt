@@ -1,36 +1,18 @@
 -- Emphasis stands in texts. Its list is balanced, so each span that closings end is the last one that is open: behind each run only spans of emphasis are
 -- open, each with its text, and what comes next stands in a text.
-use Rattle.mddocument_rules.proofs.Prelude.{◌≡◌, ◌∙◌, ℕ, zero, suc, true, cond, List, [], ◌∷◌, ◌++◌, Some, Option, append_assoc, drop, refl, sym, ap, subst, and_from, and_parts, ◌&&◌, Event, Enter, Exit, Name, Point, is_enter, names_after_all-append, names_after_balanced, names_after_all, Run, closings, data_of, emphasised, events_of_runs, inner_name, later, markers_of_all, openings, outer_name, paired, all_stand, is_in, may_stand, text_names, EmphasisStands, StandInTexts}
+use Rattle.mddocument_rules.proofs.Prelude.{◌≡◌, ◌∙◌, ℕ, zero, suc, true, List, [], ◌∷◌, ◌++◌, Some, Option, append_assoc, refl, sym, ap, subst, Event, Name, Point, names_after_all-append, names_after_balanced, names_after_all, Run, closings, data_of, emphasised, events_of_runs, inner_name, later, markers_of_all, openings, outer_name, paired, is_in, may_stand, text_names, EmphasisStands, StandInTexts}
 use Rattle.markdown_base.specs.declared.event.Name.TheVariants as name
 use Rattle.mdinline_emphasis.proofs.Balance.{leaves-balanced}
 use Rattle.mdinline_emphasis.specs.declared.pairs.Style.{Style}
 use Rattle.mdinline_emphasis.specs.declared.pairs.Style.TheVariants.{Emphasis as OfEmphasis, Strong as OfStrong, Struck, StruckTwice}
 use Rattle.mdinline_emphasis.specs.Emphasis.{Run, closings, data_of, emphasised, events_of_runs, inner_name, later, markers_of_all, openings, outer_name, paired}
-use Rattle.mddocument_rules.specs.Standing.{all_stand, is_in, may_stand, text_names}
+use Rattle.mddocument_rules.specs.Standing.{is_in, may_stand, text_names}
 use Rattle.mddocument_rules.specs.TextLaws.{EmphasisStands, StandInTexts}
 use Rattle.mddocument_rules.proofs.Places.{free-may, texts-apart}
-use Rattle.mddocument_rules.proofs.Walk.{IfEnter, Walks, behind-balanced, behind_one, walks-both}
+use Rattle.mddocument_rules.proofs.Walk.{MayBe, Walks, all-walks, behind-balanced, walks-all, walks-both}
 
 abbrev pub May : List Name → Event → Type 0
-May around e = may_stand around e.name ≡ true
-
-pub all-walks : (around : List Name) (es : List Event) → all_stand may_stand around es ≡ true → Walks May around es
-all-walks around [] h = tt
-all-walks around (e ∷ es) h =
-    elim e.kind as (λ k. cond (is_enter k) (may_stand around e.name && all_stand may_stand (e.name ∷ around) es) (all_stand may_stand (drop 1 around) es) ≡ true
-    → ((a : List Name) → all_stand may_stand a es ≡ true → Walks May a es) → IfEnter k (May around e) × Walks May (behind_one k e.name around) es) [
-      | Enter ↦ λ s r. (let p = and_parts (may_stand around e.name) (all_stand may_stand (e.name ∷ around) es) s in (p.0, r (e.name ∷ around) p.1))
-      | Exit ↦ λ s r. (tt, r (drop 1 around) s)
-    ] h (λ a k. all-walks a es k)
-
-pub walks-all : (around : List Name) (es : List Event) → Walks May around es → all_stand may_stand around es ≡ true
-walks-all around [] h = refl
-walks-all around (e ∷ es) h =
-    elim e.kind as (λ k. IfEnter k (May around e) → all_stand may_stand (behind_one k e.name around) es ≡ true
-    → cond (is_enter k) (may_stand around e.name && all_stand may_stand (e.name ∷ around) es) (all_stand may_stand (drop 1 around) es) ≡ true) [
-      | Enter ↦ λ s r. and_from (may_stand around e.name) (all_stand may_stand (e.name ∷ around) es) s r
-      | Exit ↦ λ s r. r
-    ] h.0 (walks-all (behind_one e.kind e.name around) es h.1)
+May = MayBe may_stand
 
 -- the spans that are open where emphasis of these styles is, the innermost first
 abbrev open_names : List Style → List Name
@@ -92,11 +74,11 @@ module _ (around : List Name) (is : is_in text_names around ≡ true) where
   text-walks : (es : List Event) → StandInTexts es → (st : List Style) (ys : List Event) → Next ys → Closes st (es ++ ys) → Goes st (es ++ ys)
   text-walks es t st ys k e =
       let left : Closes st ys = sym (names_after_all-append (Some (open_names st)) es ys ∙ ap (λ (o : Option (List Name)). names_after_all o ys) (names_after_balanced t.0 (open_names st))) ∙ e in
-      walks-both May (there st) es ys (all-walks (there st) es (t.1 (there st) (in-text st))) (subst (λ (a : List Name). Walks May a ys) (sym (behind-balanced t.0 (there st))) (k st left))
+      walks-both May (there st) es ys (all-walks may_stand (there st) es (t.1 (there st) (in-text st))) (subst (λ (a : List Name). Walks May a ys) (sym (behind-balanced t.0 (there st))) (k st left))
 
   module _ (texts : ℕ → List Event) (stand : (k : ℕ) → StandInTexts (texts k)) (rest : List Event) (last : StandInTexts rest) where
     runs-walk : (rs : List Run) → Next (events_of_runs texts rs ++ rest)
-    runs-walk [] st e = all-walks (there st) rest (last.1 (there st) (in-text st))
+    runs-walk [] st e = all-walks may_stand (there st) rest (last.1 (there st) (in-text st))
     runs-walk (r ∷ rs) st e =
         let p = later (markers_of_all r.closed) r.start in
         let text = texts r.index in
@@ -115,4 +97,4 @@ module _ (around : List Name) (is : is_in text_names around ≡ true) where
 pub emphasis-stands : EmphasisStands
 emphasis-stands texts rs rest fresh stand last =
     let balanced = leaves-balanced texts rs rest fresh last.0 in
-    (balanced, λ around is. walks-all around (emphasised texts rs rest) (runs-walk around is texts stand rest last (paired rs) [] (names_after_balanced balanced [])))
+    (balanced, λ around is. walks-all may_stand around (emphasised texts rs rest) (runs-walk around is texts stand rest last (paired rs) [] (names_after_balanced balanced [])))

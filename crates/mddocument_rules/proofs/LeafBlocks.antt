@@ -1,5 +1,5 @@
 -- Leaf blocks stand where blocks may stand, one behind another. Texts are chunks that stand in a paragraph or a heading.
-use Rattle.mddocument_rules.proofs.Prelude.{◌≡◌, ◌+◌, ◌-◌, ℕ, List, [], ◌∷◌, ◌++◌, Bool, true, false, not, Some, length, refl, sym, ap, subst, AllByRecursion, flat_map, Constructs, Name, Seat, is_wanted, all_of, line_text, lines_in, Line, LeafBlock, atx_heading, blank_line, break_line, fenced_code, html_block, indented_code, leaf_blocks, paragraph, setext_heading, Chunk, Mark, block_span, body, chunk_span, code_marks, flow_events, last_end, leaf_block_marks, span_marks, string_chunk, text_chunk, text_marks, underline_marks, list_names, AnySeat, any-each, any-lines, any-seats, whites, holds_blocks, is_in, may_stand, text_names, LeafBlocksStand}
+use Rattle.mddocument_rules.proofs.Prelude.{◌≡◌, ℕ, List, [], ◌∷◌, ◌++◌, Bool, true, false, not, Some, length, refl, sym, ap, subst, AllByRecursion, flat_map, Constructs, Name, Seat, is_wanted, all_of, line_text, lines_in, Line, LeafBlock, atx_heading, blank_line, break_line, fenced_code, html_block, indented_code, leaf_blocks, paragraph, setext_heading, Chunk, Mark, block_span, body, chunk_span, code_marks, flow_events, last_end, leaf_block_marks, span_marks, string_chunk, text_chunk, text_marks, underline_marks, list_names, AnySeat, any-each, any-lines, any-seats, whites, holds_blocks, is_in, may_stand, text_names, LeafBlocksStand}
 use Rattle.markdown_base.specs.declared.event.Content.TheVariants as content
 use Rattle.markdown_base.specs.declared.event.Name.TheVariants as name
 use Rattle.mdconstructs_tables.proofs.Rows.Misfits.{none-left}

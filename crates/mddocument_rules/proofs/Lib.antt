@@ -4,7 +4,9 @@ pub mod Walk
 pub mod Weave
 -- standing
 pub mod Blocks
+pub mod BlocksPlain
 pub mod Definitions
+pub mod DocumentStands
 pub mod Emphasised
 pub mod Frames
 pub mod Gaps
@@ -15,3 +17,22 @@ pub mod Places
 pub mod Sections
 pub mod Skeletons
 mod StandingExamples
+pub mod TextItems
+pub mod TightSpans
+-- links: none is in a link
+pub mod DocumentLinks
+pub mod FlatLinks
+pub mod LinkedFlat
+pub mod LinksApart
+pub mod QuietItems
+-- lists
+pub mod BegunPlaces
+pub mod Markers
+pub mod Neighbours
+pub mod OpenRows
+pub mod ListItems
+pub mod MarkedMarks
+pub mod MarkedSections
+pub mod WrittenMarkers
+pub mod MarkedLists
+mod ListExamples

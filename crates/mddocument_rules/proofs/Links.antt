@@ -7,22 +7,22 @@ use Rattle.mdinline_links.proofs.Leaves.{around-balanced, runs-fresh}
 use Rattle.mdinline_links.specs.Kept.{IsFresh}
 use Rattle.mdinline_links.specs.Linked.{Part, around as spanned, as_data, emphasised_parts, events, is_bracket, is_named, is_run, is_tail, label_text, last_place, linked_parts, made, part_of, run, runs_of_parts, spanning, text_before, text_behind}
 use Rattle.mddocument_laws.proofs.LinkWalk.{AreParts, IsPart, IsWalk, before-is, behind-is, parts-are, runs-of}
-use Rattle.mddocument_rules.proofs.Emphasised.{May, all-walks, emphasis-stands, walks-all}
+use Rattle.mddocument_rules.proofs.Emphasised.{May, emphasis-stands}
 use Rattle.mddocument_rules.proofs.Places.{free-inside, free-may, is_free, texts-apart}
-use Rattle.mddocument_rules.proofs.Walk.{Walks, behind-balanced, walks-both}
+use Rattle.mddocument_rules.proofs.Walk.{Walks, all-walks, behind-balanced, walks-all, walks-both}
 
 -- ---- lists and spans
 stand-both : (around : List Name) (xs ys : List Event) → IsBalanced xs → all_stand may_stand around xs ≡ true → all_stand may_stand around ys ≡ true → all_stand may_stand around (xs ++ ys) ≡ true
 stand-both around xs ys b h k =
-    walks-all around (xs ++ ys) (walks-both May around xs ys (all-walks around xs h) (subst (λ (a : List Name). Walks May a ys) (sym (behind-balanced b around)) (all-walks around ys k)))
+    walks-all may_stand around (xs ++ ys) (walks-both May around xs ys (all-walks may_stand around xs h) (subst (λ (a : List Name). Walks May a ys) (sym (behind-balanced b around)) (all-walks may_stand around ys k)))
 
 stand-span : (around : List Name) (n : Name) (start end : Point) (es : List Event) → IsBalanced es → may_stand around n ≡ true → all_stand may_stand (n ∷ around) es ≡ true
     → all_stand may_stand around (spanning n start end es) ≡ true
 stand-span around n start end es b m h =
     let exit : Event = unlinked_event Exit n end in
     let last : Walks May (n ∷ around) (exit ∷ []) = (tt, tt) in
-    let inside : Walks May (n ∷ around) (es ++ exit ∷ []) = walks-both May (n ∷ around) es (exit ∷ []) (all-walks (n ∷ around) es h) (subst (λ (a : List Name). Walks May a (exit ∷ [])) (sym (behind-balanced b (n ∷ around))) last) in
-    walks-all around (spanning n start end es) (m, inside)
+    let inside : Walks May (n ∷ around) (es ++ exit ∷ []) = walks-both May (n ∷ around) es (exit ∷ []) (all-walks may_stand (n ∷ around) es h) (subst (λ (a : List Name). Walks May a (exit ∷ [])) (sym (behind-balanced b (n ∷ around))) last) in
+    walks-all may_stand around (spanning n start end es) (m, inside)
 
 texts-none : StandInTexts []
 texts-none = (empty, λ around is. refl)

@@ -89,5 +89,5 @@ module _ (bytes : List ℕ) where
 
   pub string-free : (c : Chunk) (seats : List Seat) → c.content ≡ content.String → Free (chunk_span bytes (Some c) name.Data seats [])
   string-free c seats e = record {
-    passes = λ around ok. chunk-passes around c name.Data seats (subst (λ (x : Content). StandsAs around name.Data (Some x)) (sym e) (free-may around name.Data refl ok, tt));
+    passes = λ around ok. chunk-passes around c name.Data seats (subst (λ (x : Content). StandsAs around name.Data (Some x)) (sym e) (free-may around name.Data refl ok, ok));
   }

@@ -50,7 +50,7 @@ abbrev pub ChunkFits : List Name → Option Content → Type 0
 ChunkFits around None = Unit {0}
 ChunkFits around (Some content.Content) = holds_blocks around ≡ true
 ChunkFits around (Some content.Text) = is_in text_names around ≡ true
-ChunkFits around (Some content.String) = Unit {0}
+ChunkFits around (Some content.String) = NotInList around
 ChunkFits around (Some content.Flow) = Unit {0}
 
 -- a name, and what is read in place of it, if that is a chunk

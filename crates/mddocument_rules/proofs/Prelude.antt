@@ -1,6 +1,6 @@
 -- What the proofs of this crate cite from below them: words of std, of the crates below and of specs.
 pub use Rattle.std.proofs.Common.{Bool, List, None, Option, Some, [], ap, append-nil, append_assoc, arith, cond, drop, false, inl, inr, length, map, not, refl, reverse, subst, suc, sym, take, true, zero, ℕ, ◌++◌, ◌+◌, ◌-◌, ◌==◌, ◌∙◌, ◌∷◌, ◌≡◌, ◌⊎◌}
-pub use Rattle.std.proofs.lemmas.Bool.{and_from, and_parts, cond_both, false_from_ne_true, false≢true, not-true, or_cases, or_left, or_right}
+pub use Rattle.std.proofs.lemmas.Bool.{and_from, and_parts, cases_Bool, cond_both, false_from_ne_true, false≢true, not-true, or_cases, or_left, or_right}
 pub use Rattle.std.specs.List.{AllByRecursion, between, flat_map}
 pub use Rattle.std.specs.Prelude.{codes, is_some, nat_le, nat_lt, option_and_then, option_map, slice_get, unwrap_or, ◌&&◌, ◌||◌}
 pub use Rattle.markdown_base.proofs.Common.{drop-at, every-append, every-drop}
@@ -41,6 +41,6 @@ pub use Rattle.mdblock_definitions.specs.Skeleton.{all_rows, behind_marks, insid
 pub use Rattle.mddocument.proofs.Walks.InnerTexts.{AnySeat, any-each, any-lines, any-seats}
 pub use Rattle.mddocument.proofs.Walks.MarksWalk.{Walk, leafs, whites}
 pub use Rattle.mddocument.proofs.Walks.SkeletonWalk.{AreInDefinition, MayPrefix, PieceIs, RowAt, definitions-are, places, prefixes, stretch-is}
-pub use Rattle.mddocument_rules.specs.Standing.{all_stand, between_names, holds_blocks, inline_names, is_in, may_stand, text_names}
+pub use Rattle.mddocument_rules.specs.Standing.{all_stand, between_names, holds_blocks, inline_names, is_in, is_outside_links, may_stand, text_names}
 pub use Rattle.mddocument_rules.specs.StandingLaws.{BlocksStand, LeafBlocksStand, SkeletonsStand}
 pub use Rattle.mddocument_rules.specs.TextLaws.{EmphasisStands, IsPiece, LinksStand, StandApart, StandInTexts}

@@ -32,7 +32,7 @@ abbrev SectionStands : (bytes : List ℕ) → Section → Type 0
 SectionStands bytes s = Stacked [] s.part.frames × IsRoomy bytes s
 
 module _ (fs : List Frame) where
-  abbrev InFrames : Section → Type 0
+  abbrev pub InFrames : Section → Type 0
   InFrames s = s.part.frames ≡ fs
 
   others-in : (around : Part) (ps : List Part) → around.frames ≡ fs → AllByRecursion InFrames (map (λ p. record { part = p; inside = lines false }) (map (in_same around) ps))
@@ -47,7 +47,7 @@ module _ (fs : List Frame) where
   defining-in ds around [] e = tt
   defining-in ds around (row ∷ more) e = (e, tt)
 
-  sections-in : (on : Constructs) (bound : ℕ) (is_behind : Bool) (around : Part) (all : List Row) → around.frames ≡ fs → AllByRecursion InFrames (sections_in on bound is_behind around all)
+  pub sections-in : (on : Constructs) (bound : ℕ) (is_behind : Bool) (around : Part) (all : List Row) → around.frames ≡ fs → AllByRecursion InFrames (sections_in on bound is_behind around all)
   sections-in on zero is_behind around all e = tt
   sections-in on (suc bound) is_behind around [] e = tt
   sections-in on (suc bound) is_behind around (row ∷ more) e =

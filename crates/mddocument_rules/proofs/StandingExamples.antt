@@ -1,7 +1,8 @@
 -- Some lists of spans, and some documents, in which each span stands where it may or does not, by computation.
-use Rattle.mddocument_rules.proofs.Prelude.{◌≡◌, ℕ, List, [], ◌∷◌, Bool, true, false, None, refl, codes, Event, Enter, Exit, Name, point, Given, document_blocks, all_stand, may_stand}
+use Rattle.mddocument_rules.proofs.Prelude.{◌≡◌, ℕ, List, [], ◌∷◌, ◌++◌, Bool, true, false, None, refl, codes, Event, Enter, Exit, Name, point, Given, document_blocks, all_stand, is_outside_links, may_stand}
 use Rattle.markdown_base.specs.declared.event.Name.TheVariants as name
 use Rattle.markdown_base.specs.Presets.{default_parse_options}
+use Rattle.mddocument.specs.DocumentEvents.{document_events}
 
 -- ---- spans written by hand
 abbrev enter : Name → Event
@@ -39,6 +40,19 @@ strikethrough-in-paragraph = refl
 strikethrough-in-quote : all_stand may_stand [] (in_span name.BlockQuote name.GfmStrikethrough) ≡ false
 strikethrough-in-quote = refl
 
+-- a link stands in no link, however deep; an image does, and a link stands in an image
+link-in-link : all_stand is_outside_links [] (enter name.Link ∷ (in_span name.Label name.Link ++ exit name.Link ∷ [])) ≡ false
+link-in-link = refl
+
+image-in-link : all_stand is_outside_links [] (in_span name.Link name.Image) ≡ true
+image-in-link = refl
+
+link-in-image : all_stand is_outside_links [] (in_span name.Image name.Link) ≡ true
+link-in-image = refl
+
+link-behind-link : all_stand is_outside_links [] (in_span name.Link name.Label ++ in_span name.Link name.Label) ≡ true
+link-behind-link = refl
+
 -- ---- documents
 abbrev given : List ℕ → Given
 given bytes = record { bytes = bytes; options = default_parse_options; tab = 4 }
@@ -57,3 +71,11 @@ quote = refl
 -- a paragraph that goes on over the prefix of its quote
 lines : stands (codes "> a\n> b") ≡ true
 lines = refl
+
+-- the brackets around a link are text
+outer-brackets : all_stand is_outside_links [] (document_events (given (codes "[[a](b)](c)"))) ≡ true
+outer-brackets = refl
+
+-- a link in an item, and code in a heading
+text-in-item : all_stand may_stand [] (document_events (given (codes "- [a](b)\n\n# `c`"))) ≡ true
+text-in-item = refl

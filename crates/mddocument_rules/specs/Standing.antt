@@ -3,7 +3,7 @@ use Rattle.std.specs.Prelude.{◌&&◌, ◌||◌, not, Bool, true, false, cond, 
 use Rattle.markdown_base.specs.declared.event.Event.{Event}
 use Rattle.markdown_base.specs.declared.event.Name.{Name}
 use Rattle.markdown_base.specs.declared.event.Name.TheVariants as name
-use Rattle.markdown_base.specs.Events.{is_enter}
+use Rattle.markdown_base.specs.Events.{is_enter, same_name}
 use Rattle.markdown_edits.specs.SpanWalks.{is_wanted}
 use Rattle.mdblock_containers.specs.Lists.{block_names, item_names, list_names}
 
@@ -44,3 +44,7 @@ may_stand around n =
     (cond (is_wanted block_names n) (holds_blocks around)
     (cond (is_wanted inline_names n) (is_in text_names around)
     (not (is_in list_names around) || is_wanted between_names n)))
+
+-- "Links may not contain other links, at any level of nesting" (6.3). Images may, and a link may contain images
+abbrev pub is_outside_links : (around : List Name) → Name → Bool
+is_outside_links around n = not (same_name n name.Link && is_wanted around name.Link)

@@ -6,7 +6,8 @@ use Rattle.markdown_base.specs.Virtual.{Seat}
 use Rattle.markdown_tokenizer.specs.Text.{Given, IsDocument}
 use Rattle.mdblock_leaf_blocks.specs.LeafEvents.{flow_events}
 use Rattle.mdblock_definitions.specs.Blocks.{document_blocks, document_skeleton}
-use Rattle.mddocument_rules.specs.Standing.{all_stand, holds_blocks, may_stand}
+use Rattle.mddocument.specs.DocumentEvents.{document_events}
+use Rattle.mddocument_rules.specs.Standing.{all_stand, holds_blocks, is_outside_links, may_stand}
 
 -- Leaf blocks stand where blocks may stand
 abbrev pub LeafBlocksStand : Type 0
@@ -19,3 +20,11 @@ SkeletonsStand = (g : Given) → all_stand may_stand [] (document_skeleton g) �
 -- So it is of all blocks of each document
 abbrev pub BlocksStand : Type 0
 BlocksStand = (g : Given) → IsDocument g → all_stand may_stand [] (document_blocks g) ≡ true
+
+-- And so it is of each document: items stand in lists, blocks in the document, a quote or an item, and inline text in texts
+abbrev pub SpansStand : Type 0
+SpansStand = (g : Given) → IsDocument g → all_stand may_stand [] (document_events g) ≡ true
+
+-- "Links may not contain other links, at any level of nesting" (6.3): so it is of each document
+abbrev pub NoLinkInALink : Type 0
+NoLinkInALink = (g : Given) → IsDocument g → all_stand is_outside_links [] (document_events g) ≡ true

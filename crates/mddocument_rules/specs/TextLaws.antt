@@ -1,15 +1,18 @@
 -- What is promised of where inline text stands.
-use Rattle.std.specs.Prelude.{◌≡◌, ◌||◌, ℕ, Bool, List, true, false}
+use Rattle.std.specs.Prelude.{◌≡◌, ◌||◌, ℕ, Bool, List, [], true, false}
 use Rattle.std.specs.List.{AllByRecursion}
+use Rattle.markdown_base.specs.declared.configuration.Constructs.{Constructs}
 use Rattle.markdown_base.specs.declared.event.Event.{Event}
 use Rattle.markdown_base.specs.declared.event.Name.{Name}
 use Rattle.markdown_base.specs.declared.event.Name.TheVariants.{LabelEnd}
 use Rattle.markdown_base.specs.Events.{IsBalanced}
+use Rattle.markdown_base.specs.Virtual.{Seat}
 use Rattle.mdinline_emphasis.specs.Emphasis.{Run, emphasised}
 use Rattle.mdinline_emphasis.specs.LawStatements.{AreFresh}
 use Rattle.mdinline_links.specs.Linked.{is_bracket, is_named, is_tail, outermost_spans, with_links}
 use Rattle.mdblock_containers.specs.Lists.{list_names}
-use Rattle.mddocument_rules.specs.Standing.{all_stand, is_in, may_stand, text_names}
+use Rattle.mddocument.specs.FlowTexts.{inline_seat_events}
+use Rattle.mddocument_rules.specs.Standing.{all_stand, is_in, is_outside_links, may_stand, text_names}
 
 -- Balanced events that may stand in each text
 abbrev pub StandInTexts : List Event → Type 0
@@ -36,3 +39,11 @@ pub record IsPiece (span : List Event) : Type 0 where
 -- If the outermost spans of a text are such, it stands in texts with links, images and emphasis in place of its brackets and runs
 abbrev pub LinksStand : Type 0
 LinksStand = (bytes : List ℕ) (es : List Event) → AllByRecursion IsPiece (outermost_spans es) → StandInTexts (with_links bytes es)
+
+-- So inline text stands in texts, whichever labels are defined
+abbrev pub InlineTextStands : Type 0
+InlineTextStands = (defined : List ℕ → Bool) (on : Constructs) (bytes : List ℕ) (seats : List Seat) → StandInTexts (inline_seat_events defined on bytes seats)
+
+-- "Links may not contain other links, at any level of nesting" (6.3): so it is of inline text, whichever labels are defined
+abbrev pub NoLinkInALinkOfText : Type 0
+NoLinkInALinkOfText = (defined : List ℕ → Bool) (on : Constructs) (bytes : List ℕ) (seats : List Seat) → all_stand is_outside_links [] (inline_seat_events defined on bytes seats) ≡ true

@@ -1,7 +1,9 @@
 //! Laws of what documents are read as, in CommonMark's words. Each is a function that does nothing; its contract is the law.
 
-ghost use Rattle.mddocument_rules.specs.StandingLaws.{BlocksStand, LeafBlocksStand, SkeletonsStand};
-ghost use Rattle.mddocument_rules.specs.TextLaws.{EmphasisStands, LinksStand};
+ghost use Rattle.mddocument_rules.specs.ListLaws.{ItemsHaveTheMarker, ListsHaveOneMarker, NeighboursDiffer, QuotesAreApart};
+ghost use Rattle.mddocument_rules.specs.MarkerLaws.{ListsAreNamedByMarkers, ListsAreOfOneType};
+ghost use Rattle.mddocument_rules.specs.StandingLaws.{BlocksStand, LeafBlocksStand, NoLinkInALink, SkeletonsStand, SpansStand};
+ghost use Rattle.mddocument_rules.specs.TextLaws.{EmphasisStands, InlineTextStands, LinksStand, NoLinkInALinkOfText};
 
 /// What may stand in what, of the parts of a document. Leaf blocks stand where blocks may. Of containers and definitions, items stand in lists,
 /// and the others in the document itself, in a block quote or in an item.
@@ -22,4 +24,40 @@ pub fn blocks_stand_where_they_may()
 pub fn links_and_emphasis_stand_in_texts()
     ensures emphasis { EmphasisStands }
     ensures links { LinksStand }
+{}
+
+/// No link is in a link, at any depth, whatever is between the two: not in inline text, whichever labels are defined, and not in a document, whatever its
+/// bytes and its constructs. An image may be in a link, and a link in an image.
+pub fn no_link_is_in_a_link()
+    ensures texts { NoLinkInALinkOfText }
+    ensures documents { NoLinkInALink }
+{}
+
+/// What may stand in what, of whole documents, whatever their bytes and their constructs. Inline text stands in texts, whichever labels are defined; and
+/// each span of a document stands where it may: items in lists, blocks in the document itself, in a block quote or in an item, and inline text
+/// in paragraphs, in headings and in the texts of emphasis, links and images.
+pub fn spans_stand_where_they_may()
+    ensures texts { InlineTextStands }
+    ensures documents { SpansStand }
+{}
+
+/// A list is of items of one type, by the lines of a document. Each item has the marker of the first item of its list, and so two items of one list
+/// have one marker. Where an item comes behind another with nothing but blank lines between, they are of one list if their markers are one, and only
+/// then.
+pub fn lists_are_of_one_type()
+    ensures markers { ItemsHaveTheMarker }
+    ensures lists { ListsHaveOneMarker }
+    ensures neighbours { NeighboursDiffer }
+{}
+
+/// Between two block quotes in a row is a blank line, if indented code is on.
+pub fn quotes_are_apart()
+    ensures { QuotesAreApart }
+{}
+
+/// A list is of items of one type, by the events of a document's containers: each item has the marker of the list that it stands in. An ordered list
+/// has a delimiter, and another list a bullet.
+pub fn items_have_the_marker_of_their_list()
+    ensures items { ListsAreOfOneType }
+    ensures names { ListsAreNamedByMarkers }
 {}

@@ -1,0 +1,341 @@
+-- Inline text: each end of a label makes something of a bracket behind which no link was made, if that is of a link. So no link is in a link.
+use Rattle.mddocument_rules.proofs.Prelude.{◌≡◌, ◌∙◌, ℕ, zero, suc, ◌+◌, Bool, true, false, cond, List, [], ◌∷◌, ◌++◌, Option, Some, None, drop, length, refl, subst, sym, take, append_assoc, arith, false≢true, option_map, flat_map, every-back, every-front, ◌||◌, Constructs, Event, Name, Seat, same_name}
+use Rattle.std.specs.List.{prefix_len}
+use Rattle.markdown_base.proofs.Common.{every-map}
+use Rattle.markdown_base.specs.declared.event.Name.TheVariants.{AttentionSequence, Data, LabelEnd, LabelImage, LabelImageMarker, LabelLink, LabelMarker, LineEnding, Link, Reference, ReferenceMarker, SpaceOrTab}
+use Rattle.mdconstructs_machines.specs.Spans.{leaf, span}
+use Rattle.mdconstructs_tables.specs.Breaks.{is_white}
+use Rattle.mdinline_text_machine.proofs.Autolinks.Cuts.{autolink-built}
+use Rattle.mdinline_text_machine.proofs.CodeSpans.Cuts.{code-span-built}
+use Rattle.mdinline_text_machine.proofs.Constructs.Apart.{EachThere, OfOption, there-holds}
+use Rattle.mdinline_text_machine.proofs.Escapes.Cuts.{escape-built}
+use Rattle.mdinline_text_machine.proofs.Texts.Built.{IsBuilt, IsKeptBySpans}
+use Rattle.mdinline_text_machine.specs.Bytes.{has_byte_at, is_line_feed}
+use Rattle.mdinline_text_machine.specs.Construct.{Found, Grammar, makes, or_else}
+use Rattle.mdinline_text_machine.specs.Items.{item_length}
+use Rattle.mdinline_text_machine.specs.Parts.{bytes_of, cut_remembering}
+use Rattle.mdinline_text_machine.specs.TextEvents.{item_events}
+use Rattle.mdinline_constructs.proofs.Emails.Cuts.{email-built}
+use Rattle.mdinline_constructs.proofs.HardBreaks.Cuts.{break-escape-built, trailing-break-built}
+use Rattle.mdinline_constructs.proofs.HtmlMarks.Bytes.{html-mark-built}
+use Rattle.mdinline_constructs.proofs.HtmlTags.Bytes.{html-tag-built}
+use Rattle.mdinline_constructs.proofs.References.Cuts.{reference-built}
+use Rattle.mdinline_constructs.proofs.WhiteSpaces.Cuts.{white-space-built}
+use Rattle.mdinline_constructs.specs.WhiteSpace.{white_space}
+use Rattle.mdinline_link_tails.proofs.Resources.Built.{resource-built}
+use Rattle.mdinline_full_references.proofs.FullReferences.Built.{full-reference-built}
+use Rattle.mdinline_links.proofs.Leaves.{links-balanced}
+use Rattle.mdinline_links.proofs.Spans.{spans-have}
+use Rattle.mdinline_links.specs.Linked.{spans_in}
+use Rattle.mdinline_machine.proofs.BracketBytes.{tail-holds}
+use Rattle.mdinline_machine.specs.Brackets.{Bracket, Memory, after_item, begins_end, begins_link, end_at, end_of_last, image_bracket, is_image_bracket, is_wanted_at, label_end, link_bracket, lone_end, nothing_read, tail_of, waiting_behind}
+use Rattle.mdinline_machine.specs.InlineEvents.{bracket_or_part, data_length, data_run, delimiter_run, inline_grammars, inline_item_at, inline_items, line_break, run_length, run_or_part}
+use Rattle.mdinline_machine.specs.RunRows.{begins_run}
+use Rattle.mddocument.proofs.Emphasis.InlineReads.{balanced-of}
+use Rattle.mddocument.specs.FlowTexts.{inline_seat_events}
+use Rattle.mddocument_laws.proofs.Named.{and, leafed}
+use Rattle.mddocument_laws.proofs.WholeSpans.{IsWhole, around-whole, both-whole, first-span, none-whole}
+use Rattle.mddocument_rules.proofs.FlatLinks.{IsFlat, IsLinkless, flat-stands, linkless-both, linkless-none}
+use Rattle.mddocument_rules.proofs.LinkedFlat.{AreRead, IsStep, links-flat}
+use Rattle.mddocument_rules.proofs.QuietItems.{AreQuiet, HasQuiet, IsPlain, IsQuiet, constructs-plain, constructs-quiet, quiet-other, tail-quiet}
+use Rattle.mddocument_rules.specs.TextLaws.{NoLinkInALinkOfText}
+
+-- ---- spans that are read, by the brackets that wait
+abbrev Goes : List Bracket → List Event → Type 0
+Goes bs es = (bound : ℕ) → AreRead bs (spans_in bound es)
+
+abbrev Passes : List Bracket → List Event → List Bracket → Type 0
+Passes bs es next = (rest : List Event) → Goes next rest → Goes bs (es ++ rest)
+
+goes-none : (bs : List Bracket) → Goes bs []
+goes-none bs zero = tt
+goes-none bs (suc bound) = tt
+
+passes-both : (bs mid next : List Bracket) (xs ys : List Event) → Passes bs xs mid → Passes mid ys next → Passes bs (xs ++ ys) next
+passes-both bs mid next xs ys h k rest g = subst (Goes bs) (sym (append_assoc xs ys rest)) (h (ys ++ rest) (k rest g))
+
+passes-span : (bytes : List ℕ) (n : Name) (s : Seat) (ss : List Seat) (inside : List Event) → IsWhole inside → (bs next : List Bracket) → IsStep bs (span bytes n (s ∷ ss) inside) next → Passes bs (span bytes n (s ∷ ss) inside) next
+passes-span bytes n s ss inside w bs next step rest g zero = tt
+passes-span bytes n s ss inside w bs next step rest g (suc bound) =
+    subst (λ (p : List Event × List Event). AreRead bs (p.0 ∷ spans_in bound p.1)) (sym (first-span bytes n s ss inside w rest)) (next, step, g bound)
+
+-- ---- whole spans that leave the brackets, if they have other names
+record IsCalm (es : List Event) : Type 0 where
+  whole : IsWhole es
+  passes : AreQuiet es → (bs : List Bracket) → Passes bs es bs
+
+quiet-step : (bytes : List ℕ) (n : Name) (s : Seat) (ss : List Seat) (inside : List Event) (bs : List Bracket) → IsQuiet n → IsStep bs (span bytes n (s ∷ ss) inside) bs
+quiet-step bytes n s ss inside bs q =
+    let ends = quiet-other n LabelEnd q refl in
+    let brackets : (same_name n LabelLink || same_name n LabelImage) ≡ false = (λ i. quiet-other n LabelLink q refl i || quiet-other n LabelImage q refl i) in
+    record {
+      ends = λ e. absurd (false≢true (sym ends ∙ e));
+      opens = λ e b. absurd (false≢true (sym brackets ∙ b));
+      fails = λ e b m. absurd (false≢true (sym (quiet-other n LabelMarker q refl) ∙ m));
+      stays = λ e b m. refl;
+    }
+
+both-calm : (xs ys : List Event) → IsCalm xs → IsCalm ys → IsCalm (xs ++ ys)
+both-calm xs ys h k = record {
+  whole = both-whole xs ys h.whole k.whole;
+  passes = λ q bs. passes-both bs bs bs xs ys (h.passes (record { all = every-front (λ (e : Event). IsQuiet e.name) xs ys q.all }) bs) (k.passes (record { all = every-back (λ (e : Event). IsQuiet e.name) xs ys q.all }) bs);
+}
+
+span-calm : (bytes : List ℕ) (n : Name) (seats : List Seat) (inside : List Event) → IsCalm inside → IsCalm (span bytes n seats inside)
+span-calm bytes n [] inside h = h
+span-calm bytes n (s ∷ ss) inside h = record {
+  whole = around-whole bytes n s ss inside h.whole;
+  passes = λ q bs. passes-span bytes n s ss inside h.whole bs bs (quiet-step bytes n s ss inside bs q.all.0);
+}
+
+none-calm : IsCalm []
+none-calm = record { whole = none-whole; passes = λ q bs rest g. g }
+
+leaf-calm : (bytes : List ℕ) (n : Name) (seats : List Seat) → IsCalm (leaf bytes n seats)
+leaf-calm bytes n seats = span-calm bytes n seats [] none-calm
+
+leaf-whole : (bytes : List ℕ) (n : Name) (seats : List Seat) → IsWhole (leaf bytes n seats)
+leaf-whole bytes n seats = (leaf-calm bytes n seats).whole
+
+calm-kept : (bytes : List ℕ) → IsKeptBySpans bytes IsCalm
+calm-kept bytes = record { none = none-calm; both = both-calm; alone = leaf-calm bytes; around = λ n seats es other h. span-calm bytes n seats es h }
+
+-- ---- items
+module _ (bytes : List ℕ) where
+  abbrev Calm : Found → Type 0
+  Calm f = IsBuilt bytes IsCalm (calm-kept bytes) f
+
+  calm-each : (text : List ℕ) → EachThere Calm inline_grammars text
+  calm-each text =
+      let k = calm-kept bytes in (
+        code-span-built bytes IsCalm k text,
+        (
+          autolink-built bytes IsCalm k text,
+          (
+            email-built bytes IsCalm k text,
+            (
+              html-mark-built bytes IsCalm k text,
+              (
+                html-tag-built bytes IsCalm k text,
+                (
+                  escape-built bytes IsCalm k text,
+                  (break-escape-built bytes IsCalm k text, (reference-built bytes IsCalm k text, (trailing-break-built bytes IsCalm k text, (white-space-built bytes IsCalm k text, tt)))),
+                ),
+              ),
+            ),
+          ),
+        ),
+      )
+
+  -- what is found at the front of virtual bytes, where these brackets wait
+  record IsItem (bs : List Bracket) (s : Seat) (ss : List Seat) (f : Found) : Type 0 where
+    reads : (count : ℕ) → Passes bs (f.events bytes (take f.size (s ∷ ss))) (waiting_behind f.mark count bs)
+    linkless : IsLinkless (f.events bytes (take f.size (s ∷ ss)))
+
+  quiet-linkless : (es : List Event) → AreQuiet es → IsLinkless es
+  quiet-linkless es q = record { none = every-map (λ (e : Event). IsQuiet e.name) (λ (e : Event). same_name e.name Link ≡ false) (λ e h. quiet-other e.name Link h refl) es q.all }
+
+  module _ (bs : List Bracket) (s : Seat) (ss : List Seat) where
+    -- one that is neither a bracket nor an end
+    plain-item : (f : Found) → IsPlain f → IsCalm (f.events bytes (take f.size (s ∷ ss))) → AreQuiet (f.events bytes (take f.size (s ∷ ss))) → IsItem bs s ss f
+    plain-item f mark calm quiet =
+        let es = f.events bytes (take f.size (s ∷ ss)) in
+        record { reads = λ count. subst (λ m. Passes bs es (waiting_behind m count bs)) (sym mark) (calm.passes quiet bs); linkless = quiet-linkless es quiet }
+
+    abbrev There : Found → Type 0
+    There f = IsItem bs s ss f
+
+    all-three : (o : Option Found) → OfOption IsPlain o → OfOption Calm o → OfOption HasQuiet o → OfOption There o
+    all-three None p c q = tt
+    all-three (Some f) p c q = plain-item f p (c (take f.size (s ∷ ss))) (q bytes (take f.size (s ∷ ss)))
+
+    each-item : (grammars : List (Grammar Found)) (text : List ℕ) → EachThere IsPlain grammars text → EachThere Calm grammars text → EachThere HasQuiet grammars text → EachThere There grammars text
+    each-item [] text p c q = tt
+    each-item (g ∷ grammars) text p c q = (all-three (g.front text) p.0 c.0 q.0, each-item grammars text p.1 c.1 q.1)
+
+    -- runs, line endings and data
+    leaf-item : (f : Found) → IsPlain f → (n : Name) → IsQuiet n → ((seats : List Seat) → f.events bytes seats ≡ leaf bytes n seats) → There f
+    leaf-item f mark n q are =
+        let seats = take f.size (s ∷ ss) in
+        plain-item f mark (subst IsCalm (sym (are seats)) (leaf-calm bytes n seats)) (subst AreQuiet (sym (are seats)) (leafed bytes n seats q))
+
+    break-item : (k : ℕ) → There (line_break k)
+    break-item k =
+        let seats = take (1 + k) (s ∷ ss) in
+        let first = leaf bytes LineEnding (take 1 seats) in
+        let rest = leaf bytes SpaceOrTab (drop 1 seats) in
+        plain-item (line_break k) refl (both-calm first rest (leaf-calm bytes LineEnding (take 1 seats)) (leaf-calm bytes SpaceOrTab (drop 1 seats)))
+        (and (leafed bytes LineEnding (take 1 seats) refl) (leafed bytes SpaceOrTab (drop 1 seats) refl))
+
+    run-item : (on : Constructs) (text : List ℕ) → There (run_or_part on text)
+    run-item on text =
+        let line = line_break (prefix_len is_white (drop 1 text)) in
+        elim (has_byte_at text 0 (begins_run on)) as (λ x. There (cond x (delimiter_run (run_length text)) (cond (has_byte_at text 0 is_line_feed) line (data_run (data_length on text))))) [
+          | true ↦ leaf-item (delimiter_run (run_length text)) refl AttentionSequence refl (λ seats. refl)
+          | false ↦ elim (has_byte_at text 0 is_line_feed) as (λ x. There (cond x line (data_run (data_length on text)))) [
+            | true ↦ break-item (prefix_len is_white (drop 1 text))
+            | false ↦ leaf-item (data_run (data_length on text)) refl Data refl (λ seats. refl)
+          ]
+        ]
+
+    -- a bracket waits
+    link-item : There link_bracket
+    link-item = record {
+      reads = λ count.
+          passes-span bytes LabelLink s [] (leaf bytes LabelMarker (s ∷ [])) (leaf-whole bytes LabelMarker (s ∷ [])) bs (record { image = false; inactive = false; count = count } ∷ bs)
+          (record {
+            ends = λ e. absurd (false≢true e);
+            opens = λ e b. (record { image = false; inactive = false; count = count }, refl, refl);
+            fails = λ e b m. absurd (false≢true (sym b));
+            stays = λ e b m. absurd (false≢true (sym b));
+          });
+      linkless = record { none = (refl, (refl, (refl, (refl, tt)))) };
+    }
+
+    image-item : There image_bracket
+    image-item =
+        let seats = take 1 ss in
+        let first = leaf bytes LabelImageMarker (s ∷ []) in
+        let second = leaf bytes LabelMarker seats in
+        record {
+          reads = λ count.
+              passes-span bytes LabelImage s seats (first ++ second) (both-whole first second (leaf-whole bytes LabelImageMarker (s ∷ [])) (leaf-whole bytes LabelMarker seats)) bs (record { image = true; inactive = false; count = count } ∷ bs)
+              (record {
+                ends = λ e. absurd (false≢true e);
+                opens = λ e b. (record { image = true; inactive = false; count = count }, refl, refl);
+                fails = λ e b m. absurd (false≢true (sym b));
+                stays = λ e b m. absurd (false≢true (sym b));
+              });
+          linkless = two ss;
+        }
+      where
+        two : (rest : List Seat) → IsLinkless (image_bracket.events bytes (take 2 (s ∷ rest)))
+        two [] = record { none = (refl, (refl, (refl, (refl, tt)))) }
+        two (r ∷ rest) = record { none = (refl, (refl, (refl, (refl, (refl, (refl, tt)))))) }
+
+    lone-item : There lone_end
+    lone-item = record {
+      reads = λ count.
+          passes-span bytes LabelMarker s [] [] none-whole bs (drop 1 bs)
+          (record {
+            ends = λ e. absurd (false≢true e);
+            opens = λ e b. absurd (false≢true b);
+            fails = λ e b m. refl;
+            stays = λ e b m. absurd (false≢true (sym m));
+          });
+      linkless = record { none = (refl, (refl, tt)) };
+    }
+
+  -- an end of the last bracket, which is active
+  module _ (b : Bracket) (bs : List Bracket) (s : Seat) (ss : List Seat) where
+    end-item : (tail : Found) → b.inactive ≡ false → Calm tail → ((seats : List Seat) → AreQuiet (tail.events bytes seats)) → IsItem (b ∷ bs) s ss (label_end tail)
+    end-item tail active calm quiet =
+        let one : suc tail.size ≡ 1 + tail.size = omega arith in
+        let seats = take tail.size ss in
+        let next : ℕ → List Bracket = λ count. waiting_behind makes count (b ∷ bs) in
+        let close = span bytes LabelEnd (s ∷ []) (leaf bytes LabelMarker (s ∷ [])) in
+        record {
+          reads = λ count.
+              subst (λ n. Passes (b ∷ bs) ((label_end tail).events bytes (take n (s ∷ ss))) (next count)) one
+              (passes-both (b ∷ bs) (next count) (next count) close (tail.events bytes seats)
+              (passes-span bytes LabelEnd s [] (leaf bytes LabelMarker (s ∷ [])) (leaf-whole bytes LabelMarker (s ∷ [])) (b ∷ bs) (next count)
+              (record { ends = λ e. (active, refl); opens = λ e. absurd (false≢true (sym e)); fails = λ e. absurd (false≢true (sym e)); stays = λ e. absurd (false≢true (sym e)) }))
+              ((calm seats).passes (quiet seats) (next count)));
+          linkless =
+              subst (λ n. IsLinkless ((label_end tail).events bytes (take n (s ∷ ss)))) one
+              (linkless-both close (tail.events bytes seats) (record { none = (refl, (refl, (refl, (refl, tt)))) }) (quiet-linkless (tail.events bytes seats) (quiet seats)));
+        }
+
+  module _ (on : Constructs) (defined : List ℕ → Bool) where
+    tail-calm : (b : Bracket) (m : Memory) (text : List ℕ) (tail : Found) → tail_of defined bytes b m text ≡ Some tail → Calm tail
+    tail-calm b m text =
+        let k = calm-kept bytes in
+        tail-holds defined bytes Calm b m text (resource-built bytes IsCalm k text) (full-reference-built bytes IsCalm k (is_wanted_at defined bytes m.ahead) text)
+        (λ e seats. span-calm bytes Reference seats _ (both-calm _ _ (leaf-calm bytes ReferenceMarker _) (leaf-calm bytes ReferenceMarker _))) (λ seats. none-calm)
+
+    last-item : (b : Bracket) (bs : List Bracket) (s : Seat) (ss : List Seat) (m : Memory) (behind : List ℕ) → IsItem (b ∷ bs) s ss (end_of_last defined bytes b m behind)
+    last-item b bs s ss m behind =
+        let Is : Found → Type 0 = λ f. IsItem (b ∷ bs) s ss f in
+        elim b.inactive as (λ t. b.inactive ≡ t → Is (cond t lone_end (or_else (option_map label_end (tail_of defined bytes b m behind)) lone_end))) [
+          | true ↦ λ e. lone-item (b ∷ bs) s ss
+          | false ↦ λ active. elim (tail_of defined bytes b m behind) as (λ o. tail_of defined bytes b m behind ≡ o → Is (or_else (option_map label_end o) lone_end)) [
+            | None ↦ λ e. lone-item (b ∷ bs) s ss
+            | Some tail ↦ λ e. end-item b bs s ss tail active (tail-calm b m behind tail e) (tail-quiet bytes defined b m behind tail e)
+          ] refl
+        ] refl
+
+    ends-item : (bs : List Bracket) (s : Seat) (ss : List Seat) (m : Memory) (behind : List ℕ) (other : Found) → IsItem bs s ss other → IsItem bs s ss (or_else (end_at defined bytes bs m behind) other)
+    ends-item [] s ss m behind other h = h
+    ends-item (b ∷ bs) s ss m behind other h = last-item b bs s ss m behind
+
+    bracket-item : (s : Seat) (ss : List Seat) (m : Memory) (text : List ℕ) → IsItem m.waiting s ss (bracket_or_part on defined bytes m text)
+    bracket-item s ss m text =
+        let bs = m.waiting in
+        let other = run_or_part on text in
+        let Is : Found → Type 0 = λ f. IsItem bs s ss f in
+        let ends = cond (has_byte_at text 0 (begins_end on)) (end_at defined bytes bs m (drop 1 text)) None in
+        elim (has_byte_at text 0 (begins_link on)) as (λ t. Is (or_else (cond t (Some link_bracket) (cond (is_image_bracket on text) (Some image_bracket) ends)) other)) [
+          | true ↦ link-item bs s ss
+          | false ↦ elim (is_image_bracket on text) as (λ t. Is (or_else (cond t (Some image_bracket) ends) other)) [
+            | true ↦ image-item bs s ss
+            | false ↦ elim (has_byte_at text 0 (begins_end on)) as (λ t. Is (or_else (cond t (end_at defined bytes bs m (drop 1 text)) None) other)) [
+              | true ↦ ends-item bs s ss m (drop 1 text) other (run-item bs s ss on text)
+              | false ↦ run-item bs s ss on text
+            ]
+          ]
+        ]
+
+    inline-item : (s : Seat) (ss : List Seat) (m : Memory) (text : List ℕ) → IsItem m.waiting s ss (inline_item_at on defined bytes m text)
+    inline-item s ss m text =
+        there-holds (IsItem m.waiting s ss) inline_grammars on text (bracket_or_part on defined bytes m text) (each-item m.waiting s ss inline_grammars text (constructs-plain text) (calm-each text) (constructs-quiet text))
+        (bracket-item s ss m text)
+
+    -- ---- all items
+    abbrev cut_from : ℕ → Memory → List Seat → List Event
+    cut_from bound m seats = flat_map (item_events bytes) (cut_remembering (after_item bytes) (inline_item_at on defined bytes) item_length bound m seats)
+
+    items-read : (bound : ℕ) (m : Memory) (seats : List Seat) → Goes m.waiting (cut_from bound m seats)
+    items-read zero m seats = goes-none m.waiting
+    items-read (suc bound) m [] = goes-none m.waiting
+    items-read (suc bound) m (s ∷ ss) =
+        let f = inline_item_at on defined bytes m (bytes_of (s ∷ ss)) in
+        (inline-item s ss m (bytes_of (s ∷ ss))).reads (length (m.events ++ f.events bytes (take f.size m.ahead))) (cut_from bound (after_item bytes m f) (drop f.size (s ∷ ss))) (items-read bound (after_item bytes m f) (drop f.size (s ∷ ss)))
+
+    items-linkless : (bound : ℕ) (m : Memory) (seats : List Seat) → IsLinkless (cut_from bound m seats)
+    items-linkless zero m seats = linkless-none
+    items-linkless (suc bound) m [] = linkless-none
+    items-linkless (suc bound) m (s ∷ ss) =
+        let f = inline_item_at on defined bytes m (bytes_of (s ∷ ss)) in
+        linkless-both (f.events bytes (take f.size (s ∷ ss))) (cut_from bound (after_item bytes m f) (drop f.size (s ∷ ss))) (inline-item s ss m (bytes_of (s ∷ ss))).linkless (items-linkless bound (after_item bytes m f) (drop f.size (s ∷ ss)))
+
+    module _ (seats : List Seat) where
+      abbrev first_white : ℕ
+      first_white = prefix_len is_white (bytes_of seats)
+
+      abbrev white : List Event
+      white = leaf bytes SpaceOrTab (take first_white seats)
+
+      abbrev first_memory : Memory
+      first_memory = after_item bytes (nothing_read seats) (white_space first_white)
+
+      abbrev read : List Event
+      read = flat_map (item_events bytes) (inline_items on defined bytes seats)
+
+      white-quiet : AreQuiet white
+      white-quiet = leafed bytes SpaceOrTab (take first_white seats) refl
+
+      all-read : Goes [] read
+      all-read = (leaf-calm bytes SpaceOrTab (take first_white seats)).passes white-quiet [] (cut_from (length seats) first_memory (drop first_white seats)) (items-read (length seats) first_memory (drop first_white seats))
+
+      all-linkless : IsLinkless read
+      all-linkless = linkless-both white (cut_from (length seats) first_memory (drop first_white seats)) (quiet-linkless white white-quiet) (items-linkless (length seats) first_memory (drop first_white seats))
+
+      parts : (xs ys : List Event) → IsLinkless (xs ++ ys) → IsLinkless xs × IsLinkless ys
+      parts xs ys h = (record { none = every-front (λ (e : Event). same_name e.name Link ≡ false) xs ys h.none }, record { none = every-back (λ (e : Event). same_name e.name Link ≡ false) xs ys h.none })
+
+      -- The events of links of inline text come in turn
+      pub inline-flat : IsFlat (inline_seat_events defined on bytes seats)
+      inline-flat = links-flat bytes read (spans-have IsLinkless parts (length read) read all-linkless) (all-read (length read))
+
+pub links-apart-in-texts : NoLinkInALinkOfText
+links-apart-in-texts defined on bytes seats = flat-stands (inline_seat_events defined on bytes seats) (links-balanced bytes (read bytes on defined seats) (balanced-of 4 bytes defined on seats)) (inline-flat bytes on defined seats)
