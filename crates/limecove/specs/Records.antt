@@ -57,12 +57,12 @@ record_of event = record {
 abbrev pub filled : List Record → List Event → List Record
 filled old events = take (length old) (map record_of events) ++ drop (length events) old
 
--- Events are those of a document by a choice. If literals or checks are on, they are those of the whole document with these
+-- Events are those of a document by a choice. If tables, literals or checks are on, they are those of the whole document with these
 abbrev pub AreEventsBy : (with_these : Bool) → Choice → ParseOptions → List ℕ → List Event → Type 0
 AreEventsBy false choice options bytes events = AreEventsOf choice.deep choice.machine options bytes events
 AreEventsBy true choice options bytes events = events ≡ gfm_events options bytes
 
--- Options that choose something with literals or checks choose the machine of documents, with its texts
+-- Options that choose something with tables, literals or checks choose the machine of documents, with its texts
 abbrev pub RewrittenAreDocuments : Type 0
 RewrittenAreDocuments = (options : Options) (choice : Choice) → choice_of options ≡ Ok choice → has_rewritten options.constructs ≡ true → (choice.machine ≡ Document) × (choice.deep ≡ true)
 

@@ -61,8 +61,10 @@ pub const ALL_CONSTRUCTS: u64 = 2097151;
 pub const GFM_AUTOLINK_LITERAL: u64 = 2097152;
 /// The bit of checks of task list items, which are GFM's: in HTML, and in whole documents with their texts.
 pub const GFM_TASK_LIST_ITEM: u64 = 4194304;
+/// The bit of tables, which are GFM's: in HTML, and in whole documents with their texts.
+pub const GFM_TABLE: u64 = 8388608;
 /// The bits of all constructs that HTML has, and whole documents with their texts.
-pub const HTML_CONSTRUCTS: u64 = 8388607;
+pub const HTML_CONSTRUCTS: u64 = 16777215;
 
 /// The bit of HTML in the document, which is kept as HTML. Without it, it is shown as text.
 pub const ALLOW_DANGEROUS_HTML: u64 = 1;
@@ -173,7 +175,7 @@ fn have_constructs(options: &Options) -> bool
         || (is_of_document && options.constructs <= HTML_CONSTRUCTS)
 }
 
-/// Whether literals or checks are on, by a sum of bits.
+/// Whether tables, literals or checks are on, by a sum of bits.
 pub(crate) fn has_rewritten(bits: u64) -> bool
     ensures { result ≡ has_rewritten bits }
 {
@@ -233,6 +235,7 @@ pub(crate) fn constructs_of(bits: u64) -> Constructs
         definition: bits & DEFINITION != 0,
         gfm_autolink_literal: bits & GFM_AUTOLINK_LITERAL != 0,
         gfm_strikethrough: bits & GFM_STRIKETHROUGH != 0,
+        gfm_table: bits & GFM_TABLE != 0,
         gfm_task_list_item: bits & GFM_TASK_LIST_ITEM != 0,
         hard_break_escape: bits & HARD_BREAK_ESCAPE != 0,
         hard_break_trailing: bits & HARD_BREAK_TRAILING != 0,

@@ -9,9 +9,10 @@ use crate::choose::{
     ALL_CONSTRUCTS, ALLOW_ALL, ALLOW_ANY_IMG_SRC, ALLOW_DANGEROUS_HTML, ALLOW_DANGEROUS_PROTOCOL,
     ATTENTION, AUTOLINK, BLOCK_QUOTE, CHARACTER_ESCAPE, CHARACTER_REFERENCE, CODE_FENCED,
     CODE_INDENTED, CODE_TEXT, COMMONMARK, DEFINITION, GFM_AUTOLINK_LITERAL, GFM_STRIKETHROUGH,
-    GFM_TASK_LIST_ITEM, HARD_BREAK_ESCAPE, HARD_BREAK_TRAILING, HEADING_ATX, HEADING_SETEXT,
-    HTML_CONSTRUCTS, HTML_FLOW, HTML_OPTIONS_SIZE, HTML_TEXT, LABEL_END, LABEL_START_IMAGE,
-    LABEL_START_LINK, LIST_ITEM, OPTIONS_SIZE, TEXT_OPTIONS_SIZE, THEMATIC_BREAK,
+    GFM_TABLE, GFM_TASK_LIST_ITEM, HARD_BREAK_ESCAPE, HARD_BREAK_TRAILING, HEADING_ATX,
+    HEADING_SETEXT, HTML_CONSTRUCTS, HTML_FLOW, HTML_OPTIONS_SIZE, HTML_TEXT, LABEL_END,
+    LABEL_START_IMAGE, LABEL_START_LINK, LIST_ITEM, OPTIONS_SIZE, TEXT_OPTIONS_SIZE,
+    THEMATIC_BREAK,
 };
 use crate::code::{
     LINKS_NO_TEXT, NO_SUCH_BYTES, NO_SUCH_CONSTRUCT, NO_SUCH_MACHINE, NO_SUCH_PERMISSION,
@@ -19,7 +20,7 @@ use crate::code::{
 };
 
 /// The value of each number; the bits of CommonMark's constructs have these on and no other, and all bits have
-/// strikethrough on too, in HTML also literals and checks.
+/// strikethrough on too, in HTML also tables, literals and checks.
 pub fn numbers_are_stated()
     ensures version { VERSION ≡ 4 }
     ensures read { READ ≡ 0 }
@@ -38,16 +39,16 @@ pub fn numbers_are_stated()
     ensures flow_constructs { (CODE_FENCED ≡ 256) × (CODE_INDENTED ≡ 512) × (HEADING_ATX ≡ 1024) × (HEADING_SETEXT ≡ 2048) × (HTML_FLOW ≡ 4096) × (THEMATIC_BREAK ≡ 8192) }
     ensures container_constructs { (BLOCK_QUOTE ≡ 16384) × (LIST_ITEM ≡ 32768) }
     ensures label_constructs { (LABEL_START_LINK ≡ 65536) × (LABEL_START_IMAGE ≡ 131072) × (LABEL_END ≡ 262144) × (DEFINITION ≡ 524288) }
-    ensures gfm_constructs { (GFM_STRIKETHROUGH ≡ 1048576) × (GFM_AUTOLINK_LITERAL ≡ 2097152) × (GFM_TASK_LIST_ITEM ≡ 4194304) }
+    ensures gfm_constructs { (GFM_STRIKETHROUGH ≡ 1048576) × (GFM_AUTOLINK_LITERAL ≡ 2097152) × (GFM_TASK_LIST_ITEM ≡ 4194304) × (GFM_TABLE ≡ 8388608) }
     ensures permissions { (ALLOW_DANGEROUS_HTML ≡ 1) × (ALLOW_DANGEROUS_PROTOCOL ≡ 2) × (ALLOW_ANY_IMG_SRC ≡ 4) × (ALLOW_ALL ≡ 7) }
-    ensures sums { (COMMONMARK ≡ 1048575) × (ALL_CONSTRUCTS ≡ 2097151) × (HTML_CONSTRUCTS ≡ 8388607) }
+    ensures sums { (COMMONMARK ≡ 1048575) × (ALL_CONSTRUCTS ≡ 2097151) × (HTML_CONSTRUCTS ≡ 16777215) }
     ensures commonmark { constructs_of COMMONMARK ≡ default_constructs }
     ensures all_constructs { constructs_of ALL_CONSTRUCTS ≡ constructs_with_bits }
     ensures html_constructs { constructs_of HTML_CONSTRUCTS ≡ constructs_of_html }
     ensures sizes { (TEXT_OPTIONS_SIZE ≡ 24) × (OPTIONS_SIZE ≡ 40) × (HTML_OPTIONS_SIZE ≡ 32) }
 {}
 
-/// Literals and checks are accepted only for whole documents with their texts.
+/// Tables, literals and checks are accepted only for whole documents with their texts.
 pub fn literals_are_of_documents()
     ensures { RewrittenAreDocuments }
 {}

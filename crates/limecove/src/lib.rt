@@ -105,8 +105,8 @@ pub extern "C" fn limecove_read_text(
     }
 }
 
-/// Reads a whole document as the options say, and writes its events over the first records, as many as fit. Autolink literals and checks of task list
-/// items stand among them, if these are on: only by the machine of documents, with `deep`.
+/// Reads a whole document as the options say, and writes its events over the first records, as many as fit. Tables, autolink literals and checks of
+/// task list items stand among them, if these are on: only by the machine of documents, with `deep`.
 #[unsafe(no_mangle)]
 pub extern "C" fn limecove_read(
     alloc: Global,
@@ -372,7 +372,7 @@ fn events(alloc: Global, bytes: &[u8], options: &Options) -> Result<Vec<Event>, 
     }
 }
 
-/// The events of a document that is read by a choice, with the constructs of these bits. With bits of literals or of checks the whole document is read.
+/// The events of a document that is read by a choice, with the constructs of these bits. With bits of tables, of literals or of checks the whole document is read.
 fn events_by(
     alloc: Global,
     bytes: &[u8],

@@ -259,6 +259,112 @@ const CHECKED: &[Row] = &[
     (1, 0, Name::ListUnordered, 1, 8, 7, NO_INDEX, NO_INDEX),
 ];
 
+/// Of a header row and a delimiter row of one cell, as a table.
+const TABLE: &[Row] = &[
+    (0, 0, Name::GfmTable, 1, 1, 0, NO_INDEX, NO_INDEX),
+    (0, 0, Name::GfmTableHead, 1, 1, 0, NO_INDEX, NO_INDEX),
+    (0, 0, Name::GfmTableRow, 1, 1, 0, NO_INDEX, NO_INDEX),
+    (0, 0, Name::GfmTableCell, 1, 1, 0, NO_INDEX, NO_INDEX),
+    (0, 0, Name::GfmTableCellDivider, 1, 1, 0, NO_INDEX, NO_INDEX),
+    (1, 0, Name::GfmTableCellDivider, 1, 2, 1, NO_INDEX, NO_INDEX),
+    (0, 0, Name::GfmTableCellText, 1, 2, 1, NO_INDEX, NO_INDEX),
+    (0, 0, Name::Data, 1, 2, 1, NO_INDEX, NO_INDEX),
+    (1, 0, Name::Data, 1, 3, 2, NO_INDEX, NO_INDEX),
+    (1, 0, Name::GfmTableCellText, 1, 3, 2, NO_INDEX, NO_INDEX),
+    (0, 0, Name::GfmTableCellDivider, 1, 3, 2, NO_INDEX, NO_INDEX),
+    (1, 0, Name::GfmTableCellDivider, 1, 4, 3, NO_INDEX, NO_INDEX),
+    (1, 0, Name::GfmTableCell, 1, 4, 3, NO_INDEX, NO_INDEX),
+    (1, 0, Name::GfmTableRow, 1, 4, 3, NO_INDEX, NO_INDEX),
+    (0, 0, Name::LineEnding, 1, 4, 3, NO_INDEX, NO_INDEX),
+    (1, 0, Name::LineEnding, 2, 1, 4, NO_INDEX, NO_INDEX),
+    (
+        0,
+        0,
+        Name::GfmTableDelimiterRow,
+        2,
+        1,
+        4,
+        NO_INDEX,
+        NO_INDEX,
+    ),
+    (
+        0,
+        0,
+        Name::GfmTableDelimiterCell,
+        2,
+        1,
+        4,
+        NO_INDEX,
+        NO_INDEX,
+    ),
+    (0, 0, Name::GfmTableCellDivider, 2, 1, 4, NO_INDEX, NO_INDEX),
+    (1, 0, Name::GfmTableCellDivider, 2, 2, 5, NO_INDEX, NO_INDEX),
+    (
+        0,
+        0,
+        Name::GfmTableDelimiterCellValue,
+        2,
+        2,
+        5,
+        NO_INDEX,
+        NO_INDEX,
+    ),
+    (
+        0,
+        0,
+        Name::GfmTableDelimiterFiller,
+        2,
+        2,
+        5,
+        NO_INDEX,
+        NO_INDEX,
+    ),
+    (
+        1,
+        0,
+        Name::GfmTableDelimiterFiller,
+        2,
+        3,
+        6,
+        NO_INDEX,
+        NO_INDEX,
+    ),
+    (
+        1,
+        0,
+        Name::GfmTableDelimiterCellValue,
+        2,
+        3,
+        6,
+        NO_INDEX,
+        NO_INDEX,
+    ),
+    (0, 0, Name::GfmTableCellDivider, 2, 3, 6, NO_INDEX, NO_INDEX),
+    (1, 0, Name::GfmTableCellDivider, 2, 4, 7, NO_INDEX, NO_INDEX),
+    (
+        1,
+        0,
+        Name::GfmTableDelimiterCell,
+        2,
+        4,
+        7,
+        NO_INDEX,
+        NO_INDEX,
+    ),
+    (
+        1,
+        0,
+        Name::GfmTableDelimiterRow,
+        2,
+        4,
+        7,
+        NO_INDEX,
+        NO_INDEX,
+    ),
+    (1, 0, Name::GfmTableHead, 2, 4, 7, NO_INDEX, NO_INDEX),
+    (1, 0, Name::GfmTable, 2, 4, 7, NO_INDEX, NO_INDEX),
+];
+
 /// Documents, the constructs that are on, the cut, the machine, whether its chunks are read too, and the events. The machine of documents, 8, reads
 /// block quotes, also where the document is to be cut; that of leaf blocks, 7, has none.
 const READS: &[(&[u8], u64, usize, u32, u32, &[Row])] = &[
@@ -275,11 +381,12 @@ const READS: &[(&[u8], u64, usize, u32, u32, &[Row])] = &[
     (b"> a", HTML_CONSTRUCTS, 1, 8, 1, QUOTE),
     (b"a@b.c", HTML_CONSTRUCTS, 0, 8, 1, LITERAL),
     (b"- [x] a", HTML_CONSTRUCTS, 0, 8, 1, CHECKED),
+    (b"|a|\n|-|", HTML_CONSTRUCTS, 0, 8, 1, TABLE),
 ];
 
 /// Whether a document is read into records, and by a reading, which is closed then.
 fn is_read(alloc: Global, document: &[u8], options: &Options, rows: &[Row]) -> bool {
-    let (mut records, mut copied) = ([OLD; 24], [OLD; 24]);
+    let (mut records, mut copied) = ([OLD; 32], [OLD; 32]);
     let mut reading = Reading::closed();
     let answer = limecove_read(alloc, document, options, &mut records);
     let opened = limecove_open(alloc, document, options, &mut reading);

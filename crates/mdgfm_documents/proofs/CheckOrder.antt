@@ -1,23 +1,22 @@
 -- Events stay in order of place with checks: they go forward, and none is between a CR and its LF.
-use Rattle.std.proofs.Common.{◌≡◌, ◌∙◌, ℕ, zero, suc, ◌+◌, ◌-◌, ◌<◌, ◌≤◌, ◌++◌, Bool, true, false, cond, List, [], ◌∷◌, drop, length, Option, Some, None, refl, sym, ap, subst, arith, leb-false, leb-true}
-use Rattle.std.proofs.lemmas.Bool.Decides.{nat_tests}
+use Rattle.std.proofs.Common.{◌≡◌, ◌∙◌, ℕ, zero, suc, ◌+◌, ◌-◌, ◌<◌, ◌≤◌, ◌++◌, false, List, [], ◌∷◌, drop, length, Option, Some, None, refl, sym, ap, subst, arith}
 use Rattle.std.proofs.lemmas.List.Elements.{All-from_recursion, recursion_from_All}
 use Rattle.std.specs.List.{AllByRecursion}
-use Rattle.std.specs.Prelude.{◌==◌, ◌&&◌, nat_le, nat_lt, slice_index, slice_range, IfSome}
+use Rattle.std.specs.Prelude.{◌==◌, slice_index, IfSome}
 use Rattle.markdown_base.specs.declared.event.Event.{Event}
 use Rattle.markdown_base.specs.declared.event.Kind.TheVariants.{Enter, Exit}
 use Rattle.markdown_base.specs.declared.event.Name.{Name}
 use Rattle.markdown_base.specs.declared.event.Name.TheVariants.{Data, GfmTaskListItemCheck, GfmTaskListItemMarker, SpaceOrTab}
 use Rattle.markdown_base.specs.declared.event.Point.{Point}
 use Rattle.markdown_base.specs.Events.{IsInOrder}
-use Rattle.markdown_base.specs.Places.{IsShown, follows_cr, stands_before}
+use Rattle.markdown_base.specs.Places.{IsShown, stands_before}
 use Rattle.markdown_base.specs.Virtual.{point}
 use Rattle.markdown_base.proofs.Common.{every-append}
-use Rattle.markdown_base.proofs.Orders.{upto-upto}
 use Rattle.markdown_base.proofs.Seats.{stands-self}
 use Rattle.mdblock_tables.specs.Tasks.{value_name}
-use Rattle.mdgfm_events.specs.Places.{event, leaf, place_at}
-use Rattle.mdgfm_literals.proofs.Order.{Goes, beyond, goes-pairs, pairs-go-all}
+use Rattle.mdgfm_events.specs.Places.{event, leaf}
+use Rattle.mdgfm_literals.proofs.Order.{Goes, at-flat, at-on, flat-index, goes-pairs, leaf-goes, pairs-go-all}
+use Rattle.mdgfm_literals.proofs.OrderLaw.{Shows, leaf-shows, shown-from}
 use Rattle.mdgfm_tasks.proofs.Covers.{Covers, found-covers}
 use Rattle.mdgfm_tasks.proofs.Forward.{further-index}
 use Rattle.mdgfm_tasks.proofs.Steps.{check-parts, with-found}
@@ -26,43 +25,14 @@ use Rattle.mdgfm_tasks.specs.declared.awaited.Awaited.TheVariants.{Nothing}
 use Rattle.mdgfm_tasks.specs.declared.checks.Found.{Found}
 use Rattle.mdgfm_tasks.specs.Awaits.{awaited_behind}
 use Rattle.mdgfm_tasks.specs.Checks.{check_of, line_from}
-use Rattle.mdgfm_tasks.specs.TaskEvents.{check_events, events_with, further, task_events}
+use Rattle.mdgfm_tasks.specs.TaskEvents.{check_events, events_with, further}
 use Rattle.mdgfm_documents.proofs.CheckEnds.{Stands, found-stands, in-line}
 
 -- ---- events go forward
 
-behind-index : (p q : Point) → p.index < q.index → stands_before q p ≡ false
-behind-index p q h = grind (arith, nat_tests)
-
--- behind a place that is in no tab
-behind-flat : (p q : Point) → p.vs ≡ 0 → p.index ≤ q.index → stands_before q p ≡ false
-behind-flat p q v h = grind (arith, nat_tests)
-
-goes-from : (b p : Point) (es : List Event) → stands_before p b ≡ false → Goes p es → Goes b es
-goes-from b p [] h g = tt
-goes-from b p (e ∷ es) h g = (upto-upto b p e.point h g.0, g.1)
-
-leaf-goes : (n : Name) (b p q : Point) (es : List Event) → stands_before p b ≡ false → stands_before q p ≡ false → Goes q es → Goes b (leaf n p q ++ es)
-leaf-goes n b p q es h k g = by (nat_lt p.index q.index)
-  where
-    by : (t : Bool) → Goes b (cond t (event Enter n p ∷ event Exit n q ∷ []) [] ++ es)
-    by true = (h, (k, g))
-    by false = goes-from b q es (upto-upto b p q h k) g
-
 module _ (tab : ℕ) (bytes : List ℕ) where
   further-on : (p : Point) (n : ℕ) → stands_before (further tab bytes p n) p ≡ false
-  further-on p n = by (nat_le (p.index + n) p.index) refl
-    where
-      by : (t : Bool) → nat_le (p.index + n) p.index ≡ t → stands_before (cond t p (beyond tab bytes p (p.index + n))) p ≡ false
-      by true e = stands-self p
-      by false e = behind-index p (beyond tab bytes p (p.index + n)) (leb-false (p.index + n) p.index e)
-
-  next-flat : (p : Point) → (further tab bytes p 1).vs ≡ 0
-  next-flat p = by (nat_le (p.index + 1) p.index) refl
-    where
-      by : (t : Bool) → nat_le (p.index + 1) p.index ≡ t → (cond t p (beyond tab bytes p (p.index + 1))).vs ≡ 0
-      by true e = let less = leb-true (p.index + 1) p.index e in absurd (omega (arith, less))
-      by false e = refl
+  further-on p n = at-on tab bytes p (p.index + n)
 
   check-goes : (b p : Point) (f : Found) (es : List Event) → stands_before p b ≡ false → f.check.columns + 3 ≤ f.text.end.index - p.index → Goes f.text.end es → Goes b (check_events tab bytes p f ++ es)
   check-goes b p f es h far more =
@@ -78,7 +48,8 @@ module _ (tab : ℕ) (bytes : List ℕ) where
       let j : value.index ≡ start.index + 1 = further-index tab bytes start 1 in
       let k : closing.index ≡ value.index + 1 = further-index tab bytes value 1 in
       let l : end.index ≡ closing.index + 1 = further-index tab bytes closing 1 in
-      let last : stands_before f.text.end end ≡ false = behind-flat end f.text.end (next-flat closing) (omega (arith, i, j, k, l, far)) in
+      let flat : end.vs ≡ 0 = at-flat tab bytes closing (closing.index + 1) (omega arith) in
+      let last : stands_before f.text.end end ≡ false = flat-index end f.text.end flat (omega (arith, i, j, k, l, far)) in
       subst (Goes b) (sym (check-parts tab bytes p f es))
       (leaf-goes SpaceOrTab b p start all h (further-on p f.check.columns) (
         stands-self start,
@@ -90,13 +61,13 @@ module _ (tab : ℕ) (bytes : List ℕ) where
             ))),
       ))
 
-  with-goes : (p : Point) (skip : ℕ) (a : Awaited) (es : List Event) → Goes p (drop skip es) → Goes p (events_with tab bytes skip a es)
-  with-goes p skip a [] g = tt
-  with-goes p (suc skip) a (e ∷ es) g = with-goes p skip a es g
-  with-goes p zero a (e ∷ es) g = by (λ q skip b. with-goes q skip b es) (check_of bytes a (e ∷ es)) refl (found-covers bytes a e es) (found-stands bytes a e es)
+  pub tasks-go : (p : Point) (skip : ℕ) (a : Awaited) (es : List Event) → Goes p (drop skip es) → Goes p (events_with tab bytes skip a es)
+  tasks-go p skip a [] g = tt
+  tasks-go p (suc skip) a (e ∷ es) g = tasks-go p skip a es g
+  tasks-go p zero a (e ∷ es) g = by (λ q skip b. tasks-go q skip b es) (check_of bytes a (e ∷ es)) refl (found-covers bytes a e es) (found-stands (IsShown bytes) bytes a e es)
     where
       by : ((q : Point) (skip : ℕ) (b : Awaited) → Goes q (drop skip es) → Goes q (events_with tab bytes skip b es)) → (o : Option Found) → check_of bytes a (e ∷ es) ≡ o
-          → IfSome o (λ f. Covers e.point.index (f.check.columns + 3) (e ∷ es) f.text) → IfSome o (Stands bytes e es) → Goes p (events_with tab bytes 0 a (e ∷ es))
+          → IfSome o (λ f. Covers e.point.index (f.check.columns + 3) (e ∷ es) f.text) → IfSome o (Stands (IsShown bytes) bytes e es) → Goes p (events_with tab bytes 0 a (e ∷ es))
       by inner None q c s = subst (Goes p) (sym (with-found tab bytes a e es None q)) (g.0, inner e.point 0 (awaited_behind a e) g.1)
       by inner (Some f) q c s =
           let one : f.text.size ≡ suc (f.text.size - 1) = omega (arith, c.least) in
@@ -106,24 +77,11 @@ module _ (tab : ℕ) (bytes : List ℕ) where
 
   -- ---- none is between a CR and its LF
 
-  abbrev Shows : Event → Type 0
-  Shows e = IsShown bytes e.point
+  leaf-shows-more : (n : Name) (p q : Point) (es : List Event) → IsShown bytes p → IsShown bytes q → AllByRecursion (Shows bytes) es → AllByRecursion (Shows bytes) (leaf n p q ++ es)
+  leaf-shows-more n p q es h k more = every-append (Shows bytes) (leaf n p q) es (leaf-shows bytes n p q h k) more
 
-  shown-in-line : (p : Point) → (slice_index bytes p.index == 10) ≡ false → IsShown bytes p
-  shown-in-line p h = ap (λ t. cond (t && follows_cr bytes p.index) (record { line = p.line; column = p.column; index = p.index - 1; vs = p.vs }) p) h
-
-  leaf-shows : (n : Name) (p q : Point) → IsShown bytes p → IsShown bytes q → AllByRecursion Shows (leaf n p q)
-  leaf-shows n p q h k = by (nat_lt p.index q.index)
-    where
-      by : (t : Bool) → AllByRecursion Shows (cond t (event Enter n p ∷ event Exit n q ∷ []) [])
-      by true = (h, (k, tt))
-      by false = tt
-
-  leaf-shows-more : (n : Name) (p q : Point) (es : List Event) → IsShown bytes p → IsShown bytes q → AllByRecursion Shows es → AllByRecursion Shows (leaf n p q ++ es)
-  leaf-shows-more n p q es h k more = every-append Shows (leaf n p q) es (leaf-shows n p q h k) more
-
-  check-shows : (p : Point) (f : Found) (es : List Event) → IsShown bytes p → f.check.columns + 3 < length (line_from bytes p.index) → IsShown bytes f.text.end → AllByRecursion Shows es
-      → AllByRecursion Shows (check_events tab bytes p f ++ es)
+  check-shows : (p : Point) (f : Found) (es : List Event) → IsShown bytes p → f.check.columns + 3 < length (line_from bytes p.index) → IsShown bytes f.text.end → AllByRecursion (Shows bytes) es
+      → AllByRecursion (Shows bytes) (check_events tab bytes p f ++ es)
   check-shows p f es shown fits last more =
       let start = further tab bytes p f.check.columns in
       let value = further tab bytes start 1 in
@@ -141,7 +99,7 @@ module _ (tab : ℕ) (bytes : List ℕ) where
       let of_value : IsShown bytes value = at p value (f.check.columns + 1) (omega (arith, i, j)) (omega (arith, fits)) in
       let of_closing : IsShown bytes closing = at p closing (f.check.columns + 2) (omega (arith, i, j, k)) (omega (arith, fits)) in
       let of_end : IsShown bytes end = at p end (f.check.columns + 3) (omega (arith, i, j, k, l)) fits in
-      subst (AllByRecursion Shows) (sym (check-parts tab bytes p f es))
+      subst (AllByRecursion (Shows bytes)) (sym (check-parts tab bytes p f es))
       (leaf-shows-more SpaceOrTab p start all shown of_start (
         of_start,
         leaf-shows-more GfmTaskListItemMarker start value one of_start of_value
@@ -150,24 +108,24 @@ module _ (tab : ℕ) (bytes : List ℕ) where
       ))
     where
       at : (p q : Point) (n : ℕ) → q.index ≡ p.index + n → n < length (line_from bytes p.index) → IsShown bytes q
-      at p q n is inside = shown-in-line q (ap (λ m. slice_index bytes m == 10) is ∙ in-line bytes p.index n inside)
+      at p q n is inside = shown-from bytes q (ap (λ m. slice_index bytes m == 10) is ∙ in-line bytes p.index n inside)
 
-  with-shows : (skip : ℕ) (a : Awaited) (es : List Event) → AllByRecursion Shows es → AllByRecursion Shows (events_with tab bytes skip a es)
+  with-shows : (skip : ℕ) (a : Awaited) (es : List Event) → AllByRecursion (Shows bytes) es → AllByRecursion (Shows bytes) (events_with tab bytes skip a es)
   with-shows skip a [] h = tt
   with-shows (suc skip) a (e ∷ es) h = with-shows skip a es h.1
-  with-shows zero a (e ∷ es) h = by (λ skip b. with-shows skip b es h.1) (check_of bytes a (e ∷ es)) refl (found-stands bytes a e es)
+  with-shows zero a (e ∷ es) h = by (λ skip b. with-shows skip b es h.1) (check_of bytes a (e ∷ es)) refl (found-stands (IsShown bytes) bytes a e es)
     where
-      by : ((skip : ℕ) (b : Awaited) → AllByRecursion Shows (events_with tab bytes skip b es)) → (o : Option Found) → check_of bytes a (e ∷ es) ≡ o → IfSome o (Stands bytes e es)
-          → AllByRecursion Shows (events_with tab bytes 0 a (e ∷ es))
-      by inner None q s = subst (AllByRecursion Shows) (sym (with-found tab bytes a e es None q)) (h.0, inner 0 (awaited_behind a e))
+      by : ((skip : ℕ) (b : Awaited) → AllByRecursion (Shows bytes) (events_with tab bytes skip b es)) → (o : Option Found) → check_of bytes a (e ∷ es) ≡ o → IfSome o (Stands (IsShown bytes) bytes e es)
+          → AllByRecursion (Shows bytes) (events_with tab bytes 0 a (e ∷ es))
+      by inner None q s = subst (AllByRecursion (Shows bytes)) (sym (with-found tab bytes a e es None q)) (h.0, inner 0 (awaited_behind a e))
       by inner (Some f) q s =
-          subst (AllByRecursion Shows) (sym (with-found tab bytes a e es (Some f) q))
-          (check-shows e.point f (events_with tab bytes (f.text.size - 1) Nothing es) h.0 s.fits (s.ends.shown h) (inner (f.text.size - 1) Nothing))
+          subst (AllByRecursion (Shows bytes)) (sym (with-found tab bytes a e es (Some f) q))
+          (check-shows e.point f (events_with tab bytes (f.text.size - 1) Nothing es) h.0 s.fits (s.ends.placed h) (inner (f.text.size - 1) Nothing))
 
 pub check-order-kept : (tab : ℕ) (bytes : List ℕ) (events : List Event) → IsInOrder bytes events → IsInOrder bytes (events_with tab bytes 0 Nothing events)
 check-order-kept tab bytes events order =
     let start = point 1 1 0 0 in
     let all = events_with tab bytes 0 Nothing events in (
-      goes-pairs start all (with-goes tab bytes start 0 Nothing events (pairs-go-all start events refl refl order.0)),
-      All-from_recursion (Shows tab bytes) all (with-shows tab bytes 0 Nothing events (recursion_from_All (Shows tab bytes) events order.1)),
+      goes-pairs start all (tasks-go tab bytes start 0 Nothing events (pairs-go-all start events refl refl order.0)),
+      All-from_recursion (Shows bytes) all (with-shows tab bytes 0 Nothing events (recursion_from_All (Shows bytes) events order.1)),
     )

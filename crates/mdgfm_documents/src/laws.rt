@@ -1,8 +1,8 @@
-//! Laws of documents with checks and literals. Each is a function that does nothing; its contract is the law.
+//! Laws of documents with tables, checks and literals. Each is a function that does nothing; its contract is the law.
 
 ghost use Rattle.mdgfm_documents.specs.Laws.{GfmIsBalanced, GfmIsInOrder, GfmIsNamed, OffIsDocument, OrderIsKept};
 
-/// Without both options the events are those of the document.
+/// Without these options the events are those of the document.
 pub fn gfm_off()
     ensures { OffIsDocument }
 {}
@@ -18,7 +18,7 @@ pub fn gfm_documents_are_in_order()
     ensures documents { GfmIsInOrder }
 {}
 
-/// They bring no names but those of checks and literals, and those of white space and data.
+/// Checks and literals bring no names but their own, and those of white space and data.
 pub fn gfm_documents_have_names()
     ensures { GfmIsNamed }
 {}

@@ -25,7 +25,8 @@ use Rattle.mdhtml_document.specs.Html.{are_too_many, defined_in, extent, html_of
 use Rattle.mdhtml_document.specs.HtmlLaws.{are_apart, length_of_parts, room, rows}
 use Rattle.mdhtml_document.specs.Spans.{events_of, spans_of}
 use Rattle.mdhtml_document.proofs.Both.{keep-events}
-use Rattle.mdhtml_calls.proofs.Said.{HasExit, exit-at, none-there, parts-said, references-none, said_in, text-more}
+use Rattle.mdhtml_document.proofs.Linear.{HasExit, exit-at, none-there, parts-said, references-none, said_in, same-first, text-more}
+use Rattle.mdgfm_literals.proofs.Order.{forward-index}
 use Rattle.mdhtml_document.proofs.Rooms.{given-full}
 use Rattle.mdhtml_document.proofs.Short.{html-short}
 use Rattle.mdhtml_document.proofs.SpanFacts.{opened-kinded}
@@ -90,9 +91,6 @@ further tab p q h v = by (nat_lt p.index q.index) refl
         let both = in-tab p q h e in
         within-tab (p.index * suc tab) (q.index * suc tab) p.vs q.vs (ap (λ n. n * suc tab) both.0) both.1
 
-pub index-forward : (p q : Point) → stands_before q p ≡ false → p.index ≤ q.index
-index-forward p q h = grind (arith, nat_tests)
-
 -- ---- texts
 
 module _ (bytes : List ℕ) where
@@ -133,16 +131,13 @@ module _ (tab most : ℕ) where
   behind-drop (suc n) from [] g = record { from = from; go = tt }
   behind-drop (suc n) from (e ∷ es) g = behind-drop n e.point es g.4
 
-  same-head : (e f : Event) (es rest : List Event) → e ∷ es ≡ f ∷ rest → e ≡ f
-  same-head e f es rest h = cc
-
   record Later (p q : Point) : Type 0 where
     index : p.index ≤ q.index
     place : far tab p ≤ far tab q
     few : q.vs ≤ tab
 
   step-later : (p q : Point) → stands_before q p ≡ false → p.vs ≤ tab → q.vs ≤ tab → Later p q
-  step-later p q h v w = record { index = index-forward p q h; place = forward tab p q h v; few = w }
+  step-later p q h v w = record { index = forward-index p q h; place = forward tab p q h v; few = w }
 
   later-later : (p q r : Point) → Later p q → Later q r → Later p r
   later-later p q r h k =
@@ -156,7 +151,7 @@ module _ (tab most : ℕ) where
   later : (n : ℕ) (from : Point) (es rest : List Event) (f : Event) → from.vs ≤ tab → GoAhead tab most from es → drop n es ≡ f ∷ rest → Later from f.point
   later zero from [] rest f v g h = absurd (none-there f rest h)
   later (suc n) from [] rest f v g h = absurd (none-there f rest h)
-  later zero from (e ∷ es) rest f v g h = subst (λ (d : Event). Later from d.point) (same-head e f es rest h) (step-later from e.point g.0 v g.2)
+  later zero from (e ∷ es) rest f v g h = subst (λ (d : Event). Later from d.point) (same-first e f es rest h) (step-later from e.point g.0 v g.2)
   later (suc n) from (e ∷ es) rest f v g h = later-later from e.point f.point (step-later from e.point g.0 v g.2) (later n e.point es rest f g.2 g.4 h)
 
   record First (from : Point) (es : List Event) : Type 0 where
@@ -166,7 +161,7 @@ module _ (tab most : ℕ) where
   first : (n : ℕ) (from : Point) (es rest : List Event) (f : Event) → from.vs ≤ tab → GoAhead tab most from es → drop n es ≡ f ∷ rest → First from es
   first zero from [] rest f v g h = absurd (none-there f rest h)
   first (suc n) from [] rest f v g h = absurd (none-there f rest h)
-  first n from (e ∷ es) rest f v g h = record { index = index-forward from e.point g.0; place = forward tab from e.point g.0 v }
+  first n from (e ∷ es) rest f v g h = record { index = forward-index from e.point g.0; place = forward tab from e.point g.0 v }
 
   -- the text of events that go ahead is at most as long as the way that they go
   text-ahead : (bytes : List ℕ) (n : ℕ) (from : Point) (es rest : List Event) (f : Event) → GoAhead tab most from es → drop n es ≡ f ∷ rest
@@ -188,7 +183,7 @@ module _ (tab most : ℕ) where
       let more = text-more bytes e (take (suc n) (d ∷ ds)) in
       let here = given-ahead bytes tab e d (take n ds) g.2 g.4.0 g.3 in
       let on = text-ahead bytes (suc n) e.point (d ∷ ds) rest f g.4 h in
-      let step = index-forward e.point d.point g.4.0 in
+      let step = forward-index e.point d.point g.4.0 in
       omega (arith, more, here, on, step)
 
   -- ---- room
@@ -196,7 +191,7 @@ module _ (tab most : ℕ) where
       → 36 * room tab (e ∷ es) + 24 * length (e ∷ es) ≤ 144 * (most - e.point.index) + length (e ∷ es) * (180 * tab + 60)
   room-by e [] h g = let k = suc-mul 0 (180 * tab + 60) in omega (arith, k)
   room-by e (f ∷ fs) h g =
-      let after = index-forward e.point f.point g.0 in
+      let after = forward-index e.point f.point g.0 in
       let inside = g.1 in
       let spaces = g.2 in
       let rest = room-by f fs g.1 g.4 in

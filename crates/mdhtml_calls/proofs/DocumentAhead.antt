@@ -15,21 +15,23 @@ use Rattle.markdown_base.specs.declared.event.Name.TheVariants as name
 use Rattle.markdown_base.specs.declared.event.Point.{Point}
 use Rattle.markdown_base.specs.Events.{IsVoidTight, is_enter, is_void, same_name}
 use Rattle.markdown_base.specs.Places.{IsPointOf, shown, stands_before}
-use Rattle.markdown_base.specs.Virtual.{Seat, end_after, point}
+use Rattle.markdown_base.specs.Virtual.{Seat, end_after, point, virtual}
 use Rattle.markdown_edits.proofs.Balanced.{same_name-true}
 use Rattle.markdown_tokenizer.proofs.Positions.Chains.{IsChain, whole-chain}
 use Rattle.markdown_tokenizer.proofs.Positions.Order.{every-back}
 use Rattle.markdown_tokenizer.proofs.Positions.Standing.{chain-at, chain-split, chain-upto, place-of-point}
-use Rattle.markdown_tokenizer.specs.Engine.{IsWellFormed}
+use Rattle.markdown_tokenizer.specs.AtPlaces.{AreAtPlaces}
 use Rattle.markdown_tokenizer.specs.Text.{Given, IsDocument}
-use Rattle.mdconstructs_machines.specs.Innermost.{ended_next, innermost_spans, span_over, stretch_bytes}
+use Rattle.mdconstructs_machines.specs.Innermost.{AccountFor, ended_next, innermost_spans, span_over, stretch_bytes}
+use Rattle.mdinline_link_strings.proofs.Accounts.{keep_innermost}
+use Rattle.mdinline_link_strings.proofs.Kept.{strings_keep}
+use Rattle.mdinline_link_strings.proofs.Places.{stand_at_places}
 use Rattle.mddocument.proofs.InContainers.InlineHolds.{inlines-hold-text}
 use Rattle.mddocument.proofs.InContainers.Skeletons.{skeleton-laws}
-use Rattle.mddocument.proofs.InContainers.TextsFormed.{events-formed}
-use Rattle.mddocument.proofs.InContainers.Tight.{events-tight}
-use Rattle.mddocument.proofs.Innermost.Texts.{events-account}
-use Rattle.mddocument.specs.DocumentEvents.{document_events}
-use Rattle.mdgfm_literals.proofs.Order.{Goes, pairs-go-all}
+use Rattle.mddocument.proofs.InContainers.TextsFormed.{texts-orderly}
+use Rattle.mddocument.proofs.InContainers.Tight.{texts-tight}
+use Rattle.mddocument.proofs.Innermost.Texts.{texts-account}
+use Rattle.mddocument.specs.DocumentEvents.{document_events_by, document_texts_by}
 use Rattle.mdhtml_calls.proofs.Ended.{AreEnded, IsEnded, IsNext}
 use Rattle.mdhtml_calls.proofs.TasksAhead.{AreInside, IsInside}
 
@@ -99,13 +101,7 @@ all-end (e ∷ es) tight spans =
 
 -- ---- documents
 
-abbrev pub start : Point
-start = point 1 1 0 0
-
 module _ (g : Given) (is : IsDocument g) where
-  pub document-formed : IsWellFormed g (document_events g)
-  document-formed = events-formed skeleton-laws g is (events-tight skeleton-laws inlines-hold-text g is)
-
   wide : 0 < g.tab
   wide = let tab = is.tab.0 in omega (arith, tab)
 
@@ -115,20 +111,28 @@ module _ (g : Given) (is : IsDocument g) where
       let spaces = place.bounds.spaces in
       (place.bounds.inside, omega (arith, spaces))
 
-  spans-go-on : AllByRecursion GoesOn (innermost_spans (document_events g))
-  spans-go-on =
-      let account = events-account skeleton-laws g is in
-      let chain = subst (IsChain g.tab g.bytes start) (sym account.are_all) (whole-chain g.tab g.bytes wide) in
-      subst (AllByRecursion GoesOn) (sym account.are_innermost) (stretches-go-on g.tab g.bytes account.stretches start chain)
-
-  pub document-ended : AreEnded (document_events g)
-  document-ended = all-end (document_events g) document-formed.void_tight spans-go-on
-
-  pub document-inside : AreInside g.tab (length g.bytes) (document_events g)
-  document-inside =
+  -- events at places of the document
+  pub places-inside : (events : List Event) → AreAtPlaces g.tab g.bytes events → AreInside g.tab (length g.bytes) events
+  places-inside events at =
       let At : Event → Type 0 = λ e. IsPointOf g.tab g.bytes e.point in
-      let events = document_events g in
-      every-map At (λ (e : Event). IsInside g.tab (length g.bytes) e.point) within events (recursion_from_All At events document-formed.at_places)
+      every-map At (λ (e : Event). IsInside g.tab (length g.bytes) e.point) within events (recursion_from_All At events at)
 
-  pub document-goes : Goes start (document_events g)
-  document-goes = pairs-go-all start (document_events g) refl refl document-formed.in_order.0
+  -- events that account for the document, with empty void spans
+  pub account-ended : (events : List Event) → IsVoidTight events → AccountFor events g.bytes (virtual g.tab g.bytes) → AreEnded events
+  account-ended events tight account =
+      let start = point 1 1 0 0 in
+      let chain = subst (IsChain g.tab g.bytes start) (sym account.are_all) (whole-chain g.tab g.bytes wide) in
+      all-end events tight (subst (AllByRecursion GoesOn) (sym account.are_innermost) (stretches-go-on g.tab g.bytes account.stretches start chain))
+
+  -- those of the document, by which labels are defined
+  module _ (defined : List ℕ → Bool) where
+    abbrev texts : List Event
+    texts = document_texts_by defined g
+
+    pub document-inside : AreInside g.tab (length g.bytes) (document_events_by defined g)
+    document-inside = places-inside (document_events_by defined g) (stand_at_places g.options.constructs g.tab g.bytes texts is.tab.0 (texts-orderly skeleton-laws g is defined).at_places)
+
+    pub document-ended : AreEnded (document_events_by defined g)
+    document-ended =
+        account-ended (document_events_by defined g) ((strings_keep g.options.constructs g.tab g.bytes texts).2 (texts-tight skeleton-laws g is defined inlines-hold-text))
+        (keep_innermost g.options.constructs g.tab g.bytes texts wide (texts-account skeleton-laws g is defined))

@@ -1,6 +1,6 @@
 -- Line endings of events: the exit of each is the next event, and behind its enter.
 use Rattle.std.proofs.Common.{◌≡◌, ℕ, zero, suc, ◌+◌, ◌-◌, ◌≤◌, List, [], ◌∷◌, ◌++◌, take, ap, refl, sym, ◌∙◌, subst, arith}
-use Rattle.std.proofs.lemmas.Bool.{false≢true}
+use Rattle.std.proofs.lemmas.Bool.{and_right, false≢true}
 use Rattle.std.specs.Prelude.{⊤, ◌&&◌, ◌==◌, nat_lt, Bool, true, false, cond}
 use Rattle.markdown_base.specs.declared.event.Event.{Event}
 use Rattle.markdown_base.specs.declared.event.Kind.TheVariants.{Enter, Exit}
@@ -26,11 +26,7 @@ AreEnded (e ∷ es) = IsEnded e es × AreEnded es
 
 -- what has another name
 pub other-ended : (e : Event) (es : List Event) → same_name e.name name.LineEnding ≡ false → IsEnded e es
-other-ended e es h enter = absurd (false≢true (sym (no (is_enter e.kind) (same_name e.name name.LineEnding) h) ∙ enter))
-  where
-    no : (a b : Bool) → b ≡ false → (a && b) ≡ false
-    no true b h = h
-    no false b h = refl
+other-ended e es h enter = absurd (false≢true (sym (and_right (is_enter e.kind) (same_name e.name name.LineEnding) h) ∙ enter))
 
 -- what is no enter
 pub exit-ended : (e : Event) (es : List Event) → is_enter e.kind ≡ false → IsEnded e es

@@ -4,7 +4,8 @@ pub mod DocumentAhead
 pub mod Ended
 pub mod LiteralsAhead
 pub mod OtherOptions
+pub mod PartsAhead
 pub mod Referred
-pub mod Said
+pub mod TableAhead
 pub mod TasksAhead
 pub mod Written

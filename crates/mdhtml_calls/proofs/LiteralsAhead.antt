@@ -1,10 +1,10 @@
 -- Events that go ahead still do with autolink literals.
-use Rattle.std.proofs.Common.{◌≡◌, ℕ, zero, suc, ◌+◌, ◌-◌, ◌≤◌, ◌++◌, Bool, true, false, cond, List, [], ◌∷◌, take, Option, Some, None, refl, ap, sym, subst, ◌∙◌, arith}
-use Rattle.std.proofs.lemmas.Bool.{false≢true}
+use Rattle.std.proofs.Common.{◌≡◌, ℕ, zero, suc, ◌+◌, ◌-◌, ◌≤◌, ◌++◌, Bool, true, false, cond, List, [], ◌∷◌, take, Option, Some, None, refl, ap, sym, subst, ◌∙◌}
+use Rattle.std.proofs.lemmas.Bool.{false≢true, not-true}
 use Rattle.std.proofs.lemmas.List.{append_assoc}
 use Rattle.std.specs.List.{AllByRecursion}
 use Rattle.std.specs.Prelude.{◌==◌, ◌&&◌, nat_le, nat_lt, not, slice_get}
-use Rattle.markdown_base.proofs.Common.{every-append, every-take}
+use Rattle.markdown_base.proofs.Common.{and-right, every-append, every-take}
 use Rattle.markdown_base.specs.declared.event.Event.{Event}
 use Rattle.markdown_base.specs.declared.event.Kind.TheVariants.{Enter, Exit}
 use Rattle.markdown_base.specs.declared.event.Name.{Name}
@@ -16,7 +16,7 @@ use Rattle.mdgfm_literals.specs.declared.texts.Literal.{Literal}
 use Rattle.mdgfm_literals.specs.Grammar.{literal_at}
 use Rattle.mdgfm_literals.specs.Literals.{literals_from, more_passed}
 use Rattle.mdgfm_literals.specs.LiteralEvents.{Written, end_of, events_with, left_over, start_of, with_one, written}
-use Rattle.mdgfm_events.specs.Places.{event, later, leaf, place_at}
+use Rattle.mdgfm_events.specs.Places.{event, later, leaf}
 use Rattle.mdgfm_literals.specs.Stretches.{before_stretch, depth_behind, is_fresh, is_plain, is_text, literals_between, literals_of, reach}
 use Rattle.mdgfm_events.specs.Spans.{span_end, span_size}
 use Rattle.mdgfm_literals.proofs.Below.{IsUpTo, literals-up-to}
@@ -25,9 +25,10 @@ use Rattle.mdgfm_literals.proofs.LiteralLaws.{literal-has}
 use Rattle.mdgfm_literals.proofs.Names.{either-all}
 use Rattle.mdgfm_literals.specs.Laws.{literal_names}
 use Rattle.markdown_edits.proofs.Balanced.{same_name-true}
-use Rattle.mdgfm_literals.proofs.Order.{Goes, beyond, goes-rise, start-comes, with-goes}
+use Rattle.mdgfm_literals.proofs.Order.{Goes, goes-rise, start-comes, with-goes}
+use Rattle.mdgfm_documents.proofs.CheckEnds.{place-of-end}
 use Rattle.mdhtml_calls.proofs.Ended.{AreEnded, IsNext, leaf-ended, other-ended, taken-ended}
-use Rattle.mdhtml_calls.proofs.TasksAhead.{AreInside, IsInside, either-inside, end-inside}
+use Rattle.mdhtml_calls.proofs.TasksAhead.{AreInside, IsInside, at-inside, either-inside}
 
 -- ---- order
 
@@ -41,13 +42,6 @@ literals-go tab bytes start es first flat goes =
 -- ---- places
 
 module _ (tab most : ℕ) (bytes : List ℕ) where
-  at-inside : (p : Point) (i : ℕ) → IsInside tab most p → i ≤ most → IsInside tab most (place_at tab bytes p i)
-  at-inside p i h less = by (nat_le i p.index)
-    where
-      by : (t : Bool) → IsInside tab most (cond t p (beyond tab bytes p i))
-      by true = h
-      by false = (less, omega arith)
-
   later-inside : (p q : Point) → IsInside tab most p → IsInside tab most q → IsInside tab most (later p q)
   later-inside p q h k = by (nat_le p.index q.index)
     where
@@ -56,10 +50,10 @@ module _ (tab most : ℕ) (bytes : List ℕ) where
       by false = h
 
   start-inside : (p : Point) (l : Literal) → IsInside tab most p → IsUpTo most l → IsInside tab most (start_of tab bytes p l)
-  start-inside p l h k = at-inside p l.from h k.0
+  start-inside p l h k = at-inside tab most bytes p l.from h k.0
 
   end-of-inside : (p : Point) (l : Literal) → IsInside tab most p → IsUpTo most l → IsInside tab most (end_of tab bytes p l)
-  end-of-inside p l h k = at-inside (start_of tab bytes p l) l.to (start-inside p l h k) k.1
+  end-of-inside p l h k = at-inside tab most bytes (start_of tab bytes p l) l.to (start-inside p l h k) k.1
 
   leaf-in : (n : Name) (p q : Point) → IsInside tab most p → IsInside tab most q → AreInside tab most (leaf n p q)
   leaf-in n p q h k = either-inside tab most (nat_lt p.index q.index) (event Enter n p ∷ event Exit n q ∷ []) [] (h, (k, tt)) tt
@@ -104,7 +98,7 @@ module _ (tab most : ℕ) (bytes : List ℕ) where
       (both-in w.events (here ++ rest) v.events
       (both-in here rest
       (either-inside tab most (nat_le w.place.index e.point.index) (e ∷ take n es) (leaf Data w.place last) (k.0, every-take (λ (x : Event). IsInside tab most x.point) n es k.1)
-      (leaf-in Data w.place last v.place (end-inside tab most e.point 0 es k.0 k.1)))
+      (leaf-in Data w.place last v.place (place-of-end (IsInside tab most) 0 e.point es k.0 k.1)))
       (literals-inside n depth w.place w.left es v.place v.left k.1)))
       (k.0, literals-inside 0 (depth_behind depth e) place ls es p h k.1)
 
@@ -116,17 +110,9 @@ is_other n = not (same_name n LineEnding)
 abbrev IsOther : Literal → Type 0
 IsOther l = is_other l.name ≡ true
 
-is-false : (b : Bool) → not b ≡ true → b ≡ false
-is-false true h = absurd (false≢true h)
-is-false false h = refl
-
 text-other : (depth : ℕ) (e : Event) → is_text depth e ≡ true → same_name e.name LineEnding ≡ false
-text-other depth e h = by e.name (second (is_enter e.kind) (is_plain e.name) (second (depth == 0) (is_enter e.kind && is_plain e.name) h))
+text-other depth e h = by e.name (and-right (is_enter e.kind) (is_plain e.name) (and-right (depth == 0) (is_enter e.kind && is_plain e.name) h))
   where
-    second : (a b : Bool) → (a && b) ≡ true → b ≡ true
-    second true b h = h
-    second false b h = absurd (false≢true h)
-
     by : (n : Name) → is_plain n ≡ true → same_name n LineEnding ≡ false
     by n plain = no (same_name n LineEnding) refl
       where
@@ -152,7 +138,7 @@ module _ (tab : ℕ) (bytes : List ℕ) where
           let here = leaf l.name (start_of tab bytes from l) (end_of tab bytes from l) in (
             subst AreEnded (sym (append_assoc (before ++ here) w.events more ∙ append_assoc before here (w.events ++ more)))
                 (leaf-ended Data from (start_of tab bytes from l) (here ++ (w.events ++ more)) refl
-                (leaf-ended l.name (start_of tab bytes from l) (end_of tab bytes from l) (w.events ++ more) (is-false (same_name l.name LineEnding) h.0) g.0)),
+                (leaf-ended l.name (start_of tab bytes from l) (end_of tab bytes from l) (w.events ++ more) (not-true (same_name l.name LineEnding) h.0) g.0)),
             g.1,
           )
       by false w g = (k, h)

@@ -1,28 +1,31 @@
--- The events that are written of a document go ahead, with checks and literals too: so its HTML is in proportion to it.
+-- The events that are written of a document go ahead, with tables, checks and literals too: so its HTML is in proportion to it.
 use Rattle.std.proofs.Common.{ℕ, ◌≤◌, List, [], ◌∷◌, length, Bool, true, false, cond, refl, arith}
 use Rattle.std.specs.List.{AllByRecursion}
 use Rattle.markdown_base.proofs.Common.{every-map}
 use Rattle.markdown_base.specs.declared.configuration.ParseOptions.{ParseOptions}
 use Rattle.markdown_base.specs.declared.event.Event.{Event}
 use Rattle.markdown_base.specs.declared.event.Point.{Point}
-use Rattle.markdown_base.specs.Events.{IsBalanced}
+use Rattle.markdown_base.specs.Virtual.{point}
 use Rattle.markdown_tokenizer.specs.Text.{IsDocument}
-use Rattle.mddocument.specs.DocumentEvents.{document_events}
 use Rattle.mddocument.specs.Documents.{document}
-use Rattle.mdgfm_literals.proofs.Unchanged.{balance-kept as literals-balanced}
-use Rattle.mdgfm_literals.proofs.Order.{Goes}
+use Rattle.mdgfm_documents.proofs.Whole.{gfm-is-balanced}
+use Rattle.mdgfm_documents.specs.Documents.{gfm_events}
+use Rattle.mdgfm_literals.proofs.Order.{Goes, pairs-go-all}
 use Rattle.mdgfm_literals.specs.LiteralEvents.{events_with as with_literals, literal_events}
 use Rattle.mdgfm_literals.specs.Stretches.{literals_of}
-use Rattle.mdgfm_tasks.proofs.Balance.{balance-kept as tasks-balanced}
+use Rattle.mdgfm_tables.proofs.PartsLaid.{events-laid}
+use Rattle.mdgfm_tables.specs.Documents.{events_with_tables}
 use Rattle.mdgfm_tasks.specs.declared.awaited.Awaited.TheVariants.{Nothing}
 use Rattle.mdgfm_tasks.specs.TaskEvents.{events_with as with_tasks, task_events}
-use Rattle.mdhtml_calls.specs.Document.{written_events}
 use Rattle.mdhtml_calls.specs.Laws.{HtmlOfDocumentsIsLinear}
 use Rattle.mdhtml_calls.proofs.Ahead.{EndsAhead, GoAhead, html-ahead}
-use Rattle.mdhtml_calls.proofs.DocumentAhead.{document-ended, document-formed, document-goes, document-inside, start}
 use Rattle.mdhtml_calls.proofs.Ended.{AreEnded, IsEnded}
 use Rattle.mdhtml_calls.proofs.LiteralsAhead.{literals-ended, literals-go, literals-inside, others-found, places-found}
+use Rattle.mdhtml_calls.proofs.PartsAhead.{tables-ended, tables-inside}
 use Rattle.mdhtml_calls.proofs.TasksAhead.{AreInside, IsInside, tasks-ended, tasks-go, tasks-inside}
+
+abbrev start : Point
+start = point 1 1 0 0
 
 -- events go ahead: in order, within a document, and over line endings
 record IsAhead (tab most : ℕ) (es : List Event) : Type 0 where
@@ -64,22 +67,19 @@ literals-ahead options bytes es h = by options.constructs.gfm_autolink_literal
     by false = h
 
 module _ (options : ParseOptions) (bytes : List ℕ) (is : IsDocument (document options bytes)) where
-  written-ahead : IsAhead options.tab_size (length bytes) (written_events options bytes)
-  written-ahead =
-      let g = document options bytes in
-      let events = document_events g in
-      let first : IsAhead options.tab_size (length bytes) events = record { goes = document-goes g is; inside = document-inside g is; ended = document-ended g is } in
-      literals-ahead options bytes (task_events options bytes events) (tasks-ahead options bytes events first)
+  tables-ahead : IsAhead options.tab_size (length bytes) (events_with_tables options bytes)
+  tables-ahead = record {
+    goes = pairs-go-all start (events_with_tables options bytes) refl refl (events-laid options bytes is).pairs;
+    inside = tables-inside options bytes is;
+    ended = tables-ended options bytes is;
+  }
 
-  written-balanced : IsBalanced (written_events options bytes)
-  written-balanced =
-      let g = document options bytes in
-      let events = document_events g in
-      literals-balanced options bytes (task_events options bytes events) (tasks-balanced options bytes events (document-formed g is).balanced)
+  written-ahead : IsAhead options.tab_size (length bytes) (gfm_events options bytes)
+  written-ahead = let events = events_with_tables options bytes in literals-ahead options bytes (task_events options bytes events) (tasks-ahead options bytes events tables-ahead)
 
 pub written-linear : HtmlOfDocumentsIsLinear
 written-linear options bytes is free =
     let tab = options.parse.tab_size in
-    let events = written_events options.parse bytes in
+    let events = gfm_events options.parse bytes in
     let h = written-ahead options.parse bytes is in
-    html-ahead options.compile bytes tab start events (written-balanced options.parse bytes is) (go-ahead tab (length bytes) start events h.goes h.inside h.ended) free
+    html-ahead options.compile bytes tab start events (gfm-is-balanced options.parse bytes is) (go-ahead tab (length bytes) start events h.goes h.inside h.ended) free

@@ -5,7 +5,8 @@ use Rattle.markdown_base.specs.declared.configuration.Options.{Options}
 use Rattle.markdown_base.specs.Presets.{default_compile_options}
 use Rattle.markdown_tokenizer.specs.Text.{IsDocument}
 use Rattle.mddocument.specs.Documents.{document}
-use Rattle.mdhtml_calls.specs.Document.{html_of_document, written_events}
+use Rattle.mdgfm_documents.specs.Documents.{gfm_events}
+use Rattle.mdhtml_calls.specs.Document.{html_of_document}
 use Rattle.mdhtml_document.specs.HtmlLaws.{are_apart, rows}
 use Rattle.mdhtml_document.specs.Spans.{spans_of}
 
@@ -26,7 +27,7 @@ OtherOptionsDoNothing =
 -- whatever it refers to
 abbrev pub HtmlOfDocumentsIsLinear : Type 0
 HtmlOfDocumentsIsLinear =
-    (options : Options) (bytes : List ℕ) → IsDocument (document options.parse bytes) → let events = written_events options.parse bytes in
+    (options : Options) (bytes : List ℕ) → IsDocument (document options.parse bytes) → let events = gfm_events options.parse bytes in
     let tab = options.parse.tab_size in
     are_apart (spans_of events) ≡ true
     → length (html_of_document options bytes)

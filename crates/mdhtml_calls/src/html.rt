@@ -8,9 +8,7 @@ ghost use Rattle.mdhtml_document.specs.HtmlLaws.{AreSafeOptions};
 ghost use Rattle.mdhtml_markup.specs.SafeHtml.{IsSafeHtml};
 
 use markdown_base::configuration::Options;
-use mddocument::documents::read_document;
-use mdgfm_literals::events::with_literals;
-use mdgfm_tasks::events::with_tasks;
+use mdgfm_documents::documents::read_gfm_document;
 use mdhtml_depth::spans::within;
 use mdhtml_document::html::html_of_events;
 use std::alloc::{AllocError, Global};
@@ -34,9 +32,7 @@ pub fn to_html_with_options(
     ensures html { IfOk result (λ html. html.items ≡ html_of_document options.now bytes.now) }
     ensures safe { IfOk result (λ html. AreSafeOptions options.now.compile → IsSafeHtml [] html.items) }
 {
-    let read = read_document(alloc, bytes, &options.parse)?;
-    let tasks = with_tasks(alloc, bytes, &options.parse, read)?;
-    let events = with_literals(alloc, bytes, &options.parse, tasks)?;
+    let events = read_gfm_document(alloc, bytes, &options.parse)?;
     html_of_events(
         alloc,
         bytes,
@@ -59,9 +55,7 @@ pub fn to_html_within(
     ensures html { IfOk result (λ html. html.items ≡ html_within limit options.now bytes.now) }
     ensures safe { IfOk result (λ html. AreSafeOptions options.now.compile → IsSafeHtml [] html.items) }
 {
-    let read = read_document(alloc, bytes, &options.parse)?;
-    let tasks = with_tasks(alloc, bytes, &options.parse, read)?;
-    let events = with_literals(alloc, bytes, &options.parse, tasks)?;
+    let events = read_gfm_document(alloc, bytes, &options.parse)?;
     let shallow = within(alloc, events, limit)?;
     html_of_events(
         alloc,

@@ -16,6 +16,7 @@ use Rattle.mdblock_containers.specs.Lists.{is_digit, is_loose, list_start}
 use Rattle.mddocument_link_targets.specs.declared.targets.Parts.{Parts}
 use Rattle.mddocument_link_targets.specs.Spans.{enters, first_in, inside}
 use Rattle.mdgfm_literals.specs.Laws.{end_line, further_event}
+use Rattle.mdgfm_literals.proofs.Parts.{events-stay, slice-behind, slice-stays}
 use Rattle.mdhtml_document.specs.declared.names.Block.{Block}
 use Rattle.mdhtml_document.specs.declared.names.Block.TheVariants as block
 use Rattle.mdhtml_document.specs.declared.names.Inline.{Inline}
@@ -32,7 +33,7 @@ use Rattle.mdhtml_markup.specs.declared.addresses.Place.TheVariants as place
 use Rattle.mdhtml_markup.specs.declared.elements.Element.TheVariants.{Code as CodeElement, TableBody}
 use Rattle.mdhtml_markup.specs.Pieces.{Close, Fresh, Open, Piece, Text, html}
 use Rattle.mdhtml_laws.proofs.Ended.{html-ends}
-use Rattle.mdhtml_laws.proofs.FurtherBytes.{drop-behind, events-stay, get-behind, slice-behind, slice-stays}
+use Rattle.mdhtml_laws.proofs.FurtherBytes.{drop-behind, get-behind}
 use Rattle.mdhtml_laws.proofs.FurtherSpans.{alignment-on, all_on, any-on, behind-column-on, behind-line-on, columns-behind-on, columns-in-on, events-of-on, first-on, loose-on, on, spans-of-on, spans_on}
 use Rattle.mdhtml_laws.proofs.FurtherText.{AreFine, AreSame, IsFine, IsFineTree, address-on, alt-on, code-lines-on, code-text-on, html-flow-on, html-text-on, language-on, length-of-first-on, link-on, said-on, setext-on, start-on}
 use Rattle.mdhtml_laws.specs.Moved.{BytesBehindDoNothing, HtmlMoves, HtmlOfSections, IsMarked, StandsIn}

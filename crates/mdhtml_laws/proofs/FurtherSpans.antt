@@ -15,7 +15,7 @@ use Rattle.markdown_edits.specs.SpanWalks.{is_wanted}
 use Rattle.mdblock_containers.specs.Lists.{Met, block_names, directly_by, directly_from, directly_in, is_apart, is_apart_behind, is_blank_behind, is_loose, is_spread, item_names, items_in}
 use Rattle.mddocument_link_targets.specs.Spans.{behind, enters, first_in, inside, size_by, size_from}
 use Rattle.mdgfm_literals.specs.Laws.{further_event, further_point}
-use Rattle.mdhtml_laws.proofs.FurtherBytes.{less-on}
+use Rattle.mdgfm_literals.proofs.Further.{lt-on}
 use Rattle.mdhtml_document.specs.Html.{alignment_by, alignment_of, behind_column, columns_behind, columns_in, columns_of, is_cell, is_led, is_trailed}
 use Rattle.mdhtml_document.specs.declared.names.Block.{Block}
 use Rattle.mdhtml_document.specs.declared.names.Block.TheVariants as block
@@ -124,7 +124,7 @@ module _ (links : Option Link → Option Link) (lines n : ℕ) where
   blank-on : (p : Point) (es : List Event) → list_any (is_blank_behind (further_point lines n p)) (all_on es) ≡ list_any (is_blank_behind p) es
   blank-on p [] = refl
   blank-on p (e ∷ es) =
-      λ i. (is_enter e.kind && (same_name e.name name.BlankLineEnding && (less-on lines p.line e.point.line i || (p.column == 1)))) || blank-on p es i
+      λ i. (is_enter e.kind && (same_name e.name name.BlankLineEnding && (lt-on lines p.line e.point.line i || (p.column == 1)))) || blank-on p es i
 
   apart-behind-on : (names : List Name) (p : Point) (es : List Event) → is_apart_behind names (further_point lines n p) (all_on es) ≡ is_apart_behind names p es
   apart-behind-on names p es =

@@ -1,6 +1,6 @@
 -- What events say that stand further on, among other bytes: the same, if these have the same bytes there.
 use Rattle.std.proofs.Common.{◌≡◌, ℕ, zero, suc, ◌+◌, ◌-◌, ◌≤◌, List, [], ◌∷◌, ◌++◌, Option, None, Some, drop, refl, ap, ◌∙◌, arith}
-use Rattle.std.proofs.lemmas.Bool.{and_parts, false≢true}
+use Rattle.std.proofs.lemmas.Bool.{and_parts, false≢true, or_left, or_right}
 use Rattle.std.specs.Char.{is_ascii_whitespace}
 use Rattle.std.specs.List.{AllByRecursion, repeat, slice_range, take_while}
 use Rattle.std.specs.Option.{option_map_or, option_or}
@@ -24,6 +24,7 @@ use Rattle.mddocument_link_targets.specs.Spans.{behind, enters, first_in, inside
 use Rattle.mddocument_link_targets.specs.Strings.{decoded, given, given_at, reference, text}
 use Rattle.mddocument_link_targets.specs.Targets.{label_of, resource_parts, string_in, target_behind, target_in, written}
 use Rattle.mdinline_labels.specs.Labels.{normalised}
+use Rattle.mdgfm_literals.proofs.Further.{eq-on}
 use Rattle.mdhtml_document.specs.Html.{byte_of_first, language, length_of_first, parts_in_link, setext_rank}
 use Rattle.mdhtml_document.specs.Names.{inline_of}
 use Rattle.mdhtml_document.specs.declared.names.Inline.{Inline}
@@ -31,7 +32,6 @@ use Rattle.mdhtml_document.specs.declared.names.Inline.TheVariants as inline
 use Rattle.mdhtml_document.specs.Spans.{Nothing, Span, Spans, events_of}
 use Rattle.mdhtml_document.specs.Values.{alt_by, alt_of, autolink_address, block_lines, bytes_at, code_lines, code_text, cut, cut_at, html_flow, html_text, is_address, line_text, lines_from, reading_of, said, stripped}
 use Rattle.mdhtml_markup.specs.Pieces.{Language}
-use Rattle.mdhtml_laws.proofs.FurtherBytes.{equal-on}
 use Rattle.mdhtml_laws.proofs.FurtherSpans.{all_on, behind-on, drop-one-on, events-of-on, first-directly-on, first-on, has-last-on, inside-on, met_on, on, spans_on}
 use Rattle.mdhtml_laws.specs.Moved.{IsMarked, is_read}
 
@@ -244,7 +244,7 @@ module _ (links : Option Link → Option Link) (lines n : ℕ) (new old : List �
   cut-on : (tab : ℕ) (p q : Point) → Fits q.index
       → cut new tab (record { line = p.line + lines; column = p.column; index = p.index + n; vs = p.vs }) (record { line = q.line + lines; column = q.column; index = q.index + n; vs = q.vs }) ≡ cut old tab p q
   cut-on tab p q h =
-      λ i. cond (equal-on n p.index q.index i) (repeat (q.vs - p.vs) (32 ∷ []))
+      λ i. cond (eq-on n p.index q.index i) (repeat (q.vs - p.vs) (32 ∷ []))
       (cond (p.vs == 0) (same.ranges p.index q.index h i) (repeat (tab - (p.column - 1) % tab) (32 ∷ []) ++ drop 1 (same.ranges p.index q.index h i)) ++ repeat q.vs (32 ∷ []))
 
   cut-at-on : (tab : ℕ) (e : Event) (es : List Event) → AreFine es → cut_at new tab (the e) (more es) ≡ cut_at old tab e es
@@ -279,12 +279,8 @@ module _ (links : Option Link → Option Link) (lines n : ℕ) (new old : List �
   byte-on (e ∷ es) h =
       byte-when (enters name.HeadingSetextUnderlineSequence e) (slice_get new (e.point.index + n)) (slice_get old e.point.index) (byte_of_first new name.HeadingSetextUnderlineSequence (more es))
       (byte_of_first old name.HeadingSetextUnderlineSequence es)
-      (λ is. same.bytes e.point.index (h.0.reads (left (same_name e.name name.HeadingSetextUnderlineSequence) (same_name e.name name.ListItemValue) (and_parts (is_enter e.kind) (same_name e.name name.HeadingSetextUnderlineSequence) is).1)))
+      (λ is. same.bytes e.point.index (h.0.reads (or_left (same_name e.name name.HeadingSetextUnderlineSequence) (same_name e.name name.ListItemValue) (and_parts (is_enter e.kind) (same_name e.name name.HeadingSetextUnderlineSequence) is).1)))
       (byte-on es h.1)
-    where
-      left : (a b : Bool) → a ≡ true → (a || b) ≡ true
-      left true b h = refl
-      left false b h = absurd (false≢true h)
 
   pub setext-on : (es : List Event) → AreFine es → setext_rank new (more es) ≡ setext_rank old es
   setext-on es h = ap (λ (o : Option ℕ). cond (option_map_or (λ b. b == 61) o false) 1 2) (byte-on es h)
@@ -337,11 +333,7 @@ module _ (links : Option Link → Option Link) (lines n : ℕ) (new old : List �
 
   number-by : (o : Option Met) → IfSome o (IsFound name.ListItemValue) → option_and_then (number_at new) (option_map (met_on links lines n) o) ≡ option_and_then (number_at old) o
   number-by None h = refl
-  number-by (Some x) h = ap number_of (same.digits x.event.point.index (h.fine.0.reads (right (same_name x.event.name name.HeadingSetextUnderlineSequence) (same_name x.event.name name.ListItemValue) h.named)))
-    where
-      right : (a b : Bool) → b ≡ true → (a || b) ≡ true
-      right true b h = refl
-      right false b h = h
+  number-by (Some x) h = ap number_of (same.digits x.event.point.index (h.fine.0.reads (or_right (same_name x.event.name name.HeadingSetextUnderlineSequence) (same_name x.event.name name.ListItemValue) h.named)))
 
   prefix-by : (o : Option Met) → IfSome o (IsFound name.ListItemPrefix)
       → option_and_then (number_at new) (option_and_then in_prefix (option_map (met_on links lines n) o)) ≡ option_and_then (number_at old) (option_and_then in_prefix o)

@@ -11,7 +11,7 @@ use Rattle.mdhtml_laws.specs.Depth.{HtmlIsShallow}
 use Rattle.mdhtml_laws.proofs.Levels.{nest, stays}
 use Rattle.mdhtml_depth.proofs.Kept.{balance-kept, behind-enter, deep-enter, depth-kept, span-back}
 use Rattle.mdhtml_depth.specs.Depth.{behind, has_depth, is_deep, nests, within}
-use Rattle.mdhtml_document.proofs.Linear.{none-there}
+use Rattle.mdhtml_document.proofs.Linear.{none-there, same-first}
 use Rattle.mdhtml_document.specs.declared.shapes.Mode.TheVariants as mode
 use Rattle.mdhtml_document.specs.Spans.{Nothing, Span, Spans, events_of, spans_of}
 use Rattle.mdhtml_document.proofs.Both.{keep-events}
@@ -22,9 +22,6 @@ abbrev AreNamed : Spans → Type 0
 AreNamed Nothing = ⊤
 AreNamed (Span e f s t) = (f.name ≡ e.name) × AreNamed s × AreNamed t
 
-head-name : (e f : Event) (es fs : List Event) → e ∷ es ≡ f ∷ fs → e ≡ f
-head-name e f es fs h = cc
-
 named : (s : Spans) (l : List Event) → AreKinded s → IsBalanced l → l ≡ events_of s → AreNamed s
 named Nothing l h b is = tt
 named (Span e f s t) l h empty is = absurd (none-there e (events_of s ++ f ∷ events_of t) is)
@@ -33,8 +30,8 @@ named (Span e f s t) l h (span d g xs ys whole enters exits same bx by) is =
     let rest : xs ++ g ∷ ys ≡ events_of s ++ f ∷ events_of t = ap (drop 1) all in
     let inner : xs ≡ events_of s = sym (spans-end xs ys g bx exits).0 ∙ ap inside rest ∙ inside-of s f (events_of t) h.2 h.1 in
     let outer : g ∷ ys ≡ f ∷ events_of t = sym (drop_at xs (g ∷ ys) (length xs) refl) ∙ ap (drop (length xs)) rest ∙ drop_at (events_of s) (f ∷ events_of t) (length xs) (sym (ap length inner)) in
-    let first : d ≡ e = head-name d e _ _ all in
-    let last : g ≡ f = head-name g f _ _ outer in (
+    let first : d ≡ e = same-first d e _ _ all in
+    let last : g ≡ f = same-first g f _ _ outer in (
       sym (ap (λ (x : Event). x.name) last) ∙ same ∙ ap (λ (x : Event). x.name) first,
       named s xs h.2 bx inner,
       named t ys h.3 by (ap (drop 1) outer),

@@ -14,7 +14,7 @@ pub const USAGE: &str = "usage: mdhtml [--unsafe] [--gfm] [--tab n] [--depth n]"
 pub struct Choice {
     /// Raw HTML and addresses with any scheme are written as they stand.
     pub is_unsafe: bool,
-    /// Strikethrough, autolink literals and checks of tasks, as GFM has them, are read.
+    /// Strikethrough, tables, autolink literals and checks of tasks, as GFM has them, are read.
     pub is_gfm: bool,
     /// The tab size, if it is not 4.
     pub tab: Option<TabSize>,
@@ -148,6 +148,7 @@ pub fn options_of(choice: &Choice) -> Options
     options.parse.tab_size = tab_of(choice);
     options.parse.constructs.gfm_autolink_literal = choice.is_gfm;
     options.parse.constructs.gfm_strikethrough = choice.is_gfm;
+    options.parse.constructs.gfm_table = choice.is_gfm;
     options.parse.constructs.gfm_task_list_item = choice.is_gfm;
     options.compile.allow_dangerous_html = choice.is_unsafe;
     options.compile.allow_dangerous_protocol = choice.is_unsafe;

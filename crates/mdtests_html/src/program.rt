@@ -99,30 +99,30 @@ const CALLS: &[(&[&[u8]], u8, &[u8], &[u8])] = &[
     (&[b"mdhtml", b"\xff"], 2, b"", USAGE_SHOWN),
 ];
 
-/// A document with constructs of GFM: a task in a block quote, strikethrough, a literal and what would be a table.
-const OF_GFM: &[u8] = b"> - [x] ~a~ www.b.c\n\n| a |\n| - |\n";
+/// A document with constructs of GFM: a task in a block quote, strikethrough, a literal and a table.
+const OF_GFM: &[u8] = b"> - [x] ~a~ www.b.c\n\n| a | b |\n| - | :-: |\n| *c* | d \\| e |\n";
 
 /// Arguments, and what is written for this document.
 const WITH_GFM: &[(&[&[u8]], &[u8])] = &[
     (
         &[b"mdhtml"],
-        b"<blockquote>\n<ul>\n<li>[x] ~a~ www.b.c</li>\n</ul>\n</blockquote>\n<p>| a |\n| - |</p>\n",
+        b"<blockquote>\n<ul>\n<li>[x] ~a~ www.b.c</li>\n</ul>\n</blockquote>\n<p>| a | b |\n| - | :-: |\n| <em>c</em> | d | e |</p>\n",
     ),
     (
         &[b"mdhtml", b"--gfm"],
-        b"<blockquote>\n<ul>\n<li><input type=\"checkbox\" checked=\"\" disabled=\"\" /> <del>a</del> <a href=\"http://www.b.c\">www.b.c</a></li>\n</ul>\n</blockquote>\n<p>| a |\n| - |</p>\n",
+        b"<blockquote>\n<ul>\n<li><input type=\"checkbox\" checked=\"\" disabled=\"\" /> <del>a</del> <a href=\"http://www.b.c\">www.b.c</a></li>\n</ul>\n</blockquote>\n<table>\n<thead>\n<tr>\n<th>a</th>\n<th align=\"center\">b</th>\n</tr>\n</thead>\n<tbody>\n<tr>\n<td><em>c</em></td>\n<td align=\"center\">d | e</td>\n</tr>\n</tbody>\n</table>\n",
     ),
     (
         &[b"mdhtml", b"--depth", b"3", b"--gfm"],
-        b"<blockquote>\n<ul>\n<li><input type=\"checkbox\" checked=\"\" disabled=\"\" /> <del>a</del> <a href=\"http://www.b.c\">www.b.c</a></li>\n</ul>\n</blockquote>\n<p>| a |\n| - |</p>\n",
+        b"<blockquote>\n<ul>\n<li><input type=\"checkbox\" checked=\"\" disabled=\"\" /> <del>a</del> <a href=\"http://www.b.c\">www.b.c</a></li>\n</ul>\n</blockquote>\n<table>\n<thead>\n<tr>\n<th>a</th>\n<th align=\"center\">b</th>\n</tr>\n</thead>\n<tbody>\n<tr>\n<td><em>c</em></td>\n<td align=\"center\">d | e</td>\n</tr>\n</tbody>\n</table>\n",
     ),
     (
         &[b"mdhtml", b"--gfm", b"--depth", b"2"],
-        b"<blockquote>\n<ul>\n<li><input type=\"checkbox\" checked=\"\" disabled=\"\" /> a <a href=\"http://www.b.c\">www.b.c</a></li>\n</ul>\n</blockquote>\n<p>| a |\n| - |</p>\n",
+        b"<blockquote>\n<ul>\n<li><input type=\"checkbox\" checked=\"\" disabled=\"\" /> a <a href=\"http://www.b.c\">www.b.c</a></li>\n</ul>\n</blockquote>\n<table>\n<thead>\n<tr>\n<th>a</th>\n<th align=\"center\">b</th>\n</tr>\n</thead>\n<tbody>\n<tr>\n<td><em>c</em></td>\n<td align=\"center\">d | e</td>\n</tr>\n</tbody>\n</table>\n",
     ),
     (
         &[b"mdhtml", b"--depth", b"1", b"--tab", b"8"],
-        b"<blockquote>\n<p>[x] ~a~ www.b.c</p>\n</blockquote>\n<p>| a |\n| - |</p>\n",
+        b"<blockquote>\n<p>[x] ~a~ www.b.c</p>\n</blockquote>\n<p>| a | b |\n| - | :-: |\n| <em>c</em> | d | e |</p>\n",
     ),
 ];
 

@@ -3,12 +3,9 @@ use Rattle.std.proofs.lemmas.Result.{IfOk-weaker}
 use Rattle.markdown_base.specs.declared.configuration.Options.{Options}
 use Rattle.markdown_base.specs.declared.event.Event.{Event}
 use Rattle.markdown_base.specs.Events.{IsBalanced}
-use Rattle.mdgfm_literals.proofs.Unchanged.{balance-kept}
-use Rattle.mdgfm_literals.specs.LiteralEvents.{literal_events}
-use Rattle.mdgfm_tasks.proofs.Balance.{balance-kept as tasks-balanced}
-use Rattle.mdgfm_tasks.specs.TaskEvents.{task_events}
+use Rattle.mdgfm_documents.specs.Documents.{gfm_events}
 use Rattle.mdhtml_calls.proofs.html.to_html_with_options.Goals as goal
-use Rattle.mdhtml_calls.specs.Document.{html_of_document, written_events}
+use Rattle.mdhtml_calls.specs.Document.{html_of_document}
 use Rattle.mdhtml_document.proofs.Safe.{html-safe}
 use Rattle.mdhtml_document.specs.Html.{html_of_events, led_to}
 use Rattle.mdhtml_document.specs.HtmlLaws.{AreSafeOptions}
@@ -16,28 +13,21 @@ use Rattle.mdhtml_markup.specs.SafeHtml.{IsSafeHtml}
 
 module _ (options : Options) (bytes html : List ℕ) where
   -- HTML of the document's events is that of the document
-  of-document : (es : List Event) → es ≡ written_events options.parse bytes → html ≡ html_of_events options.compile bytes options.parse.tab_size es → html ≡ html_of_document options bytes
+  of-document : (es : List Event) → es ≡ gfm_events options.parse bytes → html ≡ html_of_events options.compile bytes options.parse.tab_size es → html ≡ html_of_document options bytes
   of-document es are is = is ∙ ap (html_of_events options.compile bytes options.parse.tab_size) are
 
   -- and is safe
   is-safe : html ≡ html_of_document options bytes → AreSafeOptions options.compile → IsSafeHtml [] html
   is-safe is safe =
-      let events = written_events options.parse bytes in
+      let events = gfm_events options.parse bytes in
       subst (IsSafeHtml []) (sym is) (html-safe options.compile bytes (led_to bytes events) options.parse.tab_size events safe)
 
 module _ (c : goal.After-drop-events) where
-  are : c.as_slice.result.now ≡ written_events c.args.options.now.parse c.args.bytes.now
-  are =
-      let options = c.args.options.now.parse in
-      let bytes = c.args.bytes.now in
-      c.as_slice.ensures.value ∙ c.in_ok-events.ensures.events ∙ ap (literal_events options bytes) (c.in_ok-tasks.ensures.events ∙ ap (task_events options bytes) c.in_ok-read.ensures.events)
+  are : c.as_slice.result.now ≡ gfm_events c.args.options.now.parse c.args.bytes.now
+  are = c.as_slice.ensures.value ∙ c.in_ok-events.ensures.events
 
   balanced : IsBalanced c.as_slice.result.now
-  balanced =
-      let options = c.args.options.now.parse in
-      let bytes = c.args.bytes.now in
-      subst IsBalanced (sym (c.as_slice.ensures.value ∙ c.in_ok-events.ensures.events))
-      (balance-kept options bytes _ (subst IsBalanced (sym c.in_ok-tasks.ensures.events) (tasks-balanced options bytes _ c.in_ok-read.ensures.formed.balanced)))
+  balanced = subst IsBalanced (sym c.as_slice.ensures.value) c.in_ok-events.ensures.balanced
 
 pub returns-clause-html : goal.returns-clause-html
 returns-clause-html c = IfOk-weaker c.html_of_events.result _

@@ -3,12 +3,9 @@ use Rattle.std.proofs.lemmas.Result.{IfOk-weaker}
 use Rattle.markdown_base.specs.declared.configuration.Options.{Options}
 use Rattle.markdown_base.specs.declared.event.Event.{Event}
 use Rattle.markdown_base.specs.Events.{IsBalanced}
-use Rattle.mdgfm_literals.proofs.Unchanged.{balance-kept as literals-balanced}
-use Rattle.mdgfm_literals.specs.LiteralEvents.{literal_events}
-use Rattle.mdgfm_tasks.proofs.Balance.{balance-kept as tasks-balanced}
-use Rattle.mdgfm_tasks.specs.TaskEvents.{task_events}
+use Rattle.mdgfm_documents.specs.Documents.{gfm_events}
 use Rattle.mdhtml_calls.proofs.html.to_html_within.Goals as goal
-use Rattle.mdhtml_calls.specs.Document.{html_within, written_events}
+use Rattle.mdhtml_calls.specs.Document.{html_within}
 use Rattle.mdhtml_depth.proofs.Kept.{balance-kept}
 use Rattle.mdhtml_depth.specs.Depth.{within}
 use Rattle.mdhtml_document.proofs.Safe.{html-safe}
@@ -18,30 +15,21 @@ use Rattle.mdhtml_markup.specs.SafeHtml.{IsSafeHtml}
 
 module _ (limit : ℕ) (options : Options) (bytes html : List ℕ) where
   -- HTML of the events within the limit
-  of-document : (es : List Event) → es ≡ within limit 0 (written_events options.parse bytes) → html ≡ html_of_events options.compile bytes options.parse.tab_size es → html ≡ html_within limit options bytes
+  of-document : (es : List Event) → es ≡ within limit 0 (gfm_events options.parse bytes) → html ≡ html_of_events options.compile bytes options.parse.tab_size es → html ≡ html_within limit options bytes
   of-document es are is = is ∙ ap (html_of_events options.compile bytes options.parse.tab_size) are
 
   -- and is safe
   is-safe : html ≡ html_within limit options bytes → AreSafeOptions options.compile → IsSafeHtml [] html
   is-safe is safe =
-      let events = within limit 0 (written_events options.parse bytes) in
+      let events = within limit 0 (gfm_events options.parse bytes) in
       subst (IsSafeHtml []) (sym is) (html-safe options.compile bytes (led_to bytes events) options.parse.tab_size events safe)
 
 module _ (c : goal.After-drop-shallow) where
-  are : c.as_slice.result.now ≡ within c.args.limit 0 (written_events c.args.options.now.parse c.args.bytes.now)
-  are =
-      let options = c.args.options.now.parse in
-      let bytes = c.args.bytes.now in
-      c.as_slice.ensures.value ∙ c.in_ok-shallow.ensures.events
-      ∙ ap (within c.args.limit 0) (c.in_ok-events.ensures.events ∙ ap (literal_events options bytes) (c.in_ok-tasks.ensures.events ∙ ap (task_events options bytes) c.in_ok-read.ensures.events))
+  are : c.as_slice.result.now ≡ within c.args.limit 0 (gfm_events c.args.options.now.parse c.args.bytes.now)
+  are = c.as_slice.ensures.value ∙ c.in_ok-shallow.ensures.events ∙ ap (within c.args.limit 0) c.in_ok-events.ensures.events
 
   balanced : IsBalanced c.as_slice.result.now
-  balanced =
-      let options = c.args.options.now.parse in
-      let bytes = c.args.bytes.now in
-      let tasks = subst IsBalanced (sym c.in_ok-tasks.ensures.events) (tasks-balanced options bytes _ c.in_ok-read.ensures.formed.balanced) in
-      let literals = subst IsBalanced (sym c.in_ok-events.ensures.events) (literals-balanced options bytes _ tasks) in
-      subst IsBalanced (sym (c.as_slice.ensures.value ∙ c.in_ok-shallow.ensures.events)) (balance-kept c.args.limit 0 _ literals)
+  balanced = subst IsBalanced (sym (c.as_slice.ensures.value ∙ c.in_ok-shallow.ensures.events)) (balance-kept c.args.limit 0 _ c.in_ok-events.ensures.balanced)
 
 pub returns-clause-html : goal.returns-clause-html
 returns-clause-html c = IfOk-weaker c.html_of_events.result _
