@@ -67,12 +67,12 @@ static void refused(void) {
     }
 }
 
-/* Literals and checks are only in whole documents with their texts: elsewhere there is no such construct, and nothing is written. */
+/* Literals, checks and tables are only in whole documents with their texts: elsewhere there is no such construct, and nothing is written. */
 static void literals_need_documents(void) {
-    static const uint64_t bits[] = {LIMECOVE_GFM_AUTOLINK_LITERAL, LIMECOVE_GFM_TASK_LIST_ITEM};
+    static const uint64_t bits[] = {LIMECOVE_GFM_AUTOLINK_LITERAL, LIMECOVE_GFM_TASK_LIST_ITEM, LIMECOVE_GFM_TABLE};
     struct limecove_record record;
     memset(&record, 0xa5, sizeof record);
-    for (size_t i = 0; i < 2; i++) {
+    for (size_t i = 0; i < sizeof bits / sizeof *bits; i++) {
         struct limecove_document document = LIMECOVE_NO_DOCUMENT;
         struct limecove_options options = limecove_default_options();
         struct limecove_text_options text = limecove_default_text_options();
@@ -238,6 +238,7 @@ static void constructs_have_bits(void) {
         {"~a~", LIMECOVE_GFM_STRIKETHROUGH, LIMECOVE_NAME_GFM_STRIKETHROUGH},
         {"www.a.b", LIMECOVE_GFM_AUTOLINK_LITERAL, LIMECOVE_NAME_GFM_AUTOLINK_LITERAL_WWW},
         {"- [x] a", LIMECOVE_GFM_TASK_LIST_ITEM, LIMECOVE_NAME_GFM_TASK_LIST_ITEM_CHECK},
+        {"a\n:-", LIMECOVE_GFM_TABLE, LIMECOVE_NAME_GFM_TABLE},
     };
     uint64_t bits = 0;
     for (size_t i = 0; i < sizeof each / sizeof *each; i++) {
@@ -257,6 +258,7 @@ static void constructs_have_bits(void) {
     CHECK(!has("~a~", LIMECOVE_COMMONMARK, LIMECOVE_NAME_GFM_STRIKETHROUGH));
     CHECK(!has("www.a.b", LIMECOVE_ALL_CONSTRUCTS, LIMECOVE_NAME_GFM_AUTOLINK_LITERAL_WWW));
     CHECK(!has("- [x] a", LIMECOVE_ALL_CONSTRUCTS, LIMECOVE_NAME_GFM_TASK_LIST_ITEM_CHECK));
+    CHECK(!has("a\n:-", LIMECOVE_ALL_CONSTRUCTS, LIMECOVE_NAME_GFM_TABLE));
 }
 
 /* Without quotes, lists and definitions, a document without links is read as its leaf blocks are. */

@@ -166,12 +166,14 @@ NAMES = (
 )
 # written by names.py: end
 
-# Bits of constructs: those of CommonMark, which are on by default, and three of GFM. The other bits are in limecove.h.
+# Bits of constructs: those of CommonMark, which are on by default, and four of GFM. The other bits are in limecove.h.
 COMMONMARK = 1048575
 GFM_STRIKETHROUGH = 1048576
 # these two rewrite the events of a document
 GFM_AUTOLINK_LITERAL = 2097152
 GFM_TASK_LIST_ITEM = 4194304
+# tables that are in no block quote and no list item
+GFM_TABLE = 8388608
 
 # Bits of what HTML may let through. If none is set, the HTML is safe, whatever the document is.
 ALLOW_DANGEROUS_HTML = 1

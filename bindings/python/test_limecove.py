@@ -78,6 +78,14 @@ class Calls(unittest.TestCase):
             found = [it.name for it in limecove.events("- [x] a", constructs=constructs) if it.is_enter]
             self.assertEqual(found.count("GfmTaskListItemCheck"), wanted)
 
+    def test_tables_are_read_if_their_bit_is_on(self):
+        document = "a | b\n:- | -\nc"
+        for constructs, wanted in [(limecove.COMMONMARK, 0), (limecove.COMMONMARK | limecove.GFM_TABLE, 4)]:
+            found = [it.name for it in limecove.events(document, constructs=constructs) if it.is_enter]
+            self.assertEqual(found.count("GfmTableRow") + found.count("GfmTableHead") + found.count("GfmTableBody"), wanted)
+        html = '<table>\n<thead>\n<tr>\n<th align="left">a</th>\n<th>b</th>\n</tr>\n</thead>\n<tbody>\n<tr>\n<td align="left">c</td>\n<td></td>\n</tr>\n</tbody>\n</table>\n'
+        self.assertEqual(limecove.html(document, constructs=limecove.COMMONMARK | limecove.GFM_TABLE), html)
+
     def test_threads_call_at_the_same_time(self):
         document = "a `b` *c*\n" * 200
         wanted, found = limecove.events(document), []

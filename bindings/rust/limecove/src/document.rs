@@ -144,7 +144,7 @@ pub enum Encoding {
 }
 
 impl Document {
-    /// Reads a whole document, with the constructs and the tab size of the options, but without literals and checks of GFM. The rest of them is not
+    /// Reads a whole document, with the constructs and the tab size of the options, but without literals, checks and tables of GFM. The rest of them is not
     /// looked at.
     ///
     /// # Errors

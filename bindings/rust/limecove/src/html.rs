@@ -64,6 +64,21 @@ impl HtmlOptions {
         self
     }
 
+    /// The same, with or without tables of GFM, of those that are in no block quote and no list item. The default is without.
+    ///
+    /// ```
+    /// use limecove::{to_html_with_options, HtmlOptions};
+    ///
+    /// let html = to_html_with_options("a | b\n-- | --", &HtmlOptions::default().gfm_table(true))?;
+    /// assert_eq!(html, "<table>\n<thead>\n<tr>\n<th>a</th>\n<th>b</th>\n</tr>\n</thead>\n</table>\n");
+    /// # Ok::<(), limecove::Error>(())
+    /// ```
+    #[must_use]
+    pub const fn gfm_table(mut self, is_on: bool) -> HtmlOptions {
+        self.parse = self.parse.gfm_table(is_on);
+        self
+    }
+
     /// The same, with HTML in the document kept as HTML, or shown as text.
     #[must_use]
     pub const fn allow_dangerous_html(self, is_on: bool) -> HtmlOptions {

@@ -67,7 +67,7 @@ pub use crate::reading::{Iter, Reading};
 pub use crate::references::character_reference;
 pub use crate::snapshot::Snapshot;
 pub use crate::target::Target;
-pub use crate::tree::{Node, Nodes, Tree};
+pub use crate::tree::{Alignment, Node, Nodes, Tree};
 use std::error;
 use std::fmt;
 use std::num::NonZeroUsize;
@@ -388,6 +388,23 @@ impl Options {
     #[must_use]
     pub const fn gfm_task_list_item(self, is_on: bool) -> Options {
         self.extended(limecove_sys::GFM_TASK_LIST_ITEM, is_on)
+    }
+
+    /// The same, with or without tables of GFM, of those that are in no block quote and no list item. The default is without. It makes a difference
+    /// where [`gfm_autolink_literal`](Options::gfm_autolink_literal) does.
+    ///
+    /// ```
+    /// use limecove::{Alignment, Name, Options, Tree};
+    ///
+    /// let tree = Tree::read("| a | b |\n|---|--:|\n| c | d |", &Options::default().gfm_table(true))?;
+    /// let table = tree.children().next().unwrap();
+    /// assert_eq!(table.name(), Name::GfmTable);
+    /// assert_eq!(table.alignments(), Some(vec![Alignment::None, Alignment::Right]));
+    /// # Ok::<(), limecove::Error>(())
+    /// ```
+    #[must_use]
+    pub const fn gfm_table(self, is_on: bool) -> Options {
+        self.extended(limecove_sys::GFM_TABLE, is_on)
     }
 
     /// The bits of its constructs, as its machine takes them.

@@ -220,6 +220,31 @@ impl fmt::Debug for Tree<'_> {
     }
 }
 
+/// How the cells of a column of a table are aligned (GFM, 4.10).
+#[derive(Clone, Copy, Debug, PartialEq, Eq, Hash)]
+pub enum Alignment {
+    /// It is not said.
+    None,
+    /// To the left.
+    Left,
+    /// To the right.
+    Right,
+    /// In the middle.
+    Center,
+}
+
+impl Alignment {
+    /// That of a delimiter cell, which is hyphens with a colon at their ends, or none.
+    fn of(cell: &[u8]) -> Alignment {
+        match (cell.starts_with(b":"), cell.ends_with(b":")) {
+            (false, false) => Alignment::None,
+            (true, false) => Alignment::Left,
+            (false, true) => Alignment::Right,
+            (true, true) => Alignment::Center,
+        }
+    }
+}
+
 /// A span of a [`Tree`], which is cheap to copy.
 #[derive(Clone, Copy)]
 pub struct Node<'a> {
@@ -431,6 +456,31 @@ impl<'a> Node<'a> {
             Name::GfmTaskListItemValueUnchecked => Some(false),
             _ => None,
         })
+    }
+
+    /// How the cells of each column of a table of GFM are aligned, by its delimiter row. `None` if it is no table.
+    ///
+    /// ```
+    /// use limecove::{Alignment, Options, Tree};
+    ///
+    /// let tree = Tree::read("a | b | c | d\n- | :-- | :-: | -:", &Options::default().gfm_table(true))?;
+    /// let table = tree.children().next().unwrap();
+    /// use Alignment::{Center, Left, None, Right};
+    /// assert_eq!(table.alignments(), Some(vec![None, Left, Center, Right]));
+    /// # Ok::<(), limecove::Error>(())
+    /// ```
+    pub fn alignments(&self) -> Option<Vec<Alignment>> {
+        if self.name() != Name::GfmTable {
+            return None;
+        }
+        let row = self
+            .child(Name::GfmTableHead)?
+            .child(Name::GfmTableDelimiterRow)?;
+        let cells = row
+            .children()
+            .filter(|part| part.name() == Name::GfmTableDelimiterCell);
+        let values = cells.filter_map(|cell| cell.child(Name::GfmTableDelimiterCellValue));
+        Some(values.map(|value| Alignment::of(value.text())).collect())
     }
 
     /// The info string of fenced code, as CommonMark has it: all that follows the opening fence, but for blanks at its ends, with escapes

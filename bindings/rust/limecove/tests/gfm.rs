@@ -1,7 +1,9 @@
-//! Autolink literals and task list items of GFM among the events: what they are, where they lead, and where there are none. Expectations are typed
-//! by GFM's sections 5.3 and 6.9.
+//! Autolink literals, task list items and tables of GFM among the events: what they are, where they lead, and where there are none. Expectations are
+//! typed by GFM's sections 4.10, 5.3 and 6.9.
 
-use limecove::{tokenize, Document, Event, HtmlOptions, Machine, Name, Options, TextOptions, Tree};
+use limecove::{
+    tokenize, Alignment, Document, Event, HtmlOptions, Machine, Name, Options, TextOptions, Tree,
+};
 
 fn literals() -> Options {
     Options::default().gfm_autolink_literal(true)
@@ -205,11 +207,89 @@ fn both_are_on_if_they_are_asked_for() {
     assert_eq!(names(both.gfm_autolink_literal(false)), (true, false));
 }
 
+/// The cells of the tables of a document, by rows; the header row comes first.
+fn cells(document: &str) -> Vec<Vec<Vec<String>>> {
+    let tree = Tree::read(document, &Options::default().gfm_table(true)).expect("it is read");
+    let tables = tree.nodes().filter(|node| node.name() == Name::GfmTable);
+    let text = |bytes: &[u8]| String::from_utf8(bytes.to_vec()).expect("it is UTF-8");
+    tables
+        .map(|table| {
+            let rows = table.descendants();
+            rows.filter(|node| node.name() == Name::GfmTableRow)
+                .map(|row| {
+                    let cells = row.children().filter(|it| it.name() == Name::GfmTableCell);
+                    cells
+                        .map(|cell| {
+                            cell.child(Name::GfmTableCellText)
+                                .map_or(String::new(), |it| text(it.text()))
+                        })
+                        .collect()
+                })
+                .collect()
+        })
+        .collect()
+}
+
+/// A document, and the cells of its tables.
+type Tables = (&'static str, &'static [&'static [&'static [&'static str]]]);
+
+const TABLES: &[Tables] = &[
+    // "a single header row, a delimiter row separating the header from the data, and zero or more data rows"
+    ("| a | b |\n| - | - |\n| c | d |", &[&[&["a", "b"], &["c", "d"]]]),
+    ("a | b\n-|-", &[&[&["a", "b"]]]),
+    ("a\n:-", &[&[&["a"]]]),
+    // the number of cells of the header row is that of the delimiter row; other rows may have any
+    ("| a | b |\n| - |\n", &[]),
+    ("|a|b|\n|-|-|\n|c|\n|d|e|f|", &[&[&["a", "b"], &["c"], &["d", "e", "f"]]]),
+    // "Include a pipe in a cell's content by escaping it, including inside other inline spans"
+    ("| a \\| b |\n| - |\n| `c \\| d` |", &[&[&["a \\| b"], &["`c \\| d`"]]]),
+    // "The table is broken at the first empty line, or beginning of another block-level structure"
+    ("|a|\n|-|\n|b|\n\n|c|", &[&[&["a"], &["b"]]]),
+    ("|a|\n|-|\n> b", &[&[&["a"]]]),
+    ("|a|\n|-|\n---\n", &[&[&["a"]]]),
+    ("|a|\n|-|\n===\n", &[&[&["a"], &["==="]]]),
+    ("|a|\n|-|\n    b", &[&[&["a"]]]),
+    // a table may come directly behind the lines of a paragraph, and two tables may follow one another
+    ("x\n|a|\n|-|\n", &[&[&["a"]]]),
+    ("|a|\n|-|\n# b\n|c|\n|-|\n", &[&[&["a"]], &[&["c"]]]),
+    // definitions alone are no header row
+    ("[a]:\n/b\n:-", &[]),
+    // in a container there is none
+    ("> |a|\n> |-|", &[]),
+    ("- |a|\n  |-|", &[]),
+    // behind a container there is one
+    ("- b\n\n|a|\n|-|", &[&[&["a"]]]),
+];
+
+#[test]
+fn tables_have_rows_and_cells() {
+    for (document, wanted) in TABLES {
+        assert_eq!(cells(document), *wanted, "{document:?}");
+    }
+}
+
+#[test]
+fn texts_of_cells_are_read_as_texts() {
+    let options = Options::default().gfm_table(true);
+    let tree = Tree::read("a|b\n-|-\n*c*|[d]\n\n[d]: /e", &options).expect("it is read");
+    let table = tree.children().next().expect("there is a table");
+    assert_eq!(table.alignments(), Some(vec![Alignment::None; 2]));
+    let names: Vec<_> = table.descendants().map(|node| node.name()).collect();
+    assert!(names.contains(&Name::Emphasis));
+    let link = tree.nodes().find(|node| node.name() == Name::Link);
+    let target = link.expect("there is a link").link();
+    let target = target.expect("there is memory").expect("it leads somewhere");
+    assert_eq!(target.destination, b"/e");
+}
+
 /// Only whole documents have them, with their texts: elsewhere they make no difference.
 #[test]
 fn only_documents_have_them() {
-    let document = "- [x] a@b.c\n";
-    let both = |options: Options| options.gfm_autolink_literal(true).gfm_task_list_item(true);
+    let document = "- [x] a@b.c\n\n|a|\n|-|\n";
+    let both = |options: Options| {
+        let tasks = options.gfm_autolink_literal(true).gfm_task_list_item(true);
+        tasks.gfm_table(true)
+    };
     let others = Machine::ALL.iter().filter(|&&it| it != Machine::Document);
     let mut without: Vec<_> = others.map(|&it| Options::default().machine(it)).collect();
     without.push(Options::default().deep(false));

@@ -110,6 +110,7 @@ fn extensions_can_be_on() {
             none.gfm_autolink_literal(true).gfm_autolink_literal(false),
             ["[x]", "a@b.c"],
         ),
+        (none.gfm_table(true), ["[x]", "a@b.c"]),
     ] {
         let html = to_html_with_options("- [x] a@b.c", &options);
         let want = format!("<ul>\n<li>{}</li>\n</ul>\n", want.join(" "));
