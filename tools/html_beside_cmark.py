@@ -6,7 +6,10 @@ A document that differs is explained as tools/random_documents.py explains it: i
 the cause. The status is 1 if a document differs by a cause that has no name, or an example that is not one of the two whose comments
 CommonMark reads otherwise since 0.31 (625 and 626 of 0.30).
 
-usage: tools/html_beside_cmark.py PROGRAM [--spec SPEC] [--real DIR] [--random COUNT] [--seed S] [--pieces N] [--cmark CMARK] [--differing] [--jobs J]
+With --gfm it is `mdhtml --gfm --unsafe` beside `cmark-gfm --unsafe` with the extensions table, strikethrough, autolink and tasklist, and the random
+documents are lines of tables and of other blocks.
+
+usage: tools/html_beside_cmark.py PROGRAM [--gfm] [--spec SPEC] [--real DIR] [--random COUNT] [--seed S] [--pieces N] [--cmark CMARK] [--differing] [--jobs J]
   PROGRAM         mdhtml
   --spec SPEC     a spec.json: a list of objects with `example`, `section`, `markdown` and `html`. tools/commonmark.py says where there is one
   --real DIR      a folder: its files that end in .md or .markdown. `tools/real_files.py --fetch DIR` fetches 695, into DIR/files
@@ -14,7 +17,7 @@ usage: tools/html_beside_cmark.py PROGRAM [--spec SPEC] [--real DIR] [--random C
                   --links, --definitions or --references; and marks of all kinds, with control bytes
   --seed S        the seed of the first one; without it, 1
   --pieces N      at most N pieces in a random document; without it, 24
-  --cmark CMARK   cmark's program; without it, the one on the path. Debian's package cmark has it (`apt-get install cmark`)
+  --cmark CMARK   cmark's program; without it, the one on the path. Debian's packages cmark and cmark-gfm have it (`apt-get install cmark cmark-gfm`)
   --differing     also each example, file or document that differs: the first line that does, and the causes with the smallest documents
   --jobs J        so many documents at once; without it, 1
 """
@@ -41,6 +44,11 @@ MARKS = ["a", "b", " ", "  ", "    ", "\t", "\n", "\n", "\n\n", "\r\n", "é", "\
 MARKS += ["-", "- ", "+ ", "1. ", "2) ", "> ", ">", "\\", "<", ">", "<a>", "</a>", "<!-- x -->", "<?", "?>", "<div>", "</div>", "<pre>", "&", "&amp;", "&#35;", "&#0;"]
 MARKS += ["&copy;", "&Tab;", ";", "!", ".", ",", "(", ")", '"', "'", "[", "]", "![", "](", '](/u "t")', '[a]: /v "w"\n', "[a]", "[b][a]", "![a]", "<http://a.b>"]
 MARKS += ["<a@b.c>", "* * *", "%", "%20", "{", "~", "|", ":", "/", "\0", "\x1b", "\x7f"]
+# lines that random documents of tables are made of
+LINES = ["| a | b |", "a | b", "|a|b|c|", "| - | - |", "-|-", "|:-|-:|", ":-: | -", ":-", "|-|", "| a |", "a", "x y", "", "  ", "# h", "---", "===", "***", "```", "<div>"]
+LINES += ["<b> | c", "    | a |", "| `a \\| b` | c |", "| a \\| b | *c* |", "|", "||", "| |", "|*a|b*|", "[d]: /u", "[d] | e", "| é | ` |", "|\ta\t|\tb\t|", " | a | b |"]
+LINES += ["  | - | - |", "1. x", "- x", "> q", "2. y | z", "- | a |", "> | - |", "  | - |"]
+EXTENSIONS = ["-e", "table", "-e", "strikethrough", "-e", "autolink", "-e", "tasklist"]
 KINDS = {"wide": {}, "links": {"links": True}, "definitions": {"definitions": True}, "references": {"references": True}}
 
 # causes that events have not, in front of those that they have
@@ -51,11 +59,19 @@ CAUSES = [
     random_documents.Cause("a line of a code span that is lazy begins with white space", "here", "5.1, 6.1: it is as if its markers were there",
                            rb"`[^\0`]*\n[ \t]+[^`]*`", lambda it: re.sub(rb"\n[ \t]+", b"\n", it)),
 ]
+# causes beside cmark-gfm
+GFM_CAUSES = [
+    random_documents.Cause("a table is in a block quote or a list item", "open", "4.10: it is read where no container is around it", rb"(?m)^ *(?:[-+*>]|\d+[.)])",
+                           lambda it: re.sub(rb"(?m)^(?: *(?:>|(?:[-+*]|\d+[.)])(?= |$)) ?)+", b"", it)),
+    random_documents.Cause("a paragraph before a table has definitions", "here", "4.7: they are definitions", rb"\]:", lambda it: it.replace(b"]:", b"] ")),
+    random_documents.Cause("a paragraph before a table has a backslash before a pipe in code", "here", "6.1: in code a backslash is itself", rb"`[^`]*\\\|",
+                           lambda it: it.replace(b"`", b"")),
+]
 
 
-def written(program, document):
-    """The HTML that the program writes for a document, or a line that says why there is none."""
-    ran = subprocess.run([program, "--unsafe"], input=document, capture_output=True, check=False)
+def written(program, document, words=()):
+    """The HTML that the program writes for a document, with these words, or a line that says why there is none."""
+    ran = subprocess.run([program, "--unsafe", *words], input=document, capture_output=True, check=False)
     return ran.stdout.decode("utf-8", "replace") if ran.returncode == 0 else f"(status {ran.returncode}: {ran.stderr.decode('utf-8', 'replace').strip()})\n"
 
 
@@ -72,6 +88,25 @@ class Beside(random_documents.Beside):
         return next(fit, None) or super().cause(smallest)
 
 
+class BesideGfm(Beside):
+    """The same with GFM."""
+
+    def both(self, document):
+        """The HTML of both."""
+        made = subprocess.run([self.cmark, "--unsafe", *EXTENSIONS], input=document, capture_output=True, check=True).stdout
+        return written(self.program, document, ["--gfm"]), made.decode("utf-8", "replace")
+
+    def cause(self, smallest):
+        """The cause of a smallest document, if it has a name."""
+        fit = (it for it in GFM_CAUSES if re.search(it.shape, smallest) and not self.differ(it.mended(smallest)))
+        return next(fit, None) or super().cause(smallest)
+
+
+def tables(generator, pieces):
+    """A random document of lines of tables and of other blocks."""
+    return "".join(generator.choice(LINES) + generator.choice(["\n", "\n", "\n", "\r\n"]) for _ in range(generator.randint(1, pieces))).encode()
+
+
 def marks(generator, pieces):
     """A random document of marks."""
     return "".join(generator.choice(MARKS) for _ in range(generator.randint(1, pieces))).encode()
@@ -80,8 +115,8 @@ def marks(generator, pieces):
 def random_ones(kind, words):
     """Random documents of a kind."""
     generator = random.Random(words.seed)
-    if kind == "marks":
-        return [marks(generator, words.pieces) for _ in range(words.random)]
+    if kind in ("marks", "tables"):
+        return [(marks if kind == "marks" else tables)(generator, words.pieces) for _ in range(words.random)]
     return [random_documents.one(generator, words.pieces, True, **KINDS[kind]) for _ in range(words.random)]
 
 
@@ -108,7 +143,7 @@ def examples_failing(words):
 
 def documents_failing(name, named, words):
     """Compares documents, each with a name. Returns whether one differs by a cause without a name."""
-    beside, why, same, size = Beside(words.program, "document", words.cmark), collections.Counter(), 0, 0
+    beside, why, same, size = (BesideGfm if words.gfm else Beside)(words.program, "document", words.cmark), collections.Counter(), 0, 0
     with multiprocessing.Pool(words.jobs) as pool:
         answers = pool.imap(compared, ((beside, document) for _, document in named), chunksize=20)
         for (title, document), (is_same, causes) in zip(named, answers):
@@ -131,12 +166,14 @@ def main():
     parser.add_argument("--random", type=int, default=0)
     parser.add_argument("--seed", type=int, default=1)
     parser.add_argument("--pieces", type=int, default=24)
-    parser.add_argument("--cmark", default="cmark")
+    parser.add_argument("--cmark")
+    parser.add_argument("--gfm", action="store_true")
     parser.add_argument("--differing", action="store_true")
     parser.add_argument("--jobs", type=int, default=1)
     words = parser.parse_args()
     if not (words.spec or words.real or words.random):
         parser.error("--spec, --real or --random is needed")
+    words.cmark = words.cmark or ("cmark-gfm" if words.gfm else "cmark")
     failed = []
     if words.spec:
         failed.append(examples_failing(words))
@@ -147,7 +184,8 @@ def main():
             with open(path, "rb") as it:
                 named.append((os.path.relpath(path, words.real), it.read()))
         failed.append(documents_failing("real files", named, words))
-    for kind in [*KINDS, "marks"] if words.random else []:
+    kinds = ["tables"] if words.gfm else [*KINDS, "marks"]
+    for kind in kinds if words.random else []:
         failed.append(documents_failing(f"random documents, {kind}", [(repr(it), it) for it in random_ones(kind, words)], words))
     sys.exit(any(failed))
 
