@@ -98,7 +98,9 @@ class BesideGfm(Beside):
 
     def cause(self, smallest):
         """The cause of a smallest document, if it has a name."""
-        fit = (it for it in GFM_CAUSES if re.search(it.shape, smallest) and not self.differ(it.mended(smallest)))
+        made, wanted = self.both(smallest)
+        causes = GFM_CAUSES if made.count("<table>") != wanted.count("<table>") else GFM_CAUSES[1:]
+        fit = (it for it in causes if re.search(it.shape, smallest) and not self.differ(it.mended(smallest)))
         return next(fit, None) or super().cause(smallest)
 
 
