@@ -7,7 +7,10 @@ read no further.
 With --count the rows have instructions (callgrind's counts, the same in each run, less those of a run over nothing), for texts of a
 twentieth of those lengths. With --quoted each text is the paragraph of a quote in an item, in lines of 60 bytes.
 
+With --gfm the program is mdhtml, which reads texts that are bad for tables; cmark-gfm has its extension for tables on.
+
 usage: worst.py [--count] [--quoted] [--only NAME] MDEVENTS [CMARK]. CMARK is a program that makes HTML of standard input, timed beside it.
+       worst.py --gfm [--count] [--only NAME] MDHTML [CMARK-GFM]
 Texts that are bad for containers are in tools/bad_texts.py.
 """
 
@@ -52,6 +55,21 @@ def defined(size, behind=lambda number: ""):
     count = size // (10 + len(behind(10_000)))
     return "".join(f"[{10_000 + number}]: b\n" for number in range(count)) + "\na " + "".join(behind(10_000 + number) for number in range(count))
 
+
+TABLES = {
+    "rows": again("|c|d|\n", "|a|b|\n|-|-|\n"),
+    "tables": again("|a|\n|-|\n\n", ""),
+    "tables and headings": again("|a|\n|-|\n# b\n", ""),
+    "delimiter rows of another width": again("|-|-|\n", "|a|\n"),
+    "a definition that may go on, and delimiter rows": again(":-|:-\n:-\n", '[a]: /u "t\n'),
+    "definitions, and delimiter rows": again("[a]:\n/u\n:-\n", ""),
+    "definitions before a table": lambda size: "[a]: /u\n" * (size // 8) + "b\n:-\n",
+    "a row of empty cells": lambda size: "|" * (size // 4) + "\n" + "|-" * (size // 4) + "|\n" + "|" * (size // 4),
+    "rows that lack cells": again("a\n", "|a" * 100 + "|\n" + "|-" * 100 + "|\n"),
+    "brackets in a cell": again("[", "|a|\n|-|\n|"),
+    "labels that are defined behind all tables": lambda size: "|[a]|\n|-|\n\n" * (size // 11) + "[a]: /u\n",
+    "a definition for each table": lambda size: "".join(f"[{10_000 + n}]: /u\n\n|[{10_000 + n}]|\n|-|\n\n" for n in range(size // 27)),
+}
 
 TEXTS = {
     "openers, none closed": again("*a _b "),
@@ -157,21 +175,23 @@ def row(name, text, commands, counted, document):
 
 
 def main(words):
-    counted, in_quote = "--count" in words, "--quoted" in words
-    words = [word for word in words if word not in ("--count", "--quoted")]
+    counted, in_quote, of_tables = "--count" in words, "--quoted" in words, "--gfm" in words
+    words = [word for word in words if word not in ("--count", "--quoted", "--gfm")]
     only = ""
     if "--only" in words:
         at = words.index("--only")
         only = words[at + 1]
         del words[at : at + 2]
     commands = [[words[0], "--machine", "document", "--deep"], *[[other] for other in words[1:]]]
+    if of_tables:
+        commands = [[words[0], "--gfm"], *[[other, "-e", "table"] for other in words[1:]]]
     lengths = [f"{length // 20 if counted else length:,}" for length in LENGTHS]
     heads = lengths + ["Times as much"]
     print(f"| Text | {' | '.join(heads * len(commands))} |")
     print("|" + "---|" * (1 + len(heads) * len(commands)))
     with tempfile.TemporaryDirectory() as scratch:
         document = os.path.join(scratch, "document")
-        for name, text in TEXTS.items():
+        for name, text in (TABLES if of_tables else TEXTS).items():
             if only in name:
                 made = (lambda size, text=text: quoted(text(size))) if in_quote else text
                 row(name, made, commands, counted, document)
