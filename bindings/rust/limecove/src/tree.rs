@@ -463,7 +463,7 @@ impl<'a> Node<'a> {
     /// ```
     /// use limecove::{Alignment, Options, Tree};
     ///
-    /// let tree = Tree::read("a | b | c | d\n- | :-- | :-: | -:", &Options::default().gfm_table(true))?;
+    /// let tree = Tree::read("|a|b|c|d|\n|-|:-|:-:|-:|", &Options::default().gfm_table(true))?;
     /// let table = tree.children().next().unwrap();
     /// use Alignment::{Center, Left, None, Right};
     /// assert_eq!(table.alignments(), Some(vec![None, Left, Center, Right]));

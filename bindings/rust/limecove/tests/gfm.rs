@@ -235,14 +235,23 @@ type Tables = (&'static str, &'static [&'static [&'static [&'static str]]]);
 
 const TABLES: &[Tables] = &[
     // "a single header row, a delimiter row separating the header from the data, and zero or more data rows"
-    ("| a | b |\n| - | - |\n| c | d |", &[&[&["a", "b"], &["c", "d"]]]),
+    (
+        "| a | b |\n| - | - |\n| c | d |",
+        &[&[&["a", "b"], &["c", "d"]]],
+    ),
     ("a | b\n-|-", &[&[&["a", "b"]]]),
     ("a\n:-", &[&[&["a"]]]),
     // the number of cells of the header row is that of the delimiter row; other rows may have any
     ("| a | b |\n| - |\n", &[]),
-    ("|a|b|\n|-|-|\n|c|\n|d|e|f|", &[&[&["a", "b"], &["c"], &["d", "e", "f"]]]),
+    (
+        "|a|b|\n|-|-|\n|c|\n|d|e|f|",
+        &[&[&["a", "b"], &["c"], &["d", "e", "f"]]],
+    ),
     // "Include a pipe in a cell's content by escaping it, including inside other inline spans"
-    ("| a \\| b |\n| - |\n| `c \\| d` |", &[&[&["a \\| b"], &["`c \\| d`"]]]),
+    (
+        "| a \\| b |\n| - |\n| `c \\| d` |",
+        &[&[&["a \\| b"], &["`c \\| d`"]]],
+    ),
     // "The table is broken at the first empty line, or beginning of another block-level structure"
     ("|a|\n|-|\n|b|\n\n|c|", &[&[&["a"], &["b"]]]),
     ("|a|\n|-|\n> b", &[&[&["a"]]]),
@@ -278,7 +287,9 @@ fn texts_of_cells_are_read_as_texts() {
     assert!(names.contains(&Name::Emphasis));
     let link = tree.nodes().find(|node| node.name() == Name::Link);
     let target = link.expect("there is a link").link();
-    let target = target.expect("there is memory").expect("it leads somewhere");
+    let target = target
+        .expect("there is memory")
+        .expect("it leads somewhere");
     assert_eq!(target.destination, b"/e");
 }
 
