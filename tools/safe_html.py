@@ -34,17 +34,21 @@ import usage  # noqa: E402
 ENTITIES = {b"amp": b"&", b"lt": b"<", b"gt": b">", b"quot": b'"', b"#x27": b"'", b"#x1B": b"\x1b"}
 ENTITY = re.compile(rb"&(" + b"|".join(ENTITIES) + rb");")
 TEXT = re.compile(rb'(?:[^<>&"\0\x1b]|' + ENTITY.pattern + rb")*")
-NAMES = rb"a|blockquote|br|code|del|em|h1|h2|h3|h4|h5|h6|hr|img|li|ol|p|pre|strong|table|tbody|td|th|thead|tr|ul"
+NAMES = rb"a|blockquote|br|code|del|em|h1|h2|h3|h4|h5|h6|hr|img|input|li|ol|p|pre|strong|table|tbody|td|th|thead|tr|ul"
 TAG = re.compile(rb"<(/?)(" + NAMES + rb')(?=[ >])((?: [a-z]+="[^"]*")*)( /)?>')
 ATTRIBUTE = re.compile(rb' ([a-z]+)="([^"]*)"')
-VOID = {b"br", b"hr", b"img"}
+VOID = {b"br", b"hr", b"img", b"input"}
 # the attributes of an element, in the order in which they stand
 ATTRIBUTES = {b"a": [b"href", b"title"], b"code": [b"class"], b"img": [b"src", b"alt", b"title"], b"ol": [b"start"], b"td": [b"align"], b"th": [b"align"]}
+ATTRIBUTES[b"input"] = [b"type", b"checked", b"disabled"]
+# attributes that an element must have, and those that have one value
+GIVEN = {b"input": {b"type", b"disabled"}}
+FIXED = {b"type": b"checkbox", b"checked": b"", b"disabled": b""}
 # parts of tables by what they stand in, which holds line feeds and nothing else
 PARTS = {b"tbody": {b"table"}, b"thead": {b"table"}, b"tr": {b"tbody", b"thead"}, b"td": {b"tr"}, b"th": {b"tr"}}
 HOLD_PARTS = {b"table", b"tbody", b"thead", b"tr"}
 # elements of text, which stand where text does; the others stand among blocks, and `li` in lists
-PHRASES = {b"a", b"br", b"code", b"del", b"em", b"img", b"strong"}
+PHRASES = {b"a", b"br", b"code", b"del", b"em", b"img", b"input", b"strong"}
 LISTS = {b"ol", b"ul"}
 HOLD_BLOCKS = {b"blockquote", b"li"}
 ADDRESS = re.compile(rb"[-_.+!*(),%#@?=;:/$~&'A-Za-z0-9]*")
@@ -62,6 +66,8 @@ def value_fault(name, value):
     """What is wrong with the value of an attribute; None if nothing is."""
     if name == b"start":
         return None if re.fullmatch(rb"[0-9]*", value) else "no digits"
+    if name in FIXED:
+        return None if value == FIXED[name] else "another value"
     if name == b"align":
         return None if value in {b"left", b"center", b"right"} else "no alignment"
     if not TEXT.fullmatch(value):
@@ -81,6 +87,9 @@ def value_fault(name, value):
 def attributes_fault(name, attributes):
     """What is wrong with the attributes of an element; None if nothing is."""
     left = list(ATTRIBUTES.get(name, []))
+    lacking = GIVEN.get(name, set()) - {attribute for attribute, _ in ATTRIBUTE.findall(attributes)}
+    if lacking:
+        return f"no {lacking}"
     for attribute, value in ATTRIBUTE.findall(attributes):
         if attribute not in left:
             return f"an attribute {attribute!r} here"
@@ -144,13 +153,13 @@ PAYLOADS += ["%6Aavascript:alert(1)", "javascript%3Aalert(1)", 'http:"onmouseove
 PAYLOADS += ["x`onerror=alert(1)", "//evil", "\\\\evil", ":javascript:a", "&Tab;javascript:a", "ｊavascript:a", "javascript：a", "&#27;$B", "\x1b$B"]
 PAYLOADS += ["javascript:/*--></title></style></textarea></script><svg/onload=alert(1)>", "&amp;#106;avascript:a", "a;ng-init:alert(1)", "a&#12;b", "</code></pre><script>"]
 PLACES = ["[a](@)", "[a](<@>)", "![a](@)", '![a](<@> "@")', "[a]\n\n[a]: @", "[a]\n\n[a]: <@> '@'", "<@>", "```@\n@", "~~~ @ @\n@", "![@](x)", "[![@](@)](@)"]
-PLACES += ["# @", "@", "    @", "`@`", "> - @", "1. @", "[@]", "[@]: /x\n\n[@]", "\\@", "*@*", "a\n@"]
+PLACES += ["# @", "@", "    @", "`@`", "> - @", "1. @", "[@]", "[@]: /x\n\n[@]", "\\@", "*@*", "a\n@", "- [x] @", "a|b\n-|:-\n@|[c](@)", "|@|\n|:-|"]
 ALONE = ["<script>alert(1)</script>", "<img src=x onerror=alert(1)>", 'a <b onclick="x">c</b>', "<!-- --><script>", "<![CDATA[ <script> ]]>", "<?php <script> ?>"]
 ALONE += ['![" onerror="alert(1)](x)', '![a](x "\\" onerror=\\"alert(1)")', "[a](x '\" onerror=\"alert(1)')", '~~~ " onclick="a\nx\n~~~', "```&quot;onclick=a\n"]
 ALONE += ["&lt;script&gt;", "&amp;lt;", "\\<script>", "`<script>`", '<a href="javascript:x">y</a>', '<x@y.z"onclick=a>', '<http://a"onclick=b>', "<http://a.b/?q='><c>"]
 ALONE += ["</p><script>", "- <script>\n  </script>", "> <svg/onload=a>", "[<http://a.b> c](u)", "![\x1b$B](x)\x1b(B![](a/onerror=alert(1)//)", "<em />", "<li>", "</div></div>"]
 ALONE += ["- a\n\n      # b\n", "1. - > # a", "[a [b](c) d](e)", "![a ![b](c) d](e)", "[![a](b)](c)", "\xff\xfe<\0s\0c\0r\0i\0p\0t\0>\0", ">" * 200 + "a", "- " * 200 + "a", "*" * 99 + "a" + "*" * 99]
-MARKS = ["<", ">", '"', "'", "&", "`", "\n", "\n\n", "[", "](", ")", "![", "- ", "> ", "    ", "```", "*", "**", "\\", "\0", "\x1b$B", ":", "[a]: ", "<a>", "=", "1. ", "# ", "\t", ";", "]"]
+MARKS = ["|", "|-|\n", "a\n:-\n", "- [x] ", "~~", "www.", "<", ">", '"', "'", "&", "`", "\n", "\n\n", "[", "](", ")", "![", "- ", "> ", "    ", "```", "*", "**", "\\", "\0", "\x1b$B", ":", "[a]: ", "<a>", "=", "1. ", "# ", "\t", ";", "]"]
 
 
 def attacks():
@@ -182,7 +191,7 @@ class Answer(ctypes.Structure):
 class Library:
     """The C library, with default options, which let nothing through."""
 
-    COMMONMARK, HTML_CONSTRUCTS, VERSION = 1048575, 8388607, 4
+    COMMONMARK, HTML_CONSTRUCTS, VERSION = 1048575, 16777215, 4
 
     def __init__(self, path, gfm):
         library = ctypes.CDLL(os.path.abspath(path))
@@ -246,6 +255,11 @@ REFUSED += [b"<td></td>", b"<tr></tr>", b"<thead></thead>", b"<table><tr></tr></
 REFUSED += [b"<table><thead>a</thead></table>", b"<p><table></table></p>", b'<table><tbody><tr><td align="x"></td></tr></tbody></table>', b'<table align="left"></table>']
 REFUSED += [b"<table><tbody><tr><td><p></p></td></tr></tbody></table>"]
 REFUSED += [b'<del cite="">a</del>', b'<del title="a">b</del>', b"<del />", b"<del>", b"<del><p></p></del>", b"<del><em></del></em>"]
+
+
+TAKEN += [b'<input type="checkbox" disabled="" />', b'<ul><li><input type="checkbox" checked="" disabled="" /> a</li></ul>']
+REFUSED += [b'<input />', b'<input type="checkbox" />', b'<input type="image" disabled="" />', b'<input disabled="" type="checkbox" />', b'<input type="checkbox" disabled="" src="a" />']
+REFUSED += [b'<table><input type="checkbox" disabled="" /></table>', b'<input type="checkbox" disabled="">']
 
 
 def self_test():
