@@ -6,6 +6,7 @@ pub mod Weave
 pub mod Blocks
 pub mod BlocksPlain
 pub mod Definitions
+pub mod DefinitionsApart
 pub mod DocumentStands
 pub mod Emphasised
 pub mod Frames

@@ -2,6 +2,7 @@
 pub mod Standing
 pub mod StandingLaws
 pub mod TextLaws
+pub mod DefinitionLaws
 -- lists: items of one list, and lists and quotes in a row
 pub mod ListLaws
 pub mod MarkerLaws

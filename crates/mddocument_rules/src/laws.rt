@@ -1,5 +1,6 @@
 //! Laws of what documents are read as, in CommonMark's words. Each is a function that does nothing; its contract is the law.
 
+ghost use Rattle.mddocument_rules.specs.DefinitionLaws.{DefinitionsOfDocumentsAreLinear, NoDefinitionInADefinition};
 ghost use Rattle.mddocument_rules.specs.ListLaws.{ItemsHaveTheMarker, ListsHaveOneMarker, NeighboursDiffer, QuotesAreApart};
 ghost use Rattle.mddocument_rules.specs.MarkerLaws.{ListsAreNamedByMarkers, ListsAreOfOneType};
 ghost use Rattle.mddocument_rules.specs.StandingLaws.{BlocksStand, LeafBlocksStand, NoLinkInALink, SkeletonsStand, SpansStand};
@@ -60,4 +61,11 @@ pub fn quotes_are_apart()
 pub fn items_have_the_marker_of_their_list()
     ensures items { ListsAreOfOneType }
     ensures names { ListsAreNamedByMarkers }
+{}
+
+/// No link reference definition is in another one, whatever the document's bytes and its constructs. So finding all definitions of a document, as
+/// `definitions_of_counted` does, takes at most four turns for each event.
+pub fn no_definition_is_in_a_definition()
+    ensures documents { NoDefinitionInADefinition }
+    ensures linear { DefinitionsOfDocumentsAreLinear }
 {}
