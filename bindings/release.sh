@@ -59,6 +59,7 @@ for crate in limecove-sys limecove limecove-lsp; do
 done
 cp "$here/rust/limecove-sys/build.rs" "$out/rust/limecove-sys"
 cp -r "$here/rust/limecove/examples" "$out/rust/limecove"
+cp -r "$here/rust/limecove-lsp/examples" "$out/rust/limecove-lsp"
 rm "$out/rust/limecove/tests/names.rs"
 cp "$here/rust/Cargo.toml" "$out/rust"
 for target in $targets; do

@@ -1,5 +1,6 @@
 //! What a section of a document has, by places in the section: so it stays when what is before the section changes.
 
+use crate::rules::{self, is_nowhere, shown, Findings};
 use limecove::{Definitions, Error, Event, LineIndex, Name, Node, Tree};
 use std::ops::Range;
 
@@ -41,6 +42,7 @@ pub struct Reference {
     /// In the form by which labels are compared.
     pub label: Vec<u8>,
     pub form: Form,
+    pub is_link: bool,
     pub span: Span,
     /// What is between the brackets of the label.
     pub name: Span,
@@ -50,6 +52,7 @@ pub struct Reference {
 pub struct Definition {
     /// In the form by which labels are compared.
     pub label: Vec<u8>,
+    pub is_nowhere: bool,
     pub span: Span,
     /// What is between the brackets of the label.
     pub name: Span,
@@ -72,8 +75,10 @@ pub struct Facts {
     pub references: Vec<Reference>,
     /// Where links with a resource, definitions and autolinks go, and what says so.
     pub links: Vec<(Vec<u8>, Span)>,
-    /// Links without a text or without a destination.
+    /// Links without a text.
     pub empty: Vec<Span>,
+    /// What the rules find.
+    pub findings: Findings,
     /// The first line, the last line, and whether it is a comment.
     pub folds: Vec<(usize, usize, bool)>,
     pub tokens: Vec<Token>,
@@ -115,15 +120,26 @@ fn token(name: Name, is_in_heading: bool) -> Option<usize> {
     })
 }
 
-struct Reader<'a> {
-    /// Where the section starts in the document, and its lines.
+/// The places of a section.
+pub struct Places<'a> {
+    /// The bytes of the section.
+    pub text: &'a [u8],
+    /// Where it starts in the document.
     start: usize,
     lines: LineIndex<'a>,
-    facts: Facts,
 }
 
-impl Reader<'_> {
-    fn at(&self, byte: usize) -> At {
+impl<'a> Places<'a> {
+    /// # Errors
+    ///
+    /// If memory runs out.
+    pub fn new(document: &'a [u8], section: Range<usize>) -> Result<Places<'a>, Error> {
+        let (start, text) = (section.start, &document[section]);
+        let lines = LineIndex::new(text)?;
+        Ok(Places { text, start, lines })
+    }
+
+    pub fn at(&self, byte: usize) -> At {
         let place = self.lines.line_column(byte);
         At {
             line: place.line - 1,
@@ -131,13 +147,38 @@ impl Reader<'_> {
         }
     }
 
-    fn span(&self, node: &Node<'_>) -> Span {
-        let bytes = node.bytes().start - self.start..node.bytes().end - self.start;
+    pub fn span(&self, bytes: Range<usize>) -> Span {
         Span {
             from: self.at(bytes.start),
             to: self.at(bytes.end),
             bytes,
         }
+    }
+
+    /// The bytes of the section that a span covers.
+    pub fn bytes(&self, node: &Node<'_>) -> Range<usize> {
+        node.bytes().start - self.start..node.bytes().end - self.start
+    }
+
+    /// How many lines there are: one more than line endings.
+    pub fn lines(&self) -> usize {
+        self.lines.line_count()
+    }
+
+    /// The bytes of a line, from 0, without its line ending.
+    pub fn line(&self, line: usize) -> Range<usize> {
+        self.lines.line(line + 1).unwrap_or_default()
+    }
+}
+
+struct Reader<'a> {
+    places: &'a Places<'a>,
+    facts: Facts,
+}
+
+impl Reader<'_> {
+    fn span(&self, node: &Node<'_>) -> Span {
+        self.places.span(self.places.bytes(node))
     }
 
     fn fold(&mut self, node: &Node<'_>, is_comment: bool) {
@@ -170,13 +211,16 @@ impl Reader<'_> {
     fn definition(&mut self, node: &Node<'_>) -> Result<(), Error> {
         let mut inner = node.descendants();
         let place = inner.find(|it| it.name() == Name::DefinitionDestinationString);
-        if let (Some(place), Some(to)) = (place, node.link()?) {
+        let to = node.link()?.map_or(Vec::new(), |it| it.destination);
+        let is_nowhere = is_nowhere(&to);
+        if let Some(place) = place {
             let place = self.span(&place);
-            self.facts.links.push((to.destination, place));
+            self.facts.links.push((to, place));
         }
         if let (Some(name), Some(label)) = (node.label(), node.normalized_label()?) {
             self.facts.definitions.push(Definition {
                 label,
+                is_nowhere,
                 span: self.span(node),
                 name: self.span(&name),
             });
@@ -190,12 +234,12 @@ impl Reader<'_> {
             let place = inner.find(|it| it.name() == Name::ResourceDestinationString);
             let place = self.span(&place.unwrap_or(resource));
             if let Some(to) = node.link()? {
-                let is_bare = to.label.is_none() && node.name() == Name::Link;
-                if to.destination.is_empty() || is_bare {
-                    self.facts.empty.push(self.span(node));
-                }
                 self.facts.links.push((to.destination, place));
             }
+        }
+        let is_link = node.name() == Name::Link;
+        if is_link && shown(node).is_none() {
+            self.facts.empty.push(self.span(node));
         }
         if let (Some(name), Some(label)) = (node.label(), node.normalized_label()?) {
             let form = match (name.name(), node.child(Name::Reference)) {
@@ -206,6 +250,7 @@ impl Reader<'_> {
             self.facts.references.push(Reference {
                 label,
                 form,
+                is_link,
                 span: self.span(node),
                 name: self.span(&name),
             });
@@ -258,21 +303,25 @@ pub fn lossy(bytes: &[u8]) -> String {
 ///
 /// If memory runs out.
 pub fn facts_of(document: &[u8], range: Range<usize>, events: &[Event]) -> Result<Facts, Error> {
-    // no link by reference is asked where it goes
+    // where links by reference go is asked of all sections together
     let none = Definitions::default();
     let tree = Tree::with_definitions(document, events, &none)?;
+    let places = Places::new(document, range)?;
+    let mut rules = rules::Reader::new(&places);
     let mut reader = Reader {
-        start: range.start,
-        lines: LineIndex::new(&document[range])?,
+        places: &places,
         facts: Facts::default(),
     };
-    reader.facts.lines = reader.lines.line_count() - 1;
+    reader.facts.lines = places.lines() - 1;
     let mut heading_ends = 0;
     for node in tree.nodes() {
         if matches!(node.name(), Name::HeadingAtx | Name::HeadingSetext) {
             heading_ends = node.bytes().end;
         }
         reader.node(&node, node.bytes().start < heading_ends)?;
+        rules.node(&node)?;
     }
-    Ok(reader.facts)
+    let mut facts = reader.facts;
+    facts.findings = rules.findings(&tree);
+    Ok(facts)
 }

@@ -2,9 +2,10 @@
 
 use crate::facts::{lossy, Definition, Form, Heading, Reference, Span, TOKENS};
 use crate::json::{object, parse, Value};
+use crate::rules;
 use crate::text::Text;
 use limecove::{is_label, normalized_label};
-use std::collections::HashMap;
+use std::collections::{HashMap, HashSet};
 use std::io::{self, BufRead, Write};
 
 /// The result of a request, or why there is none: a code of the protocol and a sentence.
@@ -51,6 +52,8 @@ fn edit(range: Value, text: &str) -> Value {
 #[derive(Default)]
 pub struct Server {
     texts: HashMap<String, Text>,
+    /// The codes of diagnostics that are not told.
+    off: HashSet<String>,
 }
 
 /// A label in a document, and the range of its name.
@@ -232,14 +235,19 @@ impl Server {
 
     fn diagnostics(&self, uri: &str) -> Vec<Value> {
         match self.texts.get(uri) {
-            Some(text) => Diagnostics::of(text),
+            Some(text) => Diagnostics::of(text, &self.off),
             None => Vec::new(),
         }
     }
 
-    fn answer(&self, method: &str, params: &Value) -> Answer {
+    fn answer(&mut self, method: &str, params: &Value) -> Answer {
         match method {
-            "initialize" => Ok(capabilities()),
+            "initialize" => {
+                let off = params.get("initializationOptions").get("off").list();
+                let off = off.iter().filter_map(|it| it.text());
+                self.off = off.map(String::from).collect();
+                Ok(capabilities())
+            }
             "shutdown" => Ok(Value::Null),
             "textDocument/documentSymbol" => self.symbols(params),
             "textDocument/foldingRange" => self.folds(params),
@@ -427,48 +435,50 @@ fn target(uri: &str, to: &[u8]) -> String {
     }
 }
 
-/// What is wrong with a document. That a reference is not defined is left out: such a reference is text, and no event says that it is there.
+/// What is wrong with a document: what the rules find, links without a text, and labels. What is off is not told.
 struct Diagnostics<'a> {
     text: &'a Text,
+    off: &'a HashSet<String>,
     found: Vec<Value>,
 }
 
 impl Diagnostics<'_> {
-    fn of(text: &Text) -> Vec<Value> {
+    fn of(text: &Text, off: &HashSet<String>) -> Vec<Value> {
         let found = Vec::new();
-        let mut all = Diagnostics { text, found };
-        all.headings();
+        let mut all = Diagnostics { text, off, found };
+        rules::tell(text.lined(), |(code, what), span, first, _| {
+            all.say(span, first, 3, code, || what.into());
+        });
         all.links();
         all.labels();
         all.found
     }
 
-    fn say(&mut self, span: &Span, first: usize, severity: usize, code: &str, message: String) {
+    fn say(
+        &mut self,
+        span: &Span,
+        first: usize,
+        severity: usize,
+        code: &str,
+        message: impl FnOnce() -> String,
+    ) {
+        if self.off.contains(code) {
+            return;
+        }
         self.found.push(object([
             ("range", range(span, first)),
             ("severity", severity.into()),
             ("source", "limecove".into()),
             ("code", code.into()),
-            ("message", message.into()),
+            ("message", message().into()),
         ]));
-    }
-
-    fn headings(&mut self) {
-        let mut level = 6;
-        for (heading, first) in headings(self.text) {
-            if heading.level > level + 1 {
-                let message = format!("from rank {level} to {}", heading.level);
-                self.say(&heading.span, first, 2, "skipped-rank", message);
-            }
-            level = heading.level;
-        }
     }
 
     fn links(&mut self) {
         for (section, _, first) in self.text.placed() {
             for span in &section.facts.empty {
-                let message = "a link without a text or without a destination";
-                self.say(span, first, 2, "empty-link", message.into());
+                let message = || "a link without a text".into();
+                self.say(span, first, 2, "empty-link", message);
             }
         }
     }
@@ -479,22 +489,21 @@ impl Diagnostics<'_> {
         for (section, _, first) in self.text.placed() {
             for it in &section.facts.definitions {
                 if is_used.insert(&it.label, false).is_some() {
-                    let message = format!("[{}] is defined before", lossy(&it.label));
+                    let message = || format!("[{}] is defined before", lossy(&it.label));
                     self.say(&it.span, first, 2, "duplicate-definition", message);
                 }
             }
+        }
+        if is_used.is_empty() {
+            return;
         }
         for it in self.text.placed().flat_map(|it| &it.0.facts.references) {
             is_used.insert(&it.label, true);
         }
         for (section, _, first) in self.text.placed() {
-            for it in section
-                .facts
-                .definitions
-                .iter()
-                .filter(|it| !is_used[&*it.label])
-            {
-                let message = format!("nothing refers to [{}]", lossy(&it.label));
+            let definitions = section.facts.definitions.iter();
+            for it in definitions.filter(|it| !is_used[&*it.label]) {
+                let message = || format!("nothing refers to [{}]", lossy(&it.label));
                 self.say(&it.span, first, 4, "unused-definition", message);
             }
         }

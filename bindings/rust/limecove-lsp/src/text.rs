@@ -1,6 +1,7 @@
 //! A document that is edited: its bytes, and what its sections have.
 
 use crate::facts::{facts_of, Facts};
+use crate::rules::{tell, Rule};
 use limecove::{read_document, Document, Encoding, Error, Event, Kind, Options, Place};
 use std::ops::Range;
 
@@ -86,13 +87,24 @@ impl Text {
     }
 
     /// Each section, with the byte and the line at which it starts.
-    pub fn placed(&self) -> impl Iterator<Item = (&Section, usize, usize)> {
+    pub fn placed(&self) -> impl Iterator<Item = (&Section, usize, usize)> + Clone {
         self.sections.iter().scan((0, 0), |(byte, line), section| {
             let at = (section, *byte, *line);
             *byte += section.bytes;
             *line += section.facts.lines;
             Some(at)
         })
+    }
+
+    /// What each section has, with the line and the byte at which it starts.
+    pub fn lined(&self) -> impl Iterator<Item = (&Facts, usize, usize)> + Clone {
+        self.placed()
+            .map(|(it, byte, line)| (&it.facts, line, byte))
+    }
+
+    /// What the rules find, by bytes of the document, in order.
+    pub fn findings(&self) -> Vec<(Range<usize>, Rule)> {
+        ordered(self.lined())
     }
 
     /// How many line endings there are.
@@ -112,12 +124,33 @@ impl Text {
             one.facts != other.facts || one.bytes != other.bytes
         };
         let other = self.sections.iter().zip(&anew.sections).position(is_other);
+        // the same, as if all were one section
+        let whole = facts_of(self.bytes(), 0..self.bytes().len(), &fresh)?;
+        let whole = ordered([(&whole, 0, 0)].into_iter());
+        let found = self.findings();
         Ok(if kept != fresh {
             Some("the document has other events".into())
         } else if self.sections.len() != anew.sections.len() {
             Some("there are other sections".into())
+        } else if found != whole {
+            let at = found.iter().zip(&whole).position(|it| it.0 != it.1);
+            let at = at.unwrap_or(found.len().min(whole.len()));
+            let (one, other) = (found.get(at), whole.get(at));
+            Some(format!("the rules find {one:?}, and in all {other:?}"))
         } else {
             other.map(|at| format!("section {at} has other facts"))
         })
     }
+}
+
+/// What the rules find in sections, by bytes of the document, in order.
+fn ordered<'a>(
+    sections: impl Iterator<Item = (&'a Facts, usize, usize)> + Clone,
+) -> Vec<(Range<usize>, Rule)> {
+    let mut found = Vec::new();
+    tell(sections, |rule, span, _, byte| {
+        found.push((span.bytes.start + byte..span.bytes.end + byte, rule));
+    });
+    found.sort_unstable_by_key(|(bytes, rule)| (bytes.start, *rule, bytes.end));
+    found
 }

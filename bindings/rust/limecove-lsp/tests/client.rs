@@ -43,9 +43,12 @@ impl Client {
         write(self.input.as_mut().unwrap(), message).unwrap();
     }
 
+    fn receive_bytes(&mut self) -> Vec<u8> {
+        read(&mut self.output).unwrap().expect("a message")
+    }
+
     fn receive(&mut self) -> Value {
-        let bytes = read(&mut self.output).unwrap().expect("a message");
-        parse(&String::from_utf8(bytes).unwrap()).unwrap()
+        parse(&String::from_utf8(self.receive_bytes()).unwrap()).unwrap()
     }
 
     fn tell(&mut self, method: &str, params: Value) {
@@ -101,6 +104,15 @@ impl Client {
         let said = self.ask("limecove/check", object([("textDocument", of(uri))]));
         assert_eq!(said.get("text").text(), Some(text));
         assert_eq!(said.get("difference"), &Value::Null);
+    }
+
+    /// How many milliseconds of the processor the server has taken, by tens. 0 where the system does not say it.
+    fn processor_time(&self) -> f64 {
+        let said = fs::read_to_string(format!("/proc/{}/stat", self.process.id()));
+        let said = said.unwrap_or_default();
+        let fields = said.rsplit(')').next().unwrap_or_default();
+        let ticks = fields.split_whitespace().skip(11).take(2);
+        ticks.filter_map(|it| it.parse::<f64>().ok()).sum::<f64>() * 10.0
     }
 
     /// Shuts down, and returns the status.
@@ -214,22 +226,14 @@ fn main() {}
 fn each_request_is_answered() {
     let mut client = Client::start();
     client.open(URI, TEXT);
-    let told = client.receive();
-    let mut told: Vec<(&str, &str)> = told
-        .get("params")
-        .get("diagnostics")
-        .list()
-        .iter()
-        .map(|it| (it.get("code").text().unwrap(), cut(TEXT, it.get("range"))))
-        .collect();
-    told.sort_unstable();
     let wanted = [
+        ("MD001", "### 😀 skipped *rank*"),
+        ("MD042", "[]()"),
         ("duplicate-definition", "[foo bar]: other"),
         ("empty-link", "[]()"),
-        ("skipped-rank", "### 😀 skipped *rank*"),
         ("unused-definition", "[unused]: #two"),
     ];
-    assert_eq!(told, wanted);
+    assert_eq!(told(&client.receive(), TEXT), wanted);
 
     let params = object([("textDocument", of(URI))]);
     let symbols = client.ask("textDocument/documentSymbol", params.clone());
@@ -267,6 +271,143 @@ fn each_request_is_answered() {
     assert_eq!(links, wanted);
     assert_eq!(client.end(), Some(0));
 }
+
+/// The codes of diagnostics that are told, and what they stand at in a text, in order.
+fn told<'a>(message: &'a Value, text: &'a str) -> Vec<(&'a str, &'a str)> {
+    let found = message.get("params").get("diagnostics").list().iter();
+    let mut found: Vec<_> = found
+        .map(|it| (it.get("code").text().unwrap(), cut(text, it.get("range"))))
+        .collect();
+    found.sort_unstable();
+    found
+}
+
+/// What each rule finds, typed by hand. A line of 121 characters stands in the place of LONG.
+const RULES: &str = "# One
+## Two
+
+#### Four
+
+# Second 😀
+
+- a
+
++ b\x20
+~~~ c
+~~~
+
+
+> e\tm
+
+LONG
+
+http://f.g h [i](#) ![](j) [k]
+
+[k]: #
+
+```
+l
+```
+";
+
+#[test]
+fn each_of_thirteen_rules_is_told() {
+    let long = "é".repeat(121);
+    let text = RULES.replace("LONG", &long);
+    let wanted = [
+        ("MD001", "#### Four"),
+        ("MD004", "+ b "),
+        ("MD009", " "),
+        ("MD010", "\t"),
+        ("MD012", ""),
+        ("MD013", "é"),
+        ("MD022", ""),
+        ("MD022", "## Two"),
+        ("MD025", "# Second 😀"),
+        ("MD031", "~~~ c"),
+        ("MD034", "http://f.g"),
+        ("MD040", "```"),
+        ("MD042", "[i](#)"),
+        ("MD042", "[k]"),
+        ("MD045", "![](j)"),
+    ];
+    let mut client = Client::start();
+    client.open(URI, &text);
+    assert_eq!(told(&client.receive(), &text), wanted);
+    // what is far from an edit is told again, and moves with it
+    for (from, to) in [
+        ("# One\n## Two", "# One\n\n## Two"),
+        ("# Second", "### Second"),
+        ("[k]: #", "[k]: n"),
+        ("+ b", "- b"),
+    ] {
+        let at = text.find(from).unwrap();
+        let range = object([
+            ("start", place(&text, at)),
+            ("end", place(&text, at + from.len())),
+        ]);
+        client.change(URI, vec![object([("range", range), ("text", to.into())])]);
+        let new = text.replacen(from, to, 1);
+        let message = client.receive();
+        let told = told(&message, &new);
+        assert!(told.len() < wanted.len(), "{to}: {told:?}");
+        client.check(URI, &new);
+        client.change(URI, vec![object([("text", text.as_str().into())])]);
+        client.receive();
+    }
+    // a rule is off if the client says so
+    let off = vec!["MD013".into(), "MD042".into(), "empty-link".into()];
+    let options = object([("off", Value::from(off))]);
+    client.ask("initialize", object([("initializationOptions", options)]));
+    client.open(URI, &text);
+    let message = client.receive();
+    let told = told(&message, &text);
+    assert_eq!(told.len(), wanted.len() - 3, "{told:?}");
+    assert_eq!(client.end(), Some(0));
+}
+
+const KEYS: usize = 500;
+
+/// What a key takes to its diagnostics, in a megabyte: printed. An optimized server takes at most 2 ms of the processor in prose.
+#[test]
+#[ignore]
+fn a_key_in_a_megabyte() {
+    let pages: String = files().into_iter().map(|it| it.1 + "\n").collect();
+    for (what, part, most) in [("prose", PROSE, 2.0), ("pages", &*pages, f64::MAX)] {
+        let text = part.repeat(1_000_000 / part.len() + 1) + "[next]: part.md\n";
+        let mut client = Client::start();
+        client.open(URI, &text);
+        let told = client.receive();
+        let told = told.get("params").get("diagnostics").list().len();
+        let mut middle = text.len() / 2;
+        middle += text[middle..].find("\n\n").unwrap();
+        let at = place(&text, middle);
+        let range = object([("start", at.clone()), ("end", at)]);
+        let (mut times, before) = (Vec::new(), client.processor_time());
+        for _ in 0..KEYS {
+            let key = object([("range", range.clone()), ("text", "x".into())]);
+            let start = std::time::Instant::now();
+            client.change(URI, vec![key]);
+            client.receive_bytes();
+            times.push(start.elapsed().as_secs_f64() * 1000.0);
+        }
+        times.sort_by(f64::total_cmp);
+        let (bytes, least, median) = (text.len(), times[0], times[KEYS / 2]);
+        let busy = (client.processor_time() - before) / KEYS as f64;
+        println!("{what}: {bytes} bytes, {told} diagnostics: a key takes {least:.2} ms at least, {median:.2} in the middle, and {busy:.2} of the processor");
+        assert!(cfg!(debug_assertions) || busy <= most);
+        assert_eq!(client.end(), Some(0));
+    }
+}
+
+const PROSE: &str = "## A part of a book
+
+It says *what* a part is for, in [words](part.md) that a reader has, and in `code`.
+A second line goes on, and the [next one][next] ends it.
+
+Another paragraph, of one line, without anything in it but words and a stop.
+
+";
 
 #[test]
 fn labels_are_found_and_renamed() {
