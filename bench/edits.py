@@ -49,6 +49,8 @@ def by_cmark(program, folder, *text):
 def main(library):
     """Prints the table."""
     bad = 0
+    if not os.path.isfile(library):
+        sys.exit(f"bench: {library} is not there")
     with tempfile.TemporaryDirectory() as folder:
         program = f"{folder}/edits"
         subprocess.run(["cc", "-std=c99", "-O2", "-o", program, f"{HERE}/edits.c", library], check=True)
@@ -75,4 +77,7 @@ if __name__ == "__main__":
     if "--help" in sys.argv:
         print(__doc__.strip())
         sys.exit()
+    if len(sys.argv) > 2 or sys.argv[1:] and sys.argv[1].startswith("-"):
+        print("usage: bench/edits.py [LIBRARY]", file=sys.stderr)
+        sys.exit(2)
     sys.exit(main(sys.argv[1] if len(sys.argv) > 1 else f"{HERE}/../bindings/out/liblimecove.a"))

@@ -82,8 +82,13 @@ def main(program, folder):
 
 
 if __name__ == "__main__":
-    if len(sys.argv) != 2 or "--help" in sys.argv:
+    if sys.argv[1:] == ["--help"]:
         print(__doc__.strip())
-        sys.exit(0 if "--help" in sys.argv else 2)
+        sys.exit()
+    if len(sys.argv) != 2 or sys.argv[1].startswith("-"):
+        print("usage: large.py MDEVENTS", file=sys.stderr)
+        sys.exit(2)
+    if not os.path.isfile(sys.argv[1]):
+        sys.exit(f"bench: {sys.argv[1]} is not there")
     with tempfile.TemporaryDirectory() as scratch:
         main(sys.argv[1], scratch)

@@ -174,14 +174,23 @@ def row(name, text, commands, counted, document):
     print(f"| {name} | {' | '.join(cells)} |", flush=True)
 
 
+def wrong():
+    print("usage: " + __doc__.partition("usage: ")[2].strip(), file=sys.stderr)
+    return 2
+
+
 def main(words):
     counted, in_quote, of_tables = "--count" in words, "--quoted" in words, "--gfm" in words
     words = [word for word in words if word not in ("--count", "--quoted", "--gfm")]
     only = ""
     if "--only" in words:
         at = words.index("--only")
-        only = words[at + 1]
+        only = words[at + 1] if at + 1 < len(words) else sys.exit(wrong())
         del words[at : at + 2]
+    if not words or any(word.startswith("-") for word in words):
+        sys.exit(wrong())
+    if not os.path.isfile(words[0]):
+        sys.exit(f"bench: {words[0]} is not there")
     commands = [[words[0], "--machine", "document", "--deep"], *[[other] for other in words[1:]]]
     if of_tables:
         commands = [[words[0], "--gfm"], *[[other, "-e", "table"] for other in words[1:]]]
@@ -198,7 +207,7 @@ def main(words):
 
 
 if __name__ == "__main__":
-    if len(sys.argv) < 2 or "--help" in sys.argv:
+    if sys.argv[1:] == ["--help"]:
         print(__doc__.strip())
-        sys.exit(0 if "--help" in sys.argv else 2)
+        sys.exit()
     main(sys.argv[1:])

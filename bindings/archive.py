@@ -38,6 +38,7 @@ def words_for(target, words):
 
 def take_kept(rt, repo):
     """Gives a copy of the crates the libraries that the gate kept. Returns the crate that is to be built, or None if one is not kept."""
+    print("bindings: looks for the libraries that the gate kept, by the sums of their texts", flush=True)
     rt.copy_crates(ROOT, repo)
     # it is the top of a repository
     os.mkdir(f"{repo}/.git")
@@ -65,6 +66,7 @@ def build_over_kept(folder, targets, words):
             print(f"bindings: what the gate kept cannot be taken ({error}), so `rt lib` builds the library", flush=True)
             return None
         for target in targets if crate else []:
+            print(f"bindings: proves {CRATE}, and compiles it for {target}", flush=True)
             status = crate.compile(words_for(target, words), f"out/{target}.a")
             if status:
                 return status
@@ -76,6 +78,7 @@ def build_by_rt(folder, targets, words):
     """Builds in the crate's own folder, over what `rt lib` built before. Returns the status."""
     crate = f"{ROOT}/crates/{CRATE}"
     for target in targets:
+        print(f"bindings: rt lib, for {target}", flush=True)
         status = subprocess.run(["rt", "lib", *words_for(target, words)], cwd=crate).returncode
         if status:
             return status

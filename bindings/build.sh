@@ -1,14 +1,23 @@
 #!/bin/sh
 # Proves and builds the static library for x86-64 Linux, or for the targets that are named, and puts it with the functions through which it
 # allocates into bindings/out: as liblimecove.a, or for another target as TARGET/liblimecove.a. Only that file is to be linked.
-# usage: bindings/build.sh [TARGET..] [-WORD..]. The words are passed to rt, as --jobs 2 or --cpu x86-64-v3. Targets that rt can build are
-# x86_64-unknown-linux-gnu and aarch64-unknown-linux-gnu.
+# usage: bindings/build.sh [TARGET..] [--jobs N] [--cpu NAME]. These words are passed to rt. Targets that rt can build are x86_64-unknown-linux-gnu and aarch64-unknown-linux-gnu.
 # Behind the gate it takes minutes, as it proves limecove alone (archive.py). Without it rt proves all crates, in an hour or more.
 set -eu
 if [ "${1-}" = --help ]; then
     sed -n '2,/^[^#]/s/^# //p' "$0"
     exit 0
 fi
+# words for rt: these alone, as the build takes long before rt sees them
+known() {
+    while [ $# -gt 0 ]; do
+        case $1 in
+        --jobs=?* | --cpu=?*) shift ;;
+        --jobs | --cpu) [ $# -gt 1 ] && shift 2 || return 1 ;;
+        *) return 1 ;;
+        esac
+    done
+}
 for tool in rt python3; do
     if ! command -v "$tool" >/dev/null; then
         echo "bindings: $tool is missing" >&2
@@ -24,6 +33,10 @@ while [ $# -gt 0 ] && [ "${1#-}" = "$1" ]; do
     shift
 done
 targets=${targets:-$native}
+if ! known "$@"; then
+    echo "usage: bindings/build.sh [TARGET..] [--jobs N] [--cpu NAME]" >&2
+    exit 2
+fi
 work=$(mktemp -d)
 trap 'rm -rf "$work"' EXIT
 # shellcheck disable=SC2086

@@ -56,9 +56,12 @@ def per_byte(program, way, path):
 
 
 def main():
-    if "--help" in sys.argv or len(sys.argv) > 2:
+    if sys.argv[1:] == ["--help"]:
         print(__doc__.strip())
-        sys.exit(0 if "--help" in sys.argv else 2)
+        sys.exit()
+    if len(sys.argv) > 2 or sys.argv[1:] and sys.argv[1].startswith("-"):
+        print("usage: measure.py [OTHER]", file=sys.stderr)
+        sys.exit(2)
     subprocess.run(["cargo", "build", "--offline", "--quiet", "--release", "--example", "read"], cwd=RUST, check=True)
     programs = [str(RUST / "target/release/examples/read"), *sys.argv[1:2]]
     print("| Machine | Document | " + " | ".join(["Instructions a byte", "Other", "Ratio"][: 3 if len(programs) == 2 else 1]) + " |")

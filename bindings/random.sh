@@ -7,6 +7,12 @@ if [ "${1-}" = --help ]; then
     sed -n '2,/^[^#]/s/^# //p' "$0"
     exit 0
 fi
+case "${1-0}${2-0}" in
+*[!0-9]*)
+    echo "usage: bindings/random.sh [COUNT [SEED]]" >&2
+    exit 2
+    ;;
+esac
 here=$(cd "$(dirname "$0")" && pwd)
 work=$(mktemp -d)
 trap 'rm -rf "$work"' EXIT

@@ -1,10 +1,10 @@
 #!/bin/sh
-# Makes a folder that builds, and passes its tests, where there is no rt. For each target it has a folder with the library as .a and .so,
-# the header and limecove.pc; and for all the crates limecove-sys, limecove and limecove-lsp, the tests in C, the module for Python, html.py, and a test.sh. Libraries that are
-# not in bindings/out, or older than a source, bindings/build.sh first makes and proves, with rt. Beside that it needs a C compiler: cc,
-# and for the .so of another target than this machine's the one that Debian names after it, as aarch64-linux-gnu-gcc. Without that one
-# the release has no such .so.
-# usage: bindings/release.sh FOLDER [-WORD..]   (FOLDER must not be there yet; the words are passed to bindings/build.sh)
+# Makes a folder that builds, and passes its tests, where there is no rt, and says each step. For each target it has a folder with the library
+# as .a and .so, the header and limecove.pc; and for all the crates limecove-sys, limecove and limecove-lsp, the tests in C, the module for
+# Python, html.py, and a test.sh. Libraries that are not in bindings/out, or older than a source, bindings/build.sh first makes and proves,
+# with rt. Beside that it needs a C compiler: cc, and for the .so of another target than this machine's the one that Debian names after it,
+# as aarch64-linux-gnu-gcc. Without that one the release has no such .so.
+# usage: bindings/release.sh FOLDER [--jobs N] [--cpu NAME]   (FOLDER must not be there yet; the words are passed to bindings/build.sh)
 # TARGETS names the targets; if it is not set, they are all that rt can build.
 set -eu
 if [ "${1-}" = --help ]; then
@@ -13,10 +13,13 @@ if [ "${1-}" = --help ]; then
 fi
 here=$(cd "$(dirname "$0")" && pwd)
 targets=${TARGETS:-x86_64-unknown-linux-gnu aarch64-unknown-linux-gnu}
-if [ $# = 0 ] || [ -e "$1" ]; then
-    echo "usage: bindings/release.sh FOLDER [-WORD..]   (FOLDER must not be there yet)" >&2
+wrong() {
+    echo "usage: bindings/release.sh FOLDER [--jobs N] [--cpu NAME]   (FOLDER must not be there yet)" >&2
     exit 2
-fi
+}
+if [ $# = 0 ] || [ -e "$1" ]; then wrong; fi
+case $1 in -*) wrong ;; esac
+say() { echo "release: $*"; }
 folder=$1
 shift
 archive_of() {
@@ -30,11 +33,18 @@ newer() { find "$here/heap.c" "$here/../crates.txt" "$here"/../crates/*/src "$he
 lacking=
 for target in $targets; do
     archive=$(archive_of "$target")
-    if [ ! -f "$archive" ] || [ -n "$(newer "$archive")" ]; then
+    if [ ! -f "$archive" ]; then
+        say "$target: there is no library yet"
         lacking="$lacking $target"
+    elif [ -n "$(newer "$archive")" ]; then
+        say "$target: the library is older than $(newer "$archive")"
+        lacking="$lacking $target"
+    else
+        say "$target: the library is there"
     fi
 done
 if [ -n "$lacking" ]; then
+    say "proves and builds the library, in minutes behind a gate and else in an hour or more"
     # shellcheck disable=SC2086
     "$here/build.sh" $lacking "$@"
 fi
@@ -44,6 +54,8 @@ layout=$(sed -n 's/^#define LIMECOVE_VERSION \([0-9]*\)$/\1/p' "$here/limecove.h
 commit=$(git -C "$here" describe --always --dirty=", and changes" --abbrev=40 --exclude='*' 2>/dev/null || echo unknown)
 # shellcheck disable=SC2086
 names=$(printf ', %s' $targets)
+say "version $version, LIMECOVE_VERSION $layout, commit $commit"
+say "copies crates, tests and the module for Python to $folder"
 mkdir -p "$folder/rust"
 out=$(cd "$folder" && pwd)
 cp "$here/../LICENSE" "$here/html.py" "$out"
@@ -64,6 +76,7 @@ rm "$out/rust/limecove/tests/names.rs"
 cp "$here/rust/Cargo.toml" "$out/rust"
 for target in $targets; do
     archive=$(archive_of "$target") lib=$out/$target/lib
+    say "$target: header, archive, limecove.pc and liblimecove.so.$layout"
     mkdir -p "$out/$target/include" "$lib/pkgconfig"
     cp "$here/limecove.h" "$out/$target/include"
     cp "$archive" "$lib"
@@ -82,7 +95,7 @@ PC
     if [ "$target" = "$(uname -m)-unknown-linux-gnu" ]; then
         compiler=cc
     elif ! command -v "$compiler" >/dev/null; then
-        echo "bindings: $target gets no liblimecove.so, as there is no $compiler" >&2
+        echo "release: $target gets no liblimecove.so, as there is no $compiler" >&2
         continue
     fi
     # a shared library with the functions of the header, and no other names
@@ -173,4 +186,4 @@ echo "release: all is well"
 SH
 chmod +x "$out/test.sh"
 (cd "$out" && find . -type f ! -name SHA256SUMS | LC_ALL=C sort | tr '\n' '\0' | xargs -0 sha256sum >SHA256SUMS)
-echo "$out: version $version, layout $layout"
+say "$(wc -l <"$out/SHA256SUMS") files, with their sums: $folder. bindings/try_release.sh tests it, and its own test.sh"

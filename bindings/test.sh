@@ -2,11 +2,25 @@
 # Builds the library and the program, and tests the library: from C, from Rust with random documents against the program, and as a
 # release, with Python too. It needs rt, ar, cc, clang, cargo and python3, and no network; for the library of aarch64 also
 # gcc-aarch64-linux-gnu and qemu-user. Programs over musl are tested if there is musl-gcc.
-# usage: bindings/test.sh [-WORD..]. The words are passed to `rt`, as --jobs 2.
+# usage: bindings/test.sh [--jobs N] [--cpu NAME]. These words are passed to `rt`.
 set -eu
 if [ "${1-}" = --help ]; then
     sed -n '2,/^[^#]/s/^# //p' "$0"
     exit 0
+fi
+# words for rt: these alone, as the build takes long before rt sees them
+known() {
+    while [ $# -gt 0 ]; do
+        case $1 in
+        --jobs=?* | --cpu=?*) shift ;;
+        --jobs | --cpu) [ $# -gt 1 ] && shift 2 || return 1 ;;
+        *) return 1 ;;
+        esac
+    done
+}
+if ! known "$@"; then
+    echo "usage: bindings/test.sh [--jobs N] [--cpu NAME]" >&2
+    exit 2
 fi
 for tool in rt ar cc clang cargo python3; do
     if ! command -v "$tool" >/dev/null; then

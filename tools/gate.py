@@ -113,7 +113,10 @@ def write(log):
 
 def main(top, command):
     started, names, times = time.time(), {}, {}
-    running = subprocess.Popen(command, cwd=top, start_new_session=True)
+    try:
+        running = subprocess.Popen(command, cwd=top, start_new_session=True)
+    except OSError as error:
+        sys.exit(f"gate: {command[0]} does not start: {error.strerror}")
     while running.poll() is None:
         for process in filter(str.isdigit, os.listdir("/proc")):
             it = seen(process, running.pid)
@@ -151,7 +154,8 @@ if __name__ == "__main__":
     if words in (["--help"], ["-h"]):
         print(__doc__.strip())
         sys.exit(0)
-    if words[:1] == ["--write"] and len(words) != 2 or words == ["-C"]:
+    is_option = words[:1] and words[0].startswith("-") and words[0] not in ("--write", "-C")
+    if words[:1] == ["--write"] and len(words) != 2 or words == ["-C"] or is_option:
         print("usage: " + __doc__.partition("usage: ")[2].partition("\n\n")[0], file=sys.stderr)
         sys.exit(2)
     if words[:1] == ["--write"] and len(words) == 2:

@@ -1,11 +1,12 @@
 #!/usr/bin/env python3
-"""Writes one HTML page that shows a document with its spans: each is coloured, and its name and places show where the pointer is. The page
-needs no network.
+"""Writes one HTML page that shows a document with its spans: each is coloured, and its name and places show where the pointer is. Beside
+them it shows the document's HTML, if --html says what writes it. The page needs no network.
 
-usage: tools/view.py FILE [--program PROGRAM] [--machine NAME] [--tab N] [-o PAGE]
+usage: tools/view.py FILE [--program PROGRAM] [--html PROGRAM] [--machine NAME] [--tab N] [-o PAGE]
        tools/view.py --self-test
   FILE               the document
   --program PROGRAM  mdevents, or what prints events as it does; without it, crates/mdevents/out/mdevents of this checkout
+  --html PROGRAM     mdhtml, as crates/mdhtml/out/mdhtml: its HTML is shown as a page, in a frame that runs nothing, and as text
   --machine NAME     the machine that reads the document; without it, document
   --tab N            columns between tab stops; without it, 4
   -o PAGE            where the page goes; without it, to FILE with .html behind it
@@ -13,6 +14,8 @@ usage: tools/view.py FILE [--program PROGRAM] [--machine NAME] [--tab N] [-o PAG
 
 The page knows no Markdown: it has the names and places of printed events, and the bytes between places. A tab that lies in two spans is
 shown column by column. Bytes that are no UTF-8 are shown as U+FFFD.
+
+Status 0: the page is written, or the self-test passed. Status 1: a program or a file failed. Status 2: it was called wrongly.
 """
 
 import colorsys
@@ -38,6 +41,14 @@ header b { font-weight: 600; }
 #path span { padding: 0 .35em; border-radius: .25em; }
 #path i { opacity: .6; font-style: normal; }
 main { overflow: auto; padding: 1em; font: 14px/1.75 ui-monospace, monospace; white-space: pre-wrap; overflow-wrap: anywhere; }
+.two { grid-template-columns: 1fr 1fr 15em; }
+.two header { grid-column: 1 / 4; }
+section { display: flex; flex-direction: column; min-height: 0; min-width: 0; border-left: 1px solid #8886; }
+section label { padding: .4em 1em; font-size: 13px; border-bottom: 1px solid #8886; }
+section iframe { flex: 1; border: 0; background: #fff; color-scheme: light; }
+section pre { flex: 1; display: none; margin: 0; padding: 1em; overflow: auto; font: 13px/1.6 ui-monospace, monospace; white-space: pre-wrap; overflow-wrap: anywhere; }
+section:has(input:checked) iframe { display: none; }
+section:has(input:checked) pre { display: block; }
 aside { overflow: auto; padding: .8em 1em; border-left: 1px solid #8886; font-size: 13px; }
 aside label { display: flex; gap: .5em; align-items: center; cursor: pointer; }
 aside label span { overflow: hidden; text-overflow: ellipsis; }
@@ -132,8 +143,18 @@ def colour(name, names):
     return f"rgb({red} {green} {blue} / 22%)"
 
 
-def page(title, document, events, tab):
-    """The page of a document and its events."""
+def beside(written):
+    """The part of a page that shows HTML: as a page, in a frame that runs no script and sends nothing, and as text."""
+    if written is None:
+        return ""
+    text = written.decode("utf-8", "replace")
+    framed = f"<!doctype html><meta charset=utf-8><base target=_blank><style>body{{font:15px/1.5 system-ui,sans-serif;padding:0 1em}}</style>{text}"
+    return f"""<section><label><input type="checkbox"> its HTML as text</label><iframe sandbox title="HTML" srcdoc="{html.escape(framed)}"></iframe><pre>{html.escape(text, quote=False)}</pre></section>
+"""
+
+
+def page(title, document, events, tab, written=None):
+    """The page of a document and its events, and of its HTML."""
     columns = columns_of(document, tab)
     counts, body, at, waiting = {}, [], (0, 0), []
     ends = {}
@@ -163,9 +184,10 @@ def page(title, document, events, tab):
 <title>{html.escape(title)}</title>
 <style>{STYLE}{style}</style>
 <style id="off"></style>
+<body{"" if written is None else ' class="two"'}>
 <header><b>{html.escape(title)}</b>, {len(document):,} bytes, {len(events) // 2:,} spans<div id="path"></div></header>
 <main>{"".join(body)}</main>
-<aside>{legend}</aside>
+{beside(written)}<aside>{legend}</aside>
 <script>{SCRIPT}</script>
 </html>
 """
@@ -185,13 +207,31 @@ def self_test():
     assert '<span class="white">→ </span></span>' in made, "a tab in two spans is shown in both"
     assert text_of(page("two", b"\xff", [], 4)) == "\ufffd"
     assert text_of(page("three", b"", [], 4)) == ""
+    made = page("four", b"a <b>", [], 4, b'<p title="x">a &lt;b&gt;</p>\n')
+    frame = re.search(r'<iframe sandbox title="HTML" srcdoc="([^"]*)">', made)
+    assert html.unescape(frame[1]).endswith('<p title="x">a &lt;b&gt;</p>\n'), "the HTML is framed as it is"
+    assert '<pre>&lt;p title="x"&gt;a &amp;lt;b&amp;gt;&lt;/p&gt;\n</pre>' in made, "and shown as text"
+    assert text_of(made) == "a <b>" and '<body class="two">' in made
+    assert "<iframe" not in page("five", b"", [], 4)
     print("view: well")
+
+
+def run(program, document, *words):
+    """What a program writes for a document. Ends with 1 if it fails."""
+    try:
+        ran = subprocess.run([program, *words], input=document, capture_output=True)
+    except OSError as error:
+        sys.exit(f"view: {program} does not start: {error.strerror}")
+    if ran.returncode:
+        sys.exit(f"view: {program} ended with {ran.returncode}: {ran.stderr.decode(errors='replace').strip()}")
+    return ran.stdout
 
 
 def main():
     words = usage.Words(__doc__)
     words.add_argument("file", nargs="?")
     words.add_argument("--program", default=f"{HERE}/crates/mdevents/out/mdevents")
+    words.add_argument("--html")
     words.add_argument("--machine", default="document")
     words.add_argument("--tab", type=int, default=4)
     words.add_argument("-o", dest="page")
@@ -202,16 +242,21 @@ def main():
         return
     if not given.file:
         words.error("no FILE")
-    with open(given.file, "rb") as it:
-        document = it.read()
+    if not 1 <= given.tab <= 16:
+        words.error("--tab is 1 to 16")
+    try:
+        with open(given.file, "rb") as it:
+            document = it.read()
+    except OSError as error:
+        sys.exit(f"view: {given.file}: {error.strerror}")
     if not os.path.isfile(given.program):
         sys.exit(f"view: {given.program} is not there: `rt run` in crates/mdevents builds it, or name another by --program")
-    ran = subprocess.run([given.program, "--deep", "--machine", given.machine, "--tab", str(given.tab)], input=document, capture_output=True)
-    if ran.returncode:
-        sys.exit(f"view: {given.program} ended with {ran.returncode}: {ran.stderr.decode(errors='replace').strip()}")
+    tab = ["--tab", str(given.tab)]
+    events = events_of(run(given.program, document, "--deep", "--machine", given.machine, *tab).decode())
+    written = run(given.html, document, *tab) if given.html else None
     where = given.page or f"{given.file}.html"
     with open(where, "w", encoding="utf-8") as it:
-        it.write(page(os.path.basename(given.file), document, events_of(ran.stdout.decode()), given.tab))
+        it.write(page(os.path.basename(given.file), document, events, given.tab, written))
     print(where)
 
 

@@ -3,10 +3,14 @@
 
 import ctypes
 import doctest
+import sys
 import threading
 import unittest
 
-import limecove
+if sys.argv[1:] == ["--help"]:  # before the library is looked for
+    print(__doc__)
+    sys.exit()
+import limecove  # noqa: E402
 
 NO_INDEX = ctypes.c_size_t(-1).value
 
