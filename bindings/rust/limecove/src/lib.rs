@@ -25,7 +25,7 @@
 //! | spans, flat | [`spans`], [`spans_by_start`] | linear in the events, in any nesting |
 //! | spans, as a tree | [`Tree`], [`Node`] | made in linear time; about 100 bytes a span |
 //! | the span at a byte | [`Tree::node_at`] | a logarithm, and the depth there |
-//! | what a span is | [`Node::heading_level`], [`list`](Node::list), [`link`](Node::link), [`definition`](Node::definition), [`label`](Node::label), [`is_checked`](Node::is_checked), [`fence_info`](Node::fence_info), [`decoded`](Node::decoded), [`last_line`](Node::last_line) | in the size of what it looks at |
+//! | what a span is | [`Node::heading_level`], [`list`](Node::list), [`link`](Node::link), [`definition`](Node::definition), [`label`](Node::label), [`is_checked`](Node::is_checked), [`alignments`](Node::alignments), [`fence_info`](Node::fence_info), [`decoded`](Node::decoded), [`last_line`](Node::last_line) | in the size of what it looks at |
 //! | labels | [`normalized_label`], [`is_label`] | linear in the label |
 //! | lines and columns | [`LineIndex`], both ways | made in linear time; a logarithm to look up; many [`places`](LineIndex::places) in one walk |
 //!
@@ -399,7 +399,7 @@ impl Options {
     /// let tree = Tree::read("| a | b |\n|---|--:|\n| c | d |", &Options::default().gfm_table(true))?;
     /// let table = tree.children().next().unwrap();
     /// assert_eq!(table.name(), Name::GfmTable);
-    /// assert_eq!(table.alignments(), Some(vec![Alignment::None, Alignment::Right]));
+    /// assert_eq!(table.alignments()?, Some(vec![Alignment::None, Alignment::Right]));
     /// # Ok::<(), limecove::Error>(())
     /// ```
     #[must_use]

@@ -466,21 +466,31 @@ impl<'a> Node<'a> {
     /// let tree = Tree::read("|a|b|c|d|\n|-|:-|:-:|-:|", &Options::default().gfm_table(true))?;
     /// let table = tree.children().next().unwrap();
     /// use Alignment::{Center, Left, None, Right};
-    /// assert_eq!(table.alignments(), Some(vec![None, Left, Center, Right]));
+    /// assert_eq!(table.alignments()?, Some(vec![None, Left, Center, Right]));
     /// # Ok::<(), limecove::Error>(())
     /// ```
-    pub fn alignments(&self) -> Option<Vec<Alignment>> {
-        if self.name() != Name::GfmTable {
-            return None;
-        }
-        let row = self
-            .child(Name::GfmTableHead)?
-            .child(Name::GfmTableDelimiterRow)?;
+    ///
+    /// # Errors
+    ///
+    /// If it runs out of memory.
+    pub fn alignments(&self) -> Result<Option<Vec<Alignment>>, Error> {
+        let head = match self.name() {
+            Name::GfmTable => self.child(Name::GfmTableHead),
+            _ => None,
+        };
+        let row = match head.and_then(|head| head.child(Name::GfmTableDelimiterRow)) {
+            Some(row) => row,
+            None => return Ok(None),
+        };
         let cells = row
             .children()
             .filter(|part| part.name() == Name::GfmTableDelimiterCell);
-        let values = cells.filter_map(|cell| cell.child(Name::GfmTableDelimiterCellValue));
-        Some(values.map(|value| Alignment::of(value.text())).collect())
+        let mut found = Vec::new();
+        for value in cells.filter_map(|cell| cell.child(Name::GfmTableDelimiterCellValue)) {
+            found.try_reserve(1).map_err(|_| Error::OutOfMemory)?;
+            found.push(Alignment::of(value.text()));
+        }
+        Ok(Some(found))
     }
 
     /// The info string of fenced code, as CommonMark has it: all that follows the opening fence, but for blanks at its ends, with escapes

@@ -136,6 +136,7 @@ impl Ends {
             self.of_call(|| Ok(node.link()?.map(|to| (to.destination, to.title))));
             self.of_call(|| Ok(node.definition()?.map(|it| it.span())));
             self.of_call(|| node.normalized_label());
+            self.of_call(|| node.alignments());
         }
         self.of_call(|| Ok(LineIndex::new(document)?.line_count()));
         self.of_call(|| LineIndex::new(document)?.places(&[0, 1, 2], Encoding::Utf16));
@@ -229,6 +230,28 @@ impl Ends {
         }
     }
 
+    /// Asks a document by sections with each allocation failing, and for places without any memory: these need none.
+    fn of_lookups(&mut self, bytes: &str) {
+        let document = Document::new(bytes, &Options::default()).expect("there is memory");
+        let sections = document.sections();
+        for section in 0..sections {
+            self.of_call(|| document.events_in(section..section + 1));
+            self.of_call(|| Ok(document.section_bytes(section)?.len()));
+        }
+        let asked = |byte| {
+            let place = document.place(byte, Encoding::Utf16);
+            let back = place.and_then(|it| document.index(it, Encoding::Utf16));
+            let nearest = place.map(|it| document.nearest(it, Encoding::Utf16));
+            let section = document.section_at(byte);
+            (place, back, nearest, section, document.start_of(section))
+        };
+        for byte in 0..=bytes.len() {
+            let want = (asked(byte), document.line_count(), document.is_empty());
+            let call = || (asked(byte), document.line_count(), document.is_empty());
+            assert_eq!(failing(0, true, call), (want, 0));
+        }
+    }
+
     /// Makes a call with each of its allocations failing, alone and with all after it.
     fn of_call<T: PartialEq + Debug>(&mut self, call: impl Fn() -> Result<T, Error>) {
         let want = call().expect("there is memory");
@@ -284,12 +307,18 @@ fn main() {
         let events = tokenize(document, &Options::default()).expect("there is memory");
         ends.of_tree(document, &events);
     }
+    let table = "|a|b|\n|-|:-|\n|*c*|\n";
+    let events = tokenize(table, &Options::default().gfm_table(true));
+    ends.of_tree(table, &events.expect("there is memory"));
     let quotes = "\"".repeat(500);
     for document in ["", document, "- [a](b 'c')\n\n  ![d](e:f)\n", &quotes] {
         ends.of_call(|| to_html(document));
     }
     ends.of_edit("# a\n\n[b]\n\n# c\n", 14..14, "\n[b]: d\n");
     ends.of_edit("# a\n\n[b]\n\n# c\n\n[b]: d\n", 15..22, "");
+    for document in ["", document, "# a\n\n[b] é😀\r\n\n- c\n\n[b]: d\n\ne"] {
+        ends.of_lookups(document);
+    }
     println!(
         "{} calls ran out of memory, and {} managed without",
         ends.out, ends.read

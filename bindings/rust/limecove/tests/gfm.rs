@@ -282,7 +282,7 @@ fn texts_of_cells_are_read_as_texts() {
     let options = Options::default().gfm_table(true);
     let tree = Tree::read("a|b\n-|-\n*c*|[d]\n\n[d]: /e", &options).expect("it is read");
     let table = tree.children().next().expect("there is a table");
-    assert_eq!(table.alignments(), Some(vec![Alignment::None; 2]));
+    assert_eq!(table.alignments(), Ok(Some(vec![Alignment::None; 2])));
     let names: Vec<_> = table.descendants().map(|node| node.name()).collect();
     assert!(names.contains(&Name::Emphasis));
     let link = tree.nodes().find(|node| node.name() == Name::Link);
