@@ -1,5 +1,5 @@
 -- Literals lie in their texts, and no line ending is at either end of one.
-use Rattle.std.proofs.Common.{◌≡◌, ℕ, zero, suc, ◌+◌, ◌-◌, ◌≤◌, Bool, true, false, cond, List, [], ◌∷◌, length, drop, take, get_or, Option, Some, refl, sym, ap, ◌∙◌, arith, ne_eqb, leb-true}
+use Rattle.std.proofs.Common.{◌≡◌, ℕ, zero, suc, ◌+◌, ◌-◌, ◌<◌, ◌≤◌, Bool, true, false, cond, List, [], ◌∷◌, length, drop, take, get_or, Option, Some, refl, sym, ap, ◌∙◌, arith, ne_eqb, leb-true}
 use Rattle.std.proofs.lemmas.Bool.{false≢true}
 use Rattle.std.proofs.lemmas.List.{get_or-drop, length-drop}
 use Rattle.std.proofs.lemmas.List.Folds.{length-prefix_len}
@@ -20,9 +20,9 @@ pub record HasEnds (text : List ℕ) (size : ℕ) : Type 0 where
   pub first : (slice_index text 0 == 10) ≡ false
   pub last : (slice_index text (size - 1) == 13) ≡ false
 
--- a byte that passes a test that another one fails
-other : (test : ℕ → Bool) (b c : ℕ) → test c ≡ false → test b ≡ true → (b == c) ≡ false
-other test b c fails h = ne_eqb b c (λ q. false≢true (sym fails ∙ ap test (sym q) ∙ h))
+-- a byte in front, where all pass a test, is none that fails it
+front-other : (test : ℕ → Bool) (text : List ℕ) (i c : ℕ) → test c ≡ false → i < prefix_len test text → (slice_index text i == c) ≡ false
+front-other test text i c fails less = ne_eqb (slice_index text i) c (λ q. false≢true (sym fails ∙ ap test (sym q) ∙ prefix_len_passes test text i 0 less))
 
 -- ---- literals that are no addresses
 
@@ -42,8 +42,8 @@ left-le text o c zero (suc size) =
 literal-ends : (text : List ℕ) → 1 ≤ literal_size text → HasEnds text (literal_size text)
 literal-ends text some = record {
   within = let all = prefix_len-le-length run text in omega (arith, less, all);
-  first = other run (slice_index text 0) 10 refl (prefix_len_passes run text 0 0 (omega (arith, less, some)));
-  last = other run (slice_index text (literal_size text - 1)) 13 refl (prefix_len_passes run text (literal_size text - 1) 0 (omega (arith, less, some)));
+  first = front-other run text 0 10 refl (omega (arith, less, some));
+  last = front-other run text (literal_size text - 1) 13 refl (omega (arith, less, some));
 }
   where
     run : ℕ → Bool
@@ -104,8 +104,8 @@ address-ends text some = by (nat_le 1 n) (first_passes (λ b. b == 64) (drop n t
         let byte : slice_index host (m - 1) ≡ slice_index text (n + 1 + m - 1) = get_or-drop (n + 1) text (m - 1) 0 ∙ ap (λ i. get_or text i 0) here in
         record {
           within = omega (arith, there, long, longer, fits);
-          first = other in_local (slice_index text 0) 10 refl (prefix_len_passes in_local text 0 0 (leb-true 1 n p));
-          last = other is_ascii_alphabetic (slice_index text (n + 1 + m - 1)) 13 refl (ap is_ascii_alphabetic (sym byte) ∙ letter);
+          first = front-other in_local text 0 10 refl (leb-true 1 n p);
+          last = ne_eqb (slice_index text (n + 1 + m - 1)) 13 (λ q. false≢true (sym (ap is_ascii_alphabetic (byte ∙ q)) ∙ letter));
         }
 
 -- ---- addresses behind a scheme
@@ -117,7 +117,7 @@ word-le (w ∷ ws) (b ∷ bs) h = let less = word-le ws bs (and-right (lower b =
 
 word-first : (w : ℕ) (ws text : List ℕ) → (lower 10 == w) ≡ false → begins_with (w ∷ ws) text ≡ true → (slice_index text 0 == 10) ≡ false
 word-first w ws [] isnt h = absurd (false≢true h)
-word-first w ws (b ∷ bs) isnt h = other (λ b. lower b == w) b 10 isnt (and-left (lower b == w) (begins_with ws bs) h)
+word-first w ws (b ∷ bs) isnt h = ne_eqb b 10 (λ q. false≢true (sym isnt ∙ ap (λ c. lower c == w) (sym q) ∙ and-left (lower b == w) (begins_with ws bs) h))
 
 scheme-ends : (w : ℕ) (ws text : List ℕ) → (lower 10 == w) ≡ false → 1 ≤ size_with (w ∷ ws) text → HasEnds text (size_with (w ∷ ws) text)
 scheme-ends w ws text isnt some = by (begins_with scheme text) (nat_le 1 n) refl refl some
