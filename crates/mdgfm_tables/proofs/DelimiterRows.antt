@@ -2,7 +2,8 @@
 use Rattle.std.proofs.Common.{◌≡◌, ℕ, zero, suc, ◌+◌, Bool, true, false, cond, List, [], ◌∷◌, ◌++◌, Option, Some, None, append_assoc, arith, drop, length, refl, reverse, sym, ap, take, eqb-true, ◌∙◌}
 use Rattle.std.specs.Prelude.{◌==◌, ◌&&◌, ◌||◌, not, nat_le, is_some}
 use Rattle.std.specs.List.{list_all, list_any, prefix_len}
-use Rattle.std.proofs.lemmas.Bool.{false≢true}
+use Rattle.std.proofs.Math.Bool.{and_assoc}
+use Rattle.std.proofs.lemmas.Bool.{and_from, false≢true, not-true, or_parts}
 use Rattle.std.proofs.lemmas.List.{drop-drop, reverse-append}
 use Rattle.std.proofs.lemmas.List.Folds.{list_all-append}
 use Rattle.std.proofs.Math.Seq.{drop-length}
@@ -22,13 +23,6 @@ and-order true true = refl
 and-order true false = refl
 and-order false true = refl
 and-order false false = refl
-
-and-group : (x y z : Bool) → ((x && y) && z) ≡ (x && (y && z))
-and-group true y z = refl
-and-group false y z = refl
-
-both : (x y : Bool) → x ≡ true → y ≡ true → (x && y) ≡ true
-both x y ex ey = ap (λ b. b && y) ex ∙ ey
 
 -- one passes if not all fail
 pub any-all : (q : ℕ → Bool) (t : List ℕ) → list_any q t ≡ not (list_all (λ b. not (q b)) t)
@@ -58,7 +52,7 @@ module _ (p : ℕ → Bool) where
       by : (x : Bool) → p b ≡ x → list_all p (take (prefix_len p bs) bs) ≡ true → list_all p (take (cond x (1 + prefix_len p bs) 0) (b ∷ bs)) ≡ true
       by true is h =
           let on : 1 + prefix_len p bs ≡ suc (prefix_len p bs) = omega arith in
-          ap (λ k. list_all p (take k (b ∷ bs))) on ∙ both (p b) (list_all p (take (prefix_len p bs) bs)) is h
+          ap (λ k. list_all p (take k (b ∷ bs))) on ∙ and_from (p b) (list_all p (take (prefix_len p bs) bs)) is h
       by false is h = refl
 
   -- behind some at the front that pass
@@ -114,7 +108,7 @@ module _ (p : ℕ → Bool) where
       all-onto : (b : ℕ) (cs : Cells) → all-cells (onto b cs) ≡ (p b && all-cells cs)
       all-onto b no_cell = refl
       all-onto b (last_cell cell) = refl
-      all-onto b (next_cell cell more) = and-group (p b) (list_all p cell) (all-cells more)
+      all-onto b (next_cell cell more) = and_assoc (p b) (list_all p cell) (all-cells more)
 
       all-cut : (e : Bool) (t : List ℕ) → all-cells (cut e t) ≡ list_all p t
       all-cut e [] = refl
@@ -142,7 +136,7 @@ module _ (p : ℕ → Bool) where
               → ((others : List Alignment) → alignments_of (contents more) ≡ Some others → all-cells more ≡ true) → before_others o r ≡ Some said → (list_all p cell && all-cells more) ≡ true
           by None r is rest many h = absurd (cc)
           by (Some a) None is rest many h = absurd (cc)
-          by (Some a) (Some others) is rest many h = both (list_all p cell) (all-cells more) (sym (all-content cell) ∙ passes (content cell) a is) (many others rest)
+          by (Some a) (Some others) is rest many h = and_from (list_all p cell) (all-cells more) (sym (all-content cell) ∙ passes (content cell) a is) (many others rest)
 
       -- the first has one, so not all do
       first-not : ((cell : List ℕ) (a : Alignment) → alignment_of cell ≡ Some a → list_all p cell ≡ false) → (cs : Cells) (said : List Alignment) → some_alignments (contents cs) ≡ Some said → all-cells cs ≡ false
@@ -199,17 +193,9 @@ module _ (cell : List ℕ) (a : Alignment) (is : alignment_of cell ≡ Some a) w
 abbrev is_other : ℕ → Bool
 is_other b = not (is_pipe_or_colon b)
 
-pub not-true : (b : Bool) → not b ≡ true → b ≡ false
-not-true false h = refl
-not-true true h = absurd (false≢true h)
-
-pub or-left : (x y : Bool) → (x || y) ≡ false → x ≡ false
-or-left false y h = refl
-or-left true y h = absurd (false≢true (sym h))
-
 -- it is one cell
 no-pipe : (b : ℕ) → is_other b ≡ true → (b == 124) ≡ false
-no-pipe b h = or-left (b == 124) (b == 58) (not-true (is_pipe_or_colon b) h)
+no-pipe b h = (or_parts (b == 124) (b == 58) (not-true (is_pipe_or_colon b) h)).0
 
 one-onto : (b : ℕ) (t : List ℕ) → onto b (one_cell t) ≡ last_cell (b ∷ t)
 one-onto b [] = refl
@@ -249,7 +235,7 @@ hyphen-first (b ∷ bs) ws hc some = and-left (is_hyphen b) (list_all is_hyphen 
 hyphens-alone : (c : List ℕ) → list_all is_other c ≡ true → list_all (λ b. is_hyphen b || (b == 58)) c ≡ true → list_all is_hyphen c ≡ true
 hyphens-alone [] ho ha = refl
 hyphens-alone (b ∷ bs) ho ha =
-    both (is_hyphen b) (list_all is_hyphen bs)
+    and_from (is_hyphen b) (list_all is_hyphen bs)
     (by (is_hyphen b) (b == 124) (b == 58) (and-left (is_other b) (list_all is_other bs) ho) (and-left (is_hyphen b || (b == 58)) (list_all (λ c. is_hyphen c || (c == 58)) bs) ha))
     (hyphens-alone bs (and-right (is_other b) (list_all is_other bs) ho) (and-right (is_hyphen b || (b == 58)) (list_all (λ c. is_hyphen c || (c == 58)) bs) ha))
   where
@@ -289,7 +275,7 @@ alone-underlines r said other first e = by (trimmed is_space_or_tab r) (trim_fro
             ∙ append_assoc c (white-end (unindented (x ∷ xs))) (white-end r)
 
         white : list_all is_space_or_tab ws ≡ true
-        white = list_all-append is_space_or_tab (white-end (unindented (x ∷ xs))) (white-end r) ∙ both _ _ (white-end-is (unindented (x ∷ xs))) (white-end-is r)
+        white = list_all-append is_space_or_tab (white-end (unindented (x ∷ xs))) (white-end r) ∙ and_from _ _ (white-end-is (unindented (x ∷ xs))) (white-end-is r)
 
         at : (o : Option Alignment) → alignment_of c ≡ o → before_others o (Some []) ≡ Some said → is_underline_of_marks 45 r ≡ true
         at None is h = absurd (cc)
@@ -297,7 +283,7 @@ alone-underlines r said other first e = by (trimmed is_space_or_tab r) (trim_fro
             let others = all-content is_other refl refl (x ∷ xs) ∙ ou in
             let hyphens = hyphens-alone c others (alignment-all c a is (λ b. is_hyphen b || (b == 58)) refl refl) in
             let some = alignment-not c a is (λ b. not (is_hyphen b)) refl refl in
-            ap (is_underline_of_marks 45) whole ∙ both (begins_with 45 (c ++ ws)) (is_blank_line (drop (run 45 (c ++ ws)) (c ++ ws))) (hyphen-first c ws hyphens some) (hyphens-white c ws hyphens white)
+            ap (is_underline_of_marks 45) whole ∙ and_from (begins_with 45 (c ++ ws)) (is_blank_line (drop (run 45 (c ++ ws)) (c ++ ws))) (hyphen-first c ws hyphens some) (hyphens-white c ws hyphens white)
 
 -- ---- a delimiter row
 module _ (t : List ℕ) (said : List Alignment) (is : delimiters t ≡ Some said) where
@@ -323,8 +309,8 @@ module _ (t : List ℕ) (said : List Alignment) (is : delimiters t ≡ Some said
 
   may : is_underline_of_marks 45 (unindented t) ≡ false → may_delimit t ≡ true
   may not_one =
-      both (list_all is_delimiting t) (list_any is_hyphen t && list_any is_pipe_or_colon t) bytes-delimit
-      (both (list_any is_hyphen t) (list_any is_pipe_or_colon t) has-hyphen (any-all is_pipe_or_colon t ∙ ap not (by (list_all is_other t) refl)))
+      and_from (list_all is_delimiting t) (list_any is_hyphen t && list_any is_pipe_or_colon t) bytes-delimit
+      (and_from (list_any is_hyphen t) (list_any is_pipe_or_colon t) has-hyphen (any-all is_pipe_or_colon t ∙ ap not (by (list_all is_other t) refl)))
     where
       by : (b : Bool) → list_all is_other t ≡ b → b ≡ false
       by false e = refl

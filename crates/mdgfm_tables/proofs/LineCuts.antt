@@ -64,7 +64,7 @@ line-clean (b ∷ bs) = by (is_in_line b) refl (line-clean bs)
     by true e h = ap (is_torn (b ∷ bs)) (line-next b bs e) ∙ torn-next b bs (line_length bs) e h
     by false e h = ap (is_torn (b ∷ bs)) (line-ends b bs e) ∙ ends ((b == 13) && begins_with_lf bs) refl
 
-line-within : (bs : List ℕ) → line_length bs ≤ length bs
+pub line-within : (bs : List ℕ) → line_length bs ≤ length bs
 line-within [] = omega arith
 line-within (b ∷ bs) = by (is_in_line b) refl (line-within bs)
   where

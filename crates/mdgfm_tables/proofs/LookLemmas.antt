@@ -2,6 +2,7 @@
 use Rattle.std.proofs.Common.{◌≡◌, ℕ, suc, ◌+◌, ◌<◌, ◌≤◌, Bool, true, false, cond, List, [], ◌∷◌, arith, drop, length, get_or, refl, sym, ap, ◌∙◌}
 use Rattle.std.specs.Prelude.{◌&&◌, ◌||◌, not, take_while}
 use Rattle.std.specs.List.{list_all, list_any, prefix_len}
+use Rattle.std.proofs.Math.Bool.{or_assoc}
 use Rattle.std.proofs.lemmas.List.{drop-drop, drop_all, drop_more}
 use Rattle.std.proofs.lemmas.List.Sums.{take_while-cons}
 use Rattle.mdblock_lines.specs.Lines.{is_in_line}
@@ -46,11 +47,7 @@ module _ (t : List ℕ) (n : ℕ) (h : n < length t) where
       let more = first_line (drop (n + 1) t) in
       ap (delimits_with hyphen other) (inside e)
       ∙ ap (λ x. (x && list_all is_delimiting more) && ((hyphen || (is_hyphen b || list_any is_hyphen more)) && (other || (is_pipe_or_colon b || list_any is_pipe_or_colon more)))) d
-      ∙ (λ i. list_all is_delimiting more && (or-or hyphen (is_hyphen b) (list_any is_hyphen more) i && or-or other (is_pipe_or_colon b) (list_any is_pipe_or_colon more) i))
-    where
-      or-or : (x y z : Bool) → (x || (y || z)) ≡ ((x || y) || z)
-      or-or true y z = refl
-      or-or false y z = refl
+      ∙ (λ i. list_all is_delimiting more && (sym (or_assoc hyphen (is_hyphen b) (list_any is_hyphen more)) i && sym (or_assoc other (is_pipe_or_colon b) (list_any is_pipe_or_colon more)) i))
 
 pub or-then : (x y : Bool) → x ≡ true → x ≡ (x || y)
 or-then x y e = e ∙ sym (ap (λ b. b || y) e)

@@ -3,7 +3,7 @@ use Rattle.std.proofs.Common.{◌≡◌, ℕ, zero, suc, ◌+◌, ◌-◌, ◌<�
 use Rattle.std.specs.Prelude.{◌==◌, ◌&&◌, ◌||◌, not}
 use Rattle.std.specs.List.{AllByRecursion, list_all, list_any, prefix_len}
 use Rattle.std.proofs.Math.Nat.{mod-lt}
-use Rattle.std.proofs.lemmas.Bool.{false≢true}
+use Rattle.std.proofs.lemmas.Bool.{false≢true, or_parts}
 use Rattle.std.proofs.lemmas.List.Sums.{take_while-cons}
 use Rattle.markdown_base.proofs.Common.{and-right}
 use Rattle.markdown_base.specs.Virtual.{Seat, begins_with_lf, in_tab, line_feed, other_byte, tab_width, virtual, virtual_from}
@@ -14,7 +14,7 @@ use Rattle.mdblock_lines.proofs.LinesCut.{lines_follow}
 use Rattle.mdblock_lines.proofs.SeatPlaces.{before_ending, ending_first, lf_first, no_ending_first}
 use Rattle.mdblock_containers.proofs.DocumentRows.{line_length_some, text_of_line_at}
 use Rattle.mdgfm_tables.specs.Look.{has_delimiter_row, has_delimiter_row_from, is_delimiting, is_hyphen, is_pipe_or_colon, may_delimit}
-use Rattle.mdgfm_tables.proofs.DelimiterRows.{any-all, or-left}
+use Rattle.mdgfm_tables.proofs.DelimiterRows.{any-all}
 use Rattle.mdgfm_tables.proofs.LookLemmas.{first_line}
 
 -- ---- a line as virtual bytes
@@ -102,7 +102,7 @@ ending-behind (b ∷ bs) = by (is_in_line b) (ending-behind bs)
 -- the first line is no delimiter row, and none behind it is
 pub none-first : (bs : List ℕ) → has_delimiter_row bs ≡ false → may_delimit (first_line bs) ≡ false
 none-first [] h = refl
-none-first (b ∷ bs) h = or-left (may_delimit (first_line (b ∷ bs))) _ h
+none-first (b ∷ bs) h = (or_parts (may_delimit (first_line (b ∷ bs))) _ h).0
 
 pub none-behind : (bs : List ℕ) → has_delimiter_row bs ≡ false → has_delimiter_row (drop (line_length bs) bs) ≡ false
 none-behind [] h = refl

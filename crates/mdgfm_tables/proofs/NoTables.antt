@@ -1,20 +1,19 @@
 -- Where no line of a document may be a delimiter row, it has no table.
 use Rattle.std.proofs.Common.{◌≡◌, ℕ, zero, suc, ◌+◌, ◌<◌, ◌≤◌, Bool, true, false, cond, List, [], ◌∷◌, arith, drop, length, length-drop, refl, subst, sym, ap, ◌∙◌}
-use Rattle.std.specs.Prelude.{◌==◌, ◌&&◌, ◌||◌, not, None, Some, is_some}
-use Rattle.std.specs.List.{AllByRecursion, prefix_len}
-use Rattle.std.proofs.lemmas.Bool.{false≢true}
-use Rattle.std.proofs.lemmas.List.Sums.{prefix_len-le-length}
+use Rattle.std.specs.Prelude.{◌&&◌, ◌||◌, not, None, Some, is_some}
+use Rattle.std.specs.List.{AllByRecursion}
+use Rattle.std.proofs.lemmas.Bool.{false≢true, not-true}
 use Rattle.markdown_base.specs.declared.configuration.Constructs.{Constructs}
 use Rattle.markdown_base.specs.Virtual.{virtual, virtual_from}
 use Rattle.markdown_base.proofs.Common.{and-right}
-use Rattle.markdown_base.proofs.Facts.Bools.{and-left}
+use Rattle.markdown_base.proofs.Facts.Bools.{and-left, cond-same}
 use Rattle.mdconstructs_machines.specs.LineEvents.{lines_in}
 use Rattle.mdblock_leaf_blocks.specs.LeafBlocks.{Line, interrupts, text_of}
 use Rattle.mdblock_leaf_blocks.specs.LineKinds.{blank, indent, indented, is_blank_line, is_far, is_underline_of_marks, kind_of_rest, line_kind, underline_rank, unindented}
-use Rattle.mdblock_lines.specs.Lines.{ending_size, is_in_line, line_length}
+use Rattle.mdblock_lines.specs.Lines.{line_length}
 use Rattle.mdblock_lines.proofs.LinesCut.{lines_follow}
 use Rattle.mdblock_tables.specs.Tables.{matched}
-use Rattle.mdblock_containers.specs.Rows.{Leaf, Row, closed, has_none, is_paragraph, leaf_after, open_paragraph, opened_by, rest_of}
+use Rattle.mdblock_containers.specs.Rows.{Row, closed, has_none, is_paragraph, leaf_after, open_paragraph, opened_by, rest_of}
 use Rattle.mdblock_containers.specs.Rows as without
 use Rattle.mdblock_containers.specs.Prefixes.{columns_of}
 use Rattle.mdblock_containers.proofs.DocumentRows.{line_length_some}
@@ -24,7 +23,8 @@ use Rattle.mddocument_parts.specs.DocumentRests.{known_at_start}
 use Rattle.mdgfm_tables.specs.Look.{has_delimiter_row, may_delimit}
 use Rattle.mdgfm_tables.specs.Parts.{bytes_of_lines, size_before}
 use Rattle.mdgfm_tables.specs.TopTables.{before_table, begins_table, is_plain_text, is_text, is_top_text}
-use Rattle.mdgfm_tables.proofs.DelimiterRows.{may-or-underlines, not-true}
+use Rattle.mdgfm_tables.proofs.DelimiterRows.{may-or-underlines}
+use Rattle.mdgfm_tables.proofs.LineCuts.{line-within}
 use Rattle.mdgfm_tables.proofs.LookLines.{IsNoRow, none-of-lines}
 use Rattle.mdgfm_tables.proofs.TopText.{known-top, topped}
 
@@ -71,14 +71,10 @@ module _ (on : Constructs) (text : List ℕ) (number : ℕ) (next : Line) where
       not-underlined r =
           (λ i. is_paragraph (cond (on.definition && ((stays i && true) && (r i && is_used_up text))) open_paragraph (cond plain.is_left_blank closed (leaf_after on (cond (stays i) open_paragraph closed) rest))))
           ∙ (λ i. is_paragraph (cond (used i) open_paragraph (cond plain.is_left_blank closed (cond (r i) closed (cond (interrupts (line_kind on rest)) (opened_by on (line_kind on rest) rest) open_paragraph)))))
-          ∙ by plain.is_left_blank
+          ∙ ap is_paragraph (cond-same plain.is_left_blank closed)
         where
           used : (on.definition && is_used_up text) ≡ false
           used = not-true (on.definition && is_used_up text) left
-
-          by : (b : Bool) → is_paragraph (cond b closed closed) ≡ false
-          by true = refl
-          by false = refl
 
       ranked : is_underline_of_marks 45 (unindented rest) ≡ true → is_some (underline_rank on rest) ≡ true
       ranked e = (λ i. is_some {T = ℕ} (cond (near i || not (setext i)) None (cond (is_underline_of_marks 61 (unindented rest)) (Some 1) (cond (e i) (Some 2) None)))) ∙ by (is_underline_of_marks 61 (unindented rest))
@@ -142,22 +138,6 @@ module _ (on : Constructs) (setext : on.heading_setext ≡ true) where
       ∙ ap suc (none-before (known_after on k (row_of on k number line)) (suc number) (next ∷ lines) h.1)
 
 -- ---- all bytes are in lines
-
-ending-within : (bs : List ℕ) → ending_size bs ≤ length bs
-ending-within [] = omega arith
-ending-within (b ∷ []) = by (b == 13)
-  where
-    by : (x : Bool) → cond (x && false) 2 1 ≤ 1
-    by true = omega arith
-    by false = omega arith
-ending-within (b ∷ c ∷ cs) = by ((b == 13) && (c == 10))
-  where
-    by : (x : Bool) → cond x 2 1 ≤ suc (suc (length cs))
-    by true = omega arith
-    by false = omega arith
-
-line-within : (bs : List ℕ) → line_length bs ≤ length bs
-line-within bs = let n = prefix_len is_in_line bs in omega (arith, prefix_len-le-length is_in_line bs, ending-within (drop n bs), length-drop n bs)
 
 all-within : (t : ℕ) → 0 < t → (bound number index : ℕ) (bs : List ℕ) → length bs ≤ bound → bytes_of_lines (length (lines_in (virtual_from t number 1 index bs))) bs ≡ length bs
 all-within t some bound number index [] h = refl

@@ -1,19 +1,16 @@
 -- The events of a table are well formed: so are its rows, and so is what the texts of its cells are read as.
-use Rattle.std.proofs.Common.{◌≡◌, ℕ, true, List, [], ◌∷◌, append-nil, refl, sym, subst}
-use Rattle.std.specs.Prelude.{Bool, Option, Some, map}
+use Rattle.std.proofs.Common.{◌≡◌, ap, ℕ, ◌+◌, true, List, [], ◌∷◌, append-nil, refl, sym, subst, ◌∙◌}
+use Rattle.std.specs.Prelude.{Bool, None, Option, Some, map}
 use Rattle.std.specs.List.{AllByRecursion}
-use Rattle.std.proofs.lemmas.List.Elements.{All-from_recursion}
-use Rattle.markdown_base.proofs.Common.{every-map}
-use Rattle.markdown_base.proofs.Orders.{order-pairs, tight-at}
+use Rattle.markdown_base.proofs.Orders.{tight-at}
 use Rattle.markdown_base.specs.declared.configuration.ParseOptions.{ParseOptions}
 use Rattle.markdown_base.specs.declared.event.Content.{Content}
 use Rattle.markdown_base.specs.declared.event.Content.TheVariants.{Text as TextContent}
 use Rattle.markdown_base.specs.declared.event.Event.{Event}
 use Rattle.markdown_base.specs.declared.event.Point.{Point}
 use Rattle.markdown_base.specs.Events.{IsVoidTight}
-use Rattle.markdown_base.specs.Places.{IsPointOf, IsShown, shown}
+use Rattle.markdown_base.specs.Places.{shown}
 use Rattle.markdown_base.specs.Virtual.{end_after, point, virtual}
-use Rattle.markdown_edits.proofs.Balanced.{balanced_from_open}
 use Rattle.markdown_tokenizer.specs.Engine.{IsWellFormed}
 use Rattle.markdown_tokenizer.specs.Text.{Given, IsDocument, IsText, Text}
 use Rattle.markdown_children.proofs.Parts.InShape.{children_fit}
@@ -26,10 +23,15 @@ use Rattle.mdinline_machine.specs.InlineEvents.{inline_events}
 use Rattle.mdinline_link_strings.proofs.Kept.{strings_keep}
 use Rattle.mdinline_link_strings.proofs.Orders.{keep_order}
 use Rattle.mdinline_link_strings.proofs.Places.{stand_at_places}
-use Rattle.mdblock_leaf_blocks.proofs.Marks.Courses.{Course, Place, course-every, text-course}
-use Rattle.mdblock_leaf_blocks.proofs.Marks.MarkForms.{Formed}
+use Rattle.mdblock_leaf_blocks.proofs.Marks.Courses.{Course, course-every, text-course}
+use Rattle.mdblock_leaf_blocks.proofs.Marks.MarkForms.{Formed, formed-well}
+use Rattle.mdblock_leaf_blocks.specs.LeafEvents.{Mark, linked_from}
 use Rattle.mdblock_leaf_blocks.specs.ChunksJoin.{AcrossGap}
+use Rattle.mdblock_containers.proofs.RestLemmas.{plain_map}
+use Rattle.mdblock_containers.specs.SeatPlaces.{events_of}
+use Rattle.mdblock_containers.specs.Written.{NoChunk}
 use Rattle.mdblock_table_marks.specs.Cells.{with_cells}
+use Rattle.mddocument.proofs.FlowTexts.Accounts.{bare-marks}
 use Rattle.mddocument.proofs.FlowTexts.InlineSteps.{Steps, steps-virtual}
 use Rattle.mddocument.proofs.FlowTexts.InlineTight.{inline-tight}
 use Rattle.mddocument.proofs.InContainers.InlinePlaces.{inline-at}
@@ -40,16 +42,11 @@ use Rattle.mdgfm_tables.specs.TableEvents.{IsTable, table_events, table_rows}
 use Rattle.mdgfm_tables.proofs.CellChains.{cells-alone, cells-formed, cells-ready}
 use Rattle.mdgfm_tables.proofs.TableForms.{AreRowsFormed, rows-formed}
 
--- events between two places are balanced, at places and in order
-formed-orderly : (t : ℕ) (bytes : List ℕ) (p : Point) (es : List Event) (q : Point) → Formed t bytes p es q → IsOrderly t bytes es
-formed-orderly t bytes p es q h = record {
-  balanced = balanced_from_open es (h.balanced []);
-  at_places = All-from_recursion (λ (e : Event). IsPointOf t bytes e.point) es (every-map (λ (e : Event). Place t bytes e.point) (λ (e : Event). IsPointOf t bytes e.point) (λ e k. k.is_point) es h.places);
-  in_order = (
-    order-pairs p es q h.order,
-    All-from_recursion (λ (e : Event). IsShown bytes e.point) es (every-map (λ (e : Event). Place t bytes e.point) (λ (e : Event). IsShown bytes e.point) (λ e k. k.is_shown) es h.places),
-  );
-}
+-- marks that begin no chunk are their events
+linked-plain : (i : ℕ) (ms : List Mark) → NoChunk ms → linked_from i ms ≡ events_of ms
+linked-plain i [] h = refl
+linked-plain i ((e, None) ∷ ms) h = ap (λ l. e ∷ l) (linked-plain (i + 1) ms h)
+linked-plain i ((e, Some chunk) ∷ ms) h = absurd h
 
 -- inline text stands where the virtual bytes of its text are shown, or end
 inline-stands : (defined : List ℕ → Bool) (g : Given) (At : Point → Type 0) (text : Text) → IsText g text → AllByRecursion (EndsAt At g.bytes) text.seats → AllByRecursion (λ (e : Event). At e.point) (inline_events defined g text)
@@ -79,8 +76,13 @@ module _ (options : ParseOptions) (bytes : List ℕ) (is : IsDocument (document 
   are-formed : Formed t bytes (point 1 1 0 0) rows finish
   are-formed = cells-formed t bytes (point 1 1 0 0) (table_rows t bytes) finish are-rows.formed options.constructs
 
+  rows-well : IsWellFormed g rows
+  rows-well =
+      let marks : List Mark = map (λ (e : Event). (e, None)) rows in
+      subst (IsWellFormed g) (linked-plain 0 marks (plain_map (λ (e : Event). e) rows) ∙ bare-marks rows) (formed-well g (point 1 1 0 0) marks finish (subst (λ es. Formed t bytes (point 1 1 0 0) es finish) (sym (bare-marks rows)) are-formed))
+
   rows-orderly : IsOrderly t bytes rows
-  rows-orderly = formed-orderly t bytes (point 1 1 0 0) rows finish are-formed
+  rows-orderly = record { balanced = rows-well.balanced; at_places = rows-well.at_places; in_order = rows-well.in_order }
 
   -- these can be read
   pub rows-ready : (wanted : Option Content) → IsReady t bytes wanted rows
@@ -99,7 +101,7 @@ module _ (options : ParseOptions) (bytes : List ℕ) (is : IsDocument (document 
     pub inlines-tight : IsVoidTight (with_inlines defined g rows)
     inlines-tight =
         let ready = rows-ready (Some TextContent) in
-        (children_fit t bytes (Some TextContent) rows ready texts).tight (tight-at rows are-formed.tight) (each-tight (fitting_starts (Some TextContent) rows))
+        (children_fit t bytes (Some TextContent) rows ready texts).tight rows-well.void_tight (each-tight (fitting_starts (Some TextContent) rows))
         (lone-untorn t bytes (Some TextContent) rows ready (cells-alone options.constructs (Some TextContent) (table_rows t bytes) are-rows.none) texts)
 
     -- and it is in order

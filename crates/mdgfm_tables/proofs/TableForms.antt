@@ -3,19 +3,13 @@ use Rattle.std.proofs.Common.{◌≡◌, ℕ, ◌<◌, false, List, [], ◌∷�
 use Rattle.std.specs.Prelude.{None, Some}
 use Rattle.std.proofs.lemmas.Bool.{false≢true}
 use Rattle.std.proofs.lemmas.List.{map-append}
-use Rattle.markdown_base.proofs.Seats.{stands-self}
 use Rattle.markdown_base.specs.declared.event.Event.{Event}
-use Rattle.markdown_base.specs.declared.event.Kind.TheVariants.{Enter, Exit}
-use Rattle.markdown_base.specs.declared.event.Name.{Name}
 use Rattle.markdown_base.specs.declared.event.Name.TheVariants as name
-use Rattle.markdown_base.specs.Places.{shown, stands_before}
 use Rattle.markdown_base.specs.Virtual.{Seat, end_after, point, virtual}
 use Rattle.mdconstructs_machines.specs.LineEvents.{lines_in}
-use Rattle.mdconstructs_machines.specs.Spans.{event}
-use Rattle.mdblock_leaf_blocks.proofs.Marks.Courses.{Place, Track, course-here, track-on, track-place, track-upto, whole-track}
-use Rattle.mdblock_leaf_blocks.proofs.Marks.MarkForms.{Formed, Forms, forms-kept, name-closed}
-use Rattle.mdblock_leaf_blocks.proofs.Marks.MarkSpans.{no-spans, spans-around, spans-both}
-use Rattle.mdblock_leaf_blocks.specs.ChunksJoin.{AtOnce}
+use Rattle.mdblock_leaf_blocks.proofs.Marks.Courses.{Track, whole-track}
+use Rattle.mdblock_leaf_blocks.proofs.Marks.MarkForms.{Formed, Forms, forms-kept}
+use Rattle.mdblock_leaf_blocks.proofs.Marks.MarkSpans.{spans-both}
 use Rattle.mdblock_leaf_blocks.specs.LeafBlocks.{Line}
 use Rattle.mdblock_leaf_blocks.specs.LeafEvents.{Mark, leaf_marks}
 use Rattle.mdblock_containers.specs.SeatPlaces.{events_of}
@@ -26,6 +20,7 @@ use Rattle.mdblock_table_marks.proofs.TableShapes.{AnyName, IsOpenName, any-leaf
 use Rattle.mdblock_table_marks.proofs.TableSpans.{IsKeptInTables}
 use Rattle.mdblock_table_marks.specs.Cells.{BeginsWithData, CellsHaveData}
 use Rattle.mdblock_table_marks.specs.TableMarks.{rows_marks, rows_seats}
+use Rattle.mdblock_definitions.proofs.DefinitionMarks.{forms-kept-by}
 use Rattle.mdgfm_tables.specs.TableEvents.{AreRows, IsTable, header_and_rows, last_ending, row_with, rows_with, table_rows}
 use Rattle.mdgfm_tables.proofs.CellChains.{HaveNone}
 use Rattle.mdgfm_tables.proofs.TableLines.{last-marks, last-seats, table-seats}
@@ -33,28 +28,12 @@ use Rattle.mdgfm_tables.proofs.TableLines.{last-marks, last-seats, table-seats}
 -- ---- spans of tables are in shape
 
 module _ (t : ℕ) (bytes : List ℕ) where
-  alone : (n : Name) (ss : List Seat) → Forms t bytes (leaf_marks bytes n ss) ss
-  alone n [] p rest track = no-spans bytes (Forms t bytes) (forms-kept t bytes) p rest track
-  alone n (s ∷ ss) p rest track =
-      let o = shown bytes s.point in
-      let q = end_after s.end ss in
-      let there = track-place t bytes q rest (track-on t bytes p (s ∷ ss) rest track) in
-      let here = track.1.seat.here in
-      let upto : stands_before q o ≡ false = track-upto t bytes o (s ∷ ss) rest (course-here AtOnce t bytes (λ a. refl) p s (ss ++ rest) track) in
-      let shown_there : shown bytes q ≡ q = there.is_shown in
-      record {
-        balanced = λ st. name-closed (event bytes Exit n q) n st refl refl;
-        tight = ((λ enters void. (refl, refl)), ((λ enters void. absurd (let no : Enter ≡ Exit = sym enters in cc)), tt));
-        order = (track.1.later, (subst (λ x. stands_before x o ≡ false) (sym shown_there) upto, subst (λ x. stands_before q x ≡ false) (sym shown_there) (stands-self q)));
-        places = (here, (subst (Place t bytes) (sym shown_there) there, tt));
-      }
-
   forms-in-tables : IsKeptInTables bytes AnyName IsOpenName (Forms t bytes)
   forms-in-tables = record {
-    none = no-spans bytes (Forms t bytes) (forms-kept t bytes);
-    both = λ xs ys a b h k. spans-both bytes (Forms t bytes) (forms-kept t bytes) h k;
-    alone = λ n ss any. alone n ss;
-    around = λ n ss inside void h. spans-around bytes (Forms t bytes) (forms-kept t bytes) n ss inside void h;
+    none = (forms-kept-by bytes t).none;
+    both = (forms-kept-by bytes t).both;
+    alone = λ n ss any. (forms-kept-by bytes t).alone n ss;
+    around = (forms-kept-by bytes t).around;
     leafs = any-leafs;
     spans = open-spans;
   }
@@ -95,7 +74,7 @@ module _ (t : ℕ) (bytes : List ℕ) (wide : 0 < t) where
       let marks = rows_marks bytes (row_with 1 l) (rows_with 2 ls) in
       let is : ending ≡ last_ending bytes (l ∷ ls) = sym (last-marks bytes (l ∷ ls)) in
       let forms : Forms t bytes (marks ++ ending) (rows_seats rows ++ last) =
-      spans-both bytes (Forms t bytes) (forms-kept t bytes) (tables-keep bytes (Forms t bytes) (forms-in-tables t bytes) (row_with 1 l) (rows_with 2 ls)) (alone t bytes name.LineEnding last) in
+      spans-both bytes (Forms t bytes) (forms-kept t bytes) (tables-keep bytes (Forms t bytes) (forms-in-tables t bytes) (row_with 1 l) (rows_with 2 ls)) ((forms-kept-by bytes t).alone name.LineEnding last) in
       let all : Forms t bytes (marks ++ ending) (virtual t bytes) = subst (Forms t bytes (marks ++ ending)) (table-seats t bytes l ls e) forms in
       let track = subst (Track t bytes (point 1 1 0 0)) (sym (append-nil (virtual t bytes))) (whole-track t bytes wide) in
       let both : events_of (marks ++ ending) ≡ events_of marks ++ events_of ending = map-append (λ (m : Mark). m.0) marks ending in

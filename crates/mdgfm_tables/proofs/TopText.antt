@@ -1,7 +1,8 @@
 -- Text of a paragraph in no container: what is known behind it, and the next line.
 use Rattle.std.proofs.Common.{◌≡◌, ℕ, suc, ◌+◌, ◌-◌, Bool, true, false, cond, List, [], ◌∷◌, ◌++◌, arith, drop, length, length-append, refl, sym, ap, subst, take, ◌∙◌}
 use Rattle.std.specs.Prelude.{◌&&◌, not, is_some}
-use Rattle.std.proofs.lemmas.Bool.{false≢true}
+use Rattle.std.proofs.Math.Bool.{and-false, and_assoc}
+use Rattle.std.proofs.lemmas.Bool.{false≢true, not-true}
 use Rattle.std.proofs.lemmas.List.{take_at}
 use Rattle.markdown_base.specs.declared.configuration.Constructs.{Constructs}
 use Rattle.markdown_base.proofs.Common.{and-right}
@@ -12,28 +13,17 @@ use Rattle.mdblock_lines.specs.Containers.{Prefix}
 use Rattle.mdblock_tables.specs.Tables.{is_row, matched}
 use Rattle.mdblock_containers.specs.declared.rows.Row.{Row as CodeRow}
 use Rattle.mdblock_containers.specs.Prefixes.{columns_of, containers_of}
-use Rattle.mdblock_containers.specs.Rows.{Before, Leaf, Row, closed, has_none, holds_ending, is_paragraph, nothing_known, open_paragraph, rest_of}
+use Rattle.mdblock_containers.specs.Rows.{Before, Row, closed, has_none, holds_ending, is_paragraph, nothing_known, open_paragraph, rest_of}
 use Rattle.mdblock_containers.specs.Rows as without
 use Rattle.mdblock_containers.specs.Views.{IsRow}
 use Rattle.mdblock_containers.proofs.FrameFacts.{none_is}
 use Rattle.mdblock_definitions.specs.Known.{held, is_held_used_up}
 use Rattle.mdblock_definitions.specs.Laws.{begins_with_bracket}
 use Rattle.mdblock_definitions.specs.Rows.{Known, is_used_up, known_after, row_of, text_after}
-use Rattle.mdblock_definitions.proofs.HeldTexts.{bracket-longer}
+use Rattle.mdblock_definitions.proofs.HeldTexts.{bracket-longer, looked-held}
 use Rattle.mdblock_definitions.proofs.KnownLemmas.{paragraph-is}
 use Rattle.mdblock_definitions.proofs.KnownReads.{blank-nothing}
-use Rattle.mdblock_definitions.proofs.Without.{not-used-up}
 use Rattle.mdgfm_tables.specs.TopTables.{begins_table, goes_on_with_table, is_plain_text, is_text, is_top_text}
-
--- ---- tests
-
-not-true : (b : Bool) → not b ≡ true → b ≡ false
-not-true false h = refl
-not-true true h = absurd (false≢true h)
-
-and-assoc : (a b c : Bool) → ((a && b) && c) ≡ (a && (b && c))
-and-assoc true b c = refl
-and-assoc false b c = refl
 
 -- prefixes of none have no columns
 columns-none : (went begun : List Prefix) → has_none went ≡ true → has_none begun ≡ true → columns_of went + columns_of begun ≡ 0
@@ -115,14 +105,6 @@ held-above text line =
     by true = take_at text (10 ∷ line) (length (text ++ 10 ∷ line) - (length line + 1)) (let e = length-append text (10 ∷ line) in omega (arith, e))
     by false = ap (λ n. take n []) (monus-none (length line + 1))
 
--- it is of definitions alone if the text is
-used-above : (text : List ℕ) → has_none text ≡ false → is_held_used_up (held text) ≡ is_used_up text
-used-above text filled = by (begins_with_bracket text) refl
-  where
-    by : (b : Bool) → begins_with_bracket text ≡ b → is_held_used_up (cond b text []) ≡ is_used_up text
-    by true e = ap (λ n. not n && is_used_up text) filled
-    by false e = sym (not-used-up text (e, filled))
-
 -- ---- the next line
 
 order : (a b c : Bool) → (a && (b && c)) ≡ (b && (a && c))
@@ -163,7 +145,7 @@ module _ (on : Constructs) (text : List ℕ) (filled : has_none text ≡ false) 
       by true false es ep = refl
       by true true es ep =
           (λ i. is_some (matched header (sym (whole es) i)) && (is_text (line_kind on (sym (whole es) i)) && not (on.definition && is_held_used_up (above es ep i))))
-          ∙ ap (λ u. is_some (matched header (rest_of this)) && (is_text (line_kind on (rest_of this)) && not (on.definition && u))) (used-above text filled)
+          ∙ ap (λ u. is_some (matched header (rest_of this)) && (is_text (line_kind on (rest_of this)) && not (on.definition && u))) (looked-held on true true true true text (λ e. filled))
           ∙ order (is_some (matched header (rest_of this))) (is_text (line_kind on (rest_of this))) (not (on.definition && is_used_up text))
 
 -- a table begins, or does not, by what the code has
@@ -198,19 +180,14 @@ module _ (on : Constructs) (line : Line) where
   abbrev pub first : Row
   first = without.row_of on (nothing_known on) 1 line
 
-  -- no paragraph is before it
-  first-leaf : (d s x : Bool) → (d && ((s && false) && x)) ≡ false
-  first-leaf false s x = refl
-  first-leaf true false x = refl
-  first-leaf true true x = refl
-
   -- the code asks what it has of it
   pub goes-told : (t : List ℕ) (row : CodeRow) (is_open : Bool) → text_of line ≡ t → IsRow 1 row first → is_open ≡ (has_none first.begun && is_paragraph first.leaf) → (is_open && is_row (drop row.columns t)) ≡ goes_on_with_table on line
   goes-told t row is_open et is eo =
       let underlines = is_some (underline_rank on (rest_of first)) && is_used_up [] in
+      let none : (on.definition && ((first.stays && false) && underlines)) ≡ false = ap (λ s. on.definition && (s && underlines)) (and-false first.stays) ∙ and-false on.definition in
       (λ i. eo i && is_row (drop (is.columns i) (sym et i)))
-      ∙ and-assoc (has_none first.begun) (is_paragraph first.leaf) (is_row (rest_of first))
-      ∙ (λ i. has_none first.begun && (is_paragraph (cond (sym (first-leaf on.definition first.stays underlines) i) open_paragraph first.leaf) && is_row (rest_of first)))
+      ∙ and_assoc (has_none first.begun) (is_paragraph first.leaf) (is_row (rest_of first))
+      ∙ (λ i. has_none first.begun && (is_paragraph (cond (sym none i) open_paragraph first.leaf) && is_row (rest_of first)))
 
   -- nothing is known before it
   pub first-row : (row : CodeRow) (b : Before) → b ≡ nothing_known on → IsRow 1 row (without.row_of on b 1 line) → IsRow 1 row first
