@@ -1,0 +1,2 @@
+-- labels: sets of labels that define the same
+pub mod Alike

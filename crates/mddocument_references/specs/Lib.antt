@@ -1,0 +1,2 @@
+-- references
+pub mod References
