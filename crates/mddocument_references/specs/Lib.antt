@@ -1,2 +1,4 @@
 -- references
 pub mod References
+-- reading
+pub mod Reading

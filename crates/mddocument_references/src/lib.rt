@@ -3,3 +3,6 @@
 
 // references: brackets that were left, and the labels in them
 pub mod references;
+
+// reading: documents by a set of labels
+pub mod reading;
