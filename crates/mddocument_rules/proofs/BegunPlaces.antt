@@ -1,5 +1,5 @@
 -- Which containers begin in a line: the first takes the place of the one that ended there, and the others are as they are.
-use Rattle.std.proofs.Common.{◌≡◌, ◌∙◌, ◌⊎◌, ℕ, zero, suc, ◌+◌, ◌≤◌, Bool, true, false, cond, List, [], ◌∷◌, ◌++◌, None, Option, Some, ap, arith, drop, inl, inr, length, refl, sym}
+use Rattle.std.proofs.Common.{◌≡◌, ◌∙◌, ◌⊎◌, ℕ, zero, suc, ◌+◌, ◌≤◌, Bool, true, false, cond, List, [], ◌∷◌, None, Option, Some, ap, arith, drop, inl, inr, length, refl, sym}
 use Rattle.std.specs.Prelude.{◌==◌, ◌&&◌, slice_get}
 use Rattle.std.proofs.lemmas.Option.{none-some, same_Some}
 use Rattle.markdown_base.proofs.Common.{every-get}
@@ -11,12 +11,6 @@ use Rattle.mdblock_containers.proofs.RowFacts.{BeginsIn, BeginsList, all_begin_h
 use Rattle.mdblock_containers.specs.Prefixes.{beginning, columns_of, containers_of, in_place_of, with_list}
 use Rattle.mdblock_containers.specs.Rows.{Row, is_paragraph, is_raw}
 use Rattle.mdblock_definitions.specs.Rows.{Known, row_of}
-
--- an element of two lists is one of the first, or of the second
-pub get-either : {A : Type 0} (xs ys : List A) (d : ℕ) (x : A) → slice_get (xs ++ ys) d ≡ Some x → (slice_get xs d ≡ Some x) ⊎ ((e : ℕ) × (d ≡ length xs + e) × (slice_get ys e ≡ Some x))
-get-either [] ys d x h = inr (d, omega arith, h)
-get-either (y ∷ xs) ys zero x h = inl h
-get-either (y ∷ xs) ys (suc d) x h = elim (get-either xs ys d x h) [ inl a ↦ inl a | inr b ↦ let e = b.1 in inr (b.0, omega (arith, e), b.2) ]
 
 -- the container of a prefix
 container-at : (ps : List Prefix) (e : ℕ) (c : Container) → slice_get (containers_of ps) e ≡ Some c → (p : Prefix) × (slice_get ps e ≡ Some p) × (c ≡ p.container)

@@ -5,6 +5,7 @@ use Rattle.std.proofs.Math.Bool.{and-false}
 use Rattle.markdown_base.specs.declared.event.Kind.TheVariants.{Enter}
 use Rattle.markdown_base.specs.declared.event.Name.TheVariants.{Image, Label, LabelEnd, LabelImage, LabelLink, LabelMarker, LabelText, Link, Reference, Resource}
 use Rattle.markdown_base.specs.Events.{is_enter, same_name}
+use Rattle.markdown_tokenizer.proofs.Positions.Order.{every-all}
 use Rattle.mdinline_emphasis.specs.declared.pairs.Style.{Style}
 use Rattle.mdinline_emphasis.specs.declared.pairs.Style.TheVariants.{Emphasis as OfEmphasis, Strong as OfStrong, Struck, StruckTwice}
 use Rattle.mdinline_emphasis.specs.Runs.{runs_in}
@@ -26,15 +27,11 @@ other-style OfStrong = (refl, refl, refl)
 other-style Struck = (refl, refl, refl)
 other-style StruckTwice = (refl, refl, refl)
 
-other-styles : (ss : List Style) → AllByRecursion (IsOfStyle IsOther) ss
-other-styles [] = tt
-other-styles (s ∷ ss) = (other-style s, other-styles ss)
-
 closings-linkless : (p : Point) (ss : List Style) → IsLinkless (closings p ss)
-closings-linkless p ss = record { none = closings-are (λ (e : Event). IsOther e.name) IsOther (λ e h. h) refl p ss (other-styles ss) }
+closings-linkless p ss = record { none = closings-are (λ (e : Event). IsOther e.name) IsOther (λ e h. h) refl p ss (every-all (IsOfStyle IsOther) other-style ss) }
 
 openings-linkless : (p : Point) (ss : List Style) → IsLinkless (openings p ss)
-openings-linkless p ss = record { none = openings-are (λ (e : Event). IsOther e.name) IsOther (λ e h. h) refl p ss (other-styles ss) }
+openings-linkless p ss = record { none = openings-are (λ (e : Event). IsOther e.name) IsOther (λ e h. h) refl p ss (every-all (IsOfStyle IsOther) other-style ss) }
 
 plain-linkless : (p : Point) (n : ℕ) → IsLinkless (data_of p n)
 plain-linkless p n = record { none = data-are (λ (e : Event). IsOther e.name) IsOther (λ e h. h) refl p n }

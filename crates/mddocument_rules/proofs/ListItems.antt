@@ -5,6 +5,7 @@ use Rattle.std.proofs.lemmas.List.Elements.{All-from_recursion}
 use Rattle.std.proofs.lemmas.Option.{none-some, same_Some}
 use Rattle.std.specs.List.{AllByRecursion}
 use Rattle.std.specs.Prelude.{All, ◌&&◌, filter, find, option_and_then, slice_get}
+use Rattle.markdown_base.proofs.Facts.Kinds.{enter-is}
 use Rattle.markdown_base.specs.Events.{is_enter, same_name}
 use Rattle.markdown_base.specs.declared.event.Event.{Event}
 use Rattle.markdown_base.specs.declared.event.Kind.{Kind}
@@ -103,16 +104,12 @@ module _ (bytes : List ℕ) where
   abbrev of_first : Option Met → Option Marker
   of_first o = option_and_then (λ m. option_and_then marker_of (slice_get bytes m.event.point.index)) (option_and_then (λ item. option_and_then (λ prefix. first_in ListItemMarker prefix.behind) (first_in ListItemPrefix item.behind)) o)
 
-  enters : (k : Kind) → is_enter k ≡ true → k ≡ Enter
-  enters Enter h = refl
-  enters Exit h = absurd (false≢true h)
-
   first-marker : (list : List Event) → begins_with_item list ≡ true → list_marker bytes list ≡ item_marker bytes (drop 1 list)
   first-marker [] h = absurd (false≢true h)
   first-marker (e ∷ es) h =
       let both = and_parts (is_enter e.kind) (same_name e.name ListItem) h in
       let here : Met = record { event = e; behind = es } in
-      ap (λ (k : Kind). of_first (find is_named (directly_by k 0 here (λ d. directly_from d es)))) (enters e.kind both.0)
+      ap (λ (k : Kind). of_first (find is_named (directly_by k 0 here (λ d. directly_from d es)))) (enter-is e.kind both.0)
       ∙ ap (λ (b : Bool). of_first (cond b (Some here) (find is_named (directly_from 1 es)))) both.1
       ∙ both-then (first_in ListItemPrefix es)
 

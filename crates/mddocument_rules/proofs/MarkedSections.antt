@@ -2,6 +2,7 @@
 use Rattle.std.proofs.Common.{◌≡◌, ◌∙◌, ◌==◌, ℕ, suc, ◌-◌, Bool, true, false, cond, List, [], ◌∷◌, ◌++◌, None, Option, ap, append_assoc, append-nil, drop, length, map, refl, reverse, subst, sym, take}
 use Rattle.std.proofs.lemmas.Bool.{cond_both, false≢true}
 use Rattle.std.proofs.lemmas.List.{reverse-append}
+use Rattle.std.proofs.Math.Seq.{drop-append_seam}
 use Rattle.std.specs.Prelude.{nat_le, option_and_then, slice_get}
 use Rattle.markdown_base.specs.Events.{same_name}
 use Rattle.markdown_base.specs.Virtual.{Seat}
@@ -179,7 +180,7 @@ module _ (rs : List Row) where
     behind-are part (next ∷ more) h =
         let turn = h.0.turn in
         let ended = drop (shared part.frames next.part.frames) part.frames in
-        let is : ended ≡ turn.ended = (λ i. drop (turn.many i) (turn.before_are i)) ∙ drop-front turn.kept turn.ended in
+        let is : ended ≡ turn.ended = (λ i. drop (turn.many i) (turn.before_are i)) ∙ drop-append_seam turn.kept turn.ended in
         let rest = ending_marks bytes part ++ (section_marks bytes next ++ behind_marks bytes next.part more) in
         let there : MarksAre bytes (within 0 [] turn.kept) rest =
         (ends-plain bytes part).passes (within 0 [] turn.kept) (section_marks bytes next ++ behind_marks bytes next.part more) (section-is part.frames next h.0 (behind_marks bytes next.part more) (behind-are next.part more h.1)) in
@@ -187,10 +188,6 @@ module _ (rs : List Row) where
         let around : within 0 [] part.frames ≡ within (deep 0 turn.kept) (within 0 [] turn.kept) turn.ended = ap (within 0 []) turn.before_are ∙ within-both 0 [] turn.kept turn.ended in
         subst (λ a. MarksAre bytes a (exits bytes ended (end_of bytes part) ++ rest)) (sym around)
         (subst (λ (l : List Frame). MarksAre bytes (within (deep 0 turn.kept) (within 0 [] turn.kept) turn.ended) (exits bytes l (end_of bytes part) ++ rest)) (sym is) all)
-      where
-        drop-front : (xs ys : List Frame) → drop (length xs) (xs ++ ys) ≡ ys
-        drop-front [] ys = refl
-        drop-front (x ∷ xs) ys = drop-front xs ys
 
     pub sections-are-marked : (ss : List Section) → SectionsAre [] ss → MarksAre bytes [] (sections_marks bytes ss)
     sections-are-marked [] h = λ i previous. tt

@@ -1,13 +1,14 @@
 -- Each item has the marker of the first item of its list.
-use Rattle.std.proofs.Common.{◌≡◌, ◌∙◌, ℕ, zero, suc, ◌-◌, Bool, true, false, cond, List, [], ◌∷◌, ◌++◌, Some, ap, append_assoc, arith, inl, inr, length, refl, subst, sym}
-use Rattle.std.proofs.lemmas.Bool.{eqb-true}
+use Rattle.std.proofs.Common.{◌≡◌, ◌∙◌, ℕ, zero, suc, ◌+◌, ◌-◌, Bool, true, false, cond, List, [], ◌∷◌, ◌++◌, Some, ap, append_assoc, arith, inl, inr, length, refl, subst, sym}
+use Rattle.std.proofs.lemmas.Bool.{cases_lt, eqb-true}
 use Rattle.std.proofs.lemmas.List.{length-map}
 use Rattle.std.proofs.lemmas.Option.{none-some, same_Some}
 use Rattle.std.specs.Prelude.{◌==◌, ◌||◌, slice_get}
-use Rattle.markdown_base.proofs.Common.{every-get}
+use Rattle.markdown_base.proofs.Common.{every-get, get-front}
 use Rattle.markdown_base.proofs.Facts.Lists.{get-taken}
 use Rattle.markdown_base.specs.declared.configuration.Constructs.{Constructs}
 use Rattle.markdown_base.specs.declared.event.Name.TheVariants.{ListOrdered, ListUnordered}
+use Rattle.markdown_edits.proofs.Edits.Survivors.{slice_get-behind}
 use Rattle.markdown_tokenizer.proofs.Positions.Cursors.{get-after}
 use Rattle.mdblock_leaf_blocks.specs.LeafBlocks.{Line}
 use Rattle.mdblock_lines.specs.Containers.{Container, Item, Prefix, item, quote}
@@ -17,7 +18,7 @@ use Rattle.mdblock_containers.specs.Rows.{Row, nothing_known}
 use Rattle.mdblock_containers.specs.Skeleton.{list_name}
 use Rattle.mdblock_definitions.proofs.KnownRows.{changed-stack}
 use Rattle.mdblock_definitions.specs.Rows.{Known, known_after, row_of, rows, rows_from}
-use Rattle.mddocument_rules.proofs.BegunPlaces.{begins-at, begun-at, ended-first, get-either}
+use Rattle.mddocument_rules.proofs.BegunPlaces.{begins-at, begun-at, ended-first}
 use Rattle.mddocument_rules.proofs.OpenRows.{IsBehind, behind-next, first-behind}
 use Rattle.mddocument_rules.specs.ListLaws.{IsOfItsList, ItemsHaveTheMarker, ListsHaveOneMarker, containers_in}
 
@@ -89,20 +90,27 @@ module _ (rs : List Row) where
     new-item d i (quote m) h begins e = absurd (cc)
 
     pub line-items : AreOfTheirLists rs (containers_in r)
-    line-items d i h = elim (get-either (containers_of r.went_on) (containers_of r.begun) d (item i) h) [
-      | inl went ↦
-          let taken = get-taken (length r.went_on) k.before.stack d (item i) (subst (λ (cs : List Container). slice_get cs d ≡ Some (item i)) (went_are on k.before n l) went) in
-          are d i taken.1
-      | inr b ↦ elim (begun-at on k n l b.0 (item i) b.2) [
-        | inl t ↦
-            let many : length (containers_of r.went_on) ≡ length r.went_on = length-map r.went_on (λ (p : Prefix). p.container) in
-            let at = b.1 in
-            let first = t.first in
-            let same : d ≡ length r.went_on = omega (arith, at, many, first) in
-            placed d i t.old t.prefix.container h (ap (slice_get k.before.stack) same ∙ ended-first on k n l t.old t.ended_first) (begins-at on k n l 0 t.prefix t.new_first) t.is
-        | inr t ↦ new-item d i t.prefix.container h (begins-at on k n l b.0 t.prefix t.new_at) t.is
-      ]
-    ]
+    line-items d i h =
+        let went = containers_of r.went_on in
+        let begun = containers_of r.begun in
+        elim (cases_lt d (length went)) [
+          | inl less ↦
+              let there : slice_get went d ≡ Some (item i) = sym (get-front went begun d less) ∙ h in
+              let taken = get-taken (length r.went_on) k.before.stack d (item i) (subst (λ (cs : List Container). slice_get cs d ≡ Some (item i)) (went_are on k.before n l) there) in
+              are d i taken.1
+          | inr more ↦
+              let e = d - length went in
+              let at : length went + e ≡ d = omega (arith, more) in
+              let there : slice_get begun e ≡ Some (item i) = sym (slice_get-behind went begun e) ∙ ap (slice_get (went ++ begun)) at ∙ h in
+              elim (begun-at on k n l e (item i) there) [
+                | inl t ↦
+                    let many : length went ≡ length r.went_on = length-map r.went_on (λ (p : Prefix). p.container) in
+                    let first = t.first in
+                    let same : d ≡ length r.went_on = omega (arith, at, many, first) in
+                    placed d i t.old t.prefix.container h (ap (slice_get k.before.stack) same ∙ ended-first on k n l t.old t.ended_first) (begins-at on k n l 0 t.prefix t.new_first) t.is
+                | inr t ↦ new-item d i t.prefix.container h (begins-at on k n l e t.prefix t.new_at) t.is
+              ]
+        ]
 
     -- and of those that are open behind it
     pub open-items : AreOfTheirLists rs (known_after on k r).before.stack

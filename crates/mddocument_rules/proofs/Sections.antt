@@ -1,5 +1,6 @@
 -- The skeleton of a document: its containers, its definitions and its chunks stand where they may, and gaps between chunks are free.
 use Rattle.mddocument_rules.proofs.Prelude.{◌≡◌, ◌∙◌, ◌⊎◌, ◌==◌, ℕ, Bool, true, false, cond, not, List, [], ◌∷◌, ◌++◌, Some, None, append-nil, append_assoc, drop, inl, inr, length, map, refl, reverse, sym, ap, subst, take, cond_both, false≢true, not-true, or_right, AllByRecursion, flat_map, Exit, Point, Seat, ending_of, line_text, event, Chunk, Mark, chunk_span, leaf_marks, span_marks, white, indent, Container, Prefix, item, quote, Turn, all_entered, Row, has_none, rest_of, Frame, Part, Piece, begin_of, begun_all, chunks_of, end_of, ending_marks, enters_of, exits, inside_of, is_held, joined_pieces, last_line, pieces_of, prefixes_marks, shared, Inside, Section, defined, lines, all_rows, behind_marks, inside_marks, section_marks, sections_marks, every-all, any-seats, PieceIs, stretch-is, holds_blocks, is_in, may_stand, list_names}
+use Rattle.std.proofs.Math.Seq.{drop-append_seam}
 use Rattle.markdown_base.specs.declared.event.Content.TheVariants as content
 use Rattle.markdown_base.specs.declared.event.Name.TheVariants as name
 use Rattle.mdblock_containers.specs.Prefixes.{columns_of}
@@ -161,17 +162,13 @@ module _ (bytes : List ℕ) where
   behind-stands part (next ∷ more) h =
       let turn = h.0.turn in
       let ended = drop (shared part.frames next.part.frames) part.frames in
-      let is : ended ≡ turn.ended = (λ i. drop (turn.many i) (turn.before_are i)) ∙ drop-front turn.kept turn.ended in
+      let is : ended ≡ turn.ended = (λ i. drop (turn.many i) (turn.before_are i)) ∙ drop-append_seam turn.kept turn.ended in
       let rest = ending_marks bytes part ++ (section_marks bytes next ++ behind_marks bytes next.part more) in
       let there : MarksStand (within [] turn.kept) rest =
       (ends-pass part).passes (within [] turn.kept) (section_marks bytes next ++ behind_marks bytes next.part more) (section-stands part.frames next h.0 (behind_marks bytes next.part more) (behind-stands next.part more h.1)) in
       let all : MarksStand (within (within [] turn.kept) turn.ended) (exits bytes turn.ended (end_of bytes part) ++ rest) = exits-stand bytes (end_of bytes part) turn.ended (within [] turn.kept) rest there in
       let around : within [] part.frames ≡ within (within [] turn.kept) turn.ended = ap (within []) turn.before_are ∙ within-both [] turn.kept turn.ended in
       subst (λ a. MarksStand a (exits bytes ended (end_of bytes part) ++ rest)) (sym around) (subst (λ (l : List Frame). MarksStand (within (within [] turn.kept) turn.ended) (exits bytes l (end_of bytes part) ++ rest)) (sym is) all)
-    where
-      drop-front : (xs ys : List Frame) → drop (length xs) (xs ++ ys) ≡ ys
-      drop-front [] ys = refl
-      drop-front (x ∷ xs) ys = drop-front xs ys
 
   -- The marks of sections
   pub sections-stand : (ss : List Section) → AllStandIn [] ss → MarksStand [] (sections_marks bytes ss)
