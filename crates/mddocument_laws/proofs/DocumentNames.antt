@@ -33,7 +33,7 @@ use Rattle.mddocument_laws.proofs.LinkNames.{links-named}
 use Rattle.mddocument_laws.proofs.Inside.{StandsAround, StandsInside, around-inside, inside-may}
 use Rattle.mddocument_laws.proofs.Named.{Named, weaker}
 use Rattle.mddocument_laws.proofs.PlainNames.{bare-around, plain-inside}
-use Rattle.mddocument_laws.proofs.RowNames.{InsideIsOn, SectionsAreOn, rows-on, sections-on}
+use Rattle.mddocument_laws.proofs.RowNames.{InsideIsOn, SectionsAreOn, own, rows-on, sections-on}
 use Rattle.mddocument_laws.proofs.SkeletonNames.{skeleton-named}
 
 abbrev May : Constructs → Name → Type 0
@@ -106,7 +106,7 @@ pub defined-if-on : (g : Given) → AreDefinedIfOn (is_defined_in g) g.options.c
 defined-if-on g label e =
     let on = g.options.constructs in
     let seats = virtual g.tab g.bytes in
-    of-sections on label (sections_in_seats on seats) (sections-on on (rows on (lines_in seats)) (rows-on on (lines_in seats))) e
+    of-sections on label (sections_in_seats on seats) (sections-on on on (own on) (rows on (lines_in seats)) (rows-on on on (own on) (lines_in seats))) e
 
 -- ---- the virtual bytes of chains of chunks are some of the document's
 module _ (g : Given) where

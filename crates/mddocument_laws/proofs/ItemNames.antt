@@ -1,5 +1,5 @@
 -- The events of the items of inline text, and of strings, have names of the constructs that are on.
-use Rattle.mddocument_laws.proofs.Prelude.{Seat, is_white, leaf, span, Stretch, backticks, has_byte_at, is_backtick, is_greater_than, is_less_than, is_line_feed, passes, BracketMark, Found, Grammar, fails, first_there, if_on, makes, opens, or_else, plain, escape, escape_at, item_length, cut, cut_remembering, line_ending, part, part_events, part_length, plain_run, item_events, Kind, body_at, decimal, hexadecimal, mark_events, named, number_at, reference, reference_at, value_at, white_space, white_space_at}
+use Rattle.mddocument_laws.proofs.Prelude.{Seat, is_white, leaf, span, backticks, has_byte_at, is_backtick, is_greater_than, is_less_than, is_line_feed, passes, BracketMark, Found, Grammar, fails, first_there, if_on, makes, opens, or_else, plain, escape, escape_at, item_length, cut, cut_remembering, line_ending, part, part_events, plain_run, item_events, Kind, body_at, decimal, hexadecimal, mark_events, named, number_at, reference, reference_at, value_at, white_space, white_space_at}
 use Rattle.std.proofs.Common.{◌≡◌, ℕ, zero, suc, ◌+◌, ◌-◌, List, [], ◌∷◌, ◌++◌, Bool, true, cond, inl, not, Some, None, Option, refl, take, drop, length, map, inr, subst, sym}
 use Rattle.std.proofs.lemmas.Bool.{and_from, and_parts, cond_both, false≢true, or_left, or_right}
 use Rattle.std.specs.List.{AllByRecursion, between, flat_map, position_or_len, prefix_len}
@@ -13,7 +13,6 @@ use Rattle.markdown_base.specs.declared.event.Name.TheVariants as name
 use Rattle.mdinline_labels.specs.Labels.{is_label}
 use Rattle.mdinline_labels.specs.declared.resources.Resource.{Resource as Parts}
 use Rattle.mdinline_labels.specs.Resources.{resource_at}
-use Rattle.mdinline_labels.specs.Tails.{begins_with}
 use Rattle.mdinline_text_machine.specs.Autolink.{autolink, autolink_at, autolink_to, uri}
 use Rattle.mdinline_text_machine.specs.CodeSpan.{before_backtick_string, code_span, code_span_at, pieces}
 use Rattle.mdinline_text_machine.specs.Parts.{Part, bytes_of}
@@ -22,7 +21,7 @@ use Rattle.mdinline_constructs.specs.HardBreak.{break_escape_at, hard_break_esca
 use Rattle.mdinline_constructs.specs.HtmlMarked.{marked}
 use Rattle.mdinline_constructs.specs.HtmlTag.{tag_length}
 use Rattle.mdinline_constructs.specs.HtmlText.{Piece, data_run as html_run, has_blank_line, html, html_of, line_break as html_break, piece_at, piece_events, piece_length}
-use Rattle.mdinline_link_tails.specs.Resource.{behind_destination, destination_events, destination_string, gap_events, in_marks, in_resource, line_part, resource, string_events, title_events, unmarked}
+use Rattle.mdinline_link_tails.specs.Resource.{resource, string_events, unmarked}
 use Rattle.mdinline_full_references.specs.FullReference.{full_reference, label_length, label_text}
 use Rattle.mdinline_machine.specs.Brackets.{Bracket, Memory, after_item, are_brackets, before_link, bytes_before, has_bracket, spanned_bytes, begins_end, begins_link, bracket_at, collapsed_reference, end_at, end_of_last, image_bracket, is_image_bracket, is_wanted_at, label_end, link_bracket, lone_end, no_tail, nothing_read, own_is_defined, own_tail, tail_of, waiting_behind}
 use Rattle.mdinline_machine.specs.InlineEvents.{bracket_or_part, data_length, data_run, delimiter_run, inline_grammars, inline_item_at, inline_items, line_break, run_length, run_or_part}
@@ -32,9 +31,10 @@ use Rattle.mddocument.proofs.FlowTexts.InlineSteps.{Steps}
 use Rattle.mddocument_laws.specs.Names.{has_labels}
 use Rattle.mddocument_laws.proofs.Named.{and as named-and, leafed, spanned}
 use Rattle.mddocument_laws.proofs.RunNames.{MayRun, named-may, others-may, run-may}
-use Rattle.mddocument_laws.proofs.SpanNames.{Inner, May, Outer, outer-both, outer-none, outer-span}
+use Rattle.mddocument_laws.proofs.SpanNames.{Inner, May, Outer, outer-both, outer-none, outer-span, together}
 use Rattle.mddocument_laws.proofs.WholeSpans.{around-whole, both-whole, none-whole}
 use Rattle.mddocument_laws.proofs.SpanNames as spans
+use Rattle.mddocument_laws.proofs.TailSpans.{AreInResource, IsKeptInside, in-marks, in-resources, strings-of}
 
 module _ (on : Constructs) where
   abbrev Are : List Event → Type 0
@@ -49,8 +49,13 @@ module _ (on : Constructs) where
   MayOpen (opens image) = HasBrackets
   MayOpen _ = Unit {0}
 
-  -- what is found has such names
+  -- what is found leaves the brackets that wait as they are, and has such names
   pub record IsItem (f : Found) : Type 0 where
+    pub mark : f.mark ≡ plain
+    pub names : (bytes : List ℕ) (seats : List Seat) → Are (f.events bytes seats)
+
+  -- an end of a label opens no bracket either
+  pub record IsEnd (f : Found) : Type 0 where
     pub opens : MayOpen f.mark
     pub names : (bytes : List ℕ) (seats : List Seat) → Are (f.events bytes seats)
 
@@ -62,11 +67,8 @@ module _ (on : Constructs) where
   nothing : Are []
   nothing = spans.nothing on
 
-  together : (xs ys : List Event) → Are xs → Are ys → Are (xs ++ ys)
-  together xs ys h k = spans.together on xs ys h k
-
   and : {xs ys : List Event} → Are xs → Are ys → Are (xs ++ ys)
-  and {xs} {ys} h k = spans.together on xs ys h k
+  and {xs} {ys} h k = together on xs ys h k
 
   over : (bytes : List ℕ) (n : Name) (seats : List Seat) (inside : List Event) → May on n → Are inside → Are (span bytes n seats inside)
   over bytes n seats inside p h = spans.over on bytes n seats inside p h
@@ -84,7 +86,7 @@ module _ (on : Constructs) where
   -- ---- code spans, autolinks, escapes, hard breaks, white space
   code-item : (b i : ℕ) → on.code_text ≡ true → IsItem (code_span b i)
   code-item b i h = record {
-    opens = tt;
+    mark = refl;
     names = λ bytes seats.
         let inside = named-flat (part_events bytes name.CodeTextData) (pieces (between b (b + i) seats)) (λ p. parts-named bytes name.CodeTextData p h) in
         over bytes name.CodeText seats _ h (and (leafs bytes name.CodeTextSequence (take b seats) h) (and inside (leafs bytes name.CodeTextSequence (drop (b + i) seats) h)));
@@ -98,7 +100,7 @@ module _ (on : Constructs) where
   codes-fit text h = cond_both (has_byte_at text 0 is_backtick) _ None IfItem (λ e. mapped (code_span (backticks text)) (before_backtick_string (backticks text) (drop (backticks text) text)) (λ i. code-item (backticks text) i h)) (λ e. tt)
 
   autolink-item : (n : ℕ) → on.autolink ≡ true → IsItem (autolink n)
-  autolink-item n h = record { opens = tt; names = λ bytes seats. search (together, over, leafs, h) }
+  autolink-item n h = record { mark = refl; names = λ bytes seats. search (together, over, leafs, h) }
 
   autolinks-to : (text : List ℕ) (o : Option ℕ) → on.autolink ≡ true → IfItem (autolink_to text o)
   autolinks-to text None h = tt
@@ -108,7 +110,7 @@ module _ (on : Constructs) where
   autolinks-fit text h = cond_both (has_byte_at text 0 is_less_than) _ None IfItem (λ e. autolinks-to text (uri (drop 1 text)) h) (λ e. tt)
 
   email-item : (n : ℕ) → on.autolink ≡ true → IsItem (email n)
-  email-item n h = record { opens = tt; names = λ bytes seats. search (together, over, leafs, h) }
+  email-item n h = record { mark = refl; names = λ bytes seats. search (together, over, leafs, h) }
 
   email-with : (text : List ℕ) (n : ℕ) → on.autolink ≡ true → IfItem (email_with text n)
   email-with text n h = cond_both _ (Some (email _)) None IfItem (λ e. email-item _ h) (λ e. tt)
@@ -117,19 +119,19 @@ module _ (on : Constructs) where
   emails-fit text h = cond_both (has_byte_at text 0 is_less_than) _ None IfItem (λ e. email-with text _ h) (λ e. tt)
 
   escape-item : on.character_escape ≡ true → IsItem escape
-  escape-item h = record { opens = tt; names = λ bytes seats. search (together, over, leafs, h) }
+  escape-item h = record { mark = refl; names = λ bytes seats. search (together, over, leafs, h) }
 
   escapes-fit : (text : List ℕ) → on.character_escape ≡ true → IfItem (escape_at text)
   escapes-fit text h = cond_both _ (Some escape) None IfItem (λ e. escape-item h) (λ e. tt)
 
   break-escapes-fit : (text : List ℕ) → on.hard_break_escape ≡ true → IfItem (break_escape_at text)
-  break-escapes-fit text h = cond_both _ (Some hard_break_escape) None IfItem (λ e. record { opens = tt; names = λ bytes seats. leafs bytes name.HardBreakEscape seats h }) (λ e. tt)
+  break-escapes-fit text h = cond_both _ (Some hard_break_escape) None IfItem (λ e. record { mark = refl; names = λ bytes seats. leafs bytes name.HardBreakEscape seats h }) (λ e. tt)
 
   trailing-fit : (text : List ℕ) → on.hard_break_trailing ≡ true → IfItem (trailing_break_at text)
-  trailing-fit text h = cond_both _ (Some (hard_break_trailing _)) None IfItem (λ e. record { opens = tt; names = λ bytes seats. leafs bytes name.HardBreakTrailing seats h }) (λ e. tt)
+  trailing-fit text h = cond_both _ (Some (hard_break_trailing _)) None IfItem (λ e. record { mark = refl; names = λ bytes seats. leafs bytes name.HardBreakTrailing seats h }) (λ e. tt)
 
   white-item : (n : ℕ) → IsItem (white_space n)
-  white-item n = record { opens = tt; names = λ bytes seats. leafs bytes name.SpaceOrTab seats refl }
+  white-item n = record { mark = refl; names = λ bytes seats. leafs bytes name.SpaceOrTab seats refl }
 
   whites-fit : (text : List ℕ) → IfItem (white_space_at text)
   whites-fit text = cond_both _ (Some (white_space _)) None IfItem (λ e. white-item _) (λ e. tt)
@@ -141,7 +143,7 @@ module _ (on : Constructs) where
 
   html-item : (n : ℕ) → on.html_text ≡ true → IsItem (html n)
   html-item n h = record {
-    opens = tt;
+    mark = refl;
     names = λ bytes seats. over bytes name.HtmlText seats _ h (named-flat (piece_events bytes) (cut piece_at piece_length (length seats) seats) (λ p. piece-named bytes p h));
   }
 
@@ -155,7 +157,7 @@ module _ (on : Constructs) where
   marks-named bytes kind seats h = search (together, leafs, h)
 
   reference-item : (kind : Kind) (n : ℕ) → on.character_reference ≡ true → IsItem (reference kind n)
-  reference-item kind n h = record { opens = tt; names = λ bytes seats. search (together, over, leafs, marks-named, h) }
+  reference-item kind n h = record { mark = refl; names = λ bytes seats. search (together, over, leafs, marks-named, h) }
 
   values-fit : (kind : Kind) (text : List ℕ) → on.character_reference ≡ true → IfItem (value_at kind text)
   values-fit kind text h = cond_both _ (Some (reference kind _)) None IfItem (λ e. reference-item kind _ h) (λ e. tt)
@@ -214,7 +216,7 @@ module _ (on : Constructs) where
 
   -- ---- strings
   part-item : (p : Part) → IsItem (part p)
-  part-item p = record { opens = tt; names = λ bytes seats. parts-named bytes name.Data (p, seats) refl }
+  part-item p = record { mark = refl; names = λ bytes seats. parts-named bytes name.Data (p, seats) refl }
 
   string-item : (text : List ℕ) → IsItem (string_item_at on text)
   string-item text =
@@ -234,53 +236,48 @@ module _ (on : Constructs) where
   strings-named bytes seats = items-named bytes (string_items on seats) (cut-items (length seats) seats)
 
   -- ---- tails of links
-  module _ (bytes : List ℕ) (labels : has_labels on ≡ true) where
-    in-marks : (n mark : Name) (inside : List Event) (seats : List Seat) → May on n → May on mark → Are inside → Are (in_marks bytes n mark inside seats)
-    in-marks n mark inside seats p m h = over bytes n seats _ p (and (leafs bytes mark (take 1 seats) m) (and h (leafs bytes mark (drop (length seats - 1) seats) m)))
+  inner-kept : (bytes : List ℕ) → IsKeptInside bytes (May on) Are
+  inner-kept bytes = record { none = nothing; both = together on; span_around = over bytes }
 
-    strings-of : (seats : List Seat) → Are (string_events bytes seats)
-    strings-of seats = named-flat (part_events bytes name.Data) (cut line_part part_length (length seats) seats) (λ p. parts-named bytes name.Data p refl)
-
-    gaps : (seats : List Seat) → Are (gap_events bytes seats)
-    gaps seats = search (together, leafs)
-
-    destination-string : (seats : List Seat) → Are (destination_string bytes seats)
-    destination-string seats = search (over, leafs, labels)
-
-    destinations : (seats : List Seat) → Are (destination_events bytes seats)
-    destinations seats = over bytes name.ResourceDestination seats _ labels (cond_both (begins_with 60 (bytes_of seats)) _ _ Are
-        (λ e. in-marks name.ResourceDestinationLiteral name.ResourceDestinationLiteralMarker _ seats labels labels (destination-string _))
-        (λ e. over bytes name.ResourceDestinationRaw seats _ labels (destination-string seats)))
-
-    titles : (seats : List Seat) → Are (title_events bytes seats)
-    titles seats = in-marks name.ResourceTitle name.ResourceTitleMarker _ seats labels labels (over bytes name.ResourceTitleString (unmarked bytes seats) _ labels (strings-of (unmarked bytes seats)))
-
-    behind-destinations : (title : Option Stretch) (from last : ℕ) (seats : List Seat) → Are (behind_destination bytes title from last seats)
-    behind-destinations None from last seats = gaps (between from last seats)
-    behind-destinations (Some t) from last seats = search (together, gaps, titles)
-
-    in-resources : (destination title : Option Stretch) (last : ℕ) (seats : List Seat) → Are (in_resource bytes destination title last seats)
-    in-resources None title last seats = gaps (between 1 last seats)
-    in-resources (Some d) title last seats = search (together, gaps, destinations, behind-destinations)
+  in-resource-names : has_labels on ≡ true → AreInResource (May on)
+  in-resource-names labels = record {
+    text = refl;
+    line_ending = refl;
+    white = refl;
+    destination = labels;
+    destination_literal = labels;
+    destination_literal_marker = labels;
+    destination_raw = labels;
+    destination_string = labels;
+    title = labels;
+    title_marker = labels;
+    title_string = labels;
+  }
 
   -- ---- ends of labels, by which labels are defined: some are only where definitions are on
   module _ (labels : has_labels on ≡ true) (defined : List ℕ → Bool) (bytes : List ℕ) (defs : (label : List ℕ) → defined label ≡ true → on.definition ≡ true) where
     resource-item : (r : Parts) → IsItem (resource r)
-    resource-item r = record { opens = tt; names = λ bytes seats. in-marks bytes labels name.Resource name.ResourceMarker _ seats labels labels (in-resources bytes labels r.destination r.title (r.size - 1) seats) }
+    resource-item r = record {
+      mark = refl;
+      names = λ bytes seats.
+          in-marks bytes (May on) Are (inner-kept bytes) name.Resource name.ResourceMarker _ seats labels labels (in-resources bytes (May on) Are (inner-kept bytes) (in-resource-names labels) r.destination r.title (r.size - 1) seats);
+    }
 
     full-item : (n : ℕ) → on.definition ≡ true → IsItem (full_reference n)
     full-item n d =
         let r : (has_labels on && on.definition) ≡ true = and_from (has_labels on) on.definition labels d in
         record {
-          opens = tt;
-          names = λ bytes seats. in-marks bytes labels name.Reference name.ReferenceMarker _ seats r r (over bytes name.ReferenceString (unmarked bytes seats) _ r (strings-of bytes labels (unmarked bytes seats)));
+          mark = refl;
+          names = λ bytes seats.
+              in-marks bytes (May on) Are (inner-kept bytes) name.Reference name.ReferenceMarker _ seats r r
+              (over bytes name.ReferenceString (unmarked bytes seats) _ r (strings-of bytes (May on) Are (inner-kept bytes) (in-resource-names labels) (unmarked bytes seats)));
         }
 
     own-item : (behind : List ℕ) → on.definition ≡ true → IsItem (own_tail behind)
     own-item behind d =
         let r : (has_labels on && on.definition) ≡ true = and_from (has_labels on) on.definition labels d in
-        cond_both (are_brackets behind) collapsed_reference no_tail IsItem (λ e. record { opens = tt; names = λ bytes seats. in-marks bytes labels name.Reference name.ReferenceMarker [] seats r r nothing })
-        (λ e. record { opens = tt; names = λ bytes seats. nothing })
+        cond_both (are_brackets behind) collapsed_reference no_tail IsItem (λ e. record { mark = refl; names = λ bytes seats. in-marks bytes (May on) Are (inner-kept bytes) name.Reference name.ReferenceMarker [] seats r r nothing })
+        (λ e. record { mark = refl; names = λ bytes seats. nothing })
 
     full-fits : (wanted : List ℕ → Bool) → ((label : List ℕ) → wanted label ≡ true → on.definition ≡ true) → (text : List ℕ) (o : Option ℕ)
         → IfItem (option_and_then (λ n. cond (wanted (label_text n text)) (Some (full_reference n)) None) o)
@@ -309,23 +306,21 @@ module _ (on : Constructs) where
         (either _ _ (full-fits (is_wanted_at defined bytes m.ahead) (wanted-defined m.ahead) behind (label_length behind))
         (cond_both (not (is_some (label_length behind)) && own_is_defined defined bytes b m) (Some (own_tail behind)) None IfItem (λ e. own-item behind (own-defined b m (and_parts _ _ e).1)) (λ e. tt)))
 
-    lone-item : IsItem lone_end
+    lone-item : IsEnd lone_end
     lone-item = record { opens = tt; names = λ bytes seats. leafs bytes name.LabelMarker seats labels }
 
-    end-item : (tail : Found) → IsItem tail → IsItem (label_end tail)
+    end-item : (tail : Found) → IsItem tail → IsEnd (label_end tail)
     end-item tail h = record {
       opens = tt;
       names = λ bytes seats. and (over bytes name.LabelEnd (take 1 seats) _ labels (leafs bytes name.LabelMarker (take 1 seats) labels)) (h.names bytes (drop 1 seats));
     }
 
-    tailed : (o : Option Found) → IfItem o → IfItem (option_map label_end o)
-    tailed None h = tt
+    tailed : (o : Option Found) → IfItem o → IsEnd (or_else (option_map label_end o) lone_end)
+    tailed None h = lone-item
     tailed (Some f) h = end-item f h
 
-    pub ends-fit : (b : Bracket) (m : Memory) (behind : List ℕ) → IsItem (end_of_last defined bytes b m behind)
-    ends-fit b m behind =
-        cond_both b.inactive lone_end _ IsItem (λ e. lone-item)
-        (λ e. or-item (option_map label_end (tail_of defined bytes b m behind)) lone_end (tailed (tail_of defined bytes b m behind) (tails-fit b m behind)) lone-item)
+    pub ends-fit : (b : Bracket) (m : Memory) (behind : List ℕ) → IsEnd (end_of_last defined bytes b m behind)
+    ends-fit b m behind = cond_both b.inactive lone_end _ IsEnd (λ e. lone-item) (λ e. tailed (tail_of defined bytes b m behind) (tails-fit b m behind))
 
   -- ---- brackets, by what is remembered: brackets wait only where they are on
   abbrev MayWait : List Bracket → Type 0
@@ -358,12 +353,15 @@ module _ (on : Constructs) where
   IfOuter text None = Unit {0}
   IfOuter text (Some f) = IsOuter text f
 
-  loosened : (text : List ℕ) (f : Found) → IsItem f → IsOuter text f
-  loosened text f h = record {
+  ended : (text : List ℕ) (f : Found) → IsEnd f → IsOuter text f
+  ended text f h = record {
     opens = h.opens;
     outer = λ bytes seats. (h.names bytes seats).outer;
     runs = λ bytes seats same steps. let l = take f.size seats in named-may on bytes (f.events bytes l) (h.names bytes l).named;
   }
+
+  loosened : (text : List ℕ) (f : Found) → IsItem f → IsOuter text f
+  loosened text f h = ended text f (record { opens = subst MayOpen (sym h.mark) tt; names = h.names })
 
   if-loosened : (text : List ℕ) (o : Option Found) → IfItem o → IfOuter text o
   if-loosened text None h = tt
@@ -432,7 +430,7 @@ module _ (on : Constructs) where
     end-fits : (text : List ℕ) (bs : List Bracket) (m : Memory) (behind : List ℕ) → MayWait bs → on.label_end ≡ true → IfOuter text (end_at defined bytes bs m behind)
     end-fits text [] m behind h e = tt
     end-fits text (b ∷ bs) m behind h e =
-        loosened text (end_of_last defined bytes b m behind) (ends-fit (and_from on.label_end (on.label_start_link || on.label_start_image) e h) defined bytes defs b m behind)
+        ended text (end_of_last defined bytes b m behind) (ends-fit (and_from on.label_end (on.label_start_link || on.label_start_image) e h) defined bytes defs b m behind)
 
     brackets-fit : (m : Memory) (text : List ℕ) → MayWait m.waiting → IfOuter text (bracket_at on defined bytes m text)
     brackets-fit m text h =
@@ -458,8 +456,8 @@ module _ (on : Constructs) where
     run-item text =
         cond_both (has_byte_at text 0 (begins_run on)) (delimiter_run (run_length text)) _ (IsOuter text) (λ e. run-outer text (run_length text) e) (λ e0.
         cond_both (has_byte_at text 0 is_line_feed) (line_break (prefix_len is_white (drop 1 text))) (data_run (data_length on text)) (IsOuter text)
-        (λ e. loosened text (line_break (prefix_len is_white (drop 1 text))) (record { opens = tt; names = λ given seats. search (together, leafs) }))
-        (λ e. loosened text (data_run (data_length on text)) (record { opens = tt; names = λ given seats. leafs given name.Data seats refl })))
+        (λ e. loosened text (line_break (prefix_len is_white (drop 1 text))) (record { mark = refl; names = λ given seats. search (together, leafs) }))
+        (λ e. loosened text (data_run (data_length on text)) (record { mark = refl; names = λ given seats. leafs given name.Data seats refl })))
 
     inline-item : (m : Memory) (text : List ℕ) → MayWait m.waiting → IsOuter text (inline_item_at on defined bytes m text)
     inline-item m text h =

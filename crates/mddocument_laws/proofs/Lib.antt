@@ -13,6 +13,7 @@ pub mod RowNames
 pub mod RunNames
 pub mod SkeletonNames
 pub mod SpanNames
+pub mod TailSpans
 -- walks: what holds of spans holds of links
 pub mod LinkWalk
 -- beginnings

@@ -110,12 +110,9 @@ module _ (on : Constructs) where
   abbrev AreNamed : List Part → Type 0
   AreNamed ps = AreParts Are IsRunOn ps
 
-  together : (xs ys : List Event) → Are xs → Are ys → Are (xs ++ ys)
-  together xs ys h k = and h k
-
   parts-named : (ps : List Part) → AreNamed ps → Are (emphasised_parts ps)
   parts-named ps h = record {
-    all = emphasis-are IsNamed May (λ e p. p) refl (IsMarkerOn on) pair-is (text_before [] ps) (runs_of_parts ps) (text_behind [] ps) (λ k. (before-is Are IsRunOn no-events together [] ps k no-events h).all) (runs-of Are IsRunOn ps h) (behind-is Are IsRunOn no-events together [] ps no-events h).all;
+    all = emphasis-are IsNamed May (λ e p. p) refl (IsMarkerOn on) pair-is (text_before [] ps) (runs_of_parts ps) (text_behind [] ps) (λ k. (before-is Are IsRunOn no-events (λ xs ys. and) [] ps k no-events h).all) (runs-of Are IsRunOn ps h) (behind-is Are IsRunOn no-events (λ xs ys. and) [] ps no-events h).all;
   }
 
   -- ---- links and images

@@ -5,8 +5,9 @@ use Rattle.mdinline_text_machine.specs.Parts.{Part, bytes_of}
 use Rattle.mdinline_machine.specs.InlineEvents.{line_break}
 use Rattle.mddocument_laws.proofs.Inside.{inside-may, stands_inside}
 use Rattle.mddocument_laws.proofs.PlainNames.{plain-inside}
-use Rattle.mddocument_laws.proofs.ItemNames.{IfItem, IsItem, ends-fit, inlines-fit, strings-fit}
+use Rattle.mddocument_laws.proofs.ItemNames.{IfItem, ends-fit, inlines-fit, strings-fit}
 use Rattle.mddocument_laws.proofs.Named.{Named, and, leafed, spanned, weaker}
+use Rattle.mddocument_laws.proofs.SpanNames.{Inner}
 
 -- a name of no character reference
 abbrev pub NoReference : Name → Type 0
@@ -52,12 +53,12 @@ on-fits text true o h = h
 on-fits text false o h = tt
 
 -- other constructs have other names
-item-fits : (on : Constructs) (text : List ℕ) (f : Found) → IsItem (without on) f → Fits text f
-item-fits on text f h = inl (λ bytes seats. weaker (λ n p. none-named on n (plain-inside (without on) n p)) (f.events bytes seats) (h.names bytes seats).named)
+item-fits : (on : Constructs) (text : List ℕ) (f : Found) → ((bytes : List ℕ) (seats : List Seat) → Inner (without on) (f.events bytes seats)) → Fits text f
+item-fits on text f names = inl (λ bytes seats. weaker (λ n p. none-named on n (plain-inside (without on) n p)) (f.events bytes seats) (names bytes seats).named)
 
 if-item : (on : Constructs) (text : List ℕ) (o : Option Found) → IfItem (without on) o → IfFits text o
 if-item on text None h = tt
-if-item on text (Some f) h = item-fits on text f h
+if-item on text (Some f) h = item-fits on text f h.names
 
 -- ---- references
 
@@ -104,7 +105,7 @@ module _ (on : Constructs) (defined : List ℕ → Bool) (bytes : List ℕ) wher
 
   end-fits : (text : List ℕ) (bs : List Bracket) (m : Memory) (behind : List ℕ) → IfFits text (end_at defined bytes bs m behind)
   end-fits text [] m behind = tt
-  end-fits text (b ∷ bs) m behind = item-fits on text (end_of_last defined bytes b m behind) (ends-fit (without on) refl defined bytes (λ label e. refl) b m behind)
+  end-fits text (b ∷ bs) m behind = item-fits on text (end_of_last defined bytes b m behind) (ends-fit (without on) refl defined bytes (λ label e. refl) b m behind).names
 
   brackets-fit : (m : Memory) (text : List ℕ) → IfFits text (bracket_at on defined bytes m text)
   brackets-fit m text =

@@ -6,14 +6,23 @@ use Rattle.mdblock_containers.specs.Skeleton.{parts}
 use Rattle.mdblock_definitions.specs.Sections.{cut}
 use Rattle.mddocument_laws.proofs.PlainNames.{stands_bare}
 
-module _ (on : Constructs) where
+-- constructs of containers and definitions that are on are on in others too
+pub record AreStillOn (on other : Constructs) : Type 0 where
+  pub quotes : on.block_quote ≡ true → other.block_quote ≡ true
+  pub items : on.list_item ≡ true → other.list_item ≡ true
+  pub definitions : on.definition ≡ true → other.definition ≡ true
+
+pub own : (on : Constructs) → AreStillOn on on
+own on = record { quotes = λ h. h; items = λ h. h; definitions = λ h. h }
+
+module _ (other : Constructs) where
   abbrev May : Name → Type 0
-  May n = stands_bare on n ≡ true
+  May n = stands_bare other n ≡ true
 
   -- ---- containers
   abbrev pub IsOn : Container → Type 0
-  IsOn (quote line) = on.block_quote ≡ true
-  IsOn (item i) = on.list_item ≡ true
+  IsOn (quote line) = other.block_quote ≡ true
+  IsOn (item i) = other.list_item ≡ true
 
   abbrev pub AreOn : List Container → Type 0
   AreOn cs = AllByRecursion IsOn cs
@@ -32,24 +41,6 @@ module _ (on : Constructs) where
       by : ((n : ℕ) → PrefixesAreOn (going_on cs number (drop n t))) → (o : Option ℕ) → PrefixesAreOn (elim o [ None ↦ [] | Some n ↦ record { container = c; size = n } ∷ going_on cs number (drop n t) ])
       by more None = tt
       by more (Some n) = (h.0, more n)
-
-  begin-on : (number : ℕ) (in_paragraph : Bool) (t : List ℕ) → IfOn (begins on number in_paragraph t)
-  begin-on number in_paragraph t =
-      let r = unindented t in
-      cond_both ((on.code_indented && nat_le 4 (indent t)) || (is_blank_line t || (on.thematic_break && is_thematic_break r))) None
-      (cond (on.block_quote && begins_with 62 r) (Some (record { container = quote number; size = quote_size t })) (cond (on.list_item && may_begin_item in_paragraph r) (Some (item_at number t)) None)) IfOn (λ e. tt)
-      (λ e. cond_both (on.block_quote && begins_with 62 r) (Some (record { container = quote number; size = quote_size t })) (cond (on.list_item && may_begin_item in_paragraph r) (Some (item_at number t)) None) IfOn
-      (λ q. (and_parts on.block_quote (begins_with 62 r) q).0)
-      (λ q. cond_both (on.list_item && may_begin_item in_paragraph r) (Some (item_at number t)) None IfOn (λ i. (and_parts on.list_item (may_begin_item in_paragraph r) i).0) (λ i. tt)))
-
-  all-begin-on : (bound number : ℕ) (in_paragraph : Bool) (t : List ℕ) → PrefixesAreOn (beginning on bound number in_paragraph t)
-  all-begin-on zero number in_paragraph t = tt
-  all-begin-on (suc bound) number in_paragraph t = by (λ p. all-begin-on bound number false (drop p.size t)) (begins on number in_paragraph t) (begin-on number in_paragraph t)
-    where
-      by : ((p : Prefix) → PrefixesAreOn (beginning on bound number false (drop p.size t))) → (o : Option Prefix) → IfOn o
-          → PrefixesAreOn (elim o [ None ↦ [] | Some p ↦ p ∷ beginning on bound number false (drop p.size t) ])
-      by more None h = tt
-      by more (Some p) h = (h, more p)
 
   in-place : (c new : Container) → IsOn new → IsOn (in_place_of c new)
   in-place (quote line) new h = h
@@ -70,44 +61,63 @@ module _ (on : Constructs) where
     pub went_on : PrefixesAreOn row.went_on
     pub begun : PrefixesAreOn row.begun
 
-  row-on : (k : Known) (number : ℕ) (line : Line) → AreOn k.before.stack → RowIsOn (row_of on k number line)
-  row-on k number line h =
-      let b = k.before in
-      let went_on = going_on (take b.depth b.stack) number (text_of line) in
-      let all_go_on = length went_on == b.depth in
-      let r = drop (columns_of went_on) (text_of line) in
-      let begun = beginning on (length r) number (all_go_on && is_paragraph b.leaf) r in
-      record {
-        went_on = go-on (take b.depth b.stack) number (text_of line) (every-take IsOn b.depth b.stack h);
-        begun =
-            cond_both (all_go_on && is_raw b.leaf) [] (with_list (drop (length went_on) b.stack) begun) PrefixesAreOn (λ e. tt)
-            (λ e. listed-on (drop (length went_on) b.stack) begun (all-begin-on (length r) number (all_go_on && is_paragraph b.leaf) r));
-      }
-
-  known-on : (b : Before) (row : Row) → AreOn b.stack → RowIsOn row → AreOn (without.known_after on b row).stack
-  known-on b row h r =
-      let all = containers_of row.went_on ++ containers_of row.begun in
-      let are = every-append IsOn (containers_of row.went_on) (containers_of row.begun) (containers-on row.went_on r.went_on) (containers-on row.begun r.begun) in
-      cond_both row.is_left_blank _ _ (λ (x : Before). AreOn x.stack) (λ e. h) (λ e. cond_both row.is_lazy _ _ (λ (x : Before). AreOn x.stack) (λ e. h) (λ e. are))
-
   abbrev pub RowsAreOn : List Row → Type 0
   RowsAreOn rows = AllByRecursion RowIsOn rows
 
-  rows-from-on : (k : Known) (number : ℕ) (lines : List Line) → AreOn k.before.stack → RowsAreOn (rows_from on k number lines)
-  rows-from-on k number [] h = tt
-  rows-from-on k number (line ∷ more) h =
-      let row = row_of on k number line in
-      let is = row-on k number line h in
-      (is, rows-from-on (known_after on k row) (suc number) more (known-on k.before row h is))
+  module _ (on : Constructs) (still : AreStillOn on other) where
+    begin-on : (number : ℕ) (in_paragraph : Bool) (t : List ℕ) → IfOn (begins on number in_paragraph t)
+    begin-on number in_paragraph t =
+        let r = unindented t in
+        cond_both ((on.code_indented && nat_le 4 (indent t)) || (is_blank_line t || (on.thematic_break && is_thematic_break r))) None
+        (cond (on.block_quote && begins_with 62 r) (Some (record { container = quote number; size = quote_size t })) (cond (on.list_item && may_begin_item in_paragraph r) (Some (item_at number t)) None)) IfOn (λ e. tt)
+        (λ e. cond_both (on.block_quote && begins_with 62 r) (Some (record { container = quote number; size = quote_size t })) (cond (on.list_item && may_begin_item in_paragraph r) (Some (item_at number t)) None) IfOn
+        (λ q. still.quotes (and_parts on.block_quote (begins_with 62 r) q).0)
+        (λ q. cond_both (on.list_item && may_begin_item in_paragraph r) (Some (item_at number t)) None IfOn (λ i. still.items (and_parts on.list_item (may_begin_item in_paragraph r) i).0) (λ i. tt)))
 
-  pub rows-on : (all : List Line) → RowsAreOn (rows on all)
-  rows-on all = rows-from-on (record { before = nothing_known on; text = [] }) 1 all tt
+    all-begin-on : (bound number : ℕ) (in_paragraph : Bool) (t : List ℕ) → PrefixesAreOn (beginning on bound number in_paragraph t)
+    all-begin-on zero number in_paragraph t = tt
+    all-begin-on (suc bound) number in_paragraph t = by (λ p. all-begin-on bound number false (drop p.size t)) (begins on number in_paragraph t) (begin-on number in_paragraph t)
+      where
+        by : ((p : Prefix) → PrefixesAreOn (beginning on bound number false (drop p.size t))) → (o : Option Prefix) → IfOn o
+            → PrefixesAreOn (elim o [ None ↦ [] | Some p ↦ p ∷ beginning on bound number false (drop p.size t) ])
+        by more None h = tt
+        by more (Some p) h = (h, more p)
+
+    row-on : (k : Known) (number : ℕ) (line : Line) → AreOn k.before.stack → RowIsOn (row_of on k number line)
+    row-on k number line h =
+        let b = k.before in
+        let went_on = going_on (take b.depth b.stack) number (text_of line) in
+        let all_go_on = length went_on == b.depth in
+        let r = drop (columns_of went_on) (text_of line) in
+        let begun = beginning on (length r) number (all_go_on && is_paragraph b.leaf) r in
+        record {
+          went_on = go-on (take b.depth b.stack) number (text_of line) (every-take IsOn b.depth b.stack h);
+          begun =
+              cond_both (all_go_on && is_raw b.leaf) [] (with_list (drop (length went_on) b.stack) begun) PrefixesAreOn (λ e. tt)
+              (λ e. listed-on (drop (length went_on) b.stack) begun (all-begin-on (length r) number (all_go_on && is_paragraph b.leaf) r));
+        }
+
+    known-on : (b : Before) (row : Row) → AreOn b.stack → RowIsOn row → AreOn (without.known_after on b row).stack
+    known-on b row h r =
+        let all = containers_of row.went_on ++ containers_of row.begun in
+        let are = every-append IsOn (containers_of row.went_on) (containers_of row.begun) (containers-on row.went_on r.went_on) (containers-on row.begun r.begun) in
+        cond_both row.is_left_blank _ _ (λ (x : Before). AreOn x.stack) (λ e. h) (λ e. cond_both row.is_lazy _ _ (λ (x : Before). AreOn x.stack) (λ e. h) (λ e. are))
+
+    rows-from-on : (k : Known) (number : ℕ) (lines : List Line) → AreOn k.before.stack → RowsAreOn (rows_from on k number lines)
+    rows-from-on k number [] h = tt
+    rows-from-on k number (line ∷ more) h =
+        let row = row_of on k number line in
+        let is = row-on k number line h in
+        (is, rows-from-on (known_after on k row) (suc number) more (known-on k.before row h is))
+
+    pub rows-on : (all : List Line) → RowsAreOn (rows on all)
+    rows-on all = rows-from-on (record { before = nothing_known on; text = [] }) 1 all tt
 
   -- ---- spans of containers
   abbrev pub FramesAreOn : List Frame → Type 0
   FramesAreOn fs = AllByRecursion (λ (f : Frame). May f.name) fs
 
-  pub list-on : (i : Item) → on.list_item ≡ true → May (list_name i)
+  pub list-on : (i : Item) → other.list_item ≡ true → May (list_name i)
   list-on i h = cond_both (nat_le 1 i.digits) ListOrdered ListUnordered May (λ e. h) (λ e. h)
 
   frames-of-on : (c : Container) → IsOn c → FramesAreOn (frames_of c)
@@ -165,7 +175,7 @@ module _ (on : Constructs) where
   -- ---- sections
   abbrev pub InsideIsOn : Inside → Type 0
   InsideIsOn (lines is_behind) = Unit {0}
-  InsideIsOn (defined ds) = on.definition ≡ true
+  InsideIsOn (defined ds) = other.definition ≡ true
 
   pub record SectionIsOn (s : Section) : Type 0 where
     pub part : PartIsOn s.part
@@ -189,37 +199,38 @@ module _ (on : Constructs) where
   undefined-on : (is_behind : Bool) (around : Part) (all : List Row) → FramesAreOn around.frames → RowsAreOn all → SectionsAreOn (undefined is_behind around all)
   undefined-on is_behind around all f h = sections-of-on (is_behind && begins_text all) (map (in_same around) (parts all)) (in-same-on around (parts all) f (parts-on (length all) all h))
 
-  defining-on : (ds : List Definition) (around : Part) (all : List Row) → FramesAreOn around.frames → RowsAreOn all → on.definition ≡ true → SectionsAreOn (defining ds around all)
+  defining-on : (ds : List Definition) (around : Part) (all : List Row) → FramesAreOn around.frames → RowsAreOn all → other.definition ≡ true → SectionsAreOn (defining ds around all)
   defining-on ds around [] f h d = tt
   defining-on ds around (row ∷ more) f h d = (record { part = record { first = h.0; more = h.1; frames = f }; inside = d }, tt)
 
   -- definitions have lines only if they are on
-  defined-on : (ds : List Definition) (around : Part) (all : List Row) → FramesAreOn around.frames → RowsAreOn all → SectionsAreOn (defining ds around (take (defined_in on all) all))
-  defined-on ds around all f h =
-      let n = lines_defined (text_in (paragraph_of all)) in
-      cond_both on.definition n 0 (λ d. SectionsAreOn (defining ds around (take d all))) (λ e. defining-on ds around (take n all) f (every-take RowIsOn n all h) e) (λ e. tt)
+  module _ (on : Constructs) (still : AreStillOn on other) where
+    defined-on : (ds : List Definition) (around : Part) (all : List Row) → FramesAreOn around.frames → RowsAreOn all → SectionsAreOn (defining ds around (take (defined_in on all) all))
+    defined-on ds around all f h =
+        let n = lines_defined (text_in (paragraph_of all)) in
+        cond_both on.definition n 0 (λ d. SectionsAreOn (defining ds around (take d all))) (λ e. defining-on ds around (take n all) f (every-take RowIsOn n all h) (still.definitions e)) (λ e. tt)
 
-  sections-in-on : (bound : ℕ) (is_behind : Bool) (around : Part) (all : List Row) → FramesAreOn around.frames → RowsAreOn all → SectionsAreOn (sections_in on bound is_behind around all)
-  sections-in-on zero is_behind around all f h = tt
-  sections-in-on (suc bound) is_behind around [] f h = tt
-  sections-in-on (suc bound) is_behind around (row ∷ more) f h =
-      let all = row ∷ more in
-      let n = before_defined on false all in
-      let behind = drop n all in
-      let d = defined_in on behind in
-      let ds = definitions (text_in (paragraph_of behind)) in
-      let k = every-drop RowIsOn n all h in
-      every-append SectionIsOn (undefined is_behind around (take n all)) (defining ds around (take d behind) ++ sections_in on bound true around (drop d behind)) (undefined-on is_behind around (take n all) f (every-take RowIsOn n all h))
-      (every-append SectionIsOn (defining ds around (take d behind)) (sections_in on bound true around (drop d behind)) (defined-on ds around behind f k) (sections-in-on bound true around (drop d behind) f (every-drop RowIsOn d behind k)))
+    sections-in-on : (bound : ℕ) (is_behind : Bool) (around : Part) (all : List Row) → FramesAreOn around.frames → RowsAreOn all → SectionsAreOn (sections_in on bound is_behind around all)
+    sections-in-on zero is_behind around all f h = tt
+    sections-in-on (suc bound) is_behind around [] f h = tt
+    sections-in-on (suc bound) is_behind around (row ∷ more) f h =
+        let all = row ∷ more in
+        let n = before_defined on false all in
+        let behind = drop n all in
+        let d = defined_in on behind in
+        let ds = definitions (text_in (paragraph_of behind)) in
+        let k = every-drop RowIsOn n all h in
+        every-append SectionIsOn (undefined is_behind around (take n all)) (defining ds around (take d behind) ++ sections_in on bound true around (drop d behind)) (undefined-on is_behind around (take n all) f (every-take RowIsOn n all h))
+        (every-append SectionIsOn (defining ds around (take d behind)) (sections_in on bound true around (drop d behind)) (defined-on ds around behind f k) (sections-in-on bound true around (drop d behind) f (every-drop RowIsOn d behind k)))
 
-  cut-on : (part : Part) → PartIsOn part → SectionsAreOn (cut on part)
-  cut-on part h =
-      cond_both part.first.is_blank (record { part = part; inside = lines false } ∷ []) (sections_in on (suc (length part.more)) false part (part.first ∷ part.more)) SectionsAreOn (λ e. (record { part = h; inside = tt }, tt))
-      (λ e. sections-in-on (suc (length part.more)) false part (part.first ∷ part.more) h.frames (h.first, h.more))
+    cut-on : (part : Part) → PartIsOn part → SectionsAreOn (cut on part)
+    cut-on part h =
+        cond_both part.first.is_blank (record { part = part; inside = lines false } ∷ []) (sections_in on (suc (length part.more)) false part (part.first ∷ part.more)) SectionsAreOn (λ e. (record { part = h; inside = tt }, tt))
+        (λ e. sections-in-on (suc (length part.more)) false part (part.first ∷ part.more) h.frames (h.first, h.more))
 
-  all-cut : (ps : List Part) → AllByRecursion PartIsOn ps → SectionsAreOn (flat_map (cut on) ps)
-  all-cut [] h = tt
-  all-cut (p ∷ ps) h = every-append SectionIsOn (cut on p) (flat_map (cut on) ps) (cut-on p h.0) (all-cut ps h.1)
+    all-cut : (ps : List Part) → AllByRecursion PartIsOn ps → SectionsAreOn (flat_map (cut on) ps)
+    all-cut [] h = tt
+    all-cut (p ∷ ps) h = every-append SectionIsOn (cut on p) (flat_map (cut on) ps) (cut-on p h.0) (all-cut ps h.1)
 
-  pub sections-on : (all : List Row) → RowsAreOn all → SectionsAreOn (sections on all)
-  sections-on all h = all-cut (parts all) (parts-on (length all) all h)
+    pub sections-on : (all : List Row) → RowsAreOn all → SectionsAreOn (sections on all)
+    sections-on all h = all-cut (parts all) (parts-on (length all) all h)

@@ -5,12 +5,12 @@ use Rattle.mddocument.proofs.Walks.InnerTexts.{AnySeat, any-seats}
 use Rattle.mddocument.proofs.Walks.MarksWalk.{Walk}
 use Rattle.mddocument_laws.proofs.Named.{Marked, Named, around, names-walk, none}
 use Rattle.mddocument_laws.proofs.PlainNames.{stands_bare}
-use Rattle.mddocument_laws.proofs.RowNames.{InsideIsOn, IsOn, PartIsOn, PrefixesAreOn, RowIsOn, SectionIsOn, SectionsAreOn, list-on, rows-on, sections-on}
+use Rattle.mddocument_laws.proofs.RowNames.{AreStillOn, InsideIsOn, IsOn, PartIsOn, PrefixesAreOn, RowIsOn, SectionIsOn, SectionsAreOn, list-on, own, rows-on, sections-on}
 use Rattle.mddocument.proofs.Walks.SkeletonWalk.{AreOfDefinition, InsideMay, MayHold, PartMay, PrefixesMay, RowAt, SectionMay, sections-are}
 
-module _ (on : Constructs) (bytes : List ℕ) where
+module _ (other : Constructs) (bytes : List ℕ) where
   abbrev May : Name → Type 0
-  May n = stands_bare on n ≡ true
+  May n = stands_bare other n ≡ true
 
   abbrev Are : List Mark → Type 0
   Are marks = Marked May marks
@@ -19,21 +19,21 @@ module _ (on : Constructs) (bytes : List ℕ) where
   walk = names-walk May refl refl refl bytes
 
   -- ---- what containers, lines and sections have names of
-  holds : (c : Container) → IsOn on c → MayHold May c
+  holds : (c : Container) → IsOn other c → MayHold May c
   holds (quote line) h = (h, h, h)
-  holds (item i) h = (list-on on i h, h, h, h, h)
+  holds (item i) h = (list-on other i h, h, h, h, h)
 
-  all-hold : (ps : List Prefix) → PrefixesAreOn on ps → PrefixesMay May ps
-  all-hold ps h = every-map (λ (p : Prefix). IsOn on p.container) (λ (p : Prefix). MayHold May p.container) (λ p k. holds p.container k) ps h
+  all-hold : (ps : List Prefix) → PrefixesAreOn other ps → PrefixesMay May ps
+  all-hold ps h = every-map (λ (p : Prefix). IsOn other p.container) (λ (p : Prefix). MayHold May p.container) (λ p k. holds p.container k) ps h
 
-  part-may : (part : Part) → PartIsOn on part → PartMay May part
+  part-may : (part : Part) → PartIsOn other part → PartMay May part
   part-may part h = record {
-    rows = every-map (RowIsOn on) (λ (r : Row). PrefixesMay May r.went_on) (λ r k. all-hold r.went_on k.went_on) (all_rows part) (h.first, h.more);
+    rows = every-map (RowIsOn other) (λ (r : Row). PrefixesMay May r.went_on) (λ r k. all-hold r.went_on k.went_on) (all_rows part) (h.first, h.more);
     begun = all-hold part.first.begun h.first.begun;
     frames = h.frames;
   }
 
-  of-definition : on.definition ≡ true → AreOfDefinition May
+  of-definition : other.definition ≡ true → AreOfDefinition May
   of-definition h = record {
     definition = h;
     inside = record {
@@ -52,21 +52,26 @@ module _ (on : Constructs) (bytes : List ℕ) where
     };
   }
 
-  inside-may : (part : Part) (inside : Inside) → InsideIsOn on inside → InsideMay May AnySeat part inside
+  inside-may : (part : Part) (inside : Inside) → InsideIsOn other inside → InsideMay May AnySeat part inside
   inside-may part (lines is_behind) h = tt
   inside-may part (defined ds) h = (of-definition h, every-all (RowAt AnySeat) (λ r. any-seats (line_text r.line)) (all_rows part))
 
-  sections-may : (ss : List Section) → SectionsAreOn on ss → AllByRecursion (SectionMay May AnySeat) ss
-  sections-may ss h = every-map (SectionIsOn on) (SectionMay May AnySeat) (λ s k. record { part = part-may s.part k.part; inside = inside-may s.part s.inside k.inside }) ss h
+  sections-may : (ss : List Section) → SectionsAreOn other ss → AllByRecursion (SectionMay May AnySeat) ss
+  sections-may ss h = every-map (SectionIsOn other) (SectionMay May AnySeat) (λ s k. record { part = part-may s.part k.part; inside = inside-may s.part s.inside k.inside }) ss h
 
   chained : (i : ℕ) (previous : Option ℕ) (marks : List Mark) → AllByRecursion (λ (m : Mark). May m.0.name) marks → AllByRecursion (λ e. May e.name) (chained_from i previous marks)
   chained i previous [] h = tt
   chained i previous ((e, None) ∷ marks) h = (h.0, chained (suc i) previous marks h.1)
   chained i previous ((e, Some chunk) ∷ marks) h = (h.0, chained (suc i) (Some i) marks h.1)
 
-  -- The skeleton of a document has such names
-  pub skeleton-named : (seats : List Seat) → Named May (skeleton on bytes seats)
-  skeleton-named seats =
+  -- The skeleton of a document has names of others too, if these have the containers and definitions that are on
+  pub skeleton-named-by : (on : Constructs) → AreStillOn on other → (seats : List Seat) → Named May (skeleton on bytes seats)
+  skeleton-named-by on still seats =
       let ss = sections_in_seats on seats in
-      let are = sections-are bytes Are May walk (λ k n place m. record { all = (m, tt) }) AnySeat (λ seats h. around bytes None name.Data seats refl none) (λ c seats. around bytes (Some c) name.Data seats refl none) ss (sections-may ss (sections-on on (rows on (lines_in seats)) (rows-on on (lines_in seats)))) in
+      let may = sections-may ss (sections-on other on still (rows on (lines_in seats)) (rows-on other on still (lines_in seats))) in
+      let are = sections-are bytes Are May walk (λ k n place m. record { all = (m, tt) }) AnySeat (λ seats h. around bytes None name.Data seats refl none) (λ c seats. around bytes (Some c) name.Data seats refl none) ss may in
       record { all = chained 0 None (sections_marks bytes (sections_in_seats on seats)) are.all }
+
+-- The skeleton of a document has names of the constructs that are on
+pub skeleton-named : (on : Constructs) (bytes : List ℕ) (seats : List Seat) → Named (λ n. stands_bare on n ≡ true) (skeleton on bytes seats)
+skeleton-named on bytes seats = skeleton-named-by on bytes on (own on) seats
