@@ -37,7 +37,7 @@ use Rattle.mddocument_laws.proofs.Named.{and, leafed}
 use Rattle.mddocument_laws.proofs.WholeSpans.{IsWhole, around-whole, both-whole, first-span, none-whole}
 use Rattle.mddocument_rules.proofs.FlatLinks.{IsFlat, IsLinkless, flat-stands, linkless-both, linkless-none}
 use Rattle.mddocument_rules.proofs.LinkedFlat.{AreRead, IsStep, links-flat}
-use Rattle.mddocument_rules.proofs.QuietItems.{AreQuiet, HasQuiet, IsPlain, IsQuiet, constructs-plain, constructs-quiet, quiet-other, tail-quiet}
+use Rattle.mddocument_rules.proofs.QuietItems.{AreQuiet, IsPlain, IsPlainAndQuiet, IsQuiet, constructs-quiet, quiet-other, tail-quiet}
 use Rattle.mddocument_rules.specs.TextLaws.{NoLinkInALinkOfText}
 
 -- ---- spans that are read, by the brackets that wait
@@ -145,13 +145,13 @@ module _ (bytes : List ℕ) where
     abbrev There : Found → Type 0
     There f = IsItem bs s ss f
 
-    all-three : (o : Option Found) → OfOption IsPlain o → OfOption Calm o → OfOption HasQuiet o → OfOption There o
-    all-three None p c q = tt
-    all-three (Some f) p c q = plain-item f p (c (take f.size (s ∷ ss))) (q bytes (take f.size (s ∷ ss)))
+    both-there : (o : Option Found) → OfOption Calm o → OfOption IsPlainAndQuiet o → OfOption There o
+    both-there None c q = tt
+    both-there (Some f) c q = plain-item f q.0 (c (take f.size (s ∷ ss))) (q.1 bytes (take f.size (s ∷ ss)))
 
-    each-item : (grammars : List (Grammar Found)) (text : List ℕ) → EachThere IsPlain grammars text → EachThere Calm grammars text → EachThere HasQuiet grammars text → EachThere There grammars text
-    each-item [] text p c q = tt
-    each-item (g ∷ grammars) text p c q = (all-three (g.front text) p.0 c.0 q.0, each-item grammars text p.1 c.1 q.1)
+    each-item : (grammars : List (Grammar Found)) (text : List ℕ) → EachThere Calm grammars text → EachThere IsPlainAndQuiet grammars text → EachThere There grammars text
+    each-item [] text c q = tt
+    each-item (g ∷ grammars) text c q = (both-there (g.front text) c.0 q.0, each-item grammars text c.1 q.1)
 
     -- runs, line endings and data
     leaf-item : (f : Found) → IsPlain f → (n : Name) → IsQuiet n → ((seats : List Seat) → f.events bytes seats ≡ leaf bytes n seats) → There f
@@ -287,7 +287,7 @@ module _ (bytes : List ℕ) where
 
     inline-item : (s : Seat) (ss : List Seat) (m : Memory) (text : List ℕ) → IsItem m.waiting s ss (inline_item_at on defined bytes m text)
     inline-item s ss m text =
-        there-holds (IsItem m.waiting s ss) inline_grammars on text (bracket_or_part on defined bytes m text) (each-item m.waiting s ss inline_grammars text (constructs-plain text) (calm-each text) (constructs-quiet text))
+        there-holds (IsItem m.waiting s ss) inline_grammars on text (bracket_or_part on defined bytes m text) (each-item m.waiting s ss inline_grammars text (calm-each text) (constructs-quiet text))
         (bracket-item s ss m text)
 
     -- ---- all items

@@ -1,4 +1,5 @@
 -- Inline text as it is read: each of its outermost spans stands in texts, so inline text does; and strings stand in any span but a list.
+use Rattle.mddocument_laws.proofs.TailSpans.{IsKeptInside}
 use Rattle.mddocument_rules.proofs.Prelude.{◌≡◌, ◌∙◌, ℕ, zero, suc, ◌+◌, Bool, true, false, cond, List, [], ◌∷◌, ◌++◌, Option, Some, None, drop, length, refl, subst, sym, take, append-nil, append_assoc, and_parts, false≢true, not, option_map, flat_map, between, AllByRecursion, every-append, Constructs, Event, Enter, Exit, Name, Seat, end_after, IsBalanced, empty, IsBalanced-append, is_wanted, is_in, list_names, may_stand, text_names, IsPiece, StandApart}
 use Rattle.std.specs.List.{prefix_len}
 use Rattle.markdown_base.specs.Events.{span as balanced_span}
@@ -33,7 +34,7 @@ use Rattle.mdinline_machine.specs.RunRows.{begins_run}
 use Rattle.mddocument_laws.proofs.WholeSpans.{IsWhole, around-whole, both-whole, first-span, none-whole}
 use Rattle.mddocument_rules.proofs.Links.{apart-in-texts, links-stand}
 use Rattle.mddocument_rules.proofs.Places.{NotInList, free-inside, free-may, is_free}
-use Rattle.mddocument_rules.proofs.QuietItems.{IsKeptInside, linking_names, tail-is}
+use Rattle.mddocument_rules.proofs.QuietItems.{IsInnerName, linking_names, tail-is}
 use Rattle.mddocument_rules.proofs.Walk.{MayBe, Walks, free-walks, walks-all, walks-span}
 use Rattle.mddocument_rules.specs.TextLaws.{InlineTextStands, is_of_link}
 
@@ -130,7 +131,7 @@ module _ (bytes : List ℕ) where
   inline n [] inside is h = h.pieces
   inline n (s ∷ ss) inside is h = inline-one n s ss inside h is.0 is.1 (is.2 s ss inside)
 
-  inner-kept : IsKeptInside bytes IsInner
+  inner-kept : IsKeptInside bytes IsInnerName IsInner
   inner-kept = record { none = inner-none; both = inner-both; span_around = λ n seats inside p h. over n seats inside (and_parts (is_free n) (not (is_wanted linking_names n)) p).0 h }
 
   -- ---- items
