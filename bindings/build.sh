@@ -33,6 +33,12 @@ while [ $# -gt 0 ] && [ "${1#-}" = "$1" ]; do
     shift
 done
 targets=${targets:-$native}
+for target in $targets; do
+    case $target in
+    x86_64-unknown-linux-gnu | aarch64-unknown-linux-gnu) ;;
+    *) set -- no-such-target ;;
+    esac
+done
 if ! known "$@"; then
     echo "usage: bindings/build.sh [TARGET..] [--jobs N] [--cpu NAME]" >&2
     exit 2

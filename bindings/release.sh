@@ -22,6 +22,7 @@ case $1 in -*) wrong ;; esac
 say() { echo "release: $*"; }
 folder=$1
 shift
+case ${1-} in '' | --jobs* | --cpu*) ;; *) wrong ;; esac
 archive_of() {
     case $1 in
     x86_64-unknown-linux-gnu) echo "$here/out/liblimecove.a" ;;
