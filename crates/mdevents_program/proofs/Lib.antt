@@ -3,4 +3,5 @@ mod Prelude
 pub mod OptionWords
 -- printing
 pub mod Blocks
-pub mod Pairs
+pub mod Numbers
+pub mod Points

@@ -5,3 +5,4 @@ pub mod Arguments
 pub mod ArgumentsInner
 -- printing
 pub mod Printed
+pub mod Digits

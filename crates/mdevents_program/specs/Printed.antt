@@ -12,9 +12,13 @@ abbrev pub kind_text : Kind → List ℕ
 kind_text Enter = codes "enter"
 kind_text Exit = codes "exit"
 
+-- what is printed of a point behind its line: `column (index+vs)`
+abbrev pub printed_column : Point → List ℕ
+printed_column point = decimal point.column ++ codes " (" ++ decimal point.index ++ codes "+" ++ decimal point.vs ++ codes ")"
+
 -- a point as `line:column (index+vs)`
 abbrev pub printed_point : Point → List ℕ
-printed_point point = decimal point.line ++ codes ":" ++ decimal point.column ++ codes " (" ++ decimal point.index ++ codes "+" ++ decimal point.vs ++ codes ")"
+printed_point point = decimal point.line ++ codes ":" ++ printed_column point
 
 -- the line of an event: kind, name and point, ended by a line feed
 abbrev pub event_line : Event → List ℕ

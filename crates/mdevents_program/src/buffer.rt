@@ -2,8 +2,8 @@
 
 ghost use Rattle.std.specs.Prelude.{◌≡◌, ◌+◌, ◌++◌, ◌≤◌, ℕ, List, [], length, take};
 
+use crate::block::put_block;
 use std::marker::Model;
-use std::simd::Simd;
 
 /// The most bytes that wait.
 pub(crate) const SIZE: usize = 4096;
@@ -77,8 +77,6 @@ impl Buffer {
         ensures bytes { self.new ≡ self.old ++ take len block.now }
         ensures len { length self.new ≡ length self.old + len }
     {
-        let count = self.count;
-        Simd::<u8, N>::from_slice(block).copy_to_slice(&mut self.bytes[count..]);
-        self.count = count + len;
+        self.count = put_block::<N>(&mut self.bytes, self.count, block, len);
     }
 }

@@ -1,12 +1,13 @@
 //! The text of a point, which is kept for the events that are at the same point.
 
-ghost use Rattle.std.specs.Prelude.{◌≡◌, ◌+◌, ◌-◌, ◌++◌, ◌≤◌, length, take, drop, codes};
+ghost use Rattle.std.specs.Prelude.{◌≡◌, ◌+◌, ◌++◌, ◌≤◌, length, take, codes, decimal};
 ghost use Rattle.markdown.specs.declared.event.Point.{Point};
 ghost use Rattle.markdown.specs.Virtual.{point};
-ghost use Rattle.mdevents_program.specs.Printed.{printed_point};
+ghost use Rattle.mdevents_program.specs.Printed.{printed_point, printed_column};
 
+use crate::block::put_block;
 use crate::buffer::{Buffer, SIZE};
-use crate::digits::write_number;
+use crate::digits::put_number;
 use markdown::event::Point;
 use std::marker::Model;
 
@@ -17,16 +18,17 @@ pub(crate) const MOST: usize = 86;
 /// The length of a block that is copied if the text fits into it.
 const BLOCK: usize = 32;
 
-/// The length of the array. A block fits into it after the text too.
-const ROOM: usize = 118;
+/// The length of the array. There is room behind the text for what is written with a number.
+const ROOM: usize = 128;
 
-/// A point, and its text with a line feed. Many events are at the point of the event before them, so the text is made once for
-/// all of them. It is in `bytes` from `start` up to [`MOST`].
+/// A point, and its text with a line feed, in the first `count` bytes. Many events are at the point of the event before them, so the text is made once
+/// for all of them. Many others are in its line, so its column begins at `column_at` behind the line's number, which is kept.
 #[derive(Drop)]
 pub(crate) struct LastPoint {
     point: Point,
     bytes: [u8; ROOM],
-    start: usize,
+    column_at: usize,
+    count: usize,
 }
 
 impl Model for LastPoint {
@@ -34,7 +36,9 @@ impl Model for LastPoint {
 
     ghost view = { λ last. last.point };
 
-    ghost invariant = { λ last. (last.start ≤ 86) × (take (86 - last.start) (drop last.start last.bytes) ≡ printed_point last.point ++ codes "\n") };
+    ghost invariant = { λ last. (last.column_at ≤ 21) × (last.count ≤ 86)
+        × (take last.column_at last.bytes ≡ decimal last.point.line ++ codes ":")
+        × (take last.count last.bytes ≡ printed_point last.point ++ codes "\n") };
 }
 
 impl LastPoint {
@@ -43,11 +47,13 @@ impl LastPoint {
         ensures { result ≡ point 1 1 0 0 }
     {
         let mut bytes = [0; ROOM];
-        let start = write_point(&mut bytes, &Point::START);
+        let column_at = write_line(&mut bytes, 1);
+        let count = write_column(&mut bytes, column_at, &Point::START);
         LastPoint {
             point: Point::START,
             bytes,
-            start,
+            column_at,
+            count,
         }
     }
 
@@ -58,10 +64,19 @@ impl LastPoint {
         ensures { buffer.new ≡ buffer.old ++ printed_point point.now ++ codes "\n" }
     {
         if self.point != *point {
-            self.start = write_point(&mut self.bytes, point);
-            self.point = *point;
+            self.move_to(point);
         }
         self.push_text(buffer);
+    }
+
+    /// Makes the text of another point. The number of a line is written only if the line is not the last one.
+    #[inline(always)]
+    fn move_to(&mut self, point: &Point)
+        ensures { self.new ≡ point.now }
+    {
+        self.column_at = go_to_line(&mut self.bytes, self.column_at, self.point.line, point.line);
+        self.count = write_column(&mut self.bytes, self.column_at, point);
+        self.point = *point;
     }
 
     /// Appends the text of the point and a line feed to the buffer.
@@ -70,29 +85,53 @@ impl LastPoint {
         requires { length buffer.old + MOST ≤ SIZE }
         ensures { buffer.new ≡ buffer.old ++ printed_point self.now ++ codes "\n" }
     {
-        let len = MOST - self.start;
-        if len <= BLOCK {
-            buffer.push_block::<BLOCK>(&self.bytes[self.start..], len);
+        if self.count <= BLOCK {
+            buffer.push_block::<BLOCK>(&self.bytes, self.count);
         } else {
-            buffer.push_text(&self.bytes[self.start..MOST]);
+            buffer.push_text(&self.bytes[..self.count]);
         }
     }
 }
 
-/// Writes the text of a point and a line feed, so that they end before the index [`MOST`]. Returns the index at which they
-/// begin.
-fn write_point(bytes: &mut [u8; ROOM], point: &Point) -> usize
-    ensures text { take (86 - result) (drop result bytes.new) ≡ printed_point point.now ++ codes "\n" }
-    ensures most { result ≤ 86 }
+/// Makes the number of a line and a colon of those of another one, which end before an index. Returns the index behind them.
+#[inline(always)]
+fn go_to_line(bytes: &mut [u8; ROOM], column_at: usize, last: usize, line: usize) -> usize
+    requires { (column_at ≤ 21) × (take column_at bytes.old ≡ decimal last ++ codes ":") }
+    ensures text { take result bytes.new ≡ decimal line ++ codes ":" }
+    ensures most { result ≤ 21 }
 {
-    bytes[85] = b'\n';
-    bytes[84] = b')';
-    let at = write_number(point.vs, bytes, 84) - 1;
-    bytes[at] = b'+';
-    let at = write_number(point.index, bytes, at) - 2;
-    bytes[at + 1] = b'(';
-    bytes[at] = b' ';
-    let at = write_number(point.column, bytes, at) - 1;
-    bytes[at] = b':';
-    write_number(point.line, bytes, at)
+    if line == last {
+        column_at
+    } else {
+        write_line(bytes, line)
+    }
+}
+
+/// Writes the number of a line and a colon. Returns the index behind them.
+#[inline(never)]
+fn write_line(bytes: &mut [u8; ROOM], line: usize) -> usize
+    ensures text { take result bytes.new ≡ decimal line ++ codes ":" }
+    ensures most { result ≤ 21 }
+{
+    let at = put_number(line, bytes, 0);
+    put_block::<4>(bytes, at, b":   ", 1)
+}
+
+/// Writes the text of a point from its column on, and a line feed, at an index. Returns the index behind them.
+#[inline(always)]
+fn write_column(bytes: &mut [u8; ROOM], at: usize, point: &Point) -> usize
+    requires { at ≤ 21 }
+    ensures text { take result bytes.new ≡ take at bytes.old ++ printed_column point.now ++ codes "\n" }
+    ensures front { take at bytes.new ≡ take at bytes.old }
+    ensures most { (at ≤ result) × (result ≤ at + 65) }
+{
+    let at = put_number(point.column, bytes, at);
+    let at = put_block::<4>(bytes, at, b" (  ", 2);
+    let at = put_number(point.index, bytes, at);
+    if point.vs == 0 {
+        return put_block::<4>(bytes, at, b"+0)\n", 4);
+    }
+    let at = put_block::<4>(bytes, at, b"+   ", 1);
+    let at = put_number(point.vs, bytes, at);
+    put_block::<4>(bytes, at, b")\n  ", 2)
 }

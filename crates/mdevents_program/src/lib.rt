@@ -13,6 +13,7 @@ pub mod read;
 pub mod write;
 
 // printing: lines of events, and what they are made of
+mod block;
 mod buffer;
 mod digits;
 mod last_point;

@@ -6,7 +6,7 @@ ghost use Rattle.mdevents_program.specs.Printed.{kind_text, event_line};
 
 use crate::buffer::{Buffer, SIZE};
 use crate::last_point::LastPoint;
-use crate::names::{BLOCK, name_block};
+use crate::names::{BLOCK, front_block};
 use markdown::event::{Event, Kind, Name};
 
 /// No line of an event has more bytes than this.
@@ -19,30 +19,17 @@ pub(crate) fn push_line(buffer: &mut Buffer, last: &mut LastPoint, event: &Event
     requires { length buffer.old + LONGEST ≤ SIZE }
     ensures { buffer.new ≡ buffer.old ++ event_line event.now }
 {
-    push_kind(buffer, event.kind);
-    push_name(buffer, event.name);
+    push_front(buffer, event.kind, event.name);
     last.push_point(buffer, &event.point);
 }
 
-/// Appends the word of a kind and a space to the buffer.
+/// Appends the word of a kind and the text of a name, with a space after each, to the buffer.
 #[inline(always)]
-fn push_kind(buffer: &mut Buffer, kind: Kind)
-    requires { length buffer.old + 8 ≤ SIZE }
-    ensures bytes { buffer.new ≡ buffer.old ++ kind_text kind ++ codes " " }
-    ensures most { length buffer.new ≤ length buffer.old + 6 }
-{
-    match kind {
-        Kind::Enter => buffer.push_block::<8>(b"enter   ", 6),
-        Kind::Exit => buffer.push_block::<8>(b"exit    ", 5),
-    }
-}
-
-/// Appends the text of a name and a space to the buffer.
-#[inline(always)]
-fn push_name(buffer: &mut Buffer, name: Name)
+fn push_front(buffer: &mut Buffer, kind: Kind, name: Name)
     requires { length buffer.old + BLOCK ≤ SIZE }
-    ensures bytes { buffer.new ≡ buffer.old ++ text_of name ++ codes " " }
-    ensures most { length buffer.new ≤ length buffer.old + 36 }
+    ensures bytes { buffer.new ≡ buffer.old ++ kind_text kind ++ codes " " ++ text_of name ++ codes " " }
+    ensures most { length buffer.new ≤ length buffer.old + 42 }
 {
-    buffer.push_block::<BLOCK>(name_block(name), name.as_str().len() + 1);
+    let block = front_block(kind, name);
+    buffer.push_block::<BLOCK>(block, block[63] as usize);
 }
