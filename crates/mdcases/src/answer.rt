@@ -3,15 +3,14 @@
 ghost use Rattle.std.specs.Prelude.{◌≤◌, IfSome};
 
 use crate::case::{Case, Form, Reading, case_of};
-use markdown::configuration::{Constructs, ParseOptions, TabSize};
+use markdown::configuration::{ParseOptions, TabSize};
 use markdown::event::Event;
 use markdown::tokenizer::cuts_every;
 use mdcases_forms::points::shown;
 use mdcases_forms::spans::spans_of;
-use mdconstructs::choice::Choice;
-use mdconstructs::documents::events_of;
 use mdconstructs::limit::limit_of;
 use mdconstructs::{read_inline_text, read_text};
+use mdevents_program::choice::{Choice, events_by};
 use mdevents_program::failure::Failure;
 use mdevents_program::program::write_events;
 use mdevents_program::read::read_to_end;
@@ -122,20 +121,20 @@ fn events_cut(alloc: Global, case: &Case, cut: Option<usize>) -> Result<Vec<Even
 {
     let bytes = case.document.as_slice();
     match case.reading {
-        Reading::Program(choice) => events_by(alloc, bytes, &Choice { cut, ..choice }),
+        Reading::Program(choice) => events_of(alloc, bytes, &Choice { cut, ..choice }),
         Reading::InlineText => events_of_text(alloc, bytes, cut, true),
         Reading::Text => events_of_text(alloc, bytes, cut, false),
     }
 }
 
 /// The events that a choice makes of a document.
-fn events_by(alloc: Global, bytes: &[u8], choice: &Choice) -> Result<Vec<Event>, Failure>
+fn events_of(alloc: Global, bytes: &[u8], choice: &Choice) -> Result<Vec<Event>, Failure>
     requires { IfSome choice.now.cut (λ n. 1 ≤ n) }
 {
     if bytes.len() > limit_of(choice.tab) {
         return Err(Failure::TooLong);
     }
-    Ok(events_of(alloc, bytes, Constructs::default(), choice)?)
+    Ok(events_by(alloc, bytes, choice)?)
 }
 
 /// The events of a document that is read as inline text, or else as text. Reading fails only if it runs out of memory.

@@ -2,8 +2,8 @@
 
 ghost use Rattle.std.specs.Prelude.{◌<◌, IfSome};
 
-use mdconstructs::choice::Choice;
 use mdevents_program::arguments::read_words;
+use mdevents_program::choice::Choice;
 use std::alloc::{AllocError, Global};
 use std::str;
 

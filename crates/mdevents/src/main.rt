@@ -3,7 +3,7 @@
 //! Usage: `mdevents [--cut n] [--deep] [--machine name] [--tab n]`. `--cut` reads the document in parts of n virtual
 //! bytes, which does not change what is written. `--machine` names the machine that reads it; the default is `lines`.
 //! `--deep` also reads the chunks of text that the machine links, and replaces them by their events; it is accepted only
-//! with `--machine paragraphs`, `--machine text`, `--machine flow` and `--machine document`. `--tab` is the tab size, from 1 to 16; the
+//! with `--machine paragraphs`, `--machine text`, `--machine flow`, `--machine document` and `--machine gfm`. `--tab` is the tab size, from 1 to 16; the
 //! default is 4.
 //!
 //! The status is 0 if all was written. If something fails, a line on standard error says what, and the status is 1. If the

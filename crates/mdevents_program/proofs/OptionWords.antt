@@ -1,5 +1,5 @@
 -- What words choose, word by word, is what the options that they spell choose.
-use Rattle.mdevents_program.proofs.Prelude.{arith, ◌≡◌, ◌++◌, ℕ, List, [], ◌∷◌, Option, Some, None, true, false, Bool, refl, ◌∙◌, codes, filter_map, unwrap_or, option_and_then, bytes_eq, Choice, Which, Lines, Spelled, cut, deep, machine, tab, decimal_of, which_of, tab_size_of, options_of, cut_in, deep_in, machine_in, tab_in, at_most_one, choice_together, chosen_after}
+use Rattle.mdevents_program.proofs.Prelude.{arith, ◌≡◌, ◌++◌, ℕ, List, [], ◌∷◌, Option, Some, None, true, false, Bool, refl, ◌∙◌, codes, filter_map, unwrap_or, option_and_then, bytes_eq, Choice, Which, Lines, Spelled, decimal_of, which_of, tab_size_of, options_of, cut_in, deep_in, machine_in, tab_in, at_most_one, choice_together, chosen_after}
 
 -- what came before of an option with a value
 abbrev given : {A : Type 0} → Option A → List A

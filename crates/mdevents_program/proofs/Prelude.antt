@@ -16,16 +16,16 @@ pub use Rattle.std.specs.Str.{bytes_eq}
 pub use Rattle.markdown.specs.Virtual.{IsWithinLimit}
 pub use Rattle.markdown.specs.declared.event.Event.{Event}
 pub use lib.Ieee.Fits.{and_l, and_r}
-pub use Rattle.mddocument.specs.Choices.{choice_together}
+pub use Rattle.mdevents_program.specs.Choices.{choice_together}
 pub use Rattle.mdevents_program.specs.Arguments.{Spelled, at_most_one, cut, cut_in, deep, deep_in, machine, machine_in, options_of, tab, tab_in, which_of}
 pub use Rattle.mdevents_program.specs.ArgumentsInner.{chosen_after, with_value}
 pub use Rattle.mdevents_program.specs.Printed.{event_line, printed_column, printed_events, printed_point}
 pub use Rattle.mdevents_program.specs.Program.{ArePrintedEvents}
 pub use Rattle.mdprograms.specs.Numbers.{decimal_of, tab_size_of}
-pub use Rattle.mddocument.specs.declared.choice.Choice.{Choice}
+pub use Rattle.mdevents_program.specs.declared.choice.Choice.{Choice}
 pub use Rattle.mdevents_program.specs.declared.arguments.SoFar.{SoFar}
-pub use Rattle.mddocument.specs.declared.choice.Which.{Which}
-pub use Rattle.mddocument.specs.declared.choice.Which.TheVariants.{Lines}
+pub use Rattle.mdevents_program.specs.declared.choice.Which.{Which}
+pub use Rattle.mdevents_program.specs.declared.choice.Which.TheVariants.{Lines}
 pub use Rattle.std.proofs.lemmas.Bool.{ltb-false, ltb-true}
 pub use Rattle.std.proofs.lemmas.List.FromFn.{get_or-map-range_with_len}
 pub use Rattle.std.specs.List.{range_with_len}

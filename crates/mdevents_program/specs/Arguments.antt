@@ -2,10 +2,10 @@
 use Rattle.std.specs.Prelude.{ℕ, Bool, true, false, List, [], ◌∷◌, Option, Some, None, unwrap_or, codes, cond, filter_map}
 use Rattle.std.specs.Option.{option_and_then, option_map}
 use Rattle.std.specs.Str.{bytes_eq}
-use Rattle.mddocument.specs.declared.choice.Choice.{Choice}
-use Rattle.mddocument.specs.declared.choice.Which.{Which}
-use Rattle.mddocument.specs.declared.choice.Which.TheVariants.{Lines, Paragraphs, Peek, Deep, Back, Save, Text, Flow, Document}
-use Rattle.mddocument.specs.Choices.{choice_together}
+use Rattle.mdevents_program.specs.declared.choice.Choice.{Choice}
+use Rattle.mdevents_program.specs.declared.choice.Which.{Which}
+use Rattle.mdevents_program.specs.declared.choice.Which.TheVariants.{Lines, Paragraphs, Peek, Deep, Back, Save, Text, Flow, Document, Gfm}
+use Rattle.mdevents_program.specs.Choices.{choice_together}
 use Rattle.mdprograms.specs.Numbers.{decimal_of, tab_size_of}
 
 -- the machine of a name
@@ -15,7 +15,8 @@ which_of name =
     (cond (bytes_eq name (codes "paragraphs")) (Some Paragraphs)
     (cond (bytes_eq name (codes "peek")) (Some Peek)
     (cond (bytes_eq name (codes "deep")) (Some Deep) (cond (bytes_eq name (codes "back")) (Some Back) (cond (bytes_eq name (codes "save")) (Some Save)
-    (cond (bytes_eq name (codes "text")) (Some Text) (cond (bytes_eq name (codes "flow")) (Some Flow) (cond (bytes_eq name (codes "document")) (Some Document) None))))))))
+    (cond (bytes_eq name (codes "text")) (Some Text) (cond (bytes_eq name (codes "flow")) (Some Flow) (cond (bytes_eq name (codes "document")) (Some Document)
+    (cond (bytes_eq name (codes "gfm")) (Some Gfm) None)))))))))
 
 -- An option, with its value if it has one
 pub data Spelled : Type 0 where

@@ -2,10 +2,10 @@
 use Rattle.std.specs.Prelude.{ℕ, true, List, [], ◌∷◌, Option, Some, None, unwrap_or, codes, cond}
 use Rattle.std.specs.Option.{option_and_then, option_map}
 use Rattle.std.specs.Str.{bytes_eq}
-use Rattle.mddocument.specs.declared.choice.Choice.{Choice}
+use Rattle.mdevents_program.specs.declared.choice.Choice.{Choice}
 use Rattle.mdevents_program.specs.declared.arguments.SoFar.{SoFar}
-use Rattle.mddocument.specs.declared.choice.Which.TheVariants.{Lines}
-use Rattle.mddocument.specs.Choices.{choice_together}
+use Rattle.mdevents_program.specs.declared.choice.Which.TheVariants.{Lines}
+use Rattle.mdevents_program.specs.Choices.{choice_together}
 use Rattle.mdevents_program.specs.Arguments.{which_of}
 use Rattle.mdprograms.specs.Numbers.{decimal_of, tab_size_of}
 

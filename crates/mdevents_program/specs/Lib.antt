@@ -2,6 +2,7 @@
 pub mod Program
 -- arguments
 pub mod Arguments
+pub mod Choices
 pub mod ArgumentsInner
 -- printing
 pub mod Printed

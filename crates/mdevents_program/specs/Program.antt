@@ -1,9 +1,8 @@
 -- What the program writes.
 use Rattle.std.specs.Prelude.{◌≡◌, ℕ, List, Option}
 use Rattle.markdown.specs.declared.event.Event.{Event}
-use Rattle.markdown.specs.Presets.{default_constructs}
-use Rattle.mddocument.specs.declared.choice.Choice.{Choice}
-use Rattle.mddocument.specs.Documents.{AreEventsOf, options_with}
+use Rattle.mdevents_program.specs.declared.choice.Choice.{Choice}
+use Rattle.mdevents_program.specs.Choices.{AreEventsBy}
 use Rattle.mdevents_program.specs.Printed.{printed_events}
 use Rattle.mdprograms.specs.Input.{IsReadToEnd}
 
@@ -12,5 +11,5 @@ pub record ArePrintedEvents (choice : Choice) (old new : Option (List ℕ)) (tex
   pub bytes : List ℕ
   pub read : IsReadToEnd choice.tab old new bytes
   pub events : List Event
-  pub are : AreEventsOf choice.deep choice.machine (options_with default_constructs choice.tab) bytes events
+  pub are : AreEventsBy choice bytes events
   pub lines : text ≡ printed_events events

@@ -1,13 +1,13 @@
 //! The program's command-line arguments.
 
 ghost use Rattle.std.specs.Prelude.{◌≡◌, ◌≤◌, IfSome, map, string_bytes};
-ghost use Rattle.mddocument.specs.Choices.{CanCut};
+ghost use Rattle.mdevents_program.specs.Choices.{CanCut};
 ghost use Rattle.mdevents_program.specs.Arguments.{choice_of_words, which_of};
 ghost use Rattle.mdevents_program.specs.ArgumentsInner.{once, with_value, taken_of, chosen_after};
 
+use crate::choice::links_text;
+pub use crate::choice::{Choice, Which};
 use markdown::configuration::TabSize;
-use mddocument::choice::links_text;
-pub use mddocument::choice::{Choice, Which};
 use mdprograms::numbers::{read_number, read_tab_size};
 
 /// The usage line. It is shown if the arguments are not accepted.
@@ -15,7 +15,7 @@ pub const USAGE: &str = "usage: mdevents [--cut n] [--deep] [--machine name] [--
 
 /// Reads the arguments after the program's name: `--cut` with a number, `--deep`, `--machine` with a name, and `--tab` with a
 /// number from 1 to 16. They come in any order, each at most once. The default machine is `lines`, and the default tab size 4.
-/// `--deep` is accepted only with the machines `paragraphs`, `text`, `flow` and `document`. Returns `None` if the arguments are not accepted;
+/// `--deep` is accepted only with the machines `paragraphs`, `text`, `flow`, `document` and `gfm`. Returns `None` if the arguments are not accepted;
 /// [`USAGE`] is then shown.
 pub fn read_words(words: &[String]) -> Option<Choice>
     ensures chosen { result ≡ choice_of_words (map string_bytes words.now) }
@@ -147,6 +147,8 @@ fn read_which(name: &str) -> Option<Which>
         Some(Which::Flow)
     } else if name == "document" {
         Some(Which::Document)
+    } else if name == "gfm" {
+        Some(Which::Gfm)
     } else {
         None
     }

@@ -3,8 +3,8 @@
 ghost use Rattle.std.specs.Prelude.{◌≡◌, ◌≤◌, ◌↔◌, IfOk, IfSome, IsErr, Ok, None, map, string_bytes};
 ghost use Rattle.std.specs.Io.KnownBytes.{Keeps};
 ghost use Rattle.std.specs.Process.{exit_status};
-ghost use Rattle.mddocument.specs.Choices.{CanCut};
 ghost use Rattle.mdevents_program.specs.Arguments.{choice_of_words};
+ghost use Rattle.mdevents_program.specs.Choices.{CanCut};
 ghost use Rattle.mdevents_program.specs.Program.{ArePrintedEvents};
 ghost use Rattle.mdprograms.specs.Output.{Writes, WritesChosen, WritesChosenFront, WritesFrontAtMost, WritesWords, WritesWordsFront};
 

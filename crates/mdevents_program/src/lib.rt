@@ -5,8 +5,9 @@
 // program: `write_events`: reads, makes events, writes
 pub mod program;
 
-// arguments: what those of the command line choose
+// arguments: what those of the command line choose, and the events of a choice
 pub mod arguments;
+pub mod choice;
 
 // input and output: reading to the end, within the limit; writing
 pub mod read;

@@ -2,16 +2,14 @@
 
 ghost use Rattle.std.specs.Prelude.{◌≢◌, IfErr, OnOk, IsErrOf};
 ghost use Rattle.std.specs.Io.KnownBytes.{Keeps};
-ghost use Rattle.mddocument.specs.Choices.{CanCut};
+ghost use Rattle.mdevents_program.specs.Choices.{CanCut};
 ghost use Rattle.mdevents_program.specs.Program.{ArePrintedEvents};
 ghost use Rattle.mdprograms.specs.Input.{ReadsWithinLimit, ReadsPastLimit};
 ghost use Rattle.mdprograms.specs.Output.{Writes, WritesFront};
 
-use crate::arguments::Choice;
+use crate::choice::{Choice, events_by};
 use crate::read::read_to_end;
 use crate::write::write_lines;
-use markdown::configuration::Constructs;
-use mddocument::documents::events_of;
 use mdprograms::failure::Failure;
 use std::alloc::Global;
 use std::io::{Read, Write};
@@ -41,6 +39,6 @@ pub fn write_events<R: Read, W: Write>(
     ensures nothing { IfErr result (λ failure. failure ≢ Failure.Write → Keeps (W.contents writer.old) (W.contents writer.new)) }
 {
     let bytes = read_to_end(alloc, reader, choice.tab)?;
-    let events = events_of(alloc, bytes.as_slice(), Constructs::default(), choice)?;
+    let events = events_by(alloc, bytes.as_slice(), choice)?;
     write_lines(writer, events.as_slice())
 }

@@ -128,6 +128,20 @@ const CHOSEN: &[(&[&[u8]], usize, bool, Which, usize)] = &[
         Which::Flow,
         16,
     ),
+    (
+        &[b"mdevents", b"--machine", b"gfm", b"--deep"],
+        0,
+        true,
+        Which::Gfm,
+        4,
+    ),
+    (
+        &[b"mdevents", b"--cut", b"2", b"--machine", b"gfm"],
+        2,
+        false,
+        Which::Gfm,
+        4,
+    ),
 ];
 
 /// The words may be many, and a number may have many digits.

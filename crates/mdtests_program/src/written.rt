@@ -1,6 +1,6 @@
 //! What the program writes for long documents.
 
-ghost use Rattle.mdconstructs.specs.Choices.{CanCut};
+ghost use Rattle.mdevents_program.specs.Choices.{CanCut};
 
 use markdown::configuration::TabSize;
 use mdevents_program::arguments::{Choice, Which};

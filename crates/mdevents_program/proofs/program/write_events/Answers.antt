@@ -9,7 +9,7 @@ module _ (g : Given.Over) (c : goal.After-drop-bytes-2 g) where
     bytes = c.in_ok-bytes.bytes.items;
     read = record { all = c.in_ok-bytes.ensures.all; end = c.in_ok-bytes.ensures.end; within = c.in_ok-bytes.ensures.within };
     events = c.in_ok-events.events.items;
-    are = rw (c.as_slice.ensures.value, c.default.ensures) at c.in_ok-events.ensures.events;
+    are = rw c.as_slice.ensures.value at c.in_ok-events.ensures;
     lines = refl;
   }
 
