@@ -6,7 +6,7 @@ use Rattle.mddocument_parts.proofs.Both.{blocks-of-both}
 use Rattle.mddocument_parts.proofs.Links.{blocks-link-back, linked-moved}
 use Rattle.mddocument_parts.proofs.MovedBlocks.{blocks-move}
 use Rattle.mddocument_parts.proofs.MovedMarks.{blocks-marks-moved, mb}
-use Rattle.mddocument_parts.proofs.Shown.{shown-behind, shown-front, within}
+use Rattle.mddocument_parts.proofs.Shown.{line-untorn, shown-behind, shown-front, within}
 use Rattle.mddocument_parts.proofs.Virtual.{lines-moved}
 
 pub map-same : {X : Type 0} (f : X → X) → ((x : X) → f x ≡ x) → (xs : List X) → map f xs ≡ xs
@@ -71,7 +71,7 @@ map-ext f g h (x ∷ xs) = let e = h x in let r = map-ext f g h xs in (λ i. e i
 module _ (a b : List ℕ) (h : begins_line b a ≡ true) where
   -- the first part, as it is
   abbrev pub stays : LeafBlock → LeafBlock
-  stays block = mb a (a ++ b) (λ p. p) (λ l. l) refl (λ p. p.index ≤ length a) (λ p l. shown-front a b h p l) block
+  stays block = mb a (a ++ b) (λ p. p) (λ l. l) refl (λ p. p.index ≤ length a) (λ p l. shown-front a b (line-untorn a b h) p l) block
 
   pub block-stays : (block : LeafBlock) → stays block ≡ block
   block-stays (blank_line line) = ap blank_line (same-line line)
@@ -86,7 +86,7 @@ module _ (a b : List ℕ) (h : begins_line b a ≡ true) where
   -- the second part, moved
   module _ (k : ℕ) where
     abbrev pub goes : LeafBlock → LeafBlock
-    goes block = mb b (a ++ b) (moved_point (line_endings a) (length a)) (moved_link k) refl (λ p. Unit {0}) (λ p l. shown-behind a b h (line_endings a) p) block
+    goes block = mb b (a ++ b) (moved_point (line_endings a) (length a)) (moved_link k) refl (λ p. Unit {0}) (λ p l. shown-behind a b (line-untorn a b h) (line_endings a) p) block
 
     pub block-goes : (block : LeafBlock) → moved_block (line_endings a) (length a) block ≡ goes block
     block-goes (blank_line line) = refl
@@ -99,7 +99,7 @@ module _ (a b : List ℕ) (h : begins_line b a ≡ true) where
         let blocks = leaf_blocks on (lines_in seats) in
         let known = in-blocks _ on (lines_in seats) (in-lines _ seats inside) in
         sym (ap (leaf_blocks_marks (a ++ b)) (map-same stays block-stays blocks))
-        ∙ blocks-marks-moved a (a ++ b) (λ p. p) (λ l. l) refl (λ p. p.index ≤ length a) (λ p l. shown-front a b h p l) blocks known
+        ∙ blocks-marks-moved a (a ++ b) (λ p. p) (λ l. l) refl (λ p. p.index ≤ length a) (λ p l. shown-front a b (line-untorn a b h) p l) blocks known
         ∙ map-same (λ m. m) (λ m. refl) (leaf_blocks_marks a blocks)
 
     -- virtual bytes of the second, moved
@@ -109,7 +109,7 @@ module _ (a b : List ℕ) (h : begins_line b a ≡ true) where
         let blocks = leaf_blocks on (lines_in seats) in
         let known = in-blocks _ on (lines_in seats) (in-lines _ seats (all-known seats)) in
         ap (leaf_blocks_marks (a ++ b)) (map-ext (moved_block (line_endings a) (length a)) (goes k) (block-goes k) blocks)
-        ∙ blocks-marks-moved b (a ++ b) (moved_point (line_endings a) (length a)) (moved_link k) refl (λ p. Unit {0}) (λ p l. shown-behind a b h (line_endings a) p) blocks known
+        ∙ blocks-marks-moved b (a ++ b) (moved_point (line_endings a) (length a)) (moved_link k) refl (λ p. Unit {0}) (λ p l. shown-behind a b (line-untorn a b h) (line_endings a) p) blocks known
 
     -- the events of leaf blocks of such virtual bytes
     pub flow-front : (seats : List Seat) → AllByRecursion (λ s. (s.point.index ≤ length a) × (s.end.index ≤ length a)) seats → flow_events on (a ++ b) seats ≡ flow_events on a seats

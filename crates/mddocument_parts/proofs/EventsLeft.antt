@@ -101,7 +101,7 @@ pub stands-moved : (At : Point → Type 0) (f : ℕ → Option ℕ) (e : Event) 
 stands-moved At f e h = record { named = λ c is. h.named c (sym (content-kept f e.link) ∙ is); at = h.at }
 
 -- ---- lists without links
-no-content : (e : Event) (c : Content) → e.link ≡ None → content_of e ≡ Some c → ⊥
+pub no-content : (e : Event) (c : Content) → e.link ≡ None → content_of e ≡ Some c → ⊥
 no-content e c none is = none-some c (sym (ap (option_map (λ (l : Link). l.content)) none) ∙ is)
 
 pub none-of : (Of : Content → Type 0) (es : List Event) → HaveNoLinks es → AllByRecursion (IsOf Of) es

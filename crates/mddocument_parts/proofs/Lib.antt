@@ -15,6 +15,7 @@ pub mod MovedReads
 pub mod MovedRows
 pub mod MovedSections
 pub mod MovedSkeleton
+pub mod MovedTwice
 -- labels
 pub mod DocumentAsked
 pub mod DocumentLabels

@@ -37,7 +37,7 @@ use Rattle.mddocument_parts.proofs.Events.{map-same}
 use Rattle.mddocument_parts.proofs.MovedItems.{MovesAs, collapsed-moves, each-moves, end-moves, full-references-move, image-bracket-moves, lines-move, link-bracket-moves, lone-moves, none-moves, resources-move, rest-moves, strings-move, AreKnown, AreKnownSeats, IsKnown, Moves, Moving, Part, all_moved, alone, back, both, front, moved, moved_event, moved_events, nothing, same-bytes, same-length, whole}
 use Rattle.mddocument_parts.proofs.MovedLinks.{links-moved}
 use Rattle.mddocument_parts.proofs.Seams.{class-after-front, class-before-behind}
-use Rattle.mddocument_parts.proofs.Shown.{shown-behind, shown-front}
+use Rattle.mddocument_parts.proofs.Shown.{line-untorn, shown-behind, shown-front}
 use Rattle.mddocument_parts.specs.Asked.{AskedLabelsMove, asked_from, asked_labels, if_label, label_ahead, label_behind, labels_at, looked_up, own_label}
 use Rattle.mddocument_parts.specs.Moved.{begins_line, moved_link, moved_point, moved_seat}
 use Rattle.mddocument_parts.specs.ReadTexts.{InlinesMove, StandsBefore, StringsMove}
@@ -243,7 +243,7 @@ module _ (a b : List ℕ) (h : begins_line b a ≡ true) where
       link = λ l. l;
       unlinked = refl;
       known = λ p. nat_lt p.index (length a);
-      shows = λ p k. let lt = is-before p k in shown-front a b h p (omega (arith, lt));
+      shows = λ p k. let lt = is-before p k in shown-front a b (line-untorn a b h) p (omega (arith, lt));
     };
     bytes = 0;
     index = λ p. omega arith;
@@ -266,7 +266,7 @@ module _ (a b : List ℕ) (h : begins_line b a ≡ true) where
       link = moved_link events;
       unlinked = refl;
       known = λ p. true;
-      shows = λ p k. shown-behind a b h lines p;
+      shows = λ p k. shown-behind a b (line-untorn a b h) lines p;
     };
     bytes = length a;
     index = λ p. refl;

@@ -6,7 +6,7 @@ use Rattle.mddocument_parts.proofs.Events.{all-known, block-goes, block-stays, f
 use Rattle.mddocument_parts.proofs.Links.{Back, around-back, linked-moved, nothing, two}
 use Rattle.mddocument_parts.proofs.MovedMarks.{Text, around-moved, text-bodies}
 use Rattle.mddocument_parts.proofs.MovedReads.{inlines-move, strings-moved}
-use Rattle.mddocument_parts.proofs.Shown.{shown-behind, shown-front, within}
+use Rattle.mddocument_parts.proofs.Shown.{line-untorn, shown-behind, shown-front, within}
 use Rattle.mddocument_parts.proofs.TextLines.{AnySeat, any-blocks, lines-of-texts, text-blocks, virtual-texts}
 use Rattle.mddocument_parts.specs.ReadTexts.{FlowInlinesOfBoth, StandsBefore}
 use Rattle.mddocument.specs.FlowTexts.{inline_seat_events}
@@ -27,10 +27,10 @@ bare-moved l n k (e ∷ es) = ap (λ r. (moved_event l n k e, None) ∷ r) (bare
 
 module _ (a b : List ℕ) (h : begins_line b a ≡ true) where
   abbrev PartFront : List Seat → List Seat → Type 0
-  PartFront s r = Text a (a ++ b) (λ p. p) (λ l. l) refl (λ p. p.index ≤ length a) (λ p l. shown-front a b h p l) (StandsBefore (length a)) s r
+  PartFront s r = Text a (a ++ b) (λ p. p) (λ l. l) refl (λ p. p.index ≤ length a) (λ p l. shown-front a b (line-untorn a b h) p l) (StandsBefore (length a)) s r
 
   abbrev PartBehind : (k : ℕ) → List Seat → List Seat → Type 0
-  PartBehind k s r = Text b (a ++ b) (moved_point (line_endings a) (length a)) (moved_link k) refl (λ p. Unit {0}) (λ p l. shown-behind a b h (line_endings a) p) AnySeat s r
+  PartBehind k s r = Text b (a ++ b) (moved_point (line_endings a) (length a)) (moved_link k) refl (λ p. Unit {0}) (λ p l. shown-behind a b (line-untorn a b h) (line_endings a) p) AnySeat s r
 
   module _ (reads : List ℕ → List Seat → List Event) (move : ReadsMove reads) where
     reads-front : (s r : List Seat) → PartFront s r → bare (reads (a ++ b) s) ≡ map (λ m. m) (bare (reads a r))
@@ -46,10 +46,10 @@ module _ (a b : List ℕ) (h : begins_line b a ≡ true) where
         let known = in-blocks _ on (lines_in (virtual t a)) (in-lines _ (virtual t a) (within t (length a) a 1 1 0 (omega arith))) in
         let inner = text-blocks (StandsBefore (length a)) on (lines_in (virtual t a)) (lines-of-texts (StandsBefore (length a)) (virtual t a) (virtual-texts t (length a) b a 1 1 0 h (omega arith))) in
         sym (ap (flat_map (block_texts (texts (a ++ b)) (strings (a ++ b)) (a ++ b))) (map-same (stays a b h) (block-stays a b h) blocks))
-        ∙ around-moved a (a ++ b) (λ p. p) (λ l. l) refl (λ p. p.index ≤ length a) (λ p l. shown-front a b h p l) (StandsBefore (length a))
+        ∙ around-moved a (a ++ b) (λ p. p) (λ l. l) refl (λ p. p.index ≤ length a) (λ p l. shown-front a b (line-untorn a b h) p l) (StandsBefore (length a))
         (read_marks (texts (a ++ b)) (a ++ b)) (read_marks (texts a) a) (reads-front texts move)
         (λ lines. read_marks (texts (a ++ b)) (a ++ b) (body lines)) (λ lines. read_marks (texts a) a (body lines))
-        (λ lines ok inner. reads-front texts move _ _ (text-bodies a (a ++ b) (λ p. p) (λ l. l) refl (λ p. p.index ≤ length a) (λ p l. shown-front a b h p l) (StandsBefore (length a)) lines ok inner))
+        (λ lines ok inner. reads-front texts move _ _ (text-bodies a (a ++ b) (λ p. p) (λ l. l) refl (λ p. p.index ≤ length a) (λ p l. shown-front a b (line-untorn a b h) p l) (StandsBefore (length a)) lines ok inner))
         (read_marks (strings (a ++ b)) (a ++ b)) (read_marks (strings a) a) (reads-front strings move_strings) blocks known inner
         ∙ map-same (λ m. m) (λ m. refl) (flat_map (block_texts (texts a) (strings a) a) blocks)
 
@@ -59,10 +59,10 @@ module _ (a b : List ℕ) (h : begins_line b a ≡ true) where
         let blocks = leaf_blocks on (lines_in (virtual t b)) in
         let known = in-blocks _ on (lines_in (virtual t b)) (in-lines _ (virtual t b) (all-known (virtual t b))) in
         ap (flat_map (block_texts (texts (a ++ b)) (strings (a ++ b)) (a ++ b))) (map-ext (moved_block (line_endings a) (length a)) (goes a b h k) (block-goes a b h k) blocks)
-        ∙ around-moved b (a ++ b) (moved_point (line_endings a) (length a)) (moved_link k) refl (λ p. Unit {0}) (λ p l. shown-behind a b h (line_endings a) p) AnySeat
+        ∙ around-moved b (a ++ b) (moved_point (line_endings a) (length a)) (moved_link k) refl (λ p. Unit {0}) (λ p l. shown-behind a b (line-untorn a b h) (line_endings a) p) AnySeat
         (read_marks (texts (a ++ b)) (a ++ b)) (read_marks (texts b) b) (reads-behind texts move k)
         (λ lines. read_marks (texts (a ++ b)) (a ++ b) (body lines)) (λ lines. read_marks (texts b) b (body lines))
-        (λ lines ok inner. reads-behind texts move k _ _ (text-bodies b (a ++ b) (moved_point (line_endings a) (length a)) (moved_link k) refl (λ p. Unit {0}) (λ p l. shown-behind a b h (line_endings a) p) AnySeat lines ok inner))
+        (λ lines ok inner. reads-behind texts move k _ _ (text-bodies b (a ++ b) (moved_point (line_endings a) (length a)) (moved_link k) refl (λ p. Unit {0}) (λ p l. shown-behind a b (line-untorn a b h) (line_endings a) p) AnySeat lines ok inner))
         (read_marks (strings (a ++ b)) (a ++ b)) (read_marks (strings b) b) (reads-behind strings move_strings k) blocks known (any-blocks blocks)
 
 pub read-events-of-both : ReadEventsOfBoth

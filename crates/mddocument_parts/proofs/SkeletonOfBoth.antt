@@ -26,7 +26,7 @@ use Rattle.mddocument_parts.proofs.MarksOfBoth.{marks-of-both}
 use Rattle.mddocument_parts.proofs.MovedSkeleton.{AreOk, AreRowsOk, IsRowOk, Shift, mc, mk, mp, mpart, mr, ms, msection, sections-marks-moved}
 use Rattle.mddocument_parts.proofs.MovedLinks.{same-test}
 use Rattle.mddocument_parts.proofs.SkeletonLinks.{in-sections, rows-ok, document-alone}
-use Rattle.mddocument_parts.proofs.Shown.{shown-behind, shown-front, within}
+use Rattle.mddocument_parts.proofs.Shown.{line-untorn, shown-behind, shown-front, within}
 use Rattle.mddocument_parts.specs.DocumentRests.{first_at_document_rest, first_stays, known_at_start, moved_container, moved_prefix, moved_row}
 use Rattle.mddocument_parts.specs.Moved.{begins_line, line_endings, moved_event, moved_point}
 use Rattle.mddocument_parts.specs.MovedSections.{SkeletonOfBoth, moved_section}
@@ -265,7 +265,7 @@ module _ (a b : List ℕ) (h : begins_line b a ≡ true) where
       link = λ l. l;
       unlinked = refl;
       known = λ p. nat_le p.index (length a);
-      shows = λ p k. shown-front a b h p (leb-true p.index (length a) k);
+      shows = λ p k. shown-front a b (line-untorn a b h) p (leb-true p.index (length a) k);
     };
     number = λ n. n;
     same = λ i j. refl;
@@ -298,7 +298,7 @@ module _ (a b : List ℕ) (h : begins_line b a ≡ true) where
       link = λ l. l;
       unlinked = refl;
       known = λ p. true;
-      shows = λ p k. shown-behind a b h (line_endings a) p;
+      shows = λ p k. shown-behind a b (line-untorn a b h) (line_endings a) p;
     };
     number = λ n. n + line_endings a;
     same = λ i j. same-test i j (line_endings a);
