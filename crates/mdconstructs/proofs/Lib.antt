@@ -277,6 +277,7 @@ pub use Rattle.mddocument_link_targets.proofs.Lookups
 pub use Rattle.mddocument_link_targets.proofs.Numerals
 pub use Rattle.mddocument_link_targets.proofs.SpanEnds
 pub use Rattle.mddocument_editing.proofs.Anew
+pub use Rattle.mddocument_editing.proofs.Apart
 pub use Rattle.mddocument_editing.proofs.AskedAgain
 pub use Rattle.mddocument_editing.proofs.AskedInBrackets
 pub use Rattle.mddocument_editing.proofs.AskedNothing

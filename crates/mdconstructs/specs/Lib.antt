@@ -241,6 +241,7 @@ pub use Rattle.mddocument_editing.specs.Divided
 pub use Rattle.mddocument_editing.specs.Edits
 pub use Rattle.mddocument_editing.specs.Finds
 pub use Rattle.mddocument_editing.specs.FirstRest
+pub use Rattle.mddocument_editing.specs.Fits
 pub use Rattle.mddocument_editing.specs.Fronts
 pub use Rattle.mddocument_editing.specs.InBrackets
 pub use Rattle.mddocument_editing.specs.Kept

@@ -14,6 +14,7 @@ pub mod SectionPlaces
 pub mod SectionPositions
 pub mod SectionSizes
 -- seams
+pub mod Apart
 pub mod Joined
 pub mod SettledBytes
 pub mod Unique

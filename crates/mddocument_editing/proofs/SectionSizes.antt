@@ -1,5 +1,5 @@
 -- The bytes of the first few items, each of which has some: one more, and all.
-use Rattle.mddocument_editing.proofs.Prelude.{◌≡◌, ℕ, ◌+◌, ◌-◌, ◌<◌, ◌≤◌, List, [], ◌∷◌, ◌++◌, length, take, drop, get_or, sym, ap, ◌∙◌, arith, drop-append_seam, take-append-add, take-append_seam, drop-map, drop_more, length-append, map-append, take-append-le, take-map, take_more, document_of, map}
+use Rattle.mddocument_editing.proofs.Prelude.{◌≡◌, ℕ, ◌+◌, ◌-◌, ◌<◌, ◌≤◌, List, [], ◌∷◌, ◌++◌, length, take, drop, get_or, sym, ap, ◌∙◌, arith, drop-append_seam, take-append-add, take-append_seam, drop-map, drop_more, length-append, map-append, take-append-le, take-map, take-take, take_more, document_of, map}
 use Rattle.mddocument_editing.proofs.Joined.{document-cut, document-last}
 
 module _ {X : Type 0} (f : X → List ℕ) (xs : List X) where
@@ -24,6 +24,10 @@ module _ {X : Type 0} (f : X → List ℕ) (xs : List X) where
 -- those in front are no more than all
 pub size-front : (i : ℕ) (xs : List (List ℕ)) → length (document_of (take i xs)) + length (document_of (drop i xs)) ≡ length (document_of xs)
 size-front i xs = sym (length-append (document_of (take i xs)) (document_of (drop i xs))) ∙ ap length (document-cut i xs)
+
+-- the bytes of the first few are no more than those of more
+pub size-fewer : (few many : ℕ) (xs : List (List ℕ)) → few ≤ many → length (document_of (take few xs)) ≤ length (document_of (take many xs))
+size-fewer few many xs less = omega (arith, size-front few (take many xs), ap (λ ys. length (document_of ys)) (take-take few many xs less))
 
 -- what is behind the bytes of those in front are the bytes of the others
 pub bytes-left : (i : ℕ) (xs : List (List ℕ)) → drop (length (document_of (take i xs))) (document_of xs) ≡ document_of (drop i xs)

@@ -1,6 +1,7 @@
 -- sections
 pub mod Divided
 pub mod Edits
+pub mod Fits
 -- cuts
 pub mod FirstRest
 -- one section

@@ -10,6 +10,7 @@ ghost use Rattle.mddocument.specs.Documents.{document};
 ghost use Rattle.mdinline_labels.specs.Defined.{defines};
 ghost use Rattle.mddocument_parts.specs.Sections.{document_of};
 ghost use Rattle.mddocument_editing.specs.Divided.{bytes_of};
+ghost use Rattle.mddocument_editing.specs.Fits.{CanBeEdited};
 ghost use Rattle.mddocument_editing.specs.Kept.{IsKept, IsLabelled, IsRead, bytes_of_parts, bytes_of_sections, divided_of, labels_written};
 ghost use Rattle.mddocument_editing.specs.Packed.{events_fit};
 
@@ -92,6 +93,7 @@ pub(crate) fn read(alloc: Global, bytes: &[u8], options: &ParseOptions) -> Resul
     ensures bytes { IfOk result (λ kept. bytes_of (divided_of kept) ≡ bytes.now) }
     ensures too_long { ¬ IsWithinLimit options.now.tab_size bytes.now → IsErrOf result PackError.TooLong }
     ensures fits { IsWithinLimit options.now.tab_size bytes.now → events_fit (document_events (document options.now bytes.now)) ≡ true → ¬ IsErrOf result PackError.TooLong }
+    ensures exact { CanBeEdited options.now bytes.now → ¬ IsErrOf result PackError.TooLong }
 {
     if bytes.len() > limit_of(options.tab_size) {
         return Err(PackError::TooLong);

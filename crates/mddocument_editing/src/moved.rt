@@ -1,6 +1,6 @@
 //! The events of sections, moved by what is in front of them.
 
-ghost use Rattle.std.specs.Prelude.{◌≡◌, ◌≤◌, ◌<◌, ◌+◌, ◌^◌, ◌++◌, [], ◌∷◌, All, IfOk, IfSome, List, OnOk, drop, length, map, take, true};
+ghost use Rattle.std.specs.Prelude.{◌≡◌, ◌≤◌, ◌<◌, ◌+◌, ◌^◌, ◌++◌, [], ◌∷◌, All, IfNone, IfOk, IfSome, List, OnOk, drop, length, map, take, true};
 ghost use Rattle.std.specs.List.{AllByRecursion};
 ghost use Rattle.markdown_tokenizer.specs.Text.{IsDocument};
 ghost use Rattle.mddocument.specs.Documents.{AreDocumentEvents, document};
@@ -44,6 +44,7 @@ pub(crate) fn behind(front: Front, section: &Section) -> Option<Front>
     ensures bytes { IfSome result (λ next. next.bytes ≡ front.bytes + length section.now.part.bytes.items) }
     ensures events { IfSome result (λ next. next.events ≡ front.events + length section.now.events) }
     ensures small { IfSome result IsSmall }
+    ensures none { IfNone result (¬ IsSmall (record { lines = front.lines + section.now.lines; bytes = front.bytes + length section.now.part.bytes.items; events = front.events + length section.now.events })) }
 {
     const MOST: usize = usize::MAX / 2;
     let lines = section.lines;

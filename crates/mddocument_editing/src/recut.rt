@@ -1,6 +1,6 @@
 //! Sections that are cut again where a document is edited.
 
-ghost use Rattle.std.specs.Prelude.{◌≡◌, ◌⊎◌, ◌≤◌, ◌<◌, ◌+◌, ◌-◌, ◌^◌, ◌++◌, IfOk, IfSome, OnOk, List, drop, length, map, take, true};
+ghost use Rattle.std.specs.Prelude.{◌≡◌, ◌⊎◌, ◌≤◌, ◌<◌, ◌+◌, ◌-◌, ◌^◌, ◌++◌, IfNone, IfOk, IfSome, OnOk, List, ℕ, drop, length, map, take, true};
 ghost use Rattle.markdown_base.specs.Virtual.{IsWithinLimit};
 ghost use Rattle.mddocument_parts.specs.Sections.{document_of};
 ghost use Rattle.mddocument_editing.specs.Divided.{bytes_of};
@@ -113,13 +113,15 @@ fn edited_bytes(
     Ok(text)
 }
 
-/// How many parts end where one of the sections begins, of which the first begins at an index, and how many sections are in front of that one.
+/// How many parts end where one of the sections begins, of which the first begins at an index, and how many sections are in front of that one. `None`
+/// if no part ends where one begins.
 fn meeting(parts: &[Vec<u8>], size: usize, sections: &[Section]) -> Option<(usize, usize)>
     requires parts { length (document_of (items_of parts.now)) < 2 ^ 64 }
     requires sections { size + length (document_of (bytes_of_sections sections.now)) < 2 ^ 64 }
     ensures parts { IfSome result (λ found. found.0 ≤ length parts.now) }
     ensures sections { IfSome result (λ found. found.1 < length sections.now) }
     ensures meet { IfSome result (λ found. length (document_of (take found.0 (items_of parts.now))) ≡ size + length (document_of (take found.1 (bytes_of_sections sections.now)))) }
+    ensures none { IfNone result ((some passed : ℕ) → passed < length sections.now → ¬ (length (document_of (take some (items_of parts.now))) ≡ size + length (document_of (take passed (bytes_of_sections sections.now))))) }
 {
     let mut kept = 0;
     let mut end = 0;

@@ -7,6 +7,7 @@ ghost use Rattle.mddocument.specs.Documents.{AreDocumentEvents, document};
 ghost use Rattle.mddocument_parts.specs.Sections.{document_of};
 ghost use Rattle.mddocument_editing.specs.Divided.{Divided, IsDivided, bytes_of, events_between};
 ghost use Rattle.mddocument_editing.specs.Edits.{IsChange, IsInside, edited};
+ghost use Rattle.mddocument_editing.specs.Fits.{CanBeEdited};
 ghost use Rattle.mddocument_editing.specs.Lookups.{IsSectionAt, IsSectionAtLine};
 ghost use Rattle.mddocument_editing.specs.Packed.{events_fit};
 ghost use Rattle.mddocument_editing.specs.Positions.{offset_of, position_of};
@@ -48,13 +49,14 @@ impl Model for Sections {
 impl Sections {
     /// Reads a document, section by section.
     ///
-    /// It is `TooLong` if its length is above the limit, and else only if a number of an event does not fit (see
-    /// [`Packed`](crate::packed::Packed)).
+    /// It is `TooLong` if its length is above the limit, and else only if a number of an event of a section does not fit (see
+    /// [`Packed`](crate::packed::Packed)); so never for want of memory.
     pub fn new(alloc: Global, bytes: &[u8], options: &ParseOptions) -> Result<Sections, PackError>
         ensures bytes { IfOk result (λ sections. bytes_of sections ≡ bytes.now) }
         ensures options { IfOk result (λ sections. sections.options ≡ options.now) }
         ensures too_long { ¬ IsWithinLimit options.now.tab_size bytes.now → IsErrOf result PackError.TooLong }
         ensures fits { IsWithinLimit options.now.tab_size bytes.now → events_fit (document_events (document options.now bytes.now)) ≡ true → ¬ IsErrOf result PackError.TooLong }
+        ensures exact { CanBeEdited options.now bytes.now → ¬ IsErrOf result PackError.TooLong }
     {
         Ok(Sections {
             kept: read(alloc, bytes, options)?,
@@ -158,7 +160,7 @@ impl Sections {
     /// Edits the document. What it returns says which sections changed. If it fails, the document is as it was.
     ///
     /// It is `Range` if the bytes that go are none of the document, and only then. Else it is `TooLong` if the document would be longer than the limit; if it
-    /// would not, only if a number of an event would not fit (see [`Packed`](crate::packed::Packed)).
+    /// would not, only if a number of an event of a section would not fit (see [`Packed`](crate::packed::Packed)), so never for want of memory.
     pub fn replace(&mut self, alloc: Global, edit: &Edit) -> Result<Change, Refused>
         ensures bytes { IfOk result (λ _. bytes_of self.new ≡ edited edit.now (bytes_of self.old)) }
         ensures options { self.new.options ≡ self.old.options }
@@ -167,6 +169,7 @@ impl Sections {
         ensures range { IsErrOf result Refused.Range ↔ ¬ IsInside edit.now (bytes_of self.old) }
         ensures too_long { IsInside edit.now (bytes_of self.old) → ¬ IsWithinLimit self.old.options.tab_size (edited edit.now (bytes_of self.old)) → IsErrOf result Refused.TooLong }
         ensures fits { let new = edited edit.now (bytes_of self.old) in IsInside edit.now (bytes_of self.old) → IsWithinLimit self.old.options.tab_size new → events_fit (document_events (document self.old.options new)) ≡ true → ¬ IsErrOf result Refused.TooLong }
+        ensures exact { CanBeEdited self.old.options (edited edit.now (bytes_of self.old)) → ¬ IsErrOf result Refused.TooLong }
     {
         let Sections { kept, size } = self;
         if edit.from > edit.to || edit.to > *size {

@@ -1,4 +1,4 @@
-use Rattle.mddocument_editing.proofs.Prelude.{◌≡◌, ◌∙◌, List, ℕ, ap, length, subst, sym, or-false, err_from_is_err_and, AllByRecursion, flat_map, ◌||◌, ParseOptions, IsWithinLimit, IsDocument, is_one_of, document_events, document, defines, Divided, IsDivided, is_label_of, items_of, IsPackable, bytes_of_parts, bytes_of_sections, labels_written, events_fit}
+use Rattle.mddocument_editing.proofs.Prelude.{◌≡◌, ◌∙◌, List, ℕ, ap, arith, length, refl, subst, sym, or-false, err_from_is_err_and, AllByRecursion, flat_map, ◌||◌, ParseOptions, IsWithinLimit, IsDocument, is_one_of, document_events, document, defines, Divided, IsDivided, is_label_of, items_of, IsPackable, bytes_of_parts, bytes_of_sections, labels_written, events_fit}
 use Rattle.mddocument_editing.proofs.FitSections.{sections-fit}
 use Rattle.mddocument_editing.proofs.SectionBytes.{divided-cut, sections-within}
 use Rattle.mddocument_editing.proofs.SectionLabels.{labels-divided}
@@ -48,6 +48,20 @@ returns-in_err-sections-clause-fits c limit fits long =
     let possible = subst (λ bytes. IsDocument (document options bytes)) (sym same) c.is_document.ensures in
     let all = ap (λ bytes. events_fit (document_events (document options bytes))) same ∙ fits in
     let each = sections-fit it (defines c.define_parts.new.labels) possible is (knows steps.In_ok-define_parts is) all in
+    let p = err_from_is_err_and c.from_residual-in_err-sections.result c.from_residual-in_err-sections.ensures.1 in
+    c.in_err-sections.ensures.fits (subst (AllByRecursion (IsPackable options (defines c.define_parts.new.labels))) (sym c.in_ok-parts.ensures.bytes) each) (cc (p.1, p.2, long))
+
+pub returns-then-bytes-limit_of-clause-exact : goal.returns-then-bytes-limit_of-clause-exact
+returns-then-bytes-limit_of-clause-exact c can = absurd (omega (arith, (c.limit_of.ensures (length c.args.bytes.now)).1 can.limit, c.if-bytes-limit_of.true))
+
+pub returns-in_err-sections-clause-exact : goal.returns-in_err-sections-clause-exact
+returns-in_err-sections-clause-exact c can long =
+    let options = c.args.options.now in
+    let steps = goal.at.returns-in_err-sections-clause-exact c in
+    let it = d steps.In_ok-cut in
+    let is : IsDivided it = divided steps.In_ok-cut in
+    let by : defines c.define_parts.new.labels ≡ is_label_of it = λ i label. knows steps.In_ok-define_parts is label i in
+    let each = subst (λ defined. AllByRecursion (IsPackable options defined) it.sections) (sym by) (can.fits it is refl c.in_ok-cut.ensures.document) in
     let p = err_from_is_err_and c.from_residual-in_err-sections.result c.from_residual-in_err-sections.ensures.1 in
     c.in_err-sections.ensures.fits (subst (AllByRecursion (IsPackable options (defines c.define_parts.new.labels))) (sym c.in_ok-parts.ensures.bytes) each) (cc (p.1, p.2, long))
 

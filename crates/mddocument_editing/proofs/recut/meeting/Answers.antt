@@ -1,4 +1,5 @@
-use Rattle.mddocument_editing.proofs.Prelude.{ℕ, ◌+◌, ◌<◌, length, arith, Global, Vec, items_of, bytes_of_sections}
+use Rattle.mddocument_editing.proofs.Prelude.{ℕ, ◌+◌, ◌<◌, length, arith, inr, length-map, Global, Vec, items_of, bytes_of_sections}
+use Rattle.mddocument_editing.proofs.Apart.{apart-part, apart-parts, apart-section}
 use Rattle.mddocument_editing.proofs.SectionPlaces.{start-behind, start-within}
 use Rattle.mddocument_editing.proofs.SectionSizes.{size-front, size-more}
 use Rattle.mddocument_editing.proofs.recut.meeting.Goals as goal
@@ -22,6 +23,7 @@ loop-passed-preserved-then-end-start-2 c =
       start = c.loop-passed.invariant.start;
       kept = omega (arith, lt);
       passed = c.loop-passed.invariant.passed;
+      apart = apart-part (items_of parts) (bytes_of_sections c.args.sections.now) c.args.size c.loop-passed.invariant.apart (omega (arith, c.loop-passed.invariant.end, c.loop-passed.invariant.start));
     }
 
 pub overflow_add-start : goal.overflow_add-start
@@ -37,4 +39,15 @@ loop-passed-preserved c =
       start = omega (arith, next, c.loop-passed.invariant.start, c.len-start.ensures);
       kept = c.loop-passed.invariant.kept;
       passed = omega (arith, c.loop-passed-test.true);
+      apart = apart-section (items_of c.args.parts.now) (bytes_of_sections c.args.sections.now) c.args.size c.loop-passed.invariant.apart (omega (arith, c.loop-passed.invariant.end, c.loop-passed.invariant.start));
     }
+
+pub returns-clause-none : goal.returns-clause-none
+returns-clause-none c = λ some passed lt. c.loop-passed.invariant.apart some passed (inr (omega (arith, lt, c.loop-passed-test.false)))
+
+pub returns-then-kept-parts-clause-none : goal.returns-then-kept-parts-clause-none
+returns-then-kept-parts-clause-none c = λ some passed lt.
+    let parts = c.args.parts.now in
+    let long = length-map parts (λ (part : Vec ℕ Global). part.items) in
+    apart-parts (items_of parts) (bytes_of_sections c.args.sections.now) c.args.size c.loop-passed.invariant.apart (omega (arith, long, c.if-kept-parts.true))
+    (omega (arith, c.loop-passed.invariant.end, c.loop-passed.invariant.start, c.if-end-start-2.true)) some passed

@@ -1,5 +1,6 @@
 use Rattle.mddocument_editing.proofs.Prelude.{◌≡◌, true, refl, subst, sym, err_from_is_err_and, IsWithinLimit, IsDocument, document_events, document, Divided, bytes_of, is_label_of, edited, items_of, ArePackable, divided_of, recut_document, events_fit}
 use Rattle.mddocument_editing.proofs.FitSections.{edited-document, sections-fit}
+use Rattle.mddocument_editing.specs.Fits.{CanBeEdited}
 use Rattle.mddocument_editing.proofs.sections.Sections.replace.Goals as goal
 
 pub returns-in_err-change-clause-fits : goal.returns-in_err-change-clause-fits
@@ -19,5 +20,16 @@ returns-in_err-change-clause-fits c inside limit fits long =
     let each : ArePackable new =
     sections-fit new (is_label_of new) (subst (λ bs. IsDocument (document options bs)) (sym same) possible) c.in_ok-recut.ensures.recut.divided (λ label. refl)
     (subst (λ bs. events_fit (document_events (document options bs)) ≡ true) (sym same) all) in
+    let p = err_from_is_err_and c.from_residual-in_err-change.result c.from_residual-in_err-change.ensures.1 in
+    c.in_err-change.ensures.fits each (cc (p.1, p.2, long))
+
+pub returns-in_err-change-clause-exact : goal.returns-in_err-change-clause-exact
+returns-in_err-change-clause-exact c can long =
+    let edit = c.args.edit.now in
+    let kept = c.self.inside.kept in
+    let recut = c.in_ok-recut.recut in
+    let new = recut_document kept recut.from recut.end (items_of recut.parts.items) in
+    let its : CanBeEdited kept.options (edited edit (bytes_of (divided_of kept))) = subst (λ (d : Divided). CanBeEdited d.options (edited edit (bytes_of d))) (sym c.self.view_is) can in
+    let each : ArePackable new = its.fits new c.in_ok-recut.ensures.recut.divided refl c.in_ok-recut.ensures.bytes in
     let p = err_from_is_err_and c.from_residual-in_err-change.result c.from_residual-in_err-change.ensures.1 in
     c.in_err-change.ensures.fits each (cc (p.1, p.2, long))
