@@ -37,6 +37,8 @@ pub mod PutSections
 pub mod Rereads
 -- moved events
 pub mod PartsMove
+-- undefined
+pub mod KeptLabels
 -- positions
 pub mod CharPlaces
 pub mod CharSizes

@@ -20,6 +20,8 @@ pub mod Put
 pub mod Finds
 pub mod Fronts
 pub mod Lookups
+-- undefined
+pub mod Undefined
 -- positions
 pub mod PositionParts
 pub mod Positions

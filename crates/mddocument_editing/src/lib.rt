@@ -27,6 +27,9 @@ mod put;
 mod lookup;
 mod moved;
 
+// undefined: references that nothing defines
+mod undefined;
+
 // positions: by line and character, and back
 pub mod positions;
 

@@ -11,6 +11,7 @@ ghost use Rattle.mddocument_editing.specs.Fits.{CanBeEdited};
 ghost use Rattle.mddocument_editing.specs.Lookups.{IsSectionAt, IsSectionAtLine};
 ghost use Rattle.mddocument_editing.specs.Packed.{events_fit};
 ghost use Rattle.mddocument_editing.specs.Positions.{offset_of, position_of};
+ghost use Rattle.mddocument_editing.specs.Undefined.{undefined_between};
 
 use crate::edit::{Change, Edit, Refused};
 use crate::kept::{Kept, read};
@@ -20,9 +21,11 @@ use crate::packed::PackError;
 use crate::positions::{Encoding, Position};
 use crate::put::put;
 use crate::recut::{append_sections, cut_again};
+use crate::undefined::undefined_between;
 use markdown_base::configuration::ParseOptions;
 use markdown_base::event::Event;
 use mddocument::limit::limit_of;
+use mddocument_references::references::Reference;
 use std::alloc::{AllocError, Global};
 use std::marker::Model;
 
@@ -155,6 +158,21 @@ impl Sections {
         ensures { IfOk result (λ events. events.items ≡ events_between self.now from to) }
     {
         events_between(alloc, &self.kept, from, to)
+    }
+
+    /// The references of the sections from one up to another whose labels nothing in the document defines, in their order (see
+    /// [`undefined_in`](mddocument_references::references::undefined_in)). It copies the document's bytes. It fails only if it runs out of memory.
+    pub fn undefined(
+        &self,
+        alloc: Global,
+        from: usize,
+        to: usize,
+    ) -> Result<Vec<Reference>, AllocError>
+        requires order { from ≤ to }
+        requires within { to ≤ length self.now.sections }
+        ensures { IfOk result (λ found. found.items ≡ undefined_between self.now from to) }
+    {
+        undefined_between(alloc, &self.kept, from, to)
     }
 
     /// Edits the document. What it returns says which sections changed. If it fails, the document is as it was.
