@@ -25,7 +25,7 @@ use Rattle.mdblock_containers.specs.SeatPlaces.{events_of}
 use Rattle.mdblock_containers.specs.Skeleton.{going_marks, prefixes_marks}
 use Rattle.mdblock_table_marks.specs.Cells.{BeginsWithData, CellsHaveData}
 use Rattle.mdblock_table_marks.specs.Laws.{TablesHaveCellData}
-use Rattle.mdblock_table_marks.specs.TableMarks.{body_marks, head_marks, marks_behind, marks_between, row_marks, row_seats, rows_marks, rows_seats}
+use Rattle.mdblock_table_marks.specs.TableMarks.{body_marks, head_marks, marks_behind, marks_between, row_marks, row_seats, rows_seats}
 
 -- ---- one behind the other
 begins-more : (xs ys : List Event) → BeginsWithData xs → BeginsWithData (xs ++ ys)
@@ -33,7 +33,7 @@ begins-more [] ys h = absurd h
 begins-more (e ∷ []) ys h = absurd h
 begins-more (e ∷ f ∷ es) ys h = h
 
-both-events : (xs ys : List Event) → CellsHaveData xs → CellsHaveData ys → CellsHaveData (xs ++ ys)
+pub both-events : (xs ys : List Event) → CellsHaveData xs → CellsHaveData ys → CellsHaveData (xs ++ ys)
 both-events [] ys h k = k
 both-events (x ∷ xs) ys h k = ((λ e. begins-more xs ys (h.0 e)), both-events xs ys h.1 k)
 

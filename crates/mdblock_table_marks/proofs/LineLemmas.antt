@@ -1,8 +1,7 @@
 -- Lines of a table: what stands behind their prefixes, and how they follow one another.
-use Rattle.std.proofs.Common.{◌≡◌, ℕ, zero, suc, ◌+◌, ◌-◌, ◌<◌, ◌≤◌, true, false, cond, List, [], ◌∷◌, ◌++◌, append_assoc, length, take, drop, refl, sym, ap, ◌∙◌, subst, arith, get_or, length-drop}
+use Rattle.std.proofs.Common.{◌≡◌, ℕ, zero, suc, ◌+◌, ◌-◌, ◌<◌, ◌≤◌, false, cond, List, [], ◌∷◌, ◌++◌, append_assoc, length, take, drop, refl, sym, ap, ◌∙◌, subst, arith, get_or}
 use Rattle.std.specs.Prelude.{◌==◌, None}
 use Rattle.std.specs.List.{AllByRecursion}
-use Rattle.std.proofs.lemmas.Bool.{false≢true}
 use Rattle.std.proofs.lemmas.List.{append-nil, drop-map, drop_more, length-map, map-append, take-append-le}
 use Rattle.markdown_base.proofs.Seats.{end-after-append}
 use Rattle.markdown_base.specs.declared.event.Event.{Event}
@@ -17,11 +16,10 @@ use Rattle.mdblock_leaf_blocks.specs.LeafBlocks.{Line, bytes_of}
 use Rattle.mdblock_leaf_blocks.specs.LeafEvents.{Mark, span_marks}
 use Rattle.mdblock_lines.specs.Containers.{Container}
 use Rattle.mdblock_lines.specs.Lines.{line_at, line_bytes, place_after}
-use Rattle.mdblock_tables.specs.Tables.{is_row}
 use Rattle.mdblock_containers.specs.declared.spans.RowAt.{RowAt}
 use Rattle.mdblock_containers.specs.PlaceEvents.{HasColumns, event_at}
 use Rattle.mdblock_containers.specs.Prefixes.{columns_of, going_on}
-use Rattle.mdblock_containers.specs.Rows.{Row, rest_of}
+use Rattle.mdblock_containers.specs.Rows.{Row}
 use Rattle.mdblock_containers.specs.SeatPlaces.{AreSeatsAt, events_of}
 use Rattle.mdblock_containers.specs.Skeleton.{prefixes_marks}
 use Rattle.mdblock_containers.specs.Spans.{IsRowIn}
@@ -31,9 +29,8 @@ use Rattle.mdblock_containers.proofs.RunLemmas.{behind_line, behind_text, end_ru
 use Rattle.mdblock_containers.proofs.SeatLemmas.{seats_drop, seats_end, seats_shown}
 use Rattle.mdblock_containers.proofs.StretchLemmas.{ends_before, row_bytes, row_seats as row_text_seats, went_again, went_marks, went_small}
 use Rattle.mdblock_containers.proofs.WritingLemmas.{columns_behind, place_add}
-use Rattle.mdblock_table_marks.specs.Lines.{AreLines, AreNext, FromTo, HasText, IsFurther, IsLine, IsNext, IsStanding, begin_at, end_at, last_end}
+use Rattle.mdblock_table_marks.specs.Lines.{AreLines, AreNext, FromTo, IsFurther, IsLine, IsNext, IsStanding, begin_at, end_at, last_end}
 use Rattle.mdblock_table_marks.specs.TableMarks.{row_seats, rows_seats, seats_behind, seats_between}
-use Rattle.mdblock_table_marks.proofs.TableSpans.{rest-size}
 
 -- ---- virtual bytes from one place to another
 module _ (bytes : List ℕ) where
@@ -57,10 +54,6 @@ module _ (bytes : List ℕ) where
       ∙ ap (λ l. event bytes Enter n s.point ∷ l) (sym (map-append (λ (x : Mark). x.0) inside ((event bytes Exit n (end_after s.end ss), None) ∷ [])))
 
 -- ---- marks that are written one after another
-pub write-both : (old mid new : List Event) (a b : List Mark) → mid ≡ old ++ events_of a → new ≡ mid ++ events_of b → new ≡ old ++ events_of (a ++ b)
-write-both old mid new a b e f =
-    f ∙ ap (λ l. l ++ events_of b) e ∙ append_assoc old (events_of a) (events_of b) ∙ ap (λ l. old ++ l) (sym (map-append (λ (m : Mark). m.0) a b))
-
 pub write-span : (bytes : List ℕ) (n : Name) (p q : Point) (ss : List Seat) (inside : List Mark) → FromTo bytes p q ss → 1 ≤ length ss
     → (old first mid new : List Event) → first ≡ old ++ event_at Enter n p ∷ [] → mid ≡ first ++ events_of inside → new ≡ mid ++ event_at Exit n q ∷ []
     → new ≡ old ++ events_of (span_marks bytes n ss inside)

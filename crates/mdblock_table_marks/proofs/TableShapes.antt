@@ -1,25 +1,19 @@
 -- The marks of tables: whole spans over the virtual bytes of their lines, behind the prefixes of the first one, without links.
-use Rattle.std.proofs.Common.{◌≡◌, ℕ, suc, ◌+◌, false, cond, List, [], ◌∷◌, ◌++◌, append-nil, arith, drop, refl, sym, ap, subst, take, ◌∙◌}
+use Rattle.std.proofs.Common.{◌≡◌, ℕ, suc, ◌+◌, cond, List, [], ◌∷◌, ◌++◌, append-nil, arith, drop, refl, sym, ap, subst, take, ◌∙◌}
 use Rattle.std.specs.Prelude.{Some, None}
 use Rattle.std.specs.List.{AllByRecursion}
 use Rattle.std.proofs.lemmas.List.{map-append, take-append-drop}
 use Rattle.std.proofs.lemmas.List.Sums.{sum_by-cons}
-use Rattle.markdown_base.proofs.Seats.{stands-self}
-use Rattle.markdown_base.specs.declared.event.Kind.TheVariants.{Enter, Exit}
+use Rattle.markdown_base.specs.declared.event.Kind.TheVariants.{Exit}
 use Rattle.markdown_base.specs.declared.event.Name.{Name}
 use Rattle.markdown_base.specs.declared.event.Name.TheVariants as name
-use Rattle.markdown_base.specs.Events.{IsVoidTight, is_void}
-use Rattle.markdown_base.specs.Places.{shown, stands_before}
+use Rattle.markdown_base.specs.Events.{IsVoidTight}
 use Rattle.markdown_base.specs.Virtual.{Seat, end_after}
 use Rattle.markdown_edits.proofs.Balanced.{balanced_from_open, names_after_all-append, same_name-refl}
 use Rattle.markdown_edits.specs.OpenNames.{names_after_all}
-use Rattle.mdconstructs_machines.proofs.Innermost.{span-more}
 use Rattle.mdconstructs_machines.specs.Innermost.{AccountFor}
 use Rattle.mdconstructs_machines.specs.Spans.{event}
-use Rattle.mdblock_leaf_blocks.proofs.Marks.Courses.{Place as IsPlaceOf, track-on, track-place, track-upto}
-use Rattle.mdblock_leaf_blocks.proofs.Marks.MarkAccounts.{AreSpans, accounts-kept}
-use Rattle.mdblock_leaf_blocks.proofs.Marks.MarkForms.{Forms, forms-kept}
-use Rattle.mdblock_leaf_blocks.proofs.Marks.MarkSpans.{no-spans, spans-around, spans-both}
+use Rattle.mdblock_leaf_blocks.proofs.Marks.MarkAccounts.{AreSpans}
 use Rattle.mdblock_leaf_blocks.specs.LeafBlocks.{bytes_of}
 use Rattle.mdblock_leaf_blocks.specs.LeafEvents.{Mark, leaf_marks, span_marks, white}
 use Rattle.mdblock_leaf_blocks.specs.LineKinds.{indent}
@@ -34,25 +28,13 @@ use Rattle.mdblock_containers.specs.Rows.{Row}
 use Rattle.mdblock_containers.specs.SeatPlaces.{events_of}
 use Rattle.mdblock_containers.specs.Skeleton.{going_marks, prefixes_marks}
 use Rattle.mdblock_containers.specs.Written.{NoChunk}
+use Rattle.mdblock_definitions.proofs.DefinitionMarks.{accounts-kept-by}
+use Rattle.mdblock_definitions.proofs.DefinitionSpans.{IsKeptByAnySpans}
 use Rattle.mdblock_table_marks.specs.Laws.{TablesAccount, TablesAreBalanced, TablesAreVoidTight, TablesHaveNoChunks}
 use Rattle.mdblock_table_marks.specs.TableMarks.{rows_marks, rows_seats}
-use Rattle.mdblock_table_marks.proofs.TableSpans.{AreTableLeafs, AreTableSpans, IsKeptInTables, PrefixHolds, tables-kept}
+use Rattle.mdblock_table_marks.proofs.TableSpans.{PrefixHolds, tables-kept}
 
--- ---- any spans
-abbrev pub AnyName : Name → Type 0
-AnyName n = Unit {0}
-
--- of names that are not void
-abbrev pub IsOpenName : Name → Type 0
-IsOpenName n = is_void n ≡ false
-
-pub any-leafs : AreTableLeafs AnyName
-any-leafs = record { divider = tt; marker = tt; filler = tt; white = tt; text = tt; line_ending = tt }
-
-pub open-spans : AreTableSpans IsOpenName
-open-spans = record { table = refl; head = refl; body = refl; row = refl; cell = refl; text = refl; delimiter_row = refl; delimiter_cell = refl; value = refl }
-
-module _ (bytes : List ℕ) (P : List Mark → List Seat → Type 0) (kept : IsKeptInTables bytes AnyName IsOpenName P) where
+module _ (bytes : List ℕ) (P : List Mark → List Seat → Type 0) (kept : IsKeptByAnySpans bytes P) where
   going-holds : (c : Container) (ss : List Seat) → P (going_marks bytes c ss) ss
   going-holds (quote line) ss =
       let n = indent (bytes_of ss) in
@@ -62,10 +44,10 @@ module _ (bytes : List ℕ) (P : List Mark → List Seat → Type 0) (kept : IsK
       let one : suc n ≡ n + 1 = omega arith in
       let whole : take 1 inside ++ drop (suc n) ss ≡ inside = ap (λ k. take 1 inside ++ drop k ss) one ∙ next_part n 1 ss in
       subst (P (going_marks bytes (quote line) ss)) (take-append-drop n ss)
-      (kept.both (white bytes (take n ss)) (span_marks bytes name.BlockQuotePrefix inside (marker ++ space)) (take n ss) inside (kept.alone name.SpaceOrTab (take n ss) tt)
+      (kept.both (white bytes (take n ss)) (span_marks bytes name.BlockQuotePrefix inside (marker ++ space)) (take n ss) inside (kept.alone name.SpaceOrTab (take n ss))
       (kept.around name.BlockQuotePrefix inside (marker ++ space) refl
-      (subst (P (marker ++ space)) whole (kept.both marker space (take 1 inside) (drop (suc n) ss) (kept.alone name.BlockQuoteMarker (take 1 inside) tt) (kept.alone name.SpaceOrTab (drop (suc n) ss) tt)))))
-  going-holds (item i) ss = kept.alone name.SpaceOrTab ss tt
+      (subst (P (marker ++ space)) whole (kept.both marker space (take 1 inside) (drop (suc n) ss) (kept.alone name.BlockQuoteMarker (take 1 inside)) (kept.alone name.SpaceOrTab (drop (suc n) ss))))))
+  going-holds (item i) ss = kept.alone name.SpaceOrTab ss
 
   prefixes-hold : (ps : List Prefix) (ss : List Seat) → P (prefixes_marks bytes ps ss) (take (columns_of ps) ss)
   prefixes-hold [] ss = kept.none
@@ -74,45 +56,29 @@ module _ (bytes : List ℕ) (P : List Mark → List Seat → Type 0) (kept : IsK
       subst (P (prefixes_marks bytes (p ∷ ps) ss)) (take_more p.size (columns_of ps) ss ∙ ap (λ k. take k ss) (sym all))
       (kept.both (going_marks bytes p.container (take p.size ss)) (prefixes_marks bytes ps (drop p.size ss)) (take p.size ss) (take (columns_of ps) (drop p.size ss)) (going-holds p.container (take p.size ss)) (prefixes-hold ps (drop p.size ss)))
 
-  all-hold : (rows : List Row) → AllByRecursion (PrefixHolds bytes AnyName IsOpenName P kept) rows
+  all-hold : (rows : List Row) → AllByRecursion (PrefixHolds bytes P kept) rows
   all-hold [] = tt
   all-hold (row ∷ rows) = (prefixes-hold row.went_on row.line, all-hold rows)
 
   -- what any spans keep holds of all tables
   pub tables-keep : (header : Row) (rows : List Row) → P (rows_marks bytes header rows) (rows_seats (header ∷ rows))
-  tables-keep header rows = tables-kept bytes AnyName IsOpenName P kept header rows (all-hold rows)
+  tables-keep header rows = tables-kept bytes P kept header rows (all-hold rows)
 
 module _ (bytes : List ℕ) where
   -- ---- accounts of virtual bytes
-  accounts-in-tables : IsKeptInTables bytes AnyName IsOpenName (AreSpans bytes)
-  accounts-in-tables = record {
-    none = no-spans bytes (AreSpans bytes) (accounts-kept bytes);
-    both = λ xs ys a b h k. spans-both bytes (AreSpans bytes) (accounts-kept bytes) h k;
-    alone = λ n ss any. alone n ss;
-    around = λ n ss inside void h. spans-around bytes (AreSpans bytes) (accounts-kept bytes) n ss inside void h;
-    leafs = any-leafs;
-    spans = open-spans;
-  }
-    where
-      alone : (n : Name) (ss : List Seat) → AreSpans bytes (leaf_marks bytes n ss) ss
-      alone n [] = no-spans bytes (AreSpans bytes) (accounts-kept bytes)
-      alone n (s ∷ ss) = record { begins = refl; account = λ events more h. span-more bytes _ _ events s ss more refl refl refl refl h }
-
   pub tables-are-spans : (header : Row) (rows : List Row) → AreSpans bytes (rows_marks bytes header rows) (rows_seats (header ∷ rows))
-  tables-are-spans header rows = tables-keep bytes (AreSpans bytes) accounts-in-tables header rows
+  tables-are-spans header rows = tables-keep bytes (AreSpans bytes) (accounts-kept-by bytes) header rows
 
   -- ---- marks with no links, of which each enter of a void span is followed by its exit
   abbrev AreShaped : List Mark → List Seat → Type 0
   AreShaped marks seats = Tight marks × Unlinked marks
 
-  shapes-in-tables : IsKeptInTables bytes AnyName IsOpenName AreShaped
+  shapes-in-tables : IsKeptByAnySpans bytes AreShaped
   shapes-in-tables = record {
     none = (tt, tt);
     both = λ xs ys a b h k. (tight_more xs ys h.0 k.0, unlinked_both xs ys h.1 k.1);
-    alone = λ n ss any. (leaf_tight bytes n ss, leaf_unlinked bytes n ss);
+    alone = λ n ss. (leaf_tight bytes n ss, leaf_unlinked bytes n ss);
     around = λ n ss inside void h. (span_tight bytes n ss inside void h.0, span_unlinked bytes n ss inside h.1);
-    leafs = any-leafs;
-    spans = open-spans;
   }
 
   pub tables-are-shaped : (header : Row) (rows : List Row) → Tight (rows_marks bytes header rows) × Unlinked (rows_marks bytes header rows)
@@ -122,14 +88,12 @@ module _ (bytes : List ℕ) where
   abbrev IsPlain : List Mark → List Seat → Type 0
   IsPlain marks seats = NoChunk marks
 
-  plain-in-tables : IsKeptInTables bytes AnyName IsOpenName IsPlain
+  plain-in-tables : IsKeptByAnySpans bytes IsPlain
   plain-in-tables = record {
     none = tt;
     both = λ xs ys a b h k. plain_append xs ys h k;
-    alone = λ n ss any. plain_span bytes n ss [] tt;
+    alone = λ n ss. plain_span bytes n ss [] tt;
     around = λ n ss inside void h. plain_span bytes n ss inside h;
-    leafs = any-leafs;
-    spans = open-spans;
   }
 
   pub plain-tables : (header : Row) (rows : List Row) → NoChunk (rows_marks bytes header rows)
@@ -150,14 +114,12 @@ module _ (bytes : List ℕ) where
       ap (names_after_all (Some (n ∷ st))) (map-append (λ (m : Mark). m.0) inside (exit ∷ [])) ∙ names_after_all-append (Some (n ∷ st)) (events_of inside) (exit.0 ∷ [])
       ∙ ap (λ o. names_after_all o (exit.0 ∷ [])) (h (n ∷ st)) ∙ ap (λ b. names_after_all (cond b (Some st) None) []) (same_name-refl n)
 
-  even-in-tables : IsKeptInTables bytes AnyName IsOpenName IsEven
+  even-in-tables : IsKeptByAnySpans bytes IsEven
   even-in-tables = record {
     none = λ st. refl;
     both = even-both;
-    alone = λ n ss any. even-around n ss [] (λ st. refl);
+    alone = λ n ss. even-around n ss [] (λ st. refl);
     around = λ n ss inside void h. even-around n ss inside h;
-    leafs = any-leafs;
-    spans = open-spans;
   }
 
 -- ---- the laws

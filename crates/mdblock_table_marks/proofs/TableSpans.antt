@@ -1,9 +1,9 @@
 -- What is kept by the spans of tables holds of the marks of a table, over the virtual bytes of its lines.
-use Rattle.std.proofs.Common.{◌≡◌, ℕ, ◌+◌, ◌-◌, Bool, true, false, cond, List, [], ◌∷◌, ◌++◌, append-nil, append_assoc, arith, drop, length, sym, ap, subst, take, ◌∙◌}
+use Rattle.std.proofs.Common.{◌≡◌, ℕ, ◌+◌, ◌-◌, Bool, true, false, cond, List, [], ◌∷◌, ◌++◌, append-nil, append_assoc, arith, drop, length, refl, sym, ap, subst, take, ◌∙◌}
 use Rattle.std.specs.List.{AllByRecursion}
 use Rattle.std.proofs.lemmas.List.{drop-map, length-drop, length-map, length-take-le, take-append-drop}
-use Rattle.markdown_base.specs.declared.event.Name.{Name}
 use Rattle.markdown_base.specs.declared.event.Name.TheVariants as name
+use Rattle.markdown_base.specs.Events.{is_void}
 use Rattle.markdown_base.specs.Virtual.{Seat}
 use Rattle.mdconstructs_machines.specs.LineEvents.{ending_of, line_text}
 use Rattle.mdblock_leaf_blocks.specs.LeafBlocks.{bytes_of}
@@ -18,39 +18,8 @@ use Rattle.mdblock_tables.proofs.RowLemmas.{rows_are_whole}
 use Rattle.mdblock_containers.specs.Prefixes.{columns_of}
 use Rattle.mdblock_containers.specs.Rows.{Row, rest_of}
 use Rattle.mdblock_containers.specs.Skeleton.{prefixes_marks}
+use Rattle.mdblock_definitions.proofs.DefinitionSpans.{IsKeptByAnySpans}
 use Rattle.mdblock_table_marks.specs.TableMarks.{body_marks, head_marks, marks_behind, marks_between, row_marks, row_seats, rows_marks, rows_seats, seats_behind, seats_between}
-
--- ---- the names in a table
-
--- of spans with nothing in them
-pub record AreTableLeafs (May : Name → Type 0) : Type 0 where
-  pub divider : May name.GfmTableCellDivider
-  pub marker : May name.GfmTableDelimiterMarker
-  pub filler : May name.GfmTableDelimiterFiller
-  pub white : May name.SpaceOrTab
-  pub text : May name.Data
-  pub line_ending : May name.LineEnding
-
--- of spans around others
-pub record AreTableSpans (May : Name → Type 0) : Type 0 where
-  pub table : May name.GfmTable
-  pub head : May name.GfmTableHead
-  pub body : May name.GfmTableBody
-  pub row : May name.GfmTableRow
-  pub cell : May name.GfmTableCell
-  pub text : May name.GfmTableCellText
-  pub delimiter_row : May name.GfmTableDelimiterRow
-  pub delimiter_cell : May name.GfmTableDelimiterCell
-  pub value : May name.GfmTableDelimiterCellValue
-
--- What is said of marks over virtual bytes is kept by marks behind others, and by spans of such names, alone and around others
-pub record IsKeptInTables (bytes : List ℕ) (Alone Around : Name → Type 0) (P : List Mark → List Seat → Type 0) : Type 0 where
-  pub none : P [] []
-  pub both : (xs ys : List Mark) (a b : List Seat) → P xs a → P ys b → P (xs ++ ys) (a ++ b)
-  pub alone : (n : Name) (ss : List Seat) → Alone n → P (leaf_marks bytes n ss) ss
-  pub around : (n : Name) (ss : List Seat) (inside : List Mark) → Around n → P inside ss → P (span_marks bytes n ss inside) ss
-  pub leafs : AreTableLeafs Alone
-  pub spans : AreTableSpans Around
 
 -- the bytes of a row
 pub rest-is : (row : Row) → rest_of row ≡ bytes_of (row_seats row)
@@ -59,59 +28,57 @@ rest-is row = drop-map (λ (s : Seat). s.byte) row.columns (line_text row.line)
 pub rest-size : (row : Row) → length (rest_of row) ≡ length (row_seats row)
 rest-size row = ap (λ (l : List ℕ). length l) (rest-is row) ∙ length-map (row_seats row) (λ (s : Seat). s.byte)
 
--- ---- the names of pieces
-module _ (Alone Around : Name → Type 0) where
-  abbrev pub PiecesMay : Pieces → Type 0
-  PiecesMay nothing = Unit {0}
-  PiecesMay (leaf n k more) = Alone n × PiecesMay more
-  PiecesMay (span n within more) = Around n × PiecesMay within × PiecesMay more
+-- ---- pieces, of which those around others have no void name
+abbrev pub AreOpen : Pieces → Type 0
+AreOpen nothing = Unit {0}
+AreOpen (leaf n k more) = AreOpen more
+AreOpen (span n within more) = (is_void n ≡ false) × AreOpen within × AreOpen more
 
-  may-joined : (ps qs : Pieces) → PiecesMay ps → PiecesMay qs → PiecesMay (joined ps qs)
-  may-joined nothing qs h k = k
-  may-joined (leaf n size ps) qs h k = (h.0, may-joined ps qs h.1 k)
-  may-joined (span n within ps) qs h k = (h.0, h.1, may-joined ps qs h.2 k)
+open-joined : (ps qs : Pieces) → AreOpen ps → AreOpen qs → AreOpen (joined ps qs)
+open-joined nothing qs h k = k
+open-joined (leaf n size ps) qs h k = open-joined ps qs h k
+open-joined (span n within ps) qs h k = (h.0, h.1, open-joined ps qs h.2 k)
 
-  module _ (leafs : AreTableLeafs Alone) (spans : AreTableSpans Around) where
-    row-may : (kind : RowKind) → Around (row_name kind)
-    row-may Text = spans.row
-    row-may Delimiter = spans.delimiter_row
+row-open : (kind : RowKind) → is_void (row_name kind) ≡ false
+row-open Text = refl
+row-open Delimiter = refl
 
-    cell-may : (kind : RowKind) → Around (cell_name kind)
-    cell-may Text = spans.cell
-    cell-may Delimiter = spans.delimiter_cell
+cell-open : (kind : RowKind) → is_void (cell_name kind) ≡ false
+cell-open Text = refl
+cell-open Delimiter = refl
 
-    content-may : (kind : RowKind) → Around (content_name kind)
-    content-may Text = spans.text
-    content-may Delimiter = spans.value
+content-open : (kind : RowKind) → is_void (content_name kind) ≡ false
+content-open Text = refl
+content-open Delimiter = refl
 
-    within-may : (kind : RowKind) (t : List ℕ) → PiecesMay (content_within kind t)
-    within-may Text t = (leafs.text, tt)
-    within-may Delimiter t = (leafs.marker, (leafs.filler, (leafs.marker, tt)))
+within-open : (kind : RowKind) (t : List ℕ) → AreOpen (content_within kind t)
+within-open Text t = tt
+within-open Delimiter t = tt
 
-    one-may : (kind : RowKind) (divider : ℕ) (cell : List ℕ) (closing : ℕ) → PiecesMay (cell_pieces kind divider cell closing)
-    one-may kind divider cell closing = (cell-may kind, (leafs.divider, (leafs.white, (content-may kind, within-may kind (content cell), (leafs.white, (leafs.divider, tt))))), tt)
+one-open : (kind : RowKind) (divider : ℕ) (cell : List ℕ) (closing : ℕ) → AreOpen (cell_pieces kind divider cell closing)
+one-open kind divider cell closing = (cell-open kind, (content-open kind, within-open kind (content cell), tt), tt)
 
-    all-may : (kind : RowKind) (divider : ℕ) (cells : Cells) → PiecesMay (cells_pieces kind divider cells)
-    all-may kind divider no_cell = tt
-    all-may kind divider (last_cell cell) = one-may kind divider cell 0
-    all-may kind divider (next_cell cell more) = may-joined (cell_pieces kind divider cell (cond (is_last more) 1 0)) (cells_pieces kind 1 more) (one-may kind divider cell (cond (is_last more) 1 0)) (all-may kind 1 more)
+all-open : (kind : RowKind) (divider : ℕ) (cells : Cells) → AreOpen (cells_pieces kind divider cells)
+all-open kind divider no_cell = tt
+all-open kind divider (last_cell cell) = one-open kind divider cell 0
+all-open kind divider (next_cell cell more) = open-joined (cell_pieces kind divider cell (cond (is_last more) 1 0)) (cells_pieces kind 1 more) (one-open kind divider cell (cond (is_last more) 1 0)) (all-open kind 1 more)
 
-    cells-may : (kind : RowKind) (divider : ℕ) (cells : Cells) → PiecesMay (row_cells kind divider cells)
-    cells-may kind divider cells = by (is_last cells)
-      where
-        by : (b : Bool) → PiecesMay (cond b (leaf name.GfmTableCellDivider divider nothing) (cells_pieces kind divider cells))
-        by true = (leafs.divider, tt)
-        by false = all-may kind divider cells
+cells-open : (kind : RowKind) (divider : ℕ) (cells : Cells) → AreOpen (row_cells kind divider cells)
+cells-open kind divider cells = by (is_last cells)
+  where
+    by : (b : Bool) → AreOpen (cond b (leaf name.GfmTableCellDivider divider nothing) (cells_pieces kind divider cells))
+    by true = tt
+    by false = all-open kind divider cells
 
-    pub row-pieces-may : (kind : RowKind) (line : List ℕ) → PiecesMay (row_pieces kind line)
-    row-pieces-may kind line =
-        let columns = indent line in
-        let divider = one_if 124 (unindented line) in
-        let t = inside line in
-        let cells = row_cells kind divider (cut false t) in
-        (row-may kind, (leafs.white, may-joined cells (leaf name.SpaceOrTab (length line - (columns + divider + length t)) nothing) (cells-may kind divider (cut false t)) (leafs.white, tt)), tt)
+pub row-pieces-open : (kind : RowKind) (line : List ℕ) → AreOpen (row_pieces kind line)
+row-pieces-open kind line =
+    let columns = indent line in
+    let divider = one_if 124 (unindented line) in
+    let t = inside line in
+    let cells = row_cells kind divider (cut false t) in
+    (row-open kind, open-joined cells (leaf name.SpaceOrTab (length line - (columns + divider + length t)) nothing) (cells-open kind divider (cut false t)) tt, tt)
 
-module _ (bytes : List ℕ) (Alone Around : Name → Type 0) (P : List Mark → List Seat → Type 0) (kept : IsKeptInTables bytes Alone Around P) where
+module _ (bytes : List ℕ) (P : List Mark → List Seat → Type 0) (kept : IsKeptByAnySpans bytes P) where
   over : (marks : List Mark) (a b : List Seat) → a ≡ b → P marks a → P marks b
   over marks a b e h = subst (P marks) e h
 
@@ -120,11 +87,11 @@ module _ (bytes : List ℕ) (Alone Around : Name → Type 0) (P : List Mark → 
   none-left (s ∷ ss) e = absurd (omega (arith, e))
 
   -- pieces over as many virtual bytes as they have
-  pub pieces-kept : (ps : Pieces) (ss : List Seat) → PiecesMay Alone Around ps → length ss ≡ size_of ps → P (placed bytes ps ss) ss
+  pub pieces-kept : (ps : Pieces) (ss : List Seat) → AreOpen ps → length ss ≡ size_of ps → P (placed bytes ps ss) ss
   pieces-kept nothing ss m e = none-left ss e
   pieces-kept (leaf n k more) ss m e =
       over (placed bytes (leaf n k more) ss) (take k ss ++ drop k ss) ss (take-append-drop k ss)
-      (kept.both (leaf_marks bytes n (take k ss)) (placed bytes more (drop k ss)) (take k ss) (drop k ss) (kept.alone n (take k ss) m.0) (pieces-kept more (drop k ss) m.1 (omega (arith, e, length-drop k ss))))
+      (kept.both (leaf_marks bytes n (take k ss)) (placed bytes more (drop k ss)) (take k ss) (drop k ss) (kept.alone n (take k ss)) (pieces-kept more (drop k ss) m (omega (arith, e, length-drop k ss))))
   pieces-kept (span n within more) ss m e =
       let k = size_of within in
       over (placed bytes (span n within more) ss) (take k ss ++ drop k ss) ss (take-append-drop k ss)
@@ -133,7 +100,7 @@ module _ (bytes : List ℕ) (Alone Around : Name → Type 0) (P : List Mark → 
       (pieces-kept more (drop k ss) m.2 (omega (arith, e, length-drop k ss))))
 
   pub row-kept : (kind : RowKind) (row : Row) → P (row_marks bytes kind row) (row_seats row)
-  row-kept kind row = pieces-kept (row_pieces kind (rest_of row)) (row_seats row) (row-pieces-may Alone Around kept.leafs kept.spans kind (rest_of row)) (sym (rest-size row) ∙ sym (rows_are_whole kind (rest_of row)))
+  row-kept kind row = pieces-kept (row_pieces kind (rest_of row)) (row_seats row) (row-pieces-open kind (rest_of row)) (sym (rest-size row) ∙ sym (rows_are_whole kind (rest_of row)))
 
   -- it holds of the prefixes of lines
   abbrev pub PrefixHolds : Row → Type 0
@@ -142,7 +109,7 @@ module _ (bytes : List ℕ) (Alone Around : Name → Type 0) (P : List Mark → 
   between-kept : (row next : Row) → PrefixHolds next → P (marks_between bytes row next) (seats_between row next)
   between-kept row next h =
       kept.both (leaf_marks bytes name.LineEnding (ending_of row.line)) (prefixes_marks bytes next.went_on next.line) (ending_of row.line) (take (columns_of next.went_on) next.line)
-      (kept.alone name.LineEnding (ending_of row.line) kept.leafs.line_ending) h
+      (kept.alone name.LineEnding (ending_of row.line)) h
 
   behind-kept : (row : Row) (rows : List Row) → AllByRecursion PrefixHolds rows → P (marks_behind bytes row rows) (seats_behind row rows)
   behind-kept row [] h = kept.none
@@ -155,7 +122,7 @@ module _ (bytes : List ℕ) (Alone Around : Name → Type 0) (P : List Mark → 
       let first = row_marks bytes Text header in
       let gap = marks_between bytes header delimiter in
       let second = row_marks bytes Delimiter delimiter in
-      kept.around name.GfmTableHead (rows_seats (header ∷ delimiter ∷ [])) (first ++ (gap ++ second)) kept.spans.head
+      kept.around name.GfmTableHead (rows_seats (header ∷ delimiter ∷ [])) (first ++ (gap ++ second)) refl
       (kept.both first (gap ++ second) (row_seats header) (seats_between header delimiter ++ (row_seats delimiter ++ [])) (row-kept Text header)
       (kept.both gap second (seats_between header delimiter) (row_seats delimiter ++ []) (between-kept header delimiter h)
       (over second (row_seats delimiter) (row_seats delimiter ++ []) (sym (append-nil (row_seats delimiter))) (row-kept Delimiter delimiter))))
@@ -165,7 +132,7 @@ module _ (bytes : List ℕ) (Alone Around : Name → Type 0) (P : List Mark → 
   body-kept delimiter (row ∷ rows) h =
       let inside = row_marks bytes Text row ++ marks_behind bytes row rows in
       kept.both (marks_between bytes delimiter row) (span_marks bytes name.GfmTableBody (rows_seats (row ∷ rows)) inside) (seats_between delimiter row) (rows_seats (row ∷ rows)) (between-kept delimiter row h.0)
-      (kept.around name.GfmTableBody (rows_seats (row ∷ rows)) inside kept.spans.body
+      (kept.around name.GfmTableBody (rows_seats (row ∷ rows)) inside refl
       (kept.both (row_marks bytes Text row) (marks_behind bytes row rows) (row_seats row) (seats_behind row rows) (row-kept Text row) (behind-kept row rows h.1)))
 
   -- the virtual bytes of the head, and those behind it
@@ -183,6 +150,6 @@ module _ (bytes : List ℕ) (Alone Around : Name → Type 0) (P : List Mark → 
   tables-kept header (delimiter ∷ rows) h =
       let head = head_marks bytes header delimiter in
       let body = body_marks bytes delimiter rows in
-      kept.around name.GfmTable (rows_seats (header ∷ delimiter ∷ rows)) (head ++ body) kept.spans.table
+      kept.around name.GfmTable (rows_seats (header ∷ delimiter ∷ rows)) (head ++ body) refl
       (over (head ++ body) (rows_seats (header ∷ delimiter ∷ []) ++ seats_behind delimiter rows) (rows_seats (header ∷ delimiter ∷ rows)) (head-and-body header delimiter rows)
       (kept.both head body (rows_seats (header ∷ delimiter ∷ [])) (seats_behind delimiter rows) (head-kept header delimiter h.0) (body-kept delimiter rows h.1)))

@@ -1,5 +1,5 @@
 -- How a table is written, row by row.
-use Rattle.std.proofs.Common.{◌≡◌, ℕ, zero, suc, ◌+◌, ◌<◌, ◌≤◌, Bool, true, List, [], ◌∷◌, ◌++◌, append-nil, append_assoc, length, take, drop, get_or, ne_eqb, refl, sym, ap, ◌∙◌, subst, arith, length-drop}
+use Rattle.std.proofs.Common.{◌≡◌, ℕ, ◌+◌, ◌<◌, ◌≤◌, Bool, true, List, [], ◌∷◌, ◌++◌, append-nil, append_assoc, length, take, drop, get_or, ne_eqb, refl, sym, ap, ◌∙◌, subst, arith, length-drop}
 use Rattle.std.specs.Prelude.{◌==◌, false, None}
 use Rattle.std.specs.List.{AllByRecursion}
 use Rattle.std.proofs.lemmas.Bool.{false≢true}
@@ -23,9 +23,10 @@ use Rattle.mdblock_containers.specs.Rows.{Row}
 use Rattle.mdblock_containers.specs.SeatPlaces.{events_of}
 use Rattle.mdblock_containers.specs.Written.{Written}
 use Rattle.mdblock_containers.proofs.WrittenLemmas.{write_plain}
+use Rattle.mdblock_definitions.proofs.MarksCursor.{write-both}
 use Rattle.mdblock_table_marks.specs.Lines.{AreLines, AreNext, CanBeTable, FromTo, HasText, HaveLines, IsBegin, IsFurther, IsLine, IsNext, IsStanding, begin_at, end_at, last_end}
 use Rattle.mdblock_table_marks.specs.TableMarks.{body_marks, head_marks, marks_behind, marks_between, row_marks, row_seats, rows_marks, rows_seats, seats_behind}
-use Rattle.mdblock_table_marks.proofs.LineLemmas.{further-are, lines-next, next-line, rows-go, rows-split, size-is, write-both, write-span}
+use Rattle.mdblock_table_marks.proofs.LineLemmas.{further-are, lines-next, next-line, rows-go, rows-split, size-is, write-span}
 use Rattle.mdblock_table_marks.proofs.TableShapes.{plain-tables}
 
 -- a fact of each line holds of one

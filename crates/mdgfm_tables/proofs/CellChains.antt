@@ -16,7 +16,7 @@ use Rattle.markdown_base.specs.declared.event.Name.TheVariants as name
 use Rattle.markdown_base.specs.declared.event.Point.{Point}
 use Rattle.markdown_base.specs.Events.{is_enter, is_void, same_name}
 use Rattle.markdown_edits.proofs.Balanced.{balanced_from_open}
-use Rattle.markdown_edits.specs.Links.{IsChunk, content_at, content_of, next_of, previous_of}
+use Rattle.markdown_edits.specs.Links.{IsChunk, content_at, next_of, previous_of}
 use Rattle.markdown_edits.specs.OpenNames.{names_after, names_after_all}
 use Rattle.markdown_children.specs.Ready.{IsReady}
 use Rattle.markdown_children.proofs.ChainOrder.Following.{some_content}
@@ -26,6 +26,7 @@ use Rattle.mdblock_leaf_blocks.proofs.Marks.MarkForms.{Formed}
 use Rattle.mdblock_containers.proofs.SkeletonReady.{next_place, place_there}
 use Rattle.mdblock_containers.proofs.TightMarks.{one_more}
 use Rattle.mdblock_table_marks.specs.Cells.{BeginsWithData, CellsHaveData, as_text, celled, enters_cell, with_cells}
+use Rattle.mddocument_parts.proofs.EventsLeft.{no-content}
 
 -- ---- links change no name and no place
 
@@ -133,9 +134,6 @@ data-is-no-cell e is = ap (λ n. is_enter e.kind && same_name n name.GfmTableCel
 -- the text that is entered has data
 abbrev Due : Bool → List Event → Type 0
 Due b es = b ≡ true → BeginsWithData es
-
-no-content : (e : Event) (c : Content) → e.link ≡ None → content_of e ≡ Some c → ⊥
-no-content e c none at = false≢true (ap is_some (sym (ap (option_map (λ (l : Link). l.content)) none) ∙ at))
 
 celled-chunks : (b : Bool) (es : List Event) → HaveNone es → CellsHaveData es → Due b es → (k : ℕ) (c : Content) → content_at (celled b es) k ≡ Some c → IsChunk (celled b es) k
 celled-chunks b [] none cells due zero c at = absurd (false≢true (ap is_some at))

@@ -22,7 +22,6 @@ pub mod PartsAreTables
 pub mod PartsHold
 -- events: those of parts, one behind the other
 pub mod Joined
-pub mod Moves
 pub mod PartEvents
 pub mod PartsLaid
 pub mod TableLaid

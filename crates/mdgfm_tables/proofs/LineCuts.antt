@@ -7,9 +7,9 @@ use Rattle.std.specs.List.{prefix_len}
 use Rattle.std.specs.Prelude.{slice_index}
 use Rattle.markdown_base.specs.Virtual.{begins_with_lf}
 use Rattle.mdblock_lines.specs.Lines.{ending_size, is_in_line, line_length}
+use Rattle.mddocument_parts.proofs.Shown.{is_torn}
 use Rattle.mdgfm_tables.specs.Parts.{bytes_of_lines}
 use Rattle.mdgfm_tables.proofs.Endings.{lf-at}
-use Rattle.mdgfm_tables.proofs.Joined.{is_torn}
 
 -- ---- a line
 

@@ -8,7 +8,7 @@ use Rattle.mdgfm_tables.specs.Cuts.{moved_by}
 use Rattle.mdgfm_tables.specs.Documents.{events_of_part, events_of_parts}
 use Rattle.mdgfm_tables.specs.Parts.{Part}
 use Rattle.mdgfm_tables.specs.declared.documents.Front.{Front}
-use Rattle.mdgfm_tables.proofs.Moves.{events-twice}
+use Rattle.mddocument_parts.proofs.MovedTwice.{events-twice}
 
 -- one part more is read
 pub next-part : (options : ParseOptions) (defined : List ℕ → Bool) (front next : Front) (old new all : List Event) (own : List Event) (part : Part) (more : List Part)

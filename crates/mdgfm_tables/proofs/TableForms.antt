@@ -15,28 +15,14 @@ use Rattle.mdblock_leaf_blocks.specs.LeafEvents.{Mark, leaf_marks}
 use Rattle.mdblock_containers.specs.SeatPlaces.{events_of}
 use Rattle.mdblock_containers.proofs.PrefixSpans.{leaf_unlinked}
 use Rattle.mdblock_containers.proofs.SkeletonChains.{Unlinked, unlinked_both}
-use Rattle.mdblock_table_marks.proofs.CellData.{tables_have_cell_data}
-use Rattle.mdblock_table_marks.proofs.TableShapes.{AnyName, IsOpenName, any-leafs, open-spans, tables-are-shaped, tables-keep}
-use Rattle.mdblock_table_marks.proofs.TableSpans.{IsKeptInTables}
-use Rattle.mdblock_table_marks.specs.Cells.{BeginsWithData, CellsHaveData}
+use Rattle.mdblock_table_marks.proofs.CellData.{both-events, tables_have_cell_data}
+use Rattle.mdblock_table_marks.proofs.TableShapes.{tables-are-shaped, tables-keep}
+use Rattle.mdblock_table_marks.specs.Cells.{CellsHaveData}
 use Rattle.mdblock_table_marks.specs.TableMarks.{rows_marks, rows_seats}
 use Rattle.mdblock_definitions.proofs.DefinitionMarks.{forms-kept-by}
 use Rattle.mdgfm_tables.specs.TableEvents.{AreRows, IsTable, header_and_rows, last_ending, row_with, rows_with, table_rows}
 use Rattle.mdgfm_tables.proofs.CellChains.{HaveNone}
 use Rattle.mdgfm_tables.proofs.TableLines.{last-marks, last-seats, table-seats}
-
--- ---- spans of tables are in shape
-
-module _ (t : ℕ) (bytes : List ℕ) where
-  forms-in-tables : IsKeptInTables bytes AnyName IsOpenName (Forms t bytes)
-  forms-in-tables = record {
-    none = (forms-kept-by bytes t).none;
-    both = (forms-kept-by bytes t).both;
-    alone = λ n ss any. (forms-kept-by bytes t).alone n ss;
-    around = (forms-kept-by bytes t).around;
-    leafs = any-leafs;
-    spans = open-spans;
-  }
 
 -- ---- the rows of a table
 
@@ -45,15 +31,6 @@ unlinked-events : (ms : List Mark) → Unlinked ms → HaveNone (events_of ms)
 unlinked-events [] h = tt
 unlinked-events ((e, None) ∷ ms) h = (h.0, unlinked-events ms h.1)
 unlinked-events ((e, Some k) ∷ ms) h = absurd h
-
-begins-more : (xs ys : List Event) → BeginsWithData xs → BeginsWithData (xs ++ ys)
-begins-more [] ys h = absurd h
-begins-more (e ∷ []) ys h = absurd h
-begins-more (e ∷ f ∷ es) ys h = h
-
-cells-more : (xs ys : List Event) → CellsHaveData xs → CellsHaveData ys → CellsHaveData (xs ++ ys)
-cells-more [] ys h k = k
-cells-more (x ∷ xs) ys h k = ((λ e. begins-more xs ys (h.0 e)), cells-more xs ys h.1 k)
 
 ending-cells : (bytes : List ℕ) (ss : List Seat) → CellsHaveData (events_of (leaf_marks bytes name.LineEnding ss))
 ending-cells bytes [] = tt
@@ -74,14 +51,14 @@ module _ (t : ℕ) (bytes : List ℕ) (wide : 0 < t) where
       let marks = rows_marks bytes (row_with 1 l) (rows_with 2 ls) in
       let is : ending ≡ last_ending bytes (l ∷ ls) = sym (last-marks bytes (l ∷ ls)) in
       let forms : Forms t bytes (marks ++ ending) (rows_seats rows ++ last) =
-      spans-both bytes (Forms t bytes) (forms-kept t bytes) (tables-keep bytes (Forms t bytes) (forms-in-tables t bytes) (row_with 1 l) (rows_with 2 ls)) ((forms-kept-by bytes t).alone name.LineEnding last) in
+      spans-both bytes (Forms t bytes) (forms-kept t bytes) (tables-keep bytes (Forms t bytes) (forms-kept-by bytes t) (row_with 1 l) (rows_with 2 ls)) ((forms-kept-by bytes t).alone name.LineEnding last) in
       let all : Forms t bytes (marks ++ ending) (virtual t bytes) = subst (Forms t bytes (marks ++ ending)) (table-seats t bytes l ls e) forms in
       let track = subst (Track t bytes (point 1 1 0 0)) (sym (append-nil (virtual t bytes))) (whole-track t bytes wide) in
       let both : events_of (marks ++ ending) ≡ events_of marks ++ events_of ending = map-append (λ (m : Mark). m.0) marks ending in
       subst (λ ms. AreRowsFormed t bytes (events_of (marks ++ ms))) is (record {
         formed = all (point 1 1 0 0) [] track;
         none = unlinked-events (marks ++ ending) (unlinked_both marks ending (tables-are-shaped bytes (row_with 1 l) (rows_with 2 ls)).1 (leaf_unlinked bytes name.LineEnding last));
-        cells = subst CellsHaveData (sym both) (cells-more (events_of marks) (events_of ending) (tables_have_cell_data bytes (row_with 1 l) (rows_with 2 ls)) (ending-cells bytes last));
+        cells = subst CellsHaveData (sym both) (both-events (events_of marks) (events_of ending) (tables_have_cell_data bytes (row_with 1 l) (rows_with 2 ls)) (ending-cells bytes last));
       })
 
   pub rows-formed : IsTable t bytes → AreRowsFormed t bytes (table_rows t bytes)
