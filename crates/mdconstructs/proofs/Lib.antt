@@ -179,8 +179,9 @@ pub use Rattle.mddocument.proofs.Emphasis as InlineEmphasis
 pub use Rattle.mddocument.proofs.FlowTexts
 pub use Rattle.mddocument.proofs.InContainers
 pub use Rattle.mddocument.proofs.Innermost as InnermostInDocuments
+pub use Rattle.mddocument.proofs.ReferenceBytes
+pub use Rattle.mddocument.proofs.Walks
 pub use Rattle.mddocument_laws.proofs.BlockPlaces
-pub use Rattle.mddocument.proofs.Walks.BlockWalk
 pub use Rattle.mddocument_laws.proofs.ChildEvents
 pub use Rattle.mddocument_laws.proofs.ChildNames
 pub use Rattle.mddocument_laws.proofs.Chosen
@@ -194,18 +195,15 @@ pub use Rattle.mddocument_laws.proofs.FlowNames
 pub use Rattle.mddocument_laws.proofs.HeadChildren
 pub use Rattle.mddocument_laws.proofs.Heads
 pub use Rattle.mddocument_laws.proofs.HtmlStarts
-pub use Rattle.mddocument.proofs.Walks.InnerTexts
 pub use Rattle.mddocument_laws.proofs.Inside
 pub use Rattle.mddocument_laws.proofs.ItemNames
 pub use Rattle.mddocument_laws.proofs.LineStarts
 pub use Rattle.mddocument_laws.proofs.LinkEvents
 pub use Rattle.mddocument_laws.proofs.LinkNames
 pub use Rattle.mddocument_laws.proofs.LinkWalk
-pub use Rattle.mddocument.proofs.Walks.MarksWalk
 pub use Rattle.mddocument_laws.proofs.Named
 pub use Rattle.mddocument_laws.proofs.PlainNames
 pub use Rattle.mddocument_laws.proofs.Ranks
-pub use Rattle.mddocument.proofs.ReferenceBytes
 pub use Rattle.mddocument_laws.proofs.ReferenceChildren
 pub use Rattle.mddocument_laws.proofs.ReferenceItems
 pub use Rattle.mddocument_laws.proofs.ReferenceKinds
@@ -217,8 +215,8 @@ pub use Rattle.mddocument_laws.proofs.ReferencesStand
 pub use Rattle.mddocument_laws.proofs.RowNames
 pub use Rattle.mddocument_laws.proofs.RunNames
 pub use Rattle.mddocument_laws.proofs.SkeletonNames
-pub use Rattle.mddocument.proofs.Walks.SkeletonWalk
 pub use Rattle.mddocument_laws.proofs.SpanNames
+pub use Rattle.mddocument_laws.proofs.TailSpans
 pub use Rattle.mddocument_laws.proofs.WholeSpans
 pub use Rattle.mddocument_parts.proofs.BlocksAtRest
 pub use Rattle.mddocument_parts.proofs.BlocksJoin
@@ -253,6 +251,7 @@ pub use Rattle.mddocument_parts.proofs.MovedReads
 pub use Rattle.mddocument_parts.proofs.MovedRows
 pub use Rattle.mddocument_parts.proofs.MovedSections
 pub use Rattle.mddocument_parts.proofs.MovedSkeleton
+pub use Rattle.mddocument_parts.proofs.MovedTwice
 pub use Rattle.mddocument_parts.proofs.NoUnderlines
 pub use Rattle.mddocument_parts.proofs.ReadTexts
 pub use Rattle.mddocument_parts.proofs.Rests
@@ -292,6 +291,7 @@ pub use Rattle.mddocument_editing.proofs.CutLines
 pub use Rattle.mddocument_editing.proofs.CutSteps
 pub use Rattle.mddocument_editing.proofs.FitSections
 pub use Rattle.mddocument_editing.proofs.Joined
+pub use Rattle.mddocument_editing.proofs.KeptLabels
 pub use Rattle.mddocument_editing.proofs.LabelBytes
 pub use Rattle.mddocument_editing.proofs.LinesBack
 pub use Rattle.mddocument_editing.proofs.MayStand

@@ -255,3 +255,4 @@ pub use Rattle.mddocument_editing.specs.Seams
 pub use Rattle.mddocument_editing.specs.Seen
 pub use Rattle.mddocument_editing.specs.Settled
 pub use Rattle.mddocument_editing.specs.Trims
+pub use Rattle.mddocument_editing.specs.Undefined
