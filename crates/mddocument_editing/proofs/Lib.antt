@@ -13,6 +13,9 @@ pub mod SectionLines
 pub mod SectionPlaces
 pub mod SectionPositions
 pub mod SectionSizes
+-- the list of sections
+pub mod FrontSums
+pub mod ListSums
 -- seams
 pub mod Apart
 pub mod Joined

@@ -1,5 +1,6 @@
 -- Sections with others in the place of some, where labels change: the document that is kept then, and what changed.
 use Rattle.mddocument_editing.proofs.Prelude.{◌≡◌, ◌⊎◌, ℕ, zero, suc, ◌+◌, ◌-◌, ◌≤◌, ◌<◌, List, [], ◌∷◌, ◌++◌, length, get_or, take, drop, refl, subst, sym, ap, ◌∙◌, arith, append_assoc, inl, inr, cases_lt, get_or-append_right, get_or-map, get_or_append_left, length-append, length-map, length-take-le, AllByRecursion, Contains, Global, Vec, every-append, every-drop, every-map, every-take, Event, defines, events_by, Divided, is_label_of, IsChange, KeepsEvents, ascend_from, section_of, IsKept, IsRead, IsRecut, bytes_of_sections, divided_of, recut_document, AreReread, HasEvents, put_all, AreTrimmed, Kept, Reread, Section}
+use Rattle.mddocument_editing.specs.Listed.{Listed}
 use Rattle.mdinline_machine.specs.declared.inlines.Inlines.{Inlines}
 use Rattle.mddocument_editing.proofs.PutSections.{bytes-put, change-of, kept-as}
 use Rattle.mddocument_editing.proofs.Rereads.{IsReadBySome, numbers, put-again, rereads-ascend, rereads-each, rereads-same}
@@ -83,7 +84,7 @@ module _ {k : Kept} {machine : Inlines} {from end new_to : ℕ} {parts : List (L
       subst (HasEvents by_new) (sym same) (sym is.events)
 
   -- the events of those that were read again are put in
-  module _ (after : Vec Section Global) (put : after.items ≡ put_all sections others) where
+  module _ (after : Listed) (put : after.items ≡ put_all sections others) where
     abbrev kept_then : Kept
     kept_then = record { options = k.options; machine = machine; sections = after }
 

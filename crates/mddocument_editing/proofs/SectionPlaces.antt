@@ -68,7 +68,7 @@ lines-few [] = omega arith
 lines-few (b ∷ bs) = few-step (b == 10) (b == 13) (begins_with_lf bs) (line_endings bs) (length bs) (lines-few bs)
 
 -- bytes have at most as many line endings as there are
-endings-few : (bs : List ℕ) → endings bs ≤ length bs
+pub endings-few : (bs : List ℕ) → endings bs ≤ length bs
 endings-few bs = omega (arith, endings-are-counted bs, lines-few bs)
 
 -- so has a section of what is kept

@@ -16,6 +16,8 @@ pub mod Trims
 pub mod Asking
 pub mod InBrackets
 pub mod Put
+-- the list of sections
+pub mod Listed
 -- moved events
 pub mod Finds
 pub mod Fronts

@@ -1,8 +1,12 @@
 -- Which section a byte or a line is in.
-use Rattle.std.specs.Prelude.{◌≡◌, ℕ, ◌+◌, ◌≤◌, ◌<◌, List, length, take, slice_get, Some, None}
+use Rattle.std.specs.Prelude.{◌≡◌, ℕ, ◌+◌, ◌/◌, ◌≤◌, ◌<◌, List, length, take, slice_get, Some, None}
 use Rattle.mddocument_parts.specs.Sections.{document_of}
 use Rattle.mddocument_editing.specs.PositionParts.{endings}
 use Rattle.mddocument_editing.specs.Positions.{starts}
+
+-- how often the loops of a lookup go round at most, by the number of sections: over blocks of 256 sections, and over those of one block
+abbrev pub lookup_turns : (sections : ℕ) → ℕ
+lookup_turns sections = sections / 256 + 256
 
 module _ (sections : List (List ℕ)) where
   -- where a section starts

@@ -15,6 +15,7 @@ ghost use Rattle.mddocument_editing.specs.Kept.{IsKept, IsLabelled, IsRead, byte
 ghost use Rattle.mddocument_editing.specs.Packed.{events_fit};
 
 use crate::cut::cut;
+use crate::list::SectionList;
 use crate::packed::PackError;
 use crate::section::{Part, Section, parts_of, sections_of};
 use markdown_base::configuration::ParseOptions;
@@ -31,19 +32,7 @@ pub(crate) struct Kept {
     /// The machine that reads its texts. It knows the labels that the document defines.
     pub(crate) machine: Inlines,
     /// Its sections.
-    pub(crate) sections: Vec<Section>,
-}
-
-/// How many bytes are in sections.
-pub(crate) fn bytes_in(sections: &[Section]) -> usize
-    requires { length (document_of (bytes_of_sections sections.now)) < 2 ^ 64 }
-    ensures { result ≡ length (document_of (bytes_of_sections sections.now)) }
-{
-    let mut count = 0;
-    for section in sections {
-        count += section.part.bytes.len();
-    }
-    count
+    pub(crate) sections: SectionList,
 }
 
 /// Defines the labels that parts define.
@@ -104,9 +93,10 @@ pub(crate) fn read(alloc: Global, bytes: &[u8], options: &ParseOptions) -> Resul
     define_parts(alloc, &mut labels, options, parts.as_slice())?;
     let machine = Inlines { labels };
     let sections = sections_of(alloc, options, &machine, parts)?;
+    let list = SectionList::new(alloc, sections)?;
     Ok(Kept {
         options: *options,
         machine,
-        sections,
+        sections: list,
     })
 }

@@ -13,6 +13,9 @@ mod rests;
 mod kept;
 mod section;
 
+// the list of sections: with sums of its blocks
+mod list;
+
 // seams: sections that are cut again
 mod recut;
 

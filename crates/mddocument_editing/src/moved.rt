@@ -8,12 +8,20 @@ ghost use Rattle.mddocument_parts.specs.Moved.{line_endings, moved_event, moved_
 ghost use Rattle.mddocument_editing.specs.Divided.{bytes_of, events_between};
 ghost use Rattle.mddocument_editing.specs.Fronts.{IsFrontOf, IsSmall, moved_by};
 ghost use Rattle.mddocument_editing.specs.Kept.{IsKept, divided_of};
+ghost use Rattle.mddocument_editing.specs.Lookups.{lookup_turns};
 ghost use Rattle.mddocument_editing.specs.Packed.{end_fits, event_fits, link_fits};
 
 use crate::kept::Kept;
+use crate::list::SectionList;
 use crate::section::Section;
 use markdown_base::event::{Event, Link, Point};
+use mdconstructs_loop_counts::Turns;
 use std::alloc::{AllocError, Global};
+use std::marker::Brand;
+use std::sync::ledger::{Blank, Ledger};
+
+/// What numbers of a [`Front`] can be at most.
+const MOST: usize = usize::MAX / 2;
 
 /// What is in front of a section.
 #[derive(Clone, Copy)]
@@ -26,17 +34,6 @@ pub(crate) struct Front {
     pub(crate) events: usize,
 }
 
-/// Nothing is in front of the first section.
-pub(crate) fn nothing() -> Front
-    ensures { IsFrontOf [] result }
-{
-    Front {
-        lines: 0,
-        bytes: 0,
-        events: 0,
-    }
-}
-
 /// What is in front of the next section. `None` if a number would be above half of what a `usize` can be, which no document in memory has.
 pub(crate) fn behind(front: Front, section: &Section) -> Option<Front>
     requires { IsSmall front }
@@ -46,7 +43,6 @@ pub(crate) fn behind(front: Front, section: &Section) -> Option<Front>
     ensures small { IfSome result IsSmall }
     ensures none { IfNone result (¬ IsSmall (record { lines = front.lines + section.now.lines; bytes = front.bytes + length section.now.part.bytes.items; events = front.events + length section.now.events })) }
 {
-    const MOST: usize = usize::MAX / 2;
     let lines = section.lines;
     let bytes = section.part.bytes.len();
     let events = section.events.len();
@@ -119,18 +115,48 @@ fn push_section(events: &mut Vec<Event>, front: Front, section: &Section) -> Res
     Ok(())
 }
 
-/// What is in front of the section behind all of these.
-fn front_of(sections: &[Section]) -> Result<Front, AllocError>
-    ensures { IfOk result (IsFrontOf sections.now) }
+/// What is in front of a section, counted.
+fn front_of_counted<L: Ledger>(
+    list: &SectionList,
+    section: usize,
+    turns: &mut Turns<L>,
+) -> Result<Front, AllocError>
+    requires { section ≤ length list.now.items }
+    ensures front { IfOk result (IsFrontOf (take section list.now.items)) }
+    ensures turns { turns.new ≤ turns.old + lookup_turns (length list.now.items) }
 {
-    let mut front = nothing();
-    for section in sections {
-        match behind(front, section) {
-            None => return Err(AllocError),
-            Some(next) => front = next,
-        }
+    let sums = list.in_front(section, turns);
+    if sums.lines > MOST || sums.bytes > MOST || sums.events > MOST {
+        return Err(AllocError);
     }
-    Ok(front)
+    Ok(Front {
+        lines: sums.lines,
+        bytes: sums.bytes,
+        events: sums.events,
+    })
+}
+
+fn front_of_uncounted<L: Ledger>(
+    list: &SectionList,
+    section: usize,
+    blank: Blank,
+) -> Result<Front, AllocError>
+    requires within { section ≤ length list.now.items }
+    requires name { blank.name ≡ L.name }
+    requires parts { blank.parts ≡ L.parts }
+    requires some { 0 < blank.parts }
+    ensures { IfOk result (IsFrontOf (take section list.now.items)) }
+{
+    let mut turns = Turns::<L>::new(blank);
+    front_of_counted(list, section, &mut turns)
+}
+
+/// What is in front of a section.
+fn front_of(list: &SectionList, section: usize) -> Result<Front, AllocError>
+    requires { section ≤ length list.now.items }
+    ensures { IfOk result (IsFrontOf (take section list.now.items)) }
+{
+    front_of_uncounted::<Brand>(list, section, Blank::new(1))
 }
 
 /// The events of the sections from one up to another, as those of the document.
@@ -147,7 +173,7 @@ pub(crate) fn events_between(
 {
     let sections = kept.sections.as_slice();
     let mut events = Vec::new(alloc);
-    let mut front = front_of(&sections[..from])?;
+    let mut front = front_of(&kept.sections, from)?;
     let wanted = &sections[from..to];
     for section in wanted {
         push_section(&mut events, front, section)?;

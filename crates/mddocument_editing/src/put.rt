@@ -29,7 +29,7 @@ use std::alloc::{AllocError, Global};
 
 /// The events of a section that is read again, by its number.
 #[derive(Drop)]
-struct Reread {
+pub(crate) struct Reread {
     section: usize,
     events: Packed,
 }
@@ -190,7 +190,7 @@ fn numbers_of(alloc: Global, others: &[Reread]) -> Result<Vec<usize>, AllocError
 }
 
 /// Puts the events of sections that were read again in the place of those that they had.
-fn put_events(sections: &mut Vec<Section>, others: Vec<Reread>)
+pub(crate) fn put_events(sections: &mut Vec<Section>, others: Vec<Reread>)
     requires { AllByRecursion (λ other. other.section < length sections.old.items) others.items }
     ensures { sections.new.items ≡ put_all sections.old.items others.items }
 {
@@ -241,8 +241,9 @@ fn put_same(
     ensures fits { ArePackable (recut_document kept.old from end (bytes_of_parts parts.items)) → ¬ IsErrOf result Refused.TooLong }
 {
     let read = read_parts(alloc, &kept.options, &kept.machine, parts)?;
+    kept.sections.are_few();
     let new_to = from + read.len();
-    kept.sections.splice(from..end, read)?;
+    kept.sections.splice(from, end, read)?;
     Ok(Change {
         from,
         old_to: end,
@@ -274,12 +275,13 @@ fn put_other(
     ensures fits { ArePackable (recut_document kept.old from end (bytes_of_parts parts.items)) → ¬ IsErrOf result Refused.TooLong }
 {
     let read = read_parts(alloc, &kept.options, &machine, parts)?;
+    kept.sections.are_few();
     let new_to = from + read.len();
     let others = read_others(alloc, kept, &machine, from, end, read.as_slice())?;
     let numbers = numbers_of(alloc, others.as_slice())?;
-    kept.sections.splice(from..end, read)?;
+    kept.sections.splice(from, end, read)?;
     kept.machine = machine;
-    put_events(&mut kept.sections, others);
+    kept.sections.put_events(others);
     Ok(Change {
         from,
         old_to: end,

@@ -7,6 +7,7 @@ ghost use Rattle.mddocument_editing.specs.Divided.{bytes_of};
 ghost use Rattle.mddocument_editing.specs.Edits.{IsInside, edited};
 ghost use Rattle.mddocument_editing.specs.FirstRest.{items_of};
 ghost use Rattle.mddocument_editing.specs.Kept.{IsKept, IsRecut, bytes_of_sections, divided_of, recut_sections};
+ghost use Rattle.mddocument_editing.specs.Lookups.{IsSectionAt, start_of};
 ghost use Rattle.mddocument_editing.specs.Seams.{IsSeam};
 ghost use Rattle.mddocument_editing.specs.Settled.{is_settled};
 ghost use Rattle.mddocument_editing.specs.Trims.{AreTrimmed};
@@ -35,8 +36,10 @@ fn is_settled(bytes: &[u8]) -> bool
 }
 
 /// The first section to be cut again, and where it starts, if the document is edited from a byte on: the last one of which a line ends in front of the
-/// byte, whatever comes there; or the first, if there is none. So it begins at a rest as before.
-fn first_touched(sections: &[Section], byte: usize) -> (usize, usize)
+/// byte, whatever comes there; or the first, if there is none. So it begins at a rest as before. The section that the byte is in was found.
+fn first_touched(sections: &[Section], byte: usize, found: (usize, usize)) -> (usize, usize)
+    requires section { IsSectionAt (bytes_of_sections sections.now) byte found.0 }
+    requires left { start_of (bytes_of_sections sections.now) found.0 + found.1 ≡ byte }
     requires inside { byte ≤ length (document_of (bytes_of_sections sections.now)) }
     requires short { length (document_of (bytes_of_sections sections.now)) < 2 ^ 64 }
     ensures within { result.0 ≤ length sections.now }
@@ -44,7 +47,7 @@ fn first_touched(sections: &[Section], byte: usize) -> (usize, usize)
     ensures before { result.1 ≤ byte }
     ensures settled { (result.0 ≡ 0) ⊎ (is_settled (take (byte - result.1) (drop result.1 (document_of (bytes_of_sections sections.now)))) ≡ true) }
 {
-    let (mut index, left) = section_and_left(sections, byte);
+    let (mut index, left) = found;
     let mut start = byte - left;
     if index < sections.len()
         && is_settled(&sections[index].part.bytes.as_slice()[..byte - start])
@@ -197,7 +200,8 @@ pub(crate) fn cut_again(alloc: Global, kept: &Kept, edit: &Edit) -> Result<Recut
     // It is not 0, so the length of a document within the limit fits `usize`.
     let _columns = kept.options.tab_size.get();
     let sections = kept.sections.as_slice();
-    let (from, start) = first_touched(sections, edit.from);
+    let found = section_and_left(kept, edit.from);
+    let (from, start) = first_touched(sections, edit.from, found);
     let (behind, _) = behind(sections, from, start, edit.to);
     let text = edited_bytes(alloc, &sections[from..behind], start, edit)?;
     let recut = cut_from(alloc, kept, from, behind, text)?;

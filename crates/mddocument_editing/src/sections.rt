@@ -1,6 +1,6 @@
 //! A document that can be edited.
 
-ghost use Rattle.std.specs.Prelude.{◌≡◌, ◌↔◌, ◌≤◌, ◌<◌, IfOk, IsErrOf, IsOk, OnErr, Some, length, slice_get, take, true};
+ghost use Rattle.std.specs.Prelude.{◌≡◌, ◌+◌, ◌↔◌, ◌≤◌, ◌<◌, IfOk, IsErrOf, IsOk, OnErr, Some, length, slice_get, take, true};
 ghost use Rattle.markdown_base.specs.Virtual.{IsWithinLimit};
 ghost use Rattle.mddocument.specs.DocumentEvents.{document_events};
 ghost use Rattle.mddocument.specs.Documents.{AreDocumentEvents, document};
@@ -8,14 +8,17 @@ ghost use Rattle.mddocument_parts.specs.Sections.{document_of};
 ghost use Rattle.mddocument_editing.specs.Divided.{Divided, IsDivided, bytes_of, events_between};
 ghost use Rattle.mddocument_editing.specs.Edits.{IsChange, IsInside, edited};
 ghost use Rattle.mddocument_editing.specs.Fits.{CanBeEdited};
-ghost use Rattle.mddocument_editing.specs.Lookups.{IsSectionAt, IsSectionAtLine};
+ghost use Rattle.mddocument_editing.specs.Lookups.{IsSectionAt, IsSectionAtLine, lookup_turns};
 ghost use Rattle.mddocument_editing.specs.Packed.{events_fit};
 ghost use Rattle.mddocument_editing.specs.Positions.{offset_of, position_of};
 ghost use Rattle.mddocument_editing.specs.Undefined.{undefined_between};
 
 use crate::edit::{Change, Edit, Refused};
 use crate::kept::{Kept, read};
-use crate::lookup::{offset_of, position_of, section_at, section_at_line, start_of};
+use crate::lookup::{
+    offset_of, position_of, section_at, section_at_counted, section_at_line, start_of,
+    start_of_counted,
+};
 use crate::moved::{all_events, events_between, is_bytes, is_document};
 use crate::packed::PackError;
 use crate::positions::{Encoding, Position};
@@ -24,10 +27,12 @@ use crate::recut::{append_sections, cut_again};
 use crate::undefined::undefined_between;
 use markdown_base::configuration::ParseOptions;
 use markdown_base::event::Event;
+use mdconstructs_loop_counts::Turns;
 use mddocument::limit::limit_of;
 use mddocument_references::references::Reference;
 use std::alloc::{AllocError, Global};
 use std::marker::Model;
+use std::sync::ledger::Ledger;
 
 /// A document that can be edited: its bytes, cut at each of its rests into sections, and the events of each.
 #[derive(Drop)]
@@ -102,7 +107,7 @@ impl Sections {
         requires { index < length self.now.sections }
         ensures { slice_get self.now.sections index ≡ Some result.now }
     {
-        self.kept.sections[index].part.bytes.as_slice()
+        self.kept.sections.one(index).part.bytes.as_slice()
     }
 
     /// Where a section starts: the index of its first byte. Of the number of sections, how many bytes the document has.
@@ -113,11 +118,29 @@ impl Sections {
         start_of(&self.kept, section)
     }
 
+    /// As [`start_of`](Sections::start_of), counted: its loops go over blocks of 256 sections, and over the sections of one block, and not over all in
+    /// front.
+    pub fn start_of_counted<L: Ledger>(&self, section: usize, turns: &mut Turns<L>) -> usize
+        requires { section ≤ length self.now.sections }
+        ensures start { result ≡ length (document_of (take section self.now.sections)) }
+        ensures turns { turns.new ≤ turns.old + lookup_turns (length self.now.sections) }
+    {
+        start_of_counted(&self.kept, section, turns)
+    }
+
     /// The section that a byte is in. At the document's end or behind it, the number of sections.
     pub fn section_at(&self, byte: usize) -> usize
         ensures { IsSectionAt self.now.sections byte result }
     {
-        section_at(self.kept.sections.as_slice(), byte)
+        section_at(&self.kept, byte)
+    }
+
+    /// As [`section_at`](Sections::section_at), counted: its loops go over blocks of 256 sections, and over the sections of one block.
+    pub fn section_at_counted<L: Ledger>(&self, byte: usize, turns: &mut Turns<L>) -> usize
+        ensures section { IsSectionAt self.now.sections byte result }
+        ensures turns { turns.new ≤ turns.old + lookup_turns (length self.now.sections) }
+    {
+        section_at_counted(&self.kept, byte, turns)
     }
 
     /// The section in which a line starts, by its number, from 0. The number of sections, if the line starts at the document's end, or there is no such

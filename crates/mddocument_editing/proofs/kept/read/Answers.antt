@@ -1,4 +1,4 @@
-use Rattle.mddocument_editing.proofs.Prelude.{◌≡◌, ◌∙◌, List, ℕ, ap, arith, length, refl, subst, sym, or-false, err_from_is_err_and, AllByRecursion, flat_map, ◌||◌, ParseOptions, IsWithinLimit, IsDocument, is_one_of, document_events, document, defines, Divided, IsDivided, is_label_of, items_of, IsPackable, bytes_of_parts, bytes_of_sections, labels_written, events_fit}
+use Rattle.mddocument_editing.proofs.Prelude.{◌≡◌, ◌∙◌, List, ℕ, ap, arith, length, refl, subst, sym, or-false, err_from_is_err_and, AllByRecursion, flat_map, ◌||◌, ParseOptions, IsWithinLimit, IsDocument, is_one_of, document_events, document, defines, Divided, IsDivided, is_label_of, items_of, IsPackable, bytes_of_parts, bytes_of_sections, labels_written, events_fit, IsRead}
 use Rattle.mddocument_editing.proofs.FitSections.{sections-fit}
 use Rattle.mddocument_editing.proofs.SectionBytes.{divided-cut, sections-within}
 use Rattle.mddocument_editing.proofs.SectionLabels.{labels-divided}
@@ -70,9 +70,9 @@ returns-clause-kept c =
     let options = c.args.options.now in
     let steps = goal.at.returns-clause-kept c in
     let is : IsDivided (d steps.In_ok-cut) = divided steps.In_ok-cut in
-    let same : bytes_of_sections c.in_ok-sections.sections.items ≡ items_of c.in_ok-cut.field-0.items = c.in_ok-sections.ensures.bytes ∙ c.in_ok-parts.ensures.bytes in
+    let same : bytes_of_sections c.in_ok-list.list.items ≡ items_of c.in_ok-cut.field-0.items = ap bytes_of_sections c.in_ok-list.ensures ∙ c.in_ok-sections.ensures.bytes ∙ c.in_ok-parts.ensures.bytes in
     record {
       divided = subst (λ sections. IsDivided (cut_into options sections)) (sym same) is;
       labels = λ label. knows steps.In_ok-define_parts is label ∙ ap (λ sections. is_label_of (cut_into options sections) label) (sym same);
-      read = c.in_ok-sections.ensures.read;
+      read = subst (AllByRecursion (IsRead options (defines c.define_parts.new.labels))) (sym c.in_ok-list.ensures) c.in_ok-sections.ensures.read;
     }

@@ -1,5 +1,4 @@
-use Rattle.mddocument_editing.proofs.Prelude.{◌≡◌, ◌+◌, bytes_of_sections, start_of}
 use Rattle.mddocument_editing.proofs.lookup.section_and_left.Given as goal
 
-abbrev pub invariant-loop-index : goal.invariant-loop-index
-invariant-loop-index l = start_of (bytes_of_sections l.sections) l.index + l.left ≡ l.byte
+abbrev pub ghosts-section_and_left_uncounted : goal.ghosts-section_and_left_uncounted
+ghosts-section_and_left_uncounted a = record { name = a.blank.name; parts = a.blank.parts }

@@ -16,7 +16,7 @@ pub returns-in-Some : goal.returns-in-Some
 returns-in-Some c =
     let all = bytes_of_sections c.args.kept.now.sections.items in
     let some : Some c.in-Some.byte ≡ slice_get (starts (document_of all)) c.args.line = c.in-Some.ensures ∙ line-start Utf8 (document_of all) c.args.line in
-    let at = subst (λ l. IsSectionAt (bytes_of_sections l) c.in-Some.byte c.section_at.result) c.as_slice.ensures.value c.section_at.ensures in
+    let at = c.section_at.ensures in
     record {
       start = λ byte is. (let same : c.in-Some.byte ≡ byte = cc in subst (λ b. IsSectionAt all b c.section_at.result) same at);
       none = λ is. absurd (cc);

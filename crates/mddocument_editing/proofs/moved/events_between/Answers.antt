@@ -1,4 +1,4 @@
-use Rattle.mddocument_editing.proofs.Prelude.{◌≡◌, ◌+◌, ◌-◌, ◌<◌, sym, ap, subst, ◌∙◌, length, drop, map, take, arith, drop-take, take_all, AllByRecursion, defines, events_by, events_of_sections, every-take, every-drop, IsFrontOf, moved_by, IsRead, bytes_of_sections}
+use Rattle.mddocument_editing.proofs.Prelude.{◌≡◌, ◌+◌, ◌-◌, ◌<◌, sym, ap, subst, ◌∙◌, length, drop, map, take, arith, drop-take, take_all, AllByRecursion, defines, events_by, events_of_sections, every-take, every-drop, moved_by, IsRead, bytes_of_sections}
 use Rattle.mddocument_editing.proofs.SectionBytes.{every-at}
 use Rattle.mddocument_editing.proofs.SectionEvents.{behind-more, behind-none, between-events, moved-more}
 use Rattle.mddocument_editing.proofs.SectionFronts.{take-next}
@@ -42,7 +42,6 @@ returns c =
     let cut : wanted ≡ drop from (take to all) =
     sym (drop-take from (to - from) sections) ∙ ap (λ n. drop from (take n sections)) order ∙ ap (λ l. drop from (take to l)) c.as_slice-sections.ensures.value
     in
-    let is = subst (λ l. IsFrontOf (take from l) c.in_ok-front.front) c.as_slice-sections.ensures.value c.in_ok-front.ensures in
     c.loop-section.invariant.events
     ∙ ap (λ l. map (moved_by c.in_ok-front.front) (events_of_sections read (bytes_of_sections l))) (end ∙ cut)
-    ∙ between-events k from to c.requires.kept c.requires.order c.requires.within c.in_ok-front.front is
+    ∙ between-events k from to c.requires.kept c.requires.order c.requires.within c.in_ok-front.front c.in_ok-front.ensures

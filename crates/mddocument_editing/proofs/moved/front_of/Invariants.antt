@@ -1,5 +1,4 @@
-use Rattle.mddocument_editing.proofs.Prelude.{take, IsFrontOf}
 use Rattle.mddocument_editing.proofs.moved.front_of.Given as goal
 
-abbrev pub invariant-loop-section : goal.invariant-loop-section
-invariant-loop-section l = IsFrontOf (take l.section-index l.sections) l.front
+abbrev pub ghosts-front_of_uncounted : goal.ghosts-front_of_uncounted
+ghosts-front_of_uncounted a = record { name = a.blank.name; parts = a.blank.parts }

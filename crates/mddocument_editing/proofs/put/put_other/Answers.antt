@@ -2,7 +2,7 @@ use Rattle.mddocument_editing.proofs.Prelude.{◌+◌, ◌++◌, take, drop, sub
 use Rattle.mddocument_editing.proofs.PackedParts.{behind-fits, front-fits, parts-fit}
 use Rattle.mddocument_editing.proofs.PutChanged.{ArePutIn, below, then-change, then-document, then-kept}
 use Rattle.mddocument_editing.proofs.PutOthers.{read-documents}
-use Rattle.mddocument_editing.proofs.PutSections.{parts-within, spliced}
+use Rattle.mddocument_editing.proofs.PutSections.{parts-within}
 use Rattle.mddocument_editing.proofs.Rereads.{numbers}
 use Rattle.mddocument_editing.proofs.put.put_other.Goals.{In_ok-splice}
 use Rattle.mddocument_editing.proofs.put.put_other.Goals as goal
@@ -22,7 +22,7 @@ read_others-requires-clause-kept c =
 put-in : (c : In_ok-splice) → ArePutIn c.args.kept.now c.args.machine c.args.from c.args.end (c.args.from + c.len.result) (bytes_of_parts c.args.parts.items) c.in_ok-read.read.items c.splice.new.self.items c.in_ok-others.others.items
 put-in c =
     let read = c.in_ok-read.read in
-    let h = c.in_ok-splice.ensures.items in record {
+    record {
       kept = c.requires.kept;
       recut = c.requires.recut;
       trimmed = c.requires.trimmed;
@@ -35,21 +35,21 @@ put-in c =
           (λ rs. AreReread (events_by c.args.kept.now.options (defines c.args.machine.labels)) 0 (take c.args.from c.args.kept.now.sections.items ++ (rs ++ drop c.args.end c.args.kept.now.sections.items))
           c.in_ok-others.others.items)
           c.as_slice.ensures.value c.in_ok-others.ensures.others;
-      sections_are = spliced c.args.from c.args.end c.args.kept.now.sections.items read.items c.splice.new.self.items h.0 h.1 h.2.0 (h.2.1 ∙ read.ok.0) h.3 h.4;
+      sections_are = c.in_ok-splice.ensures.items;
     }
 
 pub put_events-requires : goal.put_events-requires
 put_events-requires c = below (put-in (goal.at.put_events-requires c).In_ok-splice)
 
 pub returns-clause-document : goal.returns-clause-document
-returns-clause-document c = then-document (put-in (goal.at.returns-clause-document c).In_ok-splice) c.put_events.new.sections c.put_events.ensures
+returns-clause-document c = then-document (put-in (goal.at.returns-clause-document c).In_ok-splice) c.put_events.new.self c.put_events.ensures
 
 pub returns-clause-kept : goal.returns-clause-kept
-returns-clause-kept c = then-kept (put-in (goal.at.returns-clause-kept c).In_ok-splice) c.put_events.new.sections c.put_events.ensures
+returns-clause-kept c = then-kept (put-in (goal.at.returns-clause-kept c).In_ok-splice) c.put_events.new.self c.put_events.ensures
 
 pub returns-clause-change : goal.returns-clause-change
 returns-clause-change c =
-    then-change (put-in (goal.at.returns-clause-change c).In_ok-splice) c.put_events.new.sections c.put_events.ensures c.in_ok-numbers.numbers
+    then-change (put-in (goal.at.returns-clause-change c).In_ok-splice) c.put_events.new.self c.put_events.ensures c.in_ok-numbers.numbers
     (c.in_ok-numbers.ensures ∙ ap numbers c.as_slice-2.ensures.value)
 
 pub returns-in_err-read-clause-fits : goal.returns-in_err-read-clause-fits

@@ -1,6 +1,6 @@
 use Rattle.mddocument_editing.proofs.Prelude.{◌≡◌, ℕ, ◌+◌, Bool, ◌++◌, List, length, take, drop, subst, sym, ap, ◌∙◌, arith, length-map, err_from_is_err_and, AllByRecursion, defines, events_by, Divided, is_label_of, IsChange, IsRead, bytes_of_parts, bytes_of_sections, divided_of, recut_document}
 use Rattle.mddocument_editing.proofs.PackedParts.{parts-fit}
-use Rattle.mddocument_editing.proofs.PutSections.{bytes-put, change-alone, every-put, kept-as, parts-within, spliced}
+use Rattle.mddocument_editing.proofs.PutSections.{bytes-put, change-alone, every-put, kept-as, parts-within}
 use Rattle.mddocument_editing.proofs.put.put_same.Goals.{In_ok-splice}
 use Rattle.mddocument_editing.proofs.put.put_same.Goals as goal
 
@@ -12,10 +12,7 @@ read_parts-requires-clause-limit c =
 
 -- the sections that were read are put in the place of some
 put-in : (c : In_ok-splice) → c.splice.new.self.items ≡ take c.args.from c.args.kept.now.sections.items ++ (c.in_ok-read.read.items ++ drop c.args.end c.args.kept.now.sections.items)
-put-in c =
-    let read = c.in_ok-read.read in
-    let h = c.in_ok-splice.ensures.items in
-    spliced c.args.from c.args.end c.args.kept.now.sections.items read.items c.splice.new.self.items h.0 h.1 h.2.0 (h.2.1 ∙ read.ok.0) h.3 h.4
+put-in c = c.in_ok-splice.ensures.items
 
 pub returns-clause-document : goal.returns-clause-document
 returns-clause-document c =

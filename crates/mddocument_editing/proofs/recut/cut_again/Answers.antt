@@ -1,6 +1,14 @@
-use Rattle.mddocument_editing.proofs.Prelude.{ap, ◌∙◌, sym, subst, IsWithinLimit, document_of}
+use Rattle.mddocument_editing.proofs.Prelude.{◌+◌, ap, ◌∙◌, sym, subst, IsWithinLimit, document_of, bytes_of_sections, IsSectionAt, start_of}
 use Rattle.mddocument_editing.proofs.PutKept.{short-kept, touched-bytes, touched-seam, touched-within}
 use Rattle.mddocument_editing.proofs.recut.cut_again.Goals as goal
+
+pub first_touched-from-requires-clause-section : goal.first_touched-from-requires-clause-section
+first_touched-from-requires-clause-section c =
+    subst (λ ss. IsSectionAt (bytes_of_sections ss) c.args.edit.now.from c.section_and_left-found.result.0) (sym c.as_slice-sections.ensures.value) c.section_and_left-found.ensures.section
+
+pub first_touched-from-requires-clause-left : goal.first_touched-from-requires-clause-left
+first_touched-from-requires-clause-left c =
+    ap (λ ss. start_of (bytes_of_sections ss) c.section_and_left-found.result.0 + c.section_and_left-found.result.1) c.as_slice-sections.ensures.value ∙ c.section_and_left-found.ensures.left
 
 pub first_touched-from-requires-clause-short : goal.first_touched-from-requires-clause-short
 first_touched-from-requires-clause-short c = short-kept c.args.kept.now c.as_slice-sections.ensures.value c.get-columns.ensures.columns c.get-columns.ensures.least c.requires.kept

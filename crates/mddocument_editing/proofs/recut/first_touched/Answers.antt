@@ -7,22 +7,22 @@ use Rattle.mddocument_editing.proofs.recut.first_touched.Goals as goal
 pub slice_bounds-is_settled-length : goal.slice_bounds-is_settled-length
 slice_bounds-is_settled-length c =
     let ss = c.args.sections.now in
-    let i = c.section_and_left-index.result.0 in
-    let left = c.section_and_left-index.result.1 in
+    let i = c.args.found.0 in
+    let left = c.args.found.1 in
     let next = start-next ss i (get_or ss i c.index-sections-index.result) c.if-index-sections.true (ap (get_or ss i) c.index-sections-index.is) in
-    let inside = c.section_and_left-index.ensures.section.end (omega (arith, c.if-index-sections.true, count-bytes ss)) in
-    omega (arith, next, inside, c.section_and_left-index.ensures.left, ap length c.as_slice.ensures.value, length-take (c.args.byte - (c.args.byte - left)) c.as_slice.result.now)
+    let inside = c.requires.section.end (omega (arith, c.if-index-sections.true, count-bytes ss)) in
+    omega (arith, next, inside, c.requires.left, ap length c.as_slice.ensures.value, length-take (c.args.byte - (c.args.byte - left)) c.as_slice.result.now)
 
 pub returns-then-is_settled-clause-settled : goal.returns-then-is_settled-clause-settled
 returns-then-is_settled-clause-settled c =
     let ss = c.args.sections.now in
-    let i = c.section_and_left-index.result.0 in
-    let start = c.args.byte - c.section_and_left-index.result.1 in
+    let i = c.args.found.0 in
+    let start = c.args.byte - c.args.found.1 in
     let s = get_or ss i c.index-sections-index.result in
     let lt = c.if-index-sections.true in
     let is = ap (get_or ss i) c.index-sections-index.is in
-    let inside = c.section_and_left-index.ensures.section.end (omega (arith, lt, count-bytes ss)) in
-    let at : start ≡ length (document_of (take i (bytes_of_sections ss))) = omega (arith, c.section_and_left-index.ensures.left) in
+    let inside = c.requires.section.end (omega (arith, lt, count-bytes ss)) in
+    let at : start ≡ length (document_of (take i (bytes_of_sections ss))) = omega (arith, c.requires.left) in
     let few : c.args.byte - start ≤ length s.part.bytes.items = omega (arith, start-next ss i s lt is, inside, at) in
     let told : is_settled (take (c.args.byte - start) c.as_slice.result.now) ≡ true = sym c.is_settled.ensures ∙ c.if-is_settled.true in
     inr (
