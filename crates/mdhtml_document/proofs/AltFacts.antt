@@ -141,12 +141,12 @@ module _ (bytes : List ℕ) (size : (label : List ℕ) → ℕ) where
   references-skip [] ys = refl
   references-skip (x ∷ xs) ys = references-skip xs ys
 
-  enter-references : (e : Event) (es : List Event) → e.kind ≡ Enter
+  pub enter-references : (e : Event) (es : List Event) → e.kind ≡ Enter
       → references_from bytes size 0 (e ∷ es) ≡ referred bytes size (inline_of e.name) (inside es) 0 + references_from bytes size (left (inline_of e.name) es) es
   enter-references e es h =
       ap (λ k. cond (is_enter k) (referred bytes size (inline_of e.name) (inside es) 0 + references_from bytes size (left (inline_of e.name) es) es) (references_from bytes size 0 es)) h
 
-  exit-references : (e : Event) (es : List Event) → e.kind ≡ Exit → references_from bytes size 0 (e ∷ es) ≡ references_from bytes size 0 es
+  pub exit-references : (e : Event) (es : List Event) → e.kind ≡ Exit → references_from bytes size 0 (e ∷ es) ≡ references_from bytes size 0 es
   exit-references e es h =
       ap (λ k. cond (is_enter k) (referred bytes size (inline_of e.name) (inside es) 0 + references_from bytes size (left (inline_of e.name) es) es) (references_from bytes size 0 es)) h
 

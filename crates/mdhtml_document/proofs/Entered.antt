@@ -1,10 +1,11 @@
 -- Spans that are entered: the lists of a document go with its events, and each event is one step of the walk.
-use Rattle.std.proofs.Common.{◌≡◌, ℕ, suc, List, [], ◌∷◌, ◌++◌, drop, ap, sym, refl, ◌∙◌, Option, None, Some}
-use Rattle.std.specs.Prelude.{⊤, ◌&&◌, Bool, true, false, cond}
+use Rattle.std.proofs.Common.{◌≡◌, ℕ, suc, ◌≤◌, List, [], ◌∷◌, ◌++◌, arith, drop, length, ap, sym, subst, refl, ◌∙◌, Option, None, Some}
+use Rattle.std.specs.Prelude.{⊤, ◌&&◌, Bool, zero, true, false, cond}
 use denote.Enum.Bare.{same_true}
 use Rattle.markdown_base.specs.contracts.event.Name.{the_type}
 use Rattle.markdown_base.specs.declared.configuration.CompileOptions.{CompileOptions}
 use Rattle.markdown_base.specs.declared.event.Event.{Event}
+use Rattle.markdown_base.specs.declared.event.Kind.{Kind}
 use Rattle.markdown_base.specs.declared.event.Kind.TheVariants.{Enter, Exit}
 use Rattle.markdown_base.specs.declared.event.Name.{Name}
 use Rattle.markdown_base.specs.declared.event.Name.TheVariants as name
@@ -16,17 +17,19 @@ use Rattle.mdblock_containers.specs.ListShapes.{shape_of, shapes_from}
 use Rattle.mdhtml_document.specs.declared.links.Whole.{Whole}
 use Rattle.mdhtml_document.specs.declared.names.Block.{Block}
 use Rattle.mdhtml_document.specs.declared.names.Block.TheVariants as block
+use Rattle.mdhtml_document.specs.declared.shapes.Frame.{Frame}
 use Rattle.mdhtml_document.specs.declared.shapes.Mode.{Mode}
 use Rattle.mdhtml_document.specs.declared.shapes.Mode.TheVariants as mode
-use Rattle.mdhtml_document.specs.Frames.{AreListsOf, Open, closed_of, columns_at, is_list, list_at, lists_behind, lookup_of, loose_of, mode_of, moved, start_of}
+use Rattle.mdhtml_document.specs.Frames.{AreListsOf, Open, Opens, closed_by, closed_of, columns_at, events_past, is_list, is_over, left_by, list_at, lists_behind, lists_past, lookup_of, loose_of, mode_of, moved, past_by, start_of}
 use Rattle.mdhtml_document.specs.Written.{after}
-use Rattle.mdhtml_document.specs.Html.{Shape, block_shape, columns_in, lacking, shape_by}
+use Rattle.mdhtml_document.specs.Html.{Shape, block_shape, columns_behind, columns_in, is_in_cell, lacking, shape_by}
 use Rattle.mdhtml_document.specs.Names.{block_of, blocks_by_name, named}
-use Rattle.mdhtml_document.specs.Walks.{Entered, alt_from, said_at, shape_at, shape_in, walked, walked_in}
-use Rattle.mdhtml_document.proofs.Walked.{enter-walked, exit-walked}
+use Rattle.mdhtml_document.specs.Walks.{Entered, alt_from, said_at, shape_at, shape_in, walked_in}
+use Rattle.mdhtml_document.proofs.Walked.{enter-walked, exit-walked, over-walked}
 use Rattle.mdhtml_document.proofs.Written.{after-append}
 use Rattle.mddocument_link_targets.specs.declared.targets.Parts.{Parts}
 use Rattle.mddocument_link_targets.specs.Spans.{inside}
+use Rattle.mdhtml_markup.specs.Pieces.{Piece}
 
 -- ---- the list that is entered
 
@@ -92,9 +95,45 @@ exit-lists bytes lists e es exits h =
       are = h.are ∙ shapes-step bytes h.at e es ∙ ap (λ k. lists_by (is_enter k && is_wanted list_names e.name) (shape_of bytes h.at es) (shapes_from bytes (suc h.at) es)) exits;
     }
 
+-- behind a span
+past-step : (k : Kind) (bytes : List ℕ) (e : Event) (es : List Event) → e.kind ≡ k
+    → ((d : ℕ) (ls : List ListShape) → AreListsOf bytes ls es → AreListsOf bytes (lists_past d ls es) (events_past d es)) → (d : ℕ) (ls : List ListShape)
+    → AreListsOf bytes ls (e ∷ es) → AreListsOf bytes (left_by k d e ls (λ n l. lists_past n l es)) (past_by k d es (λ n. events_past n es))
+past-step Enter bytes e es kind next d ls h = next (suc d) (lists_behind ls e) (lists-step bytes ls e es h)
+past-step Exit bytes e es kind next zero ls h = exit-lists bytes ls e es kind h
+past-step Exit bytes e es kind next (suc d) ls h = next d ls (exit-lists bytes ls e es kind h)
+
+pub past-lists : (bytes : List ℕ) (es : List Event) (d : ℕ) (ls : List ListShape) → AreListsOf bytes ls es → AreListsOf bytes (lists_past d ls es) (events_past d es)
+past-lists bytes [] d ls h = h
+past-lists bytes (e ∷ es) d ls h = past-step e.kind bytes e es refl (past-lists bytes es) d ls h
+
+shorter : (k : Kind) (es : List Event) → ((d : ℕ) → length (events_past d es) ≤ length es) → (d : ℕ) → length (past_by k d es (λ n. events_past n es)) ≤ length es
+shorter Enter es next d = next (suc d)
+shorter Exit es next zero = omega arith
+shorter Exit es next (suc d) = next d
+
+pub past-short : (es : List Event) (d : ℕ) → length (events_past d es) ≤ length es
+past-short [] d = omega arith
+past-short (e ∷ es) d =
+    let less = shorter e.kind es (past-short es) d in
+    omega (arith, less)
+
+pub over-lists : (bytes : List ℕ) (lists others passed : List ListShape) (e : Event) (es rest : List Event) → AreListsOf bytes lists (e ∷ es)
+    → others ≡ lists_behind lists e → passed ≡ lists_past 0 others es → rest ≡ events_past 0 es → AreListsOf bytes passed rest
+over-lists bytes lists others passed e es rest h is past left =
+    let behind = lists_behind lists e in
+    subst (λ (x : List ListShape). AreListsOf bytes x rest) (sym (past ∙ ap (λ (x : List ListShape). lists_past 0 x es) is))
+    (subst (λ (x : List Event). AreListsOf bytes (lists_past 0 behind es) x) (sym left) (past-lists bytes es 0 behind (lists-step bytes lists e es h)))
+
+pub over-short : (es rest : List Event) → rest ≡ events_past 0 es → length rest ≤ length es
+over-short es rest is =
+    let less = past-short es 0 in
+    let same = ap (λ (x : List Event). length x) is in
+    omega (arith, less, same)
+
 -- ---- what is said of a list matters of lists alone
 
-abbrev EachNamed : {A : Type 0} → (P : A → Type 0) → Name → List (Name × A) → Type 0
+abbrev pub EachNamed : {A : Type 0} → (P : A → Type 0) → Name → List (Name × A) → Type 0
 EachNamed P n [] = ⊤
 EachNamed P n (p ∷ ps) = (same_name n p.0 ≡ true → P p.1) × EachNamed P n ps
 
@@ -162,6 +201,45 @@ enter-step w os next lists e es old new enters h entered =
     ∙ ap go same
     ∙ sym (after-append old here.opened (walked_in w (stack here) es))
     ∙ ap (after old) (sym (enter-walked w.options.now w.bytes.now lookup w.tab os e es enters))
+
+-- outside of columns nothing moves
+unmoved-by : (b : Block) (o : Open) (os : List Open) (columns : List Event) → o.columns ≡ columns → is_in_cell columns ≡ false → moved b (o ∷ os) ≡ o ∷ os
+unmoved-by b o os [] h none =
+    ap (λ (x : List Event). record o { columns = columns_behind b x } ∷ os) h ∙ ap (λ (x : List Event). record o { columns = x } ∷ os) (sym h)
+unmoved-by b o os (e ∷ es) h none = cc
+
+pub unmoved : (b : Block) (os : List Open) → is_in_cell (columns_at os) ≡ false → moved b os ≡ os
+unmoved b [] none = refl
+unmoved b (o ∷ os) none = unmoved-by b o os o.columns refl none
+
+-- a span of which nothing more is written is passed over
+pub over-step : (w : Whole) (os next : List Open) (lists : List ListShape) (list : Option ListShape) (e : Event) (es rest : List Event) (f : Frame) (old new : List ℕ) → e.kind ≡ Enter
+    → AreListsOf w.bytes.now lists (e ∷ es) → list ≡ list_at lists e → Opens (shape_in w (mode_of os) (columns_at os) list e es) old new f → next ≡ moved (block_of e.name) os
+    → is_over f.end f.mode es ≡ true → rest ≡ events_past 0 es → after new (walked_in w next rest) ≡ after old (walked_in w os (e ∷ es))
+over-step w os next lists list e es rest f old new enters h listed begun behind over passed =
+    let opened = subst (λ (l : Option ListShape). Opens (shape_in w (mode_of os) (columns_at os) l e es) old new f) listed begun in
+    let s = shape_in w (mode_of os) (columns_at os) (list_at lists e) e es in
+    let o : Open = record { mode = s.inside; columns = columns_in (block_of e.name) (columns_at os) (inside es); closed = s.closed } in
+    ap (λ (x : List Open). after new (walked_in w x rest)) behind ∙ ap (λ (x : List Event). after new (walked_in w (moved (block_of e.name) os) x)) passed
+    ∙ ap (after new) (sym (over-walked w.options.now w.bytes.now (lookup_of w) w.tab f.end f.mode o (moved (block_of e.name) os) es over (sym opened.mode) (sym opened.closed)))
+    ∙ enter-step w os (o ∷ moved (block_of e.name) os) lists e es old new enters h (record { written = opened.written; stack = refl })
+
+-- and another one is open
+pub open-step : (w : Whole) (os next middle : List Open) (lists : List ListShape) (list : Option ListShape) (e : Event) (es columns : List Event) (f : Frame) (old new : List ℕ) → e.kind ≡ Enter
+    → AreListsOf w.bytes.now lists (e ∷ es) → list ≡ list_at lists e → Opens (shape_in w (mode_of os) (columns_at os) list e es) old new f → middle ≡ moved (block_of e.name) os
+    → columns ≡ columns_in (block_of e.name) (columns_at os) (inside es) → next ≡ record { mode = f.mode; columns = columns; closed = closed_by f.end } ∷ middle
+    → after new (walked_in w next es) ≡ after old (walked_in w os (e ∷ es))
+open-step w os next middle lists list e es columns f old new enters h listed begun behind within pushed =
+    let opened = subst (λ (l : Option ListShape). Opens (shape_in w (mode_of os) (columns_at os) l e es) old new f) listed begun in
+    let s = shape_in w (mode_of os) (columns_at os) (list_at lists e) e es in
+    let stack : (m : Mode) (c : List Event) (ps : List Piece) (os : List Open) → List Open = λ m c ps x. record { mode = m; columns = c; closed = ps } ∷ x in
+    enter-step w os next lists e es old new enters h
+    (record {
+      written = opened.written;
+      stack = pushed ∙ ap (λ m. stack m columns (closed_by f.end) middle) opened.mode ∙ ap (λ c. stack s.inside c (closed_by f.end) middle) within
+          ∙ ap (λ ps. stack s.inside (columns_in (block_of e.name) (columns_at os) (inside es)) ps middle) opened.closed
+          ∙ ap (stack s.inside (columns_in (block_of e.name) (columns_at os) (inside es)) s.closed) behind;
+    })
 
 pub exit-step : (w : Whole) (os next : List Open) (e : Event) (es : List Event) (old new : List ℕ) → e.kind ≡ Exit → new ≡ after (after old (lacking (mode_of os) (columns_at os))) (closed_of os)
     → next ≡ drop 1 os → after new (walked_in w next es) ≡ after old (walked_in w os (e ∷ es))

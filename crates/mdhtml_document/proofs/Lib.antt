@@ -27,6 +27,8 @@ pub mod ShortShapes
 pub mod SpanFacts
 -- HTML
 pub mod Steps
+-- links
+pub mod Unreferred
 -- the walk
 pub mod Walked
 -- HTML

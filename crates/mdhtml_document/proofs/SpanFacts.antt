@@ -1,16 +1,21 @@
 -- The spans of events: their kinds, what is in them, and what is said of them by the events behind an enter.
-use Rattle.std.proofs.Common.{◌≡◌, ℕ, suc, ◌+◌, List, [], ◌∷◌, ◌++◌, length, take, drop, ap, sym, refl, ◌∙◌, append_assoc, length-append, arith}
+use Rattle.std.proofs.Common.{◌≡◌, ℕ, suc, ◌+◌, List, [], ◌∷◌, ◌++◌, length, take, ap, sym, subst, refl, ◌∙◌, append_assoc, length-append, arith}
 use Rattle.std.proofs.Math.Seq.{take-append_seam}
-use Rattle.std.specs.Prelude.{⊤, ◌&&◌, not, true, false, cond}
+use denote.Enum.Bare.{same_true}
+use Rattle.std.specs.List.{slice_range}
+use Rattle.std.specs.Prelude.{⊤, ◌&&◌, ◌||◌, not, Bool, true, false, cond}
 use Rattle.mddocument_link_targets.proofs.SpanEnds.{at_end, at_enter, at_exit}
 use Rattle.markdown_base.specs.declared.event.Event.{Event}
 use Rattle.markdown_base.specs.declared.event.Kind.{Kind}
 use Rattle.markdown_base.specs.declared.event.Kind.TheVariants.{Enter, Exit}
-use Rattle.markdown_base.specs.Events.{is_enter}
+use Rattle.markdown_base.specs.contracts.event.Name.{the_type}
+use Rattle.markdown_base.specs.declared.event.Name.{Name}
+use Rattle.markdown_base.specs.declared.event.Name.TheVariants.{CharacterEscapeValue, Data}
+use Rattle.markdown_base.specs.Events.{is_enter, same_name}
 use Rattle.mdhtml_document.specs.Spans.{Nothing, Opened, Outer, Span, Spans, entered, events_of, opened, opened_by}
 use Rattle.mdhtml_document.specs.Names.{inline_of}
 use Rattle.mdhtml_document.specs.Values.{reading_of, said}
-use Rattle.mdhtml_document.specs.Walks.{said_at}
+use Rattle.mdhtml_document.specs.Walks.{inner_bytes, said_at, says_bytes}
 use Rattle.mddocument_link_targets.specs.Spans.{inside, size_from}
 use Rattle.mddocument_link_targets.specs.Strings.{given}
 
@@ -77,3 +82,20 @@ pub said-of : (bytes : List ℕ) (e f : Event) (s : Spans) (ys : List Event) →
     → said_at bytes e (events_of s ++ f ∷ ys) ≡ said bytes e f s
 said-of bytes e f Nothing ys h k a = given-by e.kind f.kind (given bytes (reading_of (inline_of e.name)) e.name e.point.index f.point.index) h k
 said-of bytes e f (Span d g s behind) ys h k a = none-by e.kind d.kind (given bytes (reading_of (inline_of e.name)) e.name e.point.index d.point.index) h a.0
+
+-- ---- a span that says its bytes
+
+given-by-name : (b c : Bool) (bytes : List ℕ) (n : Name) (from to : ℕ) → same_name n Data ≡ b → same_name n CharacterEscapeValue ≡ c → b || c ≡ true
+    → given bytes (reading_of (inline_of n)) n from to ≡ slice_range bytes from to
+given-by-name true c bytes n from to is escaped h =
+    subst (λ m. given bytes (reading_of (inline_of m)) m from to ≡ slice_range bytes from to) (sym (same_true the_type tt n Data is)) refl
+given-by-name false true bytes n from to is escaped h =
+    subst (λ m. given bytes (reading_of (inline_of m)) m from to ≡ slice_range bytes from to) (sym (same_true the_type tt n CharacterEscapeValue escaped)) refl
+given-by-name false false bytes n from to is escaped h = cc
+
+pub said_bytes : (bytes : List ℕ) (e : Event) (es : List Event) → says_bytes e.name ≡ true → inner_bytes bytes e es ≡ said_at bytes e es
+said_bytes bytes e [] h = refl
+said_bytes bytes e (f ∷ fs) h =
+    sym
+    (ap (λ (t : List ℕ). cond (is_enter e.kind && not (is_enter f.kind)) t [])
+    (given-by-name (same_name e.name Data) (same_name e.name CharacterEscapeValue) bytes e.name e.point.index f.point.index refl refl h))

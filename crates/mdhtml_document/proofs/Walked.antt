@@ -1,19 +1,22 @@
 -- The walk over events writes the pieces of their spans.
-use Rattle.std.proofs.Common.{◌≡◌, ℕ, List, [], ◌∷◌, ◌++◌, ap, sym, refl, ◌∙◌, append_assoc, Option}
-use Rattle.std.specs.Prelude.{Bool, true, cond, drop}
+use Rattle.std.proofs.Common.{◌≡◌, ℕ, suc, List, [], ◌∷◌, ◌++◌, length, ap, sym, refl, ◌∙◌, append_assoc, arith, Option}
+use Rattle.std.specs.Prelude.{⊤, zero, not, true, cond, drop}
+use Rattle.markdown_base.proofs.Facts.Kinds.{exit-is}
 use Rattle.markdown_base.specs.declared.configuration.CompileOptions.{CompileOptions}
 use Rattle.markdown_base.specs.declared.event.Event.{Event}
 use Rattle.markdown_base.specs.declared.event.Kind.{Kind}
 use Rattle.markdown_base.specs.declared.event.Kind.TheVariants.{Enter, Exit}
 use Rattle.markdown_base.specs.Events.{IsBalanced, is_enter}
 use Rattle.mdblock_containers.specs.Lists.{is_loose, list_start}
+use Rattle.mdhtml_document.specs.declared.shapes.End.{End}
+use Rattle.mdhtml_document.specs.declared.shapes.End.TheVariants as end
 use Rattle.mdhtml_document.specs.declared.shapes.Mode.{Mode}
 use Rattle.mdhtml_document.specs.declared.shapes.Mode.TheVariants as mode
-use Rattle.mdhtml_document.specs.Frames.{Open, closed_of, columns_at, mode_of}
+use Rattle.mdhtml_document.specs.Frames.{Open, closed_by, closed_of, columns_at, events_past, is_over, mode_of, past_by}
 use Rattle.mdhtml_document.specs.Html.{Shape, columns_behind, columns_in, lacking, pieces, shape, shape_by}
 use Rattle.mdhtml_document.specs.Names.{block_of}
 use Rattle.mdhtml_document.specs.Spans.{Nothing, Span, Spans, events_of, spans_of}
-use Rattle.mdhtml_document.specs.Values.{alt_of, said}
+use Rattle.mdhtml_document.specs.Values.{said}
 use Rattle.mdhtml_document.specs.Walks.{alt_from, entered, said_at, shape_at, walked}
 use Rattle.mdhtml_document.proofs.AltFacts.{alt-of}
 use Rattle.mdhtml_document.proofs.Both.{keep-events}
@@ -100,3 +103,68 @@ module _ (options : CompileOptions) (bytes : List ℕ) (lookup : (label : List �
 
   pub walked-all : (es : List Event) → IsBalanced es → walked options bytes lookup tab [] es ≡ pieces options bytes lookup tab mode.Flow [] (spans_of es)
   walked-all es balanced = ap (walked options bytes lookup tab []) (sym (keep-events es balanced)) ∙ walked-flow (spans_of es) (opened-kinded es).0
+
+  -- ---- spans of which nothing more is written
+
+  -- open spans of which nothing more is written
+  abbrev AreSilent : List Open → Type 0
+  AreSilent [] = ⊤
+  AreSilent (o ∷ os) = (o.mode ≡ mode.Nothing) × (o.closed ≡ []) × AreSilent os
+
+  -- the exit of a span behind which nothing is written
+  silent-exit : (o : Open) (os : List Open) (e : Event) (es : List Event) → e.kind ≡ Exit → lacking o.mode o.columns ≡ [] → o.closed ≡ []
+      → walked options bytes lookup tab (o ∷ os) (e ∷ es) ≡ walked options bytes lookup tab os es
+  silent-exit o os e es exits none closed =
+      let rest = walked options bytes lookup tab os es in
+      exit-walked (o ∷ os) e es exits ∙ ap (λ (x : List Piece). x ++ (o.closed ++ rest)) none ∙ ap (λ (x : List Piece). x ++ rest) closed
+
+  none-lacks : (m : Mode) (columns : List Event) → m ≡ mode.Nothing → lacking m columns ≡ []
+  none-lacks m columns h = ap (λ x. lacking x columns) h
+
+  silent-step : (k : Kind) (e : Event) (es : List Event) → e.kind ≡ k
+      → ((n : ℕ) (qs os : List Open) → length qs ≡ suc n → AreSilent qs → walked options bytes lookup tab (qs ++ os) es ≡ walked options bytes lookup tab os (events_past n es))
+      → (n : ℕ) (qs os : List Open) → length qs ≡ suc n → AreSilent qs
+      → walked options bytes lookup tab (qs ++ os) (e ∷ es) ≡ walked options bytes lookup tab os (past_by k n es (λ d. events_past d es))
+  silent-step k e es kind next n [] os long h = absurd (omega (arith, long))
+  silent-step Enter e es kind next n (q ∷ qs) os long h =
+      let b = block_of e.name in
+      let first : Open = record { mode = mode.Nothing; columns = columns_in b q.columns (inside es); closed = [] } in
+      let second : Open = record q { columns = columns_behind b q.columns } in
+      enter-walked (q ∷ (qs ++ os)) e es kind
+      ∙ ap (λ m. entered options bytes lookup tab (q ∷ (qs ++ os)) e (inside es) (shape_at options bytes lookup tab m q.columns e es) (λ x. walked options bytes lookup tab x es)) h.0
+      ∙ next (suc n) (first ∷ (second ∷ qs)) os (ap suc long) ((refl, refl, h))
+  silent-step Exit e es kind next zero (q ∷ []) os long h = silent-exit q os e es kind (none-lacks q.mode q.columns h.0) h.1
+  silent-step Exit e es kind next zero (q ∷ (r ∷ rs)) os long h = absurd (omega (arith, long))
+  silent-step Exit e es kind next (suc n) (q ∷ qs) os long h =
+      let few : length qs ≡ suc n = omega (arith, long) in
+      silent-exit q (qs ++ os) e es kind (none-lacks q.mode q.columns h.0) h.1 ∙ next n qs os few h.2
+
+  silent-walked : (es : List Event) (n : ℕ) (qs os : List Open) → length qs ≡ suc n → AreSilent qs
+      → walked options bytes lookup tab (qs ++ os) es ≡ walked options bytes lookup tab os (events_past n es)
+  silent-walked [] n [] os long h = absurd (omega (arith, long))
+  silent-walked [] n (q ∷ qs) os long h = ended os
+    where
+      ended : (os : List Open) → [] ≡ walked options bytes lookup tab os []
+      ended os = refl
+  silent-walked (e ∷ es) n qs os long h = silent-step e.kind e es refl (silent-walked es) n qs os long h
+
+  -- a span that is over
+  pub over-walked : (en : End) (m : Mode) (o : Open) (os : List Open) (es : List Event) → is_over en m es ≡ true → o.mode ≡ m → o.closed ≡ closed_by en
+      → walked options bytes lookup tab (o ∷ os) es ≡ walked options bytes lookup tab os (events_past 0 es)
+  over-walked end.Nothing mode.Nothing o os es h same closed = silent-walked es 0 (o ∷ []) os refl ((same, closed, tt))
+  over-walked end.Nothing mode.Text o os [] h same closed = cc
+  over-walked end.Nothing mode.Text o os (e ∷ es) h same closed =
+      let exits = exit-is e.kind h in
+      silent-exit o os e es exits (ap (λ x. lacking x o.columns) same) closed ∙ ap (λ k. walked options bytes lookup tab os (past_by k 0 es (λ d. events_past d es))) (sym exits)
+  over-walked end.Nothing mode.Flow o os es h same closed = cc
+  over-walked end.Nothing mode.Tight o os es h same closed = cc
+  over-walked end.Nothing mode.LooseItems o os es h same closed = cc
+  over-walked end.Nothing mode.TightItems o os es h same closed = cc
+  over-walked end.Nothing mode.Heading o os es h same closed = cc
+  over-walked end.Nothing mode.Table o os es h same closed = cc
+  over-walked end.Nothing (mode.Rows head) o os es h same closed = cc
+  over-walked end.Nothing (mode.Cells head) o os es h same closed = cc
+  over-walked end.Nothing mode.Paragraph o os es h same closed = cc
+  over-walked (end.WithinLine x) m o os es h same closed = cc
+  over-walked (end.Line x) m o os es h same closed = cc
+  over-walked (end.Lines x) m o os es h same closed = cc

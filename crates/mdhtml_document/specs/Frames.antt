@@ -1,7 +1,9 @@
 -- What the code knows of open spans, and what of a document.
 use Rattle.std.specs.Option.{option_map_or}
-use Rattle.std.specs.Prelude.{◌≡◌, ℕ, ◌&&◌, Bool, true, false, cond, List, [], ◌∷◌, ◌++◌, drop, map, reverse, Option, None, Some, option_and_then}
+use Rattle.std.specs.Prelude.{◌≡◌, ℕ, zero, suc, ◌&&◌, Bool, true, false, cond, List, [], ◌∷◌, drop, map, not, reverse, Option, None, Some, option_and_then}
 use Rattle.markdown_base.specs.declared.event.Event.{Event}
+use Rattle.markdown_base.specs.declared.event.Kind.{Kind}
+use Rattle.markdown_base.specs.declared.event.Kind.TheVariants.{Enter, Exit}
 use Rattle.markdown_base.specs.Events.{is_enter}
 use Rattle.markdown_edits.specs.SpanWalks.{is_wanted}
 use Rattle.mdblock_containers.specs.declared.list_shapes.ListShape.{ListShape}
@@ -67,6 +69,21 @@ pub record Opens (s : Shape) (old new : List ℕ) (frame : Frame) : Type 0 where
   pub mode : frame.mode ≡ s.inside
   pub closed : closed_by frame.end ≡ s.closed
 
+-- The span ends that some events are in: its exit is the first of them
+abbrev pub ends : List Event → Bool
+ends [] = false
+ends (e ∷ es) = not (is_enter e.kind)
+
+-- Nothing more is written of a span, by what is written of the spans in it and the events behind its enter; and by what ends it
+abbrev pub is_silent : Mode → List Event → Bool
+is_silent mode.Nothing es = true
+is_silent mode.Text es = ends es
+is_silent m es = false
+
+abbrev pub is_over : End → Mode → List Event → Bool
+is_over end.Nothing m es = is_silent m es
+is_over e m es = false
+
 -- what is said of the list that an event enters, if it does
 abbrev pub loose_of : Option ListShape → Bool
 loose_of list = option_map_or (λ l. l.is_loose) list false
@@ -102,3 +119,25 @@ led_by bytes events definitions too_many label = cond too_many None (option_and_
 
 abbrev pub lookup_of : Whole → (label : List ℕ) → Option Parts
 lookup_of w label = led_by w.bytes.now w.events.now w.definitions.now w.are_too_many label
+
+-- ---- what is behind a span, by the events behind its enter; the depth is how many spans in it are open
+
+abbrev pub past_by : Kind → (depth : ℕ) → List Event → (rest : (depth : ℕ) → List Event) → List Event
+past_by Enter depth es rest = rest (suc depth)
+past_by Exit zero es rest = es
+past_by Exit (suc depth) es rest = rest depth
+
+-- the events behind its exit
+abbrev pub events_past : (depth : ℕ) → List Event → List Event
+events_past depth [] = []
+events_past depth (e ∷ es) = past_by e.kind depth es (λ d. events_past d es)
+
+abbrev pub left_by : Kind → (depth : ℕ) → Event → List ListShape → (rest : (depth : ℕ) → List ListShape → List ListShape) → List ListShape
+left_by Enter depth e ls rest = rest (suc depth) (lists_behind ls e)
+left_by Exit zero e ls rest = ls
+left_by Exit (suc depth) e ls rest = rest depth ls
+
+-- the lists among them, by those from the enter on
+abbrev pub lists_past : (depth : ℕ) → List ListShape → List Event → List ListShape
+lists_past depth ls [] = ls
+lists_past depth ls (e ∷ es) = left_by e.kind depth e ls (λ d l. lists_past d l es)

@@ -1,8 +1,11 @@
 -- The definitions of HTML as walks over events, an event at a time: what the code does.
-use Rattle.std.specs.Prelude.{◌≡◌, ℕ, zero, suc, ◌+◌, Bool, true, false, cond, List, [], ◌∷◌, ◌++◌, drop, length, Option}
+use Rattle.std.specs.List.{slice_range}
+use Rattle.std.specs.Prelude.{◌≡◌, ℕ, zero, suc, ◌+◌, ◌&&◌, ◌||◌, not, Bool, true, false, cond, List, [], ◌∷◌, ◌++◌, drop, length, Option}
 use Rattle.markdown_base.specs.declared.configuration.CompileOptions.{CompileOptions}
 use Rattle.markdown_base.specs.declared.event.Event.{Event}
-use Rattle.markdown_base.specs.Events.{is_enter}
+use Rattle.markdown_base.specs.declared.event.Name.{Name}
+use Rattle.markdown_base.specs.declared.event.Name.TheVariants.{CharacterEscapeValue, Data}
+use Rattle.markdown_base.specs.Events.{is_enter, same_name}
 use Rattle.mdblock_containers.specs.declared.list_shapes.ListShape.{ListShape}
 use Rattle.mdblock_containers.specs.Lists.{is_loose, list_start}
 use Rattle.mdhtml_document.specs.declared.names.Inline.{Inline}
@@ -22,6 +25,14 @@ use Rattle.mddocument_link_targets.specs.Strings.{given_at}
 -- what the span of inline text that an event enters says, if it is an innermost one, by the events behind that
 abbrev pub said_at : (bytes : List ℕ) → Event → (behind : List Event) → List ℕ
 said_at bytes e es = given_at bytes (reading_of (inline_of e.name)) e es
+
+-- the bytes of that span, and whether they are what it says
+abbrev pub inner_bytes : (bytes : List ℕ) → Event → (behind : List Event) → List ℕ
+inner_bytes bytes e [] = []
+inner_bytes bytes e (f ∷ fs) = cond (is_enter e.kind && not (is_enter f.kind)) (slice_range bytes e.point.index f.point.index) []
+
+abbrev pub says_bytes : Name → Bool
+says_bytes n = same_name n Data || same_name n CharacterEscapeValue
 
 -- ---- descriptions of images
 

@@ -1,7 +1,7 @@
 //! Lines of text that spans say: code, and HTML within text.
 
 ghost use Rattle.std.specs.List.{list_all, prefix_len};
-ghost use Rattle.std.specs.Prelude.{◌≡◌, ◌==◌, ◌++◌, ◌≤◌, ◌∷◌, IfOk, false, length};
+ghost use Rattle.std.specs.Prelude.{◌≡◌, ◌==◌, ◌++◌, ◌≤◌, ◌∷◌, IfOk, IfSome, false, length};
 ghost use Rattle.mdhtml_document.specs.Values.{cell_text, code_text, html_text, is_blank, is_escape, line_text, lines_from, stripped, unescaped};
 
 use crate::spans::bytes_at;
@@ -101,6 +101,53 @@ fn lines_of(
         )?;
     }
     Ok(text)
+}
+
+/// The bytes of the one span of a name behind an event, by those of the one before it. Nothing, if there are both, or a line ending.
+fn one_behind<'a>(
+    bytes: &'a [u8],
+    name: Name,
+    text: &'a [u8],
+    event: &Event,
+    behind: &[Event],
+) -> Option<&'a [u8]>
+    ensures { IfSome result (λ next. next.now ++ lines_from bytes.now name 32 false behind.now ≡ text.now ++ lines_from bytes.now name 32 false (event.now ∷ behind.now)) }
+{
+    if enters(event, Name::LineEnding) {
+        return None;
+    }
+    if !enters(event, name) {
+        return Some(text);
+    }
+    if text.is_empty() {
+        Some(bytes_at(bytes, event, behind))
+    } else {
+        None
+    }
+}
+
+/// The bytes of the one span of a name. Nothing, if there are more, or a line ending.
+fn one_of<'a>(bytes: &'a [u8], name: Name, events: &[Event]) -> Option<&'a [u8]>
+    ensures { IfSome result (λ text. text.now ≡ lines_from bytes.now name 32 false events.now) }
+{
+    let mut text: &[u8] = &[];
+    for (i, event) in events.iter().enumerate() {
+        match one_behind(bytes, name, text, event, &events[i + 1..]) {
+            None => return None,
+            Some(next) => text = next,
+        }
+    }
+    Some(text)
+}
+
+/// What a code span says, by the events in it, if that is bytes of the document.
+pub(crate) fn code_in<'a>(bytes: &'a [u8], events: &[Event]) -> Option<&'a [u8]>
+    ensures { IfSome result (λ text. text.now ≡ code_text bytes.now events.now) }
+{
+    match one_of(bytes, Name::CodeTextData, events) {
+        None => None,
+        Some(text) => Some(stripped(text)),
+    }
 }
 
 /// What a code span says, by the events in it.

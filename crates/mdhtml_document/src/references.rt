@@ -3,12 +3,12 @@
 ghost use Rattle.std.specs.Prelude.{◌≡◌, ◌+◌, ◌≤◌, ◌∷◌, IfOk, length, max, nat_lt};
 ghost use Rattle.mdhtml_document.specs.Frames.{size_by};
 ghost use Rattle.mdhtml_document.specs.Html.{extent, size_of_target};
-ghost use Rattle.mddocument_link_targets.specs.Targets.{target_in};
+ghost use Rattle.mddocument_link_targets.specs.Targets.{enters_link, target_in};
 ghost use Rattle.mdhtml_document.specs.Walks.{references_from};
 
 use crate::names::{Inline, inline_of};
 use crate::spans::{behind_first, inside};
-use markdown_base::event::{Event, Kind};
+use markdown_base::event::{Event, Kind, Name};
 use mddocument_link_targets::definitions::Definitions;
 use mddocument_link_targets::targets::{Target, target_inside};
 use std::alloc::{AllocError, Global};
@@ -82,6 +82,13 @@ fn referred(
     }
 }
 
+/// Whether an event enters a link or an image.
+fn refers(event: &Event) -> bool
+    ensures { result ≡ enters_link event.now }
+{
+    event.kind == Kind::Enter && (Name::Link == event.name || Name::Image == event.name)
+}
+
 /// How much the link or image refers to that an event enters, if it does; and those of the events behind it that are left.
 fn refer<'a>(
     alloc: Global,
@@ -92,6 +99,9 @@ fn refer<'a>(
     ensures size { IfOk result (λ r. r.0 + references_from known.now.bytes.now (size_by known.now.events.now known.now.definitions.now) 0 r.1.now ≡ references_from known.now.bytes.now (size_by known.now.events.now known.now.definitions.now) 0 (event.now ∷ behind.now)) }
     ensures within { IfOk result (λ r. length r.1.now ≤ length behind.now) }
 {
+    if !refers(event) {
+        return Ok((0, behind));
+    }
     let (size, passed) = referred(alloc, known, event, behind)?;
     Ok((size, behind_first(behind, passed)))
 }

@@ -1,25 +1,37 @@
 //! Beginnings of spans of inline text.
 
-ghost use Rattle.std.specs.Prelude.{◌≡◌, ◌∷◌, [], IfOk, true};
+ghost use Rattle.std.specs.Prelude.{◌≡◌, ◌++◌, ◌∷◌, [], IfOk, OnOk, true};
 ghost use Rattle.mddocument_link_targets.specs.Spans.{inside};
 ghost use Rattle.mdhtml_document.specs.Frames.{Opens, lookup_of};
 ghost use Rattle.mdhtml_document.specs.Html.{alone, task_box, check, inline_shape, is_check, is_checked, literal, paragraph_shape, raw, told};
 ghost use Rattle.mdhtml_document.specs.Values.{cell_text, code_text, html_text};
-ghost use Rattle.mdhtml_document.specs.Walks.{alt_from, said_at};
+ghost use Rattle.mdhtml_document.specs.Walks.{alt_from, inner_bytes, said_at, says_bytes};
+ghost use Rattle.mdhtml_markup.specs.Escapes.{escaped};
 ghost use Rattle.mdhtml_markup.specs.Pieces.{Close, Open, Text, written};
 ghost use Rattle.mdhtml_markup.specs.declared.elements.Element.TheVariants as element;
 
 use crate::block_shapes::push_raw;
-use crate::lines::{cell_text, code_text, html_text};
+use crate::lines::{cell_text, code_in, code_text, html_text};
 use crate::links::{Whole, autolink, image, literal, open_link};
 use crate::names::Inline;
 use crate::shapes::{DONE, Frame, Mode, open_within_line, through};
 use crate::spans::{inside, push_said};
-use markdown_base::event::{Event, Name};
+use markdown_base::event::{Event, Kind, Name};
 use mddocument_link_targets::spans::enters;
+use mddocument_link_targets::strings::slice;
 use mdhtml_markup::elements::Element;
 use mdhtml_markup::escape::push_escaped;
 use std::alloc::{AllocError, Global};
+
+/// Writes code within text.
+fn code_of(out: &mut Vec<u8>, text: &[u8]) -> Result<Frame, AllocError>
+    ensures { IfOk result (λ frame. Opens (alone (Open element.Code [] ∷ Text text.now ∷ Close element.Code ∷ [])) out.old.items out.new.items frame) }
+{
+    out.extend_from_slice(b"<code>")?;
+    push_escaped(out, text)?;
+    out.extend_from_slice(b"</code>")?;
+    Ok(DONE)
+}
 
 /// Writes a code span, by the events in it.
 fn code(
@@ -31,12 +43,14 @@ fn code(
 ) -> Result<Frame, AllocError>
     ensures { IfOk result (λ frame. Opens (alone (Open element.Code [] ∷ Text (cell_text is_in_cell (code_text bytes.now inner.now)) ∷ Close element.Code ∷ [])) out.old.items out.new.items frame) }
 {
-    let text = code_text(alloc, bytes, inner)?;
-    let text = cell_text(alloc, is_in_cell, text)?;
-    out.extend_from_slice(b"<code>")?;
-    push_escaped(out, text.as_slice())?;
-    out.extend_from_slice(b"</code>")?;
-    Ok(DONE)
+    match code_in(bytes, inner) {
+        Some(text) if !is_in_cell => code_of(out, text),
+        _ => {
+            let text = code_text(alloc, bytes, inner)?;
+            let text = cell_text(alloc, is_in_cell, text)?;
+            code_of(out, text.as_slice())
+        }
+    }
 }
 
 /// Writes HTML within text, by the events in it.
@@ -55,6 +69,47 @@ fn html(
     Ok(DONE)
 }
 
+/// Whether innermost spans of a name say their bytes as they are.
+fn says_bytes(name: Name) -> bool
+    ensures { result ≡ says_bytes name }
+{
+    Name::Data == name || Name::CharacterEscapeValue == name
+}
+
+/// The bytes of the span that an event enters, if it is an innermost one, by the events behind that.
+fn inner_bytes<'a>(bytes: &'a [u8], event: &Event, behind: &[Event]) -> &'a [u8]
+    ensures { result.now ≡ inner_bytes bytes.now event.now behind.now }
+{
+    match behind {
+        [exit, ..] if event.kind == Kind::Enter && exit.kind == Kind::Exit => slice(
+            bytes,
+            event.point.index,
+            exit.point.index,
+        ),
+        _ => &[],
+    }
+}
+
+/// Adds what a span says, escaped, if it is an innermost one.
+#[tactic(auto, using(crate::proofs::SpanFacts::said_bytes))]
+fn push_told(
+    alloc: Global,
+    out: &mut Vec<u8>,
+    bytes: &[u8],
+    event: &Event,
+    behind: &[Event],
+) -> Result<(), AllocError>
+    ensures { OnOk result (out.new.items ≡ out.old.items ++ escaped (said_at bytes.now event.now behind.now)) }
+{
+    if says_bytes(event.name) {
+        push_escaped(out, inner_bytes(bytes, event, behind))?;
+        return Ok(());
+    }
+    let mut text = Vec::new(alloc);
+    push_said(&mut text, bytes, event, behind)?;
+    push_escaped(out, text.as_slice())
+}
+
 /// Writes what a span says, if it is an innermost one.
 fn told(
     alloc: Global,
@@ -65,9 +120,7 @@ fn told(
 ) -> Result<Frame, AllocError>
     ensures { IfOk result (λ frame. Opens (told (said_at bytes.now event.now behind.now)) out.old.items out.new.items frame) }
 {
-    let mut text = Vec::new(alloc);
-    push_said(&mut text, bytes, event, behind)?;
-    push_escaped(out, text.as_slice())?;
+    push_told(alloc, out, bytes, event, behind)?;
     Ok(through(Mode::Text))
 }
 

@@ -1,17 +1,17 @@
 //! Writing the spans of a document, in one walk over its events.
 
-ghost use Rattle.std.specs.Prelude.{◌≡◌, [], ◌∷◌, IfOk, OnOk, drop};
-ghost use Rattle.mddocument_link_targets.specs.Spans.{inside};
+ghost use Rattle.std.specs.Prelude.{◌≡◌, ◌≤◌, [], ◌∷◌, IfOk, OnOk, drop, length};
 ghost use Rattle.markdown_base.specs.declared.event.Kind.TheVariants.{Enter};
-ghost use Rattle.mdhtml_document.specs.Frames.{AreListsOf, Opens, closed_of, columns_at, is_list, list_at, lists_behind, mode_of, moved, opens};
+ghost use Rattle.mdhtml_document.specs.Frames.{AreListsOf, Opens, closed_by, closed_of, columns_at, ends, events_past, is_list, is_over, is_silent, list_at, lists_behind, lists_past, mode_of, moved, opens};
 ghost use Rattle.mdhtml_document.specs.Html.{lacking};
+ghost use Rattle.mdhtml_document.specs.Names.{block_of};
 ghost use Rattle.mdhtml_document.specs.Written.{after};
-ghost use Rattle.mdhtml_document.specs.Walks.{Entered, shape_in, walked_in};
+ghost use Rattle.mdhtml_document.specs.Walks.{shape_in, walked_in};
 
 use crate::block_shapes::{open_block, open_in_heading, open_item};
 use crate::links::Whole;
 use crate::names::{Block, block_of, inline_of};
-use crate::shapes::{DONE, Frame, Level, Mode, push_end};
+use crate::shapes::{DONE, End, Frame, Level, Mode, push_end};
 use crate::tables::{
     columns_behind, columns_in, is_in_cell, open_in_row, open_in_table, open_row, push_lacking,
 };
@@ -85,9 +85,13 @@ fn columns_at<'a>(levels: &[Level<'a>]) -> &'a [Event]
 }
 
 /// Lets the spans behind a span stand in the columns behind it.
+#[tactic(auto, using(crate::proofs::Entered::unmoved))]
 fn move_on<'a>(levels: &mut Vec<Level<'a>>, block: Block) -> Result<(), AllocError>
     ensures { OnOk result (opens levels.new.items ≡ moved block (opens levels.old.items)) }
 {
+    if !is_in_cell(columns_at(levels.as_slice())) {
+        return Ok(());
+    }
     match levels.pop() {
         None => Ok(()),
         Some(level) => Ok(levels.push(Level {
@@ -117,29 +121,137 @@ fn split_list<'a>(lists: &'a [ListShape], event: &Event) -> (Option<ListShape>, 
     }
 }
 
-/// Begins the span that an event enters.
-fn enter<'a>(
+/// The lists behind an event.
+fn lists_behind<'a>(lists: &'a [ListShape], event: &Event) -> &'a [ListShape]
+    ensures { result.now ≡ lists_behind lists.now event.now }
+{
+    match lists {
+        [_, others @ ..] if is_list(event) => others,
+        _ => lists,
+    }
+}
+
+/// Whether the span ends that some events are in: its exit is the first of them.
+fn ends(events: &[Event]) -> bool
+    ensures { result ≡ ends events.now }
+{
+    match events {
+        [] => false,
+        [event, ..] => event.kind == Kind::Exit,
+    }
+}
+
+/// Whether nothing more is written of a span, by what is written of the spans in it and the events behind its enter.
+fn is_silent(mode: Mode, behind: &[Event]) -> bool
+    ensures { result ≡ is_silent mode behind.now }
+{
+    match mode {
+        Mode::Nothing => true,
+        Mode::Text => ends(behind),
+        _ => false,
+    }
+}
+
+/// Whether nothing more is written of a span, neither of what is in it nor at its end.
+fn is_over(frame: &Frame, behind: &[Event]) -> bool
+    ensures { result ≡ is_over frame.now.end frame.now.mode behind.now }
+{
+    match frame.end {
+        End::Nothing => is_silent(frame.mode, behind),
+        _ => false,
+    }
+}
+
+/// Passes over a span, by the events behind its enter. Returns the lists and the events behind its exit.
+fn pass<'a, 'b>(given: &'a [ListShape], events: &'b [Event]) -> (&'a [ListShape], &'b [Event])
+    ensures lists { result.0.now ≡ lists_past 0 given.now events.now }
+    ensures events { result.1.now ≡ events_past 0 events.now }
+{
+    let mut lists = given;
+    let mut rest = events;
+    let mut depth = 0usize;
+    'events: while let [event, behind @ ..] = rest {
+        rest = behind;
+        match event.kind {
+            Kind::Enter => {
+                lists = lists_behind(lists, event);
+                depth += 1;
+            }
+            Kind::Exit => {
+                if depth == 0 {
+                    return (lists, rest);
+                }
+                depth -= 1;
+            }
+        }
+    }
+    (lists, rest)
+}
+
+/// Begins a span, and lets the spans behind it stand in the columns behind it.
+fn begin(
     alloc: Global,
     out: &mut Vec<u8>,
-    levels: &mut Vec<Level<'a>>,
+    levels: &mut Vec<Level<'_>>,
     whole: &Whole<'_>,
     list: Option<ListShape>,
     event: &Event,
-    behind: &'a [Event],
-) -> Result<(), AllocError>
-    ensures { OnOk result (Entered (shape_in whole.now (mode_of (opens levels.old.items)) (columns_at (opens levels.old.items)) list event.now behind.now) event.now (inside behind.now) out.old.items out.new.items (opens levels.old.items) (opens levels.new.items)) }
+    behind: &[Event],
+) -> Result<Frame, AllocError>
+    ensures opened { IfOk result (λ frame. Opens (shape_in whole.now (mode_of (opens levels.old.items)) (columns_at (opens levels.old.items)) list event.now behind.now) out.old.items out.new.items frame) }
+    ensures moved { OnOk result (opens levels.new.items ≡ moved (block_of event.now.name) (opens levels.old.items)) }
 {
-    let block = block_of(event.name);
     let columns = columns_at(levels.as_slice());
     let mode = mode_of(levels.as_slice());
     let frame = open(alloc, out, whole, mode, columns, list, event, behind)?;
-    move_on(levels, block)?;
+    move_on(levels, block_of(event.name))?;
+    Ok(frame)
+}
+
+/// Lets a span be open.
+fn push_level<'a>(
+    levels: &mut Vec<Level<'a>>,
+    frame: &Frame,
+    columns: &'a [Event],
+) -> Result<(), AllocError>
+    ensures { OnOk result (opens levels.new.items ≡ record { mode = frame.now.mode; columns = columns.now; closed = closed_by frame.now.end } ∷ opens levels.old.items) }
+{
     levels.push(Level {
         mode: frame.mode,
-        columns: columns_in(block, columns, behind),
+        columns,
         end: frame.end,
     })?;
     Ok(())
+}
+
+/// Begins the span that an event enters. Returns the lists and the events that are left: those behind its exit, if nothing more is written of it.
+fn enter<'a, 'b>(
+    alloc: Global,
+    out: &mut Vec<u8>,
+    levels: &mut Vec<Level<'b>>,
+    whole: &Whole<'_>,
+    lists: &'a [ListShape],
+    event: &Event,
+    behind: &'b [Event],
+) -> Result<(&'a [ListShape], &'b [Event]), AllocError>
+    requires kind { event.now.kind ≡ Enter }
+    requires lists { AreListsOf whole.now.bytes.now lists.now (event.now ∷ behind.now) }
+    ensures lists { IfOk result (λ left. AreListsOf whole.now.bytes.now left.0.now left.1.now) }
+    ensures written { IfOk result (λ left. after out.new.items (walked_in whole.now (opens levels.new.items) left.1.now) ≡ after out.old.items (walked_in whole.now (opens levels.old.items) (event.now ∷ behind.now))) }
+    ensures within { IfOk result (λ left. length left.1.now ≤ length behind.now) }
+{
+    let (list, others) = split_list(lists, event);
+    let columns = columns_at(levels.as_slice());
+    let frame = begin(alloc, out, levels, whole, list, event, behind)?;
+    if is_over(&frame, behind) {
+        return Ok(pass(others, behind));
+    }
+    push_level(
+        levels,
+        &frame,
+        columns_in(block_of(event.name), columns, behind),
+    )?;
+    Ok((others, behind))
 }
 
 /// Ends the innermost span that is open.
@@ -156,7 +268,7 @@ fn exit(out: &mut Vec<u8>, levels: &mut Vec<Level<'_>>) -> Result<(), AllocError
     }
 }
 
-/// Writes what is written of an event, and returns the lists behind it.
+/// Writes what is written of an event. Returns the lists and the events that are left.
 fn write_event<'a, 'b>(
     alloc: Global,
     out: &mut Vec<u8>,
@@ -165,20 +277,17 @@ fn write_event<'a, 'b>(
     lists: &'a [ListShape],
     event: &Event,
     behind: &'b [Event],
-) -> Result<&'a [ListShape], AllocError>
+) -> Result<(&'a [ListShape], &'b [Event]), AllocError>
     requires { AreListsOf whole.now.bytes.now lists.now (event.now ∷ behind.now) }
-    ensures lists { IfOk result (λ others. AreListsOf whole.now.bytes.now others.now behind.now) }
-    ensures written { IfOk result (λ _. after out.new.items (walked_in whole.now (opens levels.new.items) behind.now) ≡ after out.old.items (walked_in whole.now (opens levels.old.items) (event.now ∷ behind.now))) }
+    ensures lists { IfOk result (λ left. AreListsOf whole.now.bytes.now left.0.now left.1.now) }
+    ensures written { IfOk result (λ left. after out.new.items (walked_in whole.now (opens levels.new.items) left.1.now) ≡ after out.old.items (walked_in whole.now (opens levels.old.items) (event.now ∷ behind.now))) }
+    ensures within { IfOk result (λ left. length left.1.now ≤ length behind.now) }
 {
     match event.kind {
-        Kind::Enter => {
-            let (list, others) = split_list(lists, event);
-            enter(alloc, out, levels, whole, list, event, behind)?;
-            Ok(others)
-        }
+        Kind::Enter => enter(alloc, out, levels, whole, lists, event, behind),
         Kind::Exit => {
             exit(out, levels)?;
-            Ok(lists)
+            Ok((lists, behind))
         }
     }
 }
@@ -197,8 +306,9 @@ pub(crate) fn write(
     let mut lists = lists;
     let mut rest = whole.events;
     'events: while let [event, behind @ ..] = rest {
-        lists = write_event(alloc, &mut out, &mut levels, whole, lists, event, behind)?;
-        rest = behind;
+        let left = write_event(alloc, &mut out, &mut levels, whole, lists, event, behind)?;
+        lists = left.0;
+        rest = left.1;
     }
     Ok(out)
 }
