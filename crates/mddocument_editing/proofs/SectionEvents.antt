@@ -3,8 +3,9 @@ use Rattle.mddocument_editing.proofs.Prelude.{◌≡◌, ℕ, ◌+◌, ◌≤◌
 use Rattle.mddocument_editing.proofs.Below.{sections-give}
 use Rattle.mddocument_editing.proofs.CutLines.{endings-are-counted}
 use Rattle.mddocument_editing.proofs.Joined.{sections-take}
-use Rattle.mddocument_editing.proofs.SectionFronts.{events-append, events-one, events-twice, length-one, lines_in, sum-cons, sum-one}
+use Rattle.mddocument_editing.proofs.SectionFronts.{events-append, events-one, length-one, lines_in, sum-cons, sum-one}
 use Rattle.mddocument_editing.proofs.SectionLines.{lines-all}
+use Rattle.mddocument_parts.proofs.MovedTwice.{events-twice}
 
 -- what sections are behind, if this is in front of others, and these sections are read
 pub record IsBehind (read : List ℕ → List Event) (before : Front) (xs : List Section) (front : Front) : Type 0 where

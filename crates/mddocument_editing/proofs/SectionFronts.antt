@@ -1,6 +1,7 @@
 -- What is in front of sections: one section more, and the events of sections.
-use Rattle.mddocument_editing.proofs.Prelude.{◌≡◌, ℕ, ◌+◌, ◌<◌, List, ◌∷◌, [], ◌++◌, length, refl, sym, ap, ◌∙◌, arith, take, map, get_or, append_assoc, add_assoc, length-append, length-map, map-append, take_more, sum_by-append, slice_get, sum_by, get_or_from_slice_get, slice_get_within, Event, Link, no-further, line_endings, moved_event, moved_index, moved_link, document_of, events_of_sections, Front, Section, IsFrontOf, IsSmall, bytes_of_sections, Option, Some, None}
+use Rattle.mddocument_editing.proofs.Prelude.{◌≡◌, ℕ, ◌+◌, ◌<◌, List, ◌∷◌, [], ◌++◌, length, sym, ap, ◌∙◌, arith, take, map, get_or, append_assoc, length-append, length-map, map-append, take_more, sum_by-append, slice_get, sum_by, get_or_from_slice_get, slice_get_within, Event, no-further, line_endings, moved_event, document_of, events_of_sections, Front, Section, IsFrontOf, IsSmall, bytes_of_sections, Some}
 use Rattle.std.proofs.Common.{append-nil}
+use Rattle.mddocument_parts.proofs.MovedTwice.{events-twice}
 
 -- the front of a list, one element longer
 pub take-next : {A : Type 0} (xs : List A) (i : ℕ) (x : A) → i < length xs → x ≡ get_or xs i x → take (i + 1) xs ≡ take i xs ++ x ∷ []
@@ -39,27 +40,6 @@ push-next f some old all xs i x y is moved pushed before =
 -- how many line endings sections have
 abbrev pub lines_in : List (List ℕ) → ℕ
 lines_in sections = sum_by line_endings sections
-
-index-twice : (a b : ℕ) (o : Option ℕ) → moved_index a (moved_index b o) ≡ moved_index (b + a) o
-index-twice a b None = refl
-index-twice a b (Some i) = ap Some (add_assoc i b a)
-
-link-twice : (a b : ℕ) (o : Option Link) → moved_link a (moved_link b o) ≡ moved_link (b + a) o
-link-twice a b None = refl
-link-twice a b (Some l) =
-    ap (λ i. Some (record { previous = i; next = moved_index a (moved_index b l.next); content = l.content })) (index-twice a b l.previous)
-    ∙ ap (λ i. Some (record { previous = moved_index (b + a) l.previous; next = i; content = l.content })) (index-twice a b l.next)
-
--- an event is moved twice
-event-twice : (a b c i j k : ℕ) (e : Event) → moved_event a b c (moved_event i j k e) ≡ moved_event (i + a) (j + b) (k + c) e
-event-twice a b c i j k e =
-    ap (λ n. record { kind = e.kind; name = e.name; point = record { line = n; column = e.point.column; index = e.point.index + j + b; vs = e.point.vs }; link = moved_link c (moved_link k e.link) }) (add_assoc e.point.line i a)
-    ∙ ap (λ n. record { kind = e.kind; name = e.name; point = record { line = e.point.line + (i + a); column = e.point.column; index = n; vs = e.point.vs }; link = moved_link c (moved_link k e.link) }) (add_assoc e.point.index j b)
-    ∙ ap (λ l. record { kind = e.kind; name = e.name; point = record { line = e.point.line + (i + a); column = e.point.column; index = e.point.index + (j + b); vs = e.point.vs }; link = l }) (link-twice c k e.link)
-
-pub events-twice : (a b c i j k : ℕ) (es : List Event) → map (moved_event a b c) (map (moved_event i j k) es) ≡ map (moved_event (i + a) (j + b) (k + c)) es
-events-twice a b c i j k [] = refl
-events-twice a b c i j k (e ∷ es) = ap (λ x. x ∷ map (moved_event a b c) (map (moved_event i j k) es)) (event-twice a b c i j k e) ∙ ap (λ xs. moved_event (i + a) (j + b) (k + c) e ∷ xs) (events-twice a b c i j k es)
 
 -- the events of sections, of which some are in front
 module _ (read : List ℕ → List Event) where
