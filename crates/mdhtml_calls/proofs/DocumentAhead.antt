@@ -1,5 +1,5 @@
 -- The events of a document go ahead: its innermost spans are over some virtual byte each, and all are at places of the document, in order.
-use Rattle.std.proofs.Common.{◌≡◌, ℕ, suc, ◌+◌, ◌<◌, List, [], ◌∷◌, ◌++◌, length, ap, sym, refl, subst, ◌∙◌, arith, Some}
+use Rattle.std.proofs.Common.{◌≡◌, ℕ, ◌+◌, ◌<◌, List, [], ◌∷◌, ◌++◌, length, ap, sym, refl, subst, ◌∙◌, arith, Some}
 use Rattle.std.proofs.lemmas.Bool.{and_parts}
 use Rattle.std.proofs.lemmas.Bool.Decides.{nat_tests}
 use Rattle.std.proofs.lemmas.List.Elements.{recursion_from_All}
@@ -20,6 +20,7 @@ use Rattle.markdown_edits.proofs.Balanced.{same_name-true}
 use Rattle.markdown_tokenizer.proofs.Positions.Chains.{IsChain, whole-chain}
 use Rattle.markdown_tokenizer.proofs.Positions.Order.{every-back}
 use Rattle.markdown_tokenizer.proofs.Positions.Standing.{chain-at, chain-split, chain-upto, place-of-point}
+use Rattle.markdown_tokenizer.proofs.Readings.Formed.{tight-behind}
 use Rattle.markdown_tokenizer.specs.AtPlaces.{AreAtPlaces}
 use Rattle.markdown_tokenizer.specs.Text.{Given, IsDocument}
 use Rattle.mdconstructs_machines.specs.Innermost.{AccountFor, ended_next, innermost_spans, span_over, stretch_bytes}
@@ -87,12 +88,6 @@ ends-next e es tight spans enter = by es next.1 spans
         let same : f ≡ next.0 = same_Some f next.0 is in
         let exit = not-enter f.kind (ap (λ (x : Event). x.kind) same ∙ next.2) in
         (exit, first-of GoesOn (is_enter e.kind) (is_enter f.kind) (e.point, f.point) (innermost_spans (f ∷ fs)) both.0 exit all)
-
-tight-behind : (e : Event) (es : List Event) → IsVoidTight (e ∷ es) → IsVoidTight es
-tight-behind e es h k d is enters void =
-    let next = h (suc k) d is enters void in
-    let n : suc k + 1 ≡ suc (k + 1) = omega arith in
-    subst (λ i. (f : Event) × (slice_get (e ∷ es) i ≡ Some f) × (f.kind ≡ Exit) × (f.name ≡ d.name)) n next
 
 all-end : (es : List Event) → IsVoidTight es → AllByRecursion GoesOn (innermost_spans es) → AreEnded es
 all-end [] tight spans = tt
