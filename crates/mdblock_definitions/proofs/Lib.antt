@@ -31,6 +31,7 @@ pub mod SectionTight
 pub mod SectionTurns
 pub mod Sectioned
 pub mod SectionsReady
+pub mod Uncut
 pub mod Within
 -- marks
 pub mod DefinitionLines

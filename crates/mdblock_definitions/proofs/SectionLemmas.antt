@@ -322,7 +322,7 @@ pub record Cut (on : Constructs) (xs : List CodeSection) (is_behind : Bool) (lef
 pub cut-init : (on : Constructs) (xs : List CodeSection) (all : List Row) (around : Part) → xs ≡ [] → Cut on xs false all around (sections_in on (length all) false around all)
 cut-init on xs all around e = record { front = []; bound = length all; few = omega arith; are = subst (λ (l : List CodeSection). AreSections l []) (sym e) tt; same = refl }
 
-sections-none : (on : Constructs) (b : ℕ) (x : Bool) (p : Part) → sections_in on b x p [] ≡ []
+pub sections-none : (on : Constructs) (b : ℕ) (x : Bool) (p : Part) → sections_in on b x p [] ≡ []
 sections-none on zero x p = refl
 sections-none on (suc b) x p = refl
 

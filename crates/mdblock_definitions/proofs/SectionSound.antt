@@ -33,7 +33,7 @@ undefined-sound x around (r ∷ rs) h =
     (first-sound x (record { first = r; more = take n rs; frames = around.frames; stands = around.stands }) h.0, plain-sound around (parts_in (length rs) (drop n rs)))
 
 module _ (on : Constructs) where
-  none-in : (r : Row) (rs : List Row) → is_paragraph r.leaf ≡ false → defined_in on (r ∷ rs) ≡ 0
+  pub none-in : (r : Row) (rs : List Row) → is_paragraph r.leaf ≡ false → defined_in on (r ∷ rs) ≡ 0
   none-in r rs e =
       ap (λ b. cond on.definition (lines_defined (text_in (take (cond b (1 + prefix_len (λ (q : Row). is_paragraph q.leaf) rs) 0) (r ∷ rs)))) 0) e ∙ by on.definition
     where

@@ -1,12 +1,11 @@
 -- Where nothing is defined, a document is read as without definitions.
-use Rattle.std.proofs.Common.{◌≡◌, ◌⊎◌, inl, inr, ◌==◌, ◌+◌, ◌-◌, ◌≤◌, ◌∙◌, ℕ, zero, suc, List, [], ◌∷◌, ◌++◌, Bool, true, false, cond, Some, None, ap, append-nil, append_assoc, arith, drop, length, map, refl, subst, sym, take}
+use Rattle.std.proofs.Common.{◌≡◌, ◌==◌, ◌+◌, ◌-◌, ◌≤◌, ◌∙◌, ℕ, zero, suc, List, [], ◌∷◌, ◌++◌, Bool, true, false, cond, Some, None, ap, append_assoc, arith, drop, length, map, refl, subst, sym, take}
 use Rattle.std.specs.List.{AllByRecursion, flat_map, prefix_len}
 use Rattle.std.specs.Option.{option_and_then}
 use Rattle.std.specs.Prelude.{◌&&◌, not, nat_le, is_some}
 use Rattle.std.proofs.lemmas.Bool.{false≢true}
 use Rattle.std.proofs.lemmas.Grind.{flat_map-append}
-use Rattle.std.proofs.lemmas.List.{length-drop, length-take-le, take-append-drop}
-use Rattle.std.proofs.Math.Seq.{drop-length, take-length}
+use Rattle.std.proofs.lemmas.List.{length-drop, take-append-drop}
 use Rattle.markdown_base.specs.declared.configuration.Constructs.{Constructs}
 use Rattle.markdown_base.specs.declared.event.Content.TheVariants.{Content}
 use Rattle.markdown_base.specs.declared.event.Event.{Event}
@@ -20,15 +19,14 @@ use Rattle.mdblock_leaf_blocks.specs.HtmlLines.{ends, waits_for_blank}
 use Rattle.mdblock_leaf_blocks.specs.LeafBlocks.{Line, interrupts}
 use Rattle.mdblock_leaf_blocks.specs.LeafEvents.{flow_events}
 use Rattle.mdblock_leaf_blocks.specs.LineKinds.{closes, line_kind, underline_rank}
-use Rattle.mdblock_containers.proofs.RestLemmas.{further_few}
+use Rattle.mdblock_containers.proofs.RestLemmas.{part_of}
 use Rattle.mdblock_containers.specs.Letters.{lazy_underline, with_letters}
 use Rattle.mdblock_containers.specs.Prefixes.{containers_of}
 use Rattle.mdblock_containers.specs.Rows.{Before, Leaf, Row, closed, has_none, is_paragraph, leaf_after, nothing_known, open_fence, open_html, open_paragraph, rest_of}
 use Rattle.mdblock_containers.specs.Blocks as blocks
 use Rattle.mdblock_containers.specs.Rows as without
-use Rattle.mdblock_containers.specs.Skeleton.{Part, chained_from, frames_at, further, parts, parts_in, standing}
+use Rattle.mdblock_containers.specs.Skeleton.{Part, chained_from, further, parts, parts_in}
 use Rattle.mdblock_containers.specs.Skeleton as containers
-use Rattle.mdblock_containers.proofs.OpenFrames.{none_in}
 use Rattle.mdinline_labels.proofs.Fronts.{no-rest}
 use Rattle.mdinline_labels.specs.Definitions.{definition_at, definitions, destination_at, end, rest, stretch_at, title_at, titled_or_not}
 use Rattle.mdinline_labels.specs.Labels.{is_label, normalised}
@@ -36,32 +34,12 @@ use Rattle.mdinline_labels.specs.Tails.{begins_with, is_white, label_size}
 use Rattle.mdblock_definitions.specs.Blocks.{document_blocks}
 use Rattle.mdblock_definitions.specs.Laws.{BlocksCanBeWithout, BlocksNeedBrackets, DefinitionsCanBeOff, DefinitionsNeedBrackets, HasNoBracket, NothingIsDefined, begins_with_bracket}
 use Rattle.mdblock_definitions.specs.Rows.{Known, is_behind_text, is_used_up, known_after, row_of, rows, rows_from}
-use Rattle.mdblock_definitions.specs.Sections.{Section, before_defined, cut, defined_in, defining, in_same, lines, lines_defined, lines_of, paragraph_of, sections, sections_in, text_in, undefined}
+use Rattle.mdblock_definitions.specs.Sections.{before_defined, cut, defined_in, lines, lines_defined, lines_of, paragraph_of, sections, text_in}
+use Rattle.mdblock_definitions.proofs.SectionSound.{cut-blank}
+use Rattle.mdblock_definitions.proofs.Uncut.{cut-once, plain, whole-part}
 use Rattle.mdblock_definitions.specs.Skeleton.{behind_marks, labels_of_section, letters, letters_of_section, sections_in_seats, sections_marks}
 
--- ---- how far a stretch goes
-
--- the further lines of a stretch have that many further lines
-further-again : (rs : List Row) → further (take (further rs) rs) ≡ further rs
-further-again [] = refl
-further-again (r ∷ rs) = by (further-again rs) (two r.is_left_blank r.stays (nat_le 1 (further rs)))
-  where
-    two : (x y z : Bool) → let m = cond x (cond z (suc (further rs)) 0) (cond y (suc (further rs)) 0) in (m ≡ 0) ⊎ (m ≡ suc (further rs))
-    two true y true = inr refl
-    two true y false = inl refl
-    two false true z = inr refl
-    two false false z = inl refl
-
-    by : further (take (further rs) rs) ≡ further rs → (further (r ∷ rs) ≡ 0) ⊎ (further (r ∷ rs) ≡ suc (further rs)) → further (take (further (r ∷ rs)) (r ∷ rs)) ≡ further (r ∷ rs)
-    by again (inl e) = ap (λ m. further (take m (r ∷ rs))) e ∙ sym e
-    by again (inr e) =
-        ap (λ m. further (take m (r ∷ rs))) e
-        ∙ ap (λ k. cond r.is_left_blank (cond (nat_le 1 k) (suc k) 0) (cond r.stays (suc k) 0)) again
-
 -- ---- parts are not cut
-
-abbrev plain : Part → Section
-plain p = record { part = p; inside = lines false }
 
 module _ (on : Constructs) (P : Row → Type 0) (none-defined : (rs : List Row) → AllByRecursion P rs → defined_in on rs ≡ 0) where
   all-before : (rs : List Row) (p : Bool) → AllByRecursion P rs → before_defined on p rs ≡ length rs
@@ -75,47 +53,13 @@ module _ (on : Constructs) (P : Row → Type 0) (none-defined : (rs : List Row) 
       none true = refl
       none false = refl
 
-  -- nothing is left of lines behind the last one
-  sections-end : (b : ℕ) (x : Bool) (p : Part) → sections_in on b x p [] ≡ []
-  sections-end zero x p = refl
-  sections-end (suc b) x p = refl
-
   module _ (p : Part) (are : AllByRecursion P (p.first ∷ p.more)) where
-    abbrev all : List Row
-    all = p.first ∷ p.more
-
-    -- what is made of a part, by its lines before definitions and those from these on
-    abbrev pieces : (xs ys : List Row) → (d : ℕ) → List Section
-    pieces xs ys d = undefined false p xs ++ (defining (definitions (text_in (paragraph_of ys))) p (take d ys) ++ sections_in on (length p.more) true p (drop d ys))
-
-    -- the parts of these lines behind the first ones, in the spans of the part
-    abbrev behind : List Row → List Section
-    behind rs = map plain (map (in_same p) (parts_in (length p.more) rs))
-
-    -- sections of a part with so many further lines, and those behind it
-    abbrev made : ℕ → List Section
-    made n = plain (record p { more = take n p.more }) ∷ behind (drop n p.more)
-
-    cut-whole : p.first.is_blank ≡ false → further p.more ≡ length p.more → sections_in on (suc (length p.more)) false p all ≡ plain p ∷ []
-    cut-whole filled whole =
-        ap (λ n. pieces (take n all) (drop n all) (defined_in on (drop n all))) (all-before all false are)
-        ∙ ap (λ xs. pieces xs (drop (length all) all) (defined_in on (drop (length all) all))) (take-length all)
-        ∙ ap (λ ys. pieces all ys (defined_in on ys)) (drop-length all)
-        ∙ ap (pieces all []) (none-defined [] tt)
-        ∙ ap (λ ss. undefined false p all ++ ss) (sections-end (length p.more) true p)
-        ∙ append-nil (undefined false p all)
-        ∙ ap (λ (x : Bool). made (cond x 0 (further p.more))) filled
-        ∙ ap made whole
-        ∙ ap (λ (rs : List Row). plain (record p { more = rs }) ∷ behind (drop (length p.more) p.more)) (take-length p.more)
-        ∙ ap (λ rs. plain p ∷ behind rs) (drop-length p.more)
-        ∙ ap (λ ps. plain p ∷ map plain (map (in_same p) ps)) (none_in (length p.more))
-
     cut-plain : (p.first.is_blank ≡ false → further p.more ≡ length p.more) → cut on p ≡ plain p ∷ []
     cut-plain whole = by p.first.is_blank refl
       where
-        by : (x : Bool) → p.first.is_blank ≡ x → cond x (plain p ∷ []) (sections_in on (suc (length p.more)) false p all) ≡ plain p ∷ []
-        by true e = refl
-        by false e = cut-whole e (whole e)
+        by : (x : Bool) → p.first.is_blank ≡ x → cut on p ≡ plain p ∷ []
+        by true e = cut-blank on p e
+        by false e = cut-once on p (all-before (p.first ∷ p.more) false are) e (whole e)
 
   all-take : (n : ℕ) (rs : List Row) → AllByRecursion P rs → AllByRecursion P (take n rs)
   all-take zero rs h = tt
@@ -132,13 +76,8 @@ module _ (on : Constructs) (P : Row → Type 0) (none-defined : (rs : List Row) 
   all-plain (suc b) [] h = refl
   all-plain (suc b) (r ∷ rs) h =
       let n = cond r.is_blank 0 (further rs) in
-      let p : Part = record { first = r; more = take n rs; frames = frames_at r rs; stands = standing r rs } in
-      let whole : r.is_blank ≡ false → further (take n rs) ≡ length (take n rs) =
-      λ e. ap (λ (x : Bool). further (take (cond x 0 (further rs)) rs)) e
-      ∙ further-again rs
-      ∙ sym (length-take-le (further rs) rs (further_few rs))
-      ∙ ap (λ (x : Bool). length (take (cond x 0 (further rs)) rs)) (sym e) in
-      ap (λ ss. ss ++ flat_map (cut on) (parts_in b (drop n rs))) (cut-plain p (h.0, all-take n rs h.1) whole)
+      let p : Part = part_of r rs in
+      ap (λ ss. ss ++ flat_map (cut on) (parts_in b (drop n rs))) (cut-plain p (h.0, all-take n rs h.1) (whole-part r rs))
       ∙ ap (λ ss. plain p ∷ ss) (all-plain b (drop n rs) (all-drop n rs h.1))
 
 -- ---- plain sections

@@ -73,29 +73,30 @@ impl Known {
         ensures turns { (line : Line) → text_of line ≡ t.now → turns.new ≤ turns.old + self.old.before.over + 147 * length t.now + 1670 + 16 * length self.old.text.items }
     {
         let mut row = self.before.row(alloc, on, number, t, turns)?;
-        row.leaf = leaf_behind(on, self, &row, t, turns);
+        look_behind(on, self, &mut row, t, turns);
         hold_row(&mut self.text, self.before.leaf, &row, t, turns)?;
         self.before.go_behind(number, &row, turns)?;
         Ok(row)
     }
 }
 
-/// The leaf block that may go on behind a line: what would be an underline makes no heading of definitions alone, so it is text. `t` are the line's
-/// virtual bytes.
-fn leaf_behind<L: Ledger>(
+/// What would be an underline makes no heading of definitions alone, so it is text: a paragraph may go on behind the line. `t` are the line's virtual
+/// bytes.
+fn look_behind<L: Ledger>(
     on: &Constructs,
     known: &Known,
-    row: &Row,
+    row: &mut Row,
     t: &[u8],
     turns: &mut Turns<L>,
-) -> Leaf
-    requires { row.now.columns ≤ length t.now }
-    ensures value { leaf_of result ≡ cond (on.now.definition && ((row.now.stays && is_paragraph (leaf_of known.now.before.leaf)) && (is_some (underline_rank on.now (drop row.now.columns t.now)) && is_held_used_up known.now.text.items))) open_paragraph (leaf_of row.now.leaf) }
-    ensures text { is_paragraph (leaf_of row.now.leaf) ≡ true → turns.new ≤ turns.old }
+)
+    requires { row.old.columns ≤ length t.now }
+    ensures leaf { leaf_of row.new.leaf ≡ cond (on.now.definition && ((row.old.stays && is_paragraph (leaf_of known.now.before.leaf)) && (is_some (underline_rank on.now (drop row.old.columns t.now)) && is_held_used_up known.now.text.items))) open_paragraph (leaf_of row.old.leaf) }
+    ensures row { row.new ≡ record row.old { leaf = row.new.leaf } }
+    ensures text { is_paragraph (leaf_of row.old.leaf) ≡ true → turns.new ≤ turns.old }
     ensures turns { turns.new ≤ turns.old + 3 * length t.now + 20 + 16 * length known.now.text.items }
 {
     if is_paragraph(row.leaf) {
-        return row.leaf;
+        return;
     }
     let rest = behind(t, row.columns);
     if underlines_held(
@@ -106,9 +107,7 @@ fn leaf_behind<L: Ledger>(
         known.text.as_slice(),
         turns,
     ) {
-        Leaf::Paragraph
-    } else {
-        row.leaf
+        row.leaf = Leaf::Paragraph;
     }
 }
 

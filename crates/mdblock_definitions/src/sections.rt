@@ -77,6 +77,16 @@ fn is_text(at: &RowAt) -> bool
     is_paragraph(at.row.leaf)
 }
 
+/// A paragraph is open behind the first of these lines.
+fn begins_text(rows: &[RowAt]) -> bool
+    ensures { result ≡ begins_text_at rows.now }
+{
+    match rows {
+        [first, ..] => is_text(first),
+        [] => false,
+    }
+}
+
 /// How many of these lines of a part a paragraph has that begins in the first.
 fn paragraph_size<L: Ledger>(rows: &[RowAt], turns: &mut Turns<L>) -> usize
     ensures value { result ≡ prefix_len is_text_at rows.now }
@@ -176,7 +186,7 @@ fn defined_behind<L: Ledger>(
     ensures definitions { IfOk result (λ d. (all : List RowOf) → AreThese tab bytes.now rows.now all → 1 ≤ d.lines → d.definitions.items ≡ definitions (text_in (paragraph_of all))) }
     ensures turns { turns.new ≤ turns.old + cond in_paragraph 0 (23 * bytes_in tab bytes.now (take 1 rows.now) + 21 * bytes_in tab bytes.now (text_rows rows.now)) }
 {
-    if in_paragraph {
+    if in_paragraph || !begins_text(rows) {
         return Ok(Defined::none(alloc));
     }
     defined_in(alloc, bytes, tab, on, rows, room, turns)
@@ -192,7 +202,7 @@ pub(crate) struct Found {
 }
 
 /// The first of these lines of a part in which a paragraph begins with definitions. No paragraph is open before them.
-fn find_defined<L: Ledger>(
+pub(crate) fn find_defined<L: Ledger>(
     alloc: Global,
     bytes: &[u8],
     tab: TabSize,
@@ -229,10 +239,7 @@ fn find_defined<L: Ledger>(
 fn begins_behind(is_behind: bool, rows: &[RowAt]) -> bool
     ensures { result ≡ (is_behind && begins_text_at rows.now) }
 {
-    match rows {
-        [first, ..] => is_behind && is_text(first),
-        [] => false,
-    }
+    is_behind && begins_text(rows)
 }
 
 /// Lines that leaf blocks are read from, of which the first is text directly behind definitions, or not.
@@ -322,17 +329,43 @@ pub fn sections_of<L: Ledger>(
     ensures sections { IfOk result (λ ss. (all : List RowOf) → AreThese tab bytes.now rows.now all → (around : Part) → AreSections ss.items (sections_in on.now (length all) false around all)) }
     ensures turns { turns.new ≤ turns.old + 93 * bytes_in tab bytes.now rows.now }
 {
+    if rows.is_empty() {
+        return Ok(Vec::new(alloc));
+    }
+    let found = find_defined(alloc, bytes, tab, on, rows, room, turns)?;
+    sections_from(alloc, bytes, tab, on, rows, found, room, turns)
+}
+
+/// The same of some lines, by the first of its lines in which a paragraph begins with definitions.
+pub(crate) fn sections_from<L: Ledger>(
+    alloc: Global,
+    bytes: &[u8],
+    tab: TabSize,
+    on: &Constructs,
+    rows: &[RowAt],
+    first: Found,
+    room: &mut Room,
+    turns: &mut Turns<L>,
+) -> Result<Vec<Section>, AllocError>
+    requires held { AreHeld tab bytes.now rows.now }
+    requires some { 1 ≤ length rows.now }
+    requires within { first.before ≤ length rows.now }
+    requires first { (all : List RowOf) → AreThese tab bytes.now rows.now all → IsFound on.now first all }
+    ensures sections { IfOk result (λ ss. (all : List RowOf) → AreThese tab bytes.now rows.now all → (around : Part) → AreSections ss.items (sections_in on.now (length all) false around all)) }
+    ensures turns { turns.new + (45 * bytes_in tab bytes.now (take first.before rows.now) + 45 * bytes_in tab bytes.now (text_rows (drop first.before rows.now))) ≤ turns.old + 93 * bytes_in tab bytes.now rows.now }
+{
     let mut sections = Vec::new(alloc);
-    let mut is_behind = false;
-    let mut i = 0;
+    let undefined = first.before;
+    push_undefined(alloc, &mut sections, &rows[..undefined], false, turns)?;
+    let mut i = undefined + first.defined.lines;
+    push_defined(&mut sections, first.defined)?;
     while i < rows.len() {
         turns.add_one();
         let found = find_defined(alloc, bytes, tab, on, &rows[i..], room, turns)?;
         let end = i + found.before;
-        push_undefined(alloc, &mut sections, &rows[i..end], is_behind, turns)?;
+        push_undefined(alloc, &mut sections, &rows[i..end], true, turns)?;
         i = end + found.defined.lines;
         push_defined(&mut sections, found.defined)?;
-        is_behind = true;
     }
     Ok(sections)
 }

@@ -13,7 +13,7 @@ ghost use Rattle.mdblock_containers.specs.PlaceEvents.{HasColumns, span_at};
 ghost use Rattle.mdblock_containers.specs.Prefixes.{columns_of, going_on};
 ghost use Rattle.mdblock_containers.specs.Rest.{ending_to};
 ghost use Rattle.mdblock_containers.specs.Rows.{Row as RowOf, holds_ending};
-ghost use Rattle.mdblock_containers.specs.Skeleton.{Part as PartOf, prefixes_marks};
+ghost use Rattle.mdblock_containers.specs.Skeleton.{Part as PartOf, further, prefixes_marks};
 ghost use Rattle.mdblock_containers.specs.SeatPlaces.{AreSeatsAt, events_of};
 ghost use Rattle.mdblock_containers.specs.Stretches.{end_at, last_at};
 ghost use Rattle.mdblock_containers.specs.Views.{leaf_of, open_of};
@@ -31,7 +31,7 @@ ghost use Rattle.mdblock_definitions.specs.Within.{last_of, within_marks};
 
 use crate::held::hold_lines;
 use crate::marks::write_definitions;
-use crate::sections::{Inside, Room, Section, sections_of};
+use crate::sections::{Inside, Room, Section, find_defined, sections_from};
 use markdown_base::configuration::{Constructs, TabSize};
 use markdown_base::event::{Event, Point};
 use mdblock_containers::going::{Open, first_of};
@@ -631,6 +631,7 @@ pub(crate) fn fill_part<L: Ledger>(
     requires rows { rows.now ≡ first.now ∷ more.now }
     requires section { IsSectionOf tab bytes.now (map open_of stack.now) first.now more.now part }
     requires stands { part.first.is_blank ≡ false → length stack.now ≤ length part.stands }
+    requires whole { part.first.is_blank ≡ false → further part.more ≡ length part.more }
     requires texts { TextsAreFilled (all_rows part) }
     requires begun { IsBegun tab bytes.now part first.now begin }
     ensures end { IfOk result (λ e. HasEnd bytes.now (last_of part (cut on.now part)) e) }
@@ -649,7 +650,15 @@ pub(crate) fn fill_part<L: Ledger>(
         )?;
         return Ok(only);
     }
-    let sections = sections_of(alloc, bytes, tab, on, rows, room, turns)?;
+    let found = find_defined(alloc, bytes, tab, on, rows, room, turns)?;
+    if found.before == rows.len() {
+        let inside = Inside::Lines;
+        let only = write_section(
+            alloc, skeleton, bytes, tab, on, stack, rows, first, more, &inside, begin, room, turns,
+        )?;
+        return Ok(only);
+    }
+    let sections = sections_from(alloc, bytes, tab, on, rows, found, room, turns)?;
     let end = write_sections(
         alloc,
         skeleton,

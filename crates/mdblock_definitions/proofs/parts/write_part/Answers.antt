@@ -34,6 +34,7 @@ use Rattle.mdblock_containers.proofs.ColumnLemmas.{few_columns}
 use Rattle.mdblock_containers.proofs.PartCosts.{part_open, part_paid, part_turned}
 use Rattle.mdblock_definitions.specs.Costs.{bytes_in}
 use Rattle.mdblock_definitions.proofs.SectionFacts.{left-bytes}
+use Rattle.mdblock_definitions.proofs.Uncut.{whole-part}
 use Rattle.mdblock_definitions.proofs.parts.write_part.Goals as goal
 
 pub begin_part-requires : goal.begin_part-requires
@@ -171,9 +172,12 @@ fill_part-requires g c = λ lifetimes outlives.
             (
               (λ b. omega (arith, stands-all t bytes some limit stack first behind r rs left ahead ae slot stack_is c.requires.1.1.1.1.1.1.0.0 c.requires.1.1.1.1.1.0 b, length-map c.as_slice-3.result.now open_of)),
               (
-                part-texts t bytes some limit stack first behind r rs left ahead ae c.requires.1.1.1.1.1.1.1.0,
-                part-begun t bytes some limit stack first behind r rs left ahead ae (map open_of c.open_in.new.stack.items) open_is (map open_of c.first_of-own.result.now) c.in_ok-all.all c.standing-stands.result own_is own_all c.standing-stands.ensures.value
-                    (few_of c.first_of-own.result.now c.standing-stands.result c.standing-stands.ensures.few) (map open_of c.first_of-going.result.now) going_is c.in_ok-begin.begin c.in_ok-begin.ensures.columns c.in_ok-begin.ensures.place,
+                whole-part r rs,
+                (
+                  part-texts t bytes some limit stack first behind r rs left ahead ae c.requires.1.1.1.1.1.1.1.0,
+                  part-begun t bytes some limit stack first behind r rs left ahead ae (map open_of c.open_in.new.stack.items) open_is (map open_of c.first_of-own.result.now) c.in_ok-all.all c.standing-stands.result own_is own_all c.standing-stands.ensures.value
+                      (few_of c.first_of-own.result.now c.standing-stands.result c.standing-stands.ensures.few) (map open_of c.first_of-going.result.now) going_is c.in_ok-begin.begin c.in_ok-begin.ensures.columns c.in_ok-begin.ensures.place,
+                ),
               ),
             ),
           ),

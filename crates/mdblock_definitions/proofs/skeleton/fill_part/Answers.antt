@@ -17,6 +17,7 @@ use Rattle.mdblock_definitions.proofs.SectionFacts.{section-these}
 use Rattle.mdblock_definitions.proofs.SectionSound.{cut-blank, cut-filled, part-sections}
 use Rattle.mdblock_definitions.proofs.SectionLoop.{first-begun, has-end}
 use Rattle.mdblock_definitions.proofs.Sectioned.{blank-is}
+use Rattle.mdblock_definitions.proofs.Uncut.{found-none}
 use Rattle.mdblock_definitions.proofs.skeleton.fill_part.Goals as goal
 
 pub returns-then-is_blank-clause-end : goal.returns-then-is_blank-clause-end
@@ -46,12 +47,70 @@ returns-then-is_blank-clause-labels g c = λ label.
     let blank = sym (blank-is c.args.tab c.args.bytes.now some c.requires.1.0 (map open_of c.args.stack.now) c.args.first.now c.args.more.now g.part c.requires.1.1.1.0) ∙ c.if-is_blank.true in
     c.in_ok-only.ensures.labels label ∙ ap (λ (l : List Section). defines c.args.skeleton.now.labels label || is_one_of (flat_map labels_of_section l) label) (sym (cut-blank c.args.on.now g.part blank))
 
-pub sections_of-requires : goal.sections_of-requires
-sections_of-requires g c = record {
+pub find_defined-requires : goal.find_defined-requires
+find_defined-requires g c = record {
   all = all_rows g.part;
   are = subst (λ (l : List RowAt). AreThese c.args.tab c.args.bytes.now l (all_rows g.part)) (sym c.requires.1.1.0)
       (section-these c.args.tab c.args.bytes.now (map open_of c.args.stack.now) c.args.first.now c.args.more.now g.part c.requires.1.1.1.0);
 }
+
+-- a part in which nothing is defined
+pub returns-then-found-rows-clause-end : goal.returns-then-found-rows-clause-end
+returns-then-found-rows-clause-end g c =
+    let t = c.args.tab in
+    let bytes = c.args.bytes.now in
+    let stack = map open_of c.args.stack.now in
+    let some : 0 < c.args.tab = omega (arith, c.get-tab_size.ensures.least, c.get-tab_size.ensures.columns) in
+    let section = c.requires.1.1.1.0 in
+    let filled = sym (blank-is t bytes some c.requires.1.0 stack c.args.first.now c.args.more.now g.part section) ∙ c.if-is_blank.false in
+    let these = subst (λ (l : List RowAt). AreThese t bytes l (all_rows g.part)) (sym c.requires.1.1.0) (section-these t bytes stack c.args.first.now c.args.more.now g.part section) in
+    let once = found-none c.args.on.now g.part t bytes c.args.rows.now c.in_ok-found.found these c.in_ok-found.ensures.found c.if-found-rows.true filled c.requires.1.1.1.1.1.0 in
+    subst (λ (l : List Section). HasEnd bytes (last_of g.part l) c.in_ok-only-2.only) (sym once)
+    (has-end t bytes some c.requires.1.0 stack c.args.first.now c.args.more.now g.part section c.in_ok-only-2.only c.in_ok-only-2.ensures.end)
+
+pub returns-then-found-rows-clause-events : goal.returns-then-found-rows-clause-events
+returns-then-found-rows-clause-events g c = λ rest all w.
+    let t = c.args.tab in
+    let bytes = c.args.bytes.now in
+    let stack = map open_of c.args.stack.now in
+    let some : 0 < c.args.tab = omega (arith, c.get-tab_size.ensures.least, c.get-tab_size.ensures.columns) in
+    let section = c.requires.1.1.1.0 in
+    let filled = sym (blank-is t bytes some c.requires.1.0 stack c.args.first.now c.args.more.now g.part section) ∙ c.if-is_blank.false in
+    let these = subst (λ (l : List RowAt). AreThese t bytes l (all_rows g.part)) (sym c.requires.1.1.0) (section-these t bytes stack c.args.first.now c.args.more.now g.part section) in
+    let once = found-none c.args.on.now g.part t bytes c.args.rows.now c.in_ok-found.found these c.in_ok-found.ensures.found c.if-found-rows.true filled c.requires.1.1.1.1.1.0 in
+    c.in_ok-only-2.ensures.events rest all (subst (λ (l : List Section). Written c.args.skeleton.now.events.items None false (inside_from bytes l rest) all) once w)
+
+pub returns-then-found-rows-clause-letters : goal.returns-then-found-rows-clause-letters
+returns-then-found-rows-clause-letters g c =
+    let t = c.args.tab in
+    let bytes = c.args.bytes.now in
+    let stack = map open_of c.args.stack.now in
+    let some : 0 < c.args.tab = omega (arith, c.get-tab_size.ensures.least, c.get-tab_size.ensures.columns) in
+    let section = c.requires.1.1.1.0 in
+    let filled = sym (blank-is t bytes some c.requires.1.0 stack c.args.first.now c.args.more.now g.part section) ∙ c.if-is_blank.false in
+    let these = subst (λ (l : List RowAt). AreThese t bytes l (all_rows g.part)) (sym c.requires.1.1.0) (section-these t bytes stack c.args.first.now c.args.more.now g.part section) in
+    let once = found-none c.args.on.now g.part t bytes c.args.rows.now c.in_ok-found.found these c.in_ok-found.ensures.found c.if-found-rows.true filled c.requires.1.1.1.1.1.0 in
+    c.in_ok-only-2.ensures.letters ∙ ap (λ (l : List ℕ). c.args.skeleton.now.letters.items ++ l) (sym (append-nil (letters_of_section c.args.on.now (record { part = g.part; inside = lines false }))))
+    ∙ ap (λ (l : List Section). c.args.skeleton.now.letters.items ++ flat_map (letters_of_section c.args.on.now) l) (sym once)
+
+pub returns-then-found-rows-clause-labels : goal.returns-then-found-rows-clause-labels
+returns-then-found-rows-clause-labels g c = λ label.
+    let t = c.args.tab in
+    let bytes = c.args.bytes.now in
+    let stack = map open_of c.args.stack.now in
+    let some : 0 < c.args.tab = omega (arith, c.get-tab_size.ensures.least, c.get-tab_size.ensures.columns) in
+    let section = c.requires.1.1.1.0 in
+    let filled = sym (blank-is t bytes some c.requires.1.0 stack c.args.first.now c.args.more.now g.part section) ∙ c.if-is_blank.false in
+    let these = subst (λ (l : List RowAt). AreThese t bytes l (all_rows g.part)) (sym c.requires.1.1.0) (section-these t bytes stack c.args.first.now c.args.more.now g.part section) in
+    let once = found-none c.args.on.now g.part t bytes c.args.rows.now c.in_ok-found.found these c.in_ok-found.ensures.found c.if-found-rows.true filled c.requires.1.1.1.1.1.0 in
+    c.in_ok-only-2.ensures.labels label ∙ ap (λ (l : List Section). defines c.args.skeleton.now.labels label || is_one_of (flat_map labels_of_section l) label) (sym once)
+
+pub sections_from-requires : goal.sections_from-requires
+sections_from-requires g c =
+    let t = c.args.tab in
+    let bytes = c.args.bytes.now in
+    let these = subst (λ (l : List RowAt). AreThese t bytes l (all_rows g.part)) (sym c.requires.1.1.0) (section-these t bytes (map open_of c.args.stack.now) c.args.first.now c.args.more.now g.part c.requires.1.1.1.0) in
+    record { held = record { all = all_rows g.part; are = these }; some = omega (arith, ap (λ (l : List RowAt). length l) c.requires.1.1.0); within = c.in_ok-found.ensures.within; first = c.in_ok-found.ensures.found }
 
 pub write_sections-requires : goal.write_sections-requires
 write_sections-requires g c = λ lifetimes outlives.
@@ -62,7 +121,7 @@ write_sections-requires g c = λ lifetimes outlives.
     let section = c.requires.1.1.1.0 in
     let filled = sym (blank-is t bytes some c.requires.1.0 stack c.args.first.now c.args.more.now g.part section) ∙ c.if-is_blank.false in
     let these = subst (λ (l : List RowAt). AreThese t bytes l (all_rows g.part)) (sym c.requires.1.1.0) (section-these t bytes stack c.args.first.now c.args.more.now g.part section) in
-    let are = part-sections c.args.on.now g.part c.requires.1.1.1.1.1.0 in (
+    let are = part-sections c.args.on.now g.part c.requires.1.1.1.1.1.1.0 in (
       outlives,
       (
         c.requires.1.0,
@@ -76,7 +135,7 @@ write_sections-requires g c = λ lifetimes outlives.
                 subst (λ (l : List CodeSection). AreSections l (sections_in c.args.on.now (suc (length g.part.more)) false g.part (all_rows g.part))) (sym c.as_slice.ensures.value) (c.in_ok-sections.ensures.sections (all_rows g.part) these g.part),
                 (
                   are,
-                  first-begun t bytes stack c.args.first.now c.args.rows.now c.args.more.now g.part (sections_in c.args.on.now (suc (length g.part.more)) false g.part (all_rows g.part)) c.args.begin c.requires.1.1.0 are c.requires.1.1.1.1.1.1,
+                  first-begun t bytes stack c.args.first.now c.args.rows.now c.args.more.now g.part (sections_in c.args.on.now (suc (length g.part.more)) false g.part (all_rows g.part)) c.args.begin c.requires.1.1.0 are c.requires.1.1.1.1.1.1.1,
                 ),
               ),
             ),
