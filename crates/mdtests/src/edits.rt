@@ -239,6 +239,65 @@ fn sections_are_looked_up(rt: HostRuntime) {
     assert_holds(&rt, sections_are_found(rt.alloc()), "what sections have");
 }
 
+/// Sections of three bytes and two lines each, in more than one block of 256.
+const MANY: usize = 300;
+
+/// Of so many sections: some of them, and the bytes that they start with.
+const MANY_STARTS: &[(usize, usize)] = &[(0, 0), (255, 765), (256, 768), (257, 771), (300, 900)];
+
+/// The same, once a byte was typed in the first one; and once a section of four bytes stands in front of that.
+const TYPED_STARTS: &[(usize, usize)] = &[(0, 0), (255, 766), (256, 769), (257, 772), (300, 901)];
+
+const ADDED_STARTS: &[(usize, usize)] = &[(0, 0), (1, 4), (255, 767), (256, 770), (301, 905)];
+
+/// Whether sections start there, and the bytes are in them, and lines as well, of which each has two.
+fn start_there(sections: &Sections, starts: &[(usize, usize)]) -> bool {
+    for (section, start) in starts {
+        if *section > sections.count()
+            || sections.start_of(*section) != *start
+            || sections.section_at(*start) != *section
+            || *section > LONGEST
+            || sections.section_at_line(2 * *section) != *section
+        {
+            return false;
+        }
+    }
+    true
+}
+
+/// Whether sections in two blocks are looked up, before edits and after them.
+fn many_are_found(alloc: Global) -> Result<bool, AllocError> {
+    let mut bytes = Vec::new(alloc);
+    for _ in 0..MANY {
+        bytes.extend_from_slice(b"a\n\n")?;
+    }
+    let mut sections = sections_of(alloc, bytes.as_slice())?;
+    let read = start_there(&sections, MANY_STARTS);
+    let typed = put_in_front(alloc, &mut sections, b"b")? && start_there(&sections, TYPED_STARTS);
+    let added = put_in_front(alloc, &mut sections, b"cc\n\n")?
+        && start_there(&sections, ADDED_STARTS);
+    Ok(read && typed && added)
+}
+
+/// Puts bytes in front of a document.
+fn put_in_front(alloc: Global, sections: &mut Sections, with: &[u8]) -> Result<bool, AllocError> {
+    let edit = Edit {
+        from: 0,
+        to: 0,
+        with,
+    };
+    match sections.replace(alloc, &edit) {
+        Ok(_) => Ok(true),
+        Err(Refused::Memory) => Err(AllocError),
+        Err(_) => Ok(false),
+    }
+}
+
+#[test]
+fn sections_in_blocks_are_looked_up(rt: HostRuntime) {
+    assert_holds(&rt, many_are_found(rt.alloc()), "what many sections have");
+}
+
 /// What an edit changes: the sections that are replaced and those that come, and the others that are read again.
 type Changes = ((usize, usize, usize), &'static [usize]);
 
