@@ -1,6 +1,6 @@
 -- What events say that stand further on, among other bytes: the same, if these have the same bytes there.
 use Rattle.std.proofs.Common.{◌≡◌, ℕ, zero, suc, ◌+◌, ◌-◌, ◌≤◌, List, [], ◌∷◌, ◌++◌, Option, None, Some, drop, refl, ap, ◌∙◌, arith}
-use Rattle.std.proofs.lemmas.Bool.{and_parts, false≢true, or_left, or_right}
+use Rattle.std.proofs.lemmas.Bool.{and_from, and_parts, or_left, or_right}
 use Rattle.std.specs.Char.{is_ascii_whitespace}
 use Rattle.std.specs.List.{AllByRecursion, repeat, slice_range, take_while}
 use Rattle.std.specs.Option.{option_map_or, option_or}
@@ -99,11 +99,7 @@ module _ (links : Option Link → Option Link) (lines n : ℕ) (new old : List �
   when-both false b xs ys h = refl
 
   mark-at : (e : Event) → IsFine Fits Reads e → is_enter e.kind ≡ true → same_name e.name name.CharacterReferenceValue ≡ true → 1 ≤ e.point.index
-  mark-at e h enter is = h.marked (both (is_enter e.kind) (same_name e.name name.CharacterReferenceValue) enter is)
-    where
-      both : (a b : Bool) → a ≡ true → b ≡ true → (a && b) ≡ true
-      both true b h k = k
-      both false b h k = absurd (false≢true h)
+  mark-at e h enter is = h.marked (and_from (is_enter e.kind) (same_name e.name name.CharacterReferenceValue) enter is)
 
   given-at-on : (r : Reading) (e : Event) (es : List Event) → AreFine (e ∷ es) → given_at new r (the e) (more es) ≡ given_at old r e es
   given-at-on r e [] h = refl
