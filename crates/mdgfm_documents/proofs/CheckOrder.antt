@@ -4,22 +4,17 @@ use Rattle.std.proofs.lemmas.List.Elements.{All-from_recursion, recursion_from_A
 use Rattle.std.specs.List.{AllByRecursion}
 use Rattle.std.specs.Prelude.{◌==◌, slice_index, IfSome}
 use Rattle.markdown_base.specs.declared.event.Event.{Event}
-use Rattle.markdown_base.specs.declared.event.Kind.TheVariants.{Enter, Exit}
-use Rattle.markdown_base.specs.declared.event.Name.{Name}
-use Rattle.markdown_base.specs.declared.event.Name.TheVariants.{Data, GfmTaskListItemCheck, GfmTaskListItemMarker, SpaceOrTab}
 use Rattle.markdown_base.specs.declared.event.Point.{Point}
 use Rattle.markdown_base.specs.Events.{IsInOrder}
 use Rattle.markdown_base.specs.Places.{IsShown, stands_before}
 use Rattle.markdown_base.specs.Virtual.{point}
 use Rattle.markdown_base.proofs.Common.{every-append}
 use Rattle.markdown_base.proofs.Seats.{stands-self}
-use Rattle.mdblock_tables.specs.Tasks.{value_name}
-use Rattle.mdgfm_events.specs.Places.{event, leaf}
+use Rattle.mdgfm_events.specs.Places.{leaf}
 use Rattle.mdgfm_literals.proofs.Order.{Goes, at-flat, at-on, flat-index, goes-pairs, leaf-goes, pairs-go-all}
 use Rattle.mdgfm_literals.proofs.OrderLaw.{Shows, leaf-shows, shown-from}
 use Rattle.mdgfm_tasks.proofs.Covers.{Covers, found-covers}
-use Rattle.mdgfm_tasks.proofs.Forward.{further-index}
-use Rattle.mdgfm_tasks.proofs.Steps.{check-parts, with-found}
+use Rattle.mdgfm_tasks.proofs.Steps.{IsKeptByLeafs, check-kept, check-places, with-found}
 use Rattle.mdgfm_tasks.specs.declared.awaited.Awaited.{Awaited}
 use Rattle.mdgfm_tasks.specs.declared.awaited.Awaited.TheVariants.{Nothing}
 use Rattle.mdgfm_tasks.specs.declared.checks.Found.{Found}
@@ -34,32 +29,22 @@ module _ (tab : ℕ) (bytes : List ℕ) where
   further-on : (p : Point) (n : ℕ) → stands_before (further tab bytes p n) p ≡ false
   further-on p n = at-on tab bytes p (p.index + n)
 
+  abbrev IsUpTo : Point → Point → Type 0
+  IsUpTo p q = stands_before q p ≡ false
+
+  goes-by-leafs : IsKeptByLeafs IsUpTo Goes
+  goes-by-leafs = record { itself = λ p q h. stands-self q; leafs = λ n b p q es other h k more. leaf-goes n b p q es h k more; one = λ k b p es h more. (h, more) }
+
   check-goes : (b p : Point) (f : Found) (es : List Event) → stands_before p b ≡ false → f.check.columns + 3 ≤ f.text.end.index - p.index → Goes f.text.end es → Goes b (check_events tab bytes p f ++ es)
   check-goes b p f es h far more =
       let start = further tab bytes p f.check.columns in
       let value = further tab bytes start 1 in
       let closing = further tab bytes value 1 in
       let end = further tab bytes closing 1 in
-      let three = event Exit GfmTaskListItemCheck end ∷ (leaf Data end f.text.end ++ es) in
-      let two = leaf GfmTaskListItemMarker closing end ++ three in
-      let one = leaf (value_name f.check.is_checked) value closing ++ two in
-      let all = event Enter GfmTaskListItemCheck start ∷ (leaf GfmTaskListItemMarker start value ++ one) in
-      let i : start.index ≡ p.index + f.check.columns = further-index tab bytes p f.check.columns in
-      let j : value.index ≡ start.index + 1 = further-index tab bytes start 1 in
-      let k : closing.index ≡ value.index + 1 = further-index tab bytes value 1 in
-      let l : end.index ≡ closing.index + 1 = further-index tab bytes closing 1 in
+      let there = (check-places tab bytes p f.check.columns).end in
       let flat : end.vs ≡ 0 = at-flat tab bytes closing (closing.index + 1) (omega arith) in
-      let last : stands_before f.text.end end ≡ false = flat-index end f.text.end flat (omega (arith, i, j, k, l, far)) in
-      subst (Goes b) (sym (check-parts tab bytes p f es))
-      (leaf-goes SpaceOrTab b p start all h (further-on p f.check.columns) (
-        stands-self start,
-        leaf-goes GfmTaskListItemMarker start start value one (stands-self start) (further-on start 1)
-            (leaf-goes (value_name f.check.is_checked) value value closing two (stands-self value) (further-on value 1)
-            (leaf-goes GfmTaskListItemMarker closing closing end three (stands-self closing) (further-on closing 1) (
-              stands-self end,
-              leaf-goes Data end end f.text.end es (stands-self end) last more,
-            ))),
-      ))
+      let last : stands_before f.text.end end ≡ false = flat-index end f.text.end flat (omega (arith, there, far)) in
+      check-kept IsUpTo Goes goes-by-leafs tab bytes b p f es h (further-on p f.check.columns) (further-on start 1) (further-on value 1) (further-on closing 1) last more
 
   pub tasks-go : (p : Point) (skip : ℕ) (a : Awaited) (es : List Event) → Goes p (drop skip es) → Goes p (events_with tab bytes skip a es)
   tasks-go p skip a [] g = tt
@@ -77,38 +62,32 @@ module _ (tab : ℕ) (bytes : List ℕ) where
 
   -- ---- none is between a CR and its LF
 
-  leaf-shows-more : (n : Name) (p q : Point) (es : List Event) → IsShown bytes p → IsShown bytes q → AllByRecursion (Shows bytes) es → AllByRecursion (Shows bytes) (leaf n p q ++ es)
-  leaf-shows-more n p q es h k more = every-append (Shows bytes) (leaf n p q) es (leaf-shows bytes n p q h k) more
+  abbrev AtShown : Point → Point → Type 0
+  AtShown p q = IsShown bytes q
+
+  abbrev AreShown : Point → List Event → Type 0
+  AreShown p es = AllByRecursion (Shows bytes) es
+
+  shows-by-leafs : IsKeptByLeafs AtShown AreShown
+  shows-by-leafs = record { itself = λ p q h. h; leafs = λ n b p q es other h k more. every-append (Shows bytes) (leaf n p q) es (leaf-shows bytes n p q h k) more; one = λ k b p es h more. (h, more) }
 
   check-shows : (p : Point) (f : Found) (es : List Event) → IsShown bytes p → f.check.columns + 3 < length (line_from bytes p.index) → IsShown bytes f.text.end → AllByRecursion (Shows bytes) es
       → AllByRecursion (Shows bytes) (check_events tab bytes p f ++ es)
   check-shows p f es shown fits last more =
+      let there = check-places tab bytes p f.check.columns in
       let start = further tab bytes p f.check.columns in
       let value = further tab bytes start 1 in
       let closing = further tab bytes value 1 in
       let end = further tab bytes closing 1 in
-      let three = event Exit GfmTaskListItemCheck end ∷ (leaf Data end f.text.end ++ es) in
-      let two = leaf GfmTaskListItemMarker closing end ++ three in
-      let one = leaf (value_name f.check.is_checked) value closing ++ two in
-      let all = event Enter GfmTaskListItemCheck start ∷ (leaf GfmTaskListItemMarker start value ++ one) in
-      let i : start.index ≡ p.index + f.check.columns = further-index tab bytes p f.check.columns in
-      let j : value.index ≡ start.index + 1 = further-index tab bytes start 1 in
-      let k : closing.index ≡ value.index + 1 = further-index tab bytes value 1 in
-      let l : end.index ≡ closing.index + 1 = further-index tab bytes closing 1 in
-      let of_start : IsShown bytes start = at p start f.check.columns i (omega (arith, fits)) in
-      let of_value : IsShown bytes value = at p value (f.check.columns + 1) (omega (arith, i, j)) (omega (arith, fits)) in
-      let of_closing : IsShown bytes closing = at p closing (f.check.columns + 2) (omega (arith, i, j, k)) (omega (arith, fits)) in
-      let of_end : IsShown bytes end = at p end (f.check.columns + 3) (omega (arith, i, j, k, l)) fits in
-      subst (AllByRecursion (Shows bytes)) (sym (check-parts tab bytes p f es))
-      (leaf-shows-more SpaceOrTab p start all shown of_start (
-        of_start,
-        leaf-shows-more GfmTaskListItemMarker start value one of_start of_value
-            (leaf-shows-more (value_name f.check.is_checked) value closing two of_value of_closing
-            (leaf-shows-more GfmTaskListItemMarker closing end three of_closing of_end (of_end, leaf-shows-more Data end f.text.end es of_end last more))),
-      ))
+      let i = there.start in
+      let j = there.value in
+      let k = there.closing in
+      let l = there.end in
+      check-kept AtShown AreShown shows-by-leafs tab bytes p p f es shown (at start f.check.columns i (omega (arith, fits))) (at value (f.check.columns + 1) (omega (arith, j)) (omega (arith, fits)))
+      (at closing (f.check.columns + 2) (omega (arith, k)) (omega (arith, fits))) (at end (f.check.columns + 3) (omega (arith, l)) fits) last more
     where
-      at : (p q : Point) (n : ℕ) → q.index ≡ p.index + n → n < length (line_from bytes p.index) → IsShown bytes q
-      at p q n is inside = shown-from bytes q (ap (λ m. slice_index bytes m == 10) is ∙ in-line bytes p.index n inside)
+      at : (q : Point) (n : ℕ) → q.index ≡ p.index + n → n < length (line_from bytes p.index) → IsShown bytes q
+      at q n is inside = shown-from bytes q (ap (λ m. slice_index bytes m == 10) is ∙ in-line bytes p.index n inside)
 
   with-shows : (skip : ℕ) (a : Awaited) (es : List Event) → AllByRecursion (Shows bytes) es → AllByRecursion (Shows bytes) (events_with tab bytes skip a es)
   with-shows skip a [] h = tt

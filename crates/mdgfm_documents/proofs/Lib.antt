@@ -3,3 +3,11 @@ pub mod CheckEnds
 pub mod CheckOrder
 -- laws
 pub mod Whole
+-- ahead: events go ahead in a document, each kind of them
+pub mod DocumentAhead
+pub mod Ended
+pub mod GoAhead
+pub mod LiteralsAhead
+pub mod PartsAhead
+pub mod TableAhead
+pub mod TasksAhead

@@ -1,24 +1,22 @@
 -- Events that go forward still do with checks.
 use Rattle.std.proofs.Common.{◌≡◌, ℕ, zero, suc, ◌+◌, ◌-◌, ◌≤◌, ◌++◌, Bool, true, false, cond, List, [], ◌∷◌, drop, Option, Some, None, refl, sym, subst, arith}
-use Rattle.std.proofs.lemmas.Bool.{leb-true}
 use Rattle.std.proofs.Math.Nat.{le_refl}
-use Rattle.std.specs.Prelude.{nat_le, nat_lt, slice_range, IfSome}
+use Rattle.std.specs.Prelude.{nat_lt, IfSome}
 use Rattle.markdown_base.specs.declared.event.Event.{Event}
 use Rattle.markdown_base.specs.declared.event.Kind.TheVariants.{Enter, Exit}
 use Rattle.markdown_base.specs.declared.event.Name.{Name}
-use Rattle.markdown_base.specs.declared.event.Name.TheVariants.{Data, GfmTaskListItemCheck, GfmTaskListItemMarker, SpaceOrTab}
 use Rattle.markdown_base.specs.declared.event.Point.{Point}
-use Rattle.mdblock_tables.specs.Tasks.{value_name}
-use Rattle.mdgfm_events.specs.Places.{column_behind, event, leaf}
+use Rattle.markdown_base.specs.Virtual.{point}
+use Rattle.mdgfm_events.specs.Places.{event, leaf}
 use Rattle.mdgfm_tasks.specs.declared.awaited.Awaited.{Awaited}
 use Rattle.mdgfm_tasks.specs.declared.awaited.Awaited.TheVariants.{Nothing}
 use Rattle.mdgfm_tasks.specs.declared.checks.Found.{Found}
 use Rattle.mdgfm_tasks.specs.Awaits.{awaited_behind}
 use Rattle.mdgfm_tasks.specs.Checks.{check_of}
 use Rattle.mdgfm_tasks.specs.Laws.{ForwardIsKept, GoForward}
-use Rattle.mdgfm_tasks.specs.TaskEvents.{check_events, events_with, further}
+use Rattle.mdgfm_tasks.specs.TaskEvents.{check_events, events_with}
 use Rattle.mdgfm_tasks.proofs.Covers.{Covers, found-covers}
-use Rattle.mdgfm_tasks.proofs.Steps.{check-parts, with-found}
+use Rattle.mdgfm_tasks.proofs.Steps.{IsKeptByLeafs, check-kept, check-places, with-found}
 
 weaker : (n m : ℕ) (es : List Event) → n ≤ m → GoForward m es → GoForward n es
 weaker n m [] h k = tt
@@ -32,43 +30,26 @@ leaf-forward from n p q es h k more = by (nat_lt p.index q.index)
     by true = (h, (k, more))
     by false = weaker from q.index es (omega (arith, h, k)) more
 
--- a place further on has its index
-pub further-index : (tab : ℕ) (bytes : List ℕ) (p : Point) (n : ℕ) → (further tab bytes p n).index ≡ p.index + n
-further-index tab bytes p n = by (nat_le (p.index + n) p.index) refl
-  where
-    there : Point
-    there = record { line = p.line; column = column_behind tab p.column (slice_range bytes p.index (p.index + n)); index = p.index + n; vs = 0 }
+-- it goes forward from a place on
+abbrev IsFrom : Point → Point → Type 0
+IsFrom p q = p.index ≤ q.index
 
-    by : (b : Bool) → nat_le (p.index + n) p.index ≡ b → (cond b p there).index ≡ p.index + n
-    by true h = let less = leb-true (p.index + n) p.index h in omega (arith, less)
-    by false h = refl
+abbrev GoesFrom : Point → List Event → Type 0
+GoesFrom p es = GoForward p.index es
+
+forward-by-leafs : IsKeptByLeafs IsFrom GoesFrom
+forward-by-leafs = record { itself = λ p q h. le_refl q.index; leafs = λ n b p q es other h k more. leaf-forward b.index n p q es h k more; one = λ k b p es h more. (h, more) }
 
 module _ (tab : ℕ) (bytes : List ℕ) where
   check-forward : (from : ℕ) (p : Point) (f : Found) (es : List Event) → from ≤ p.index → f.check.columns + 3 ≤ f.text.end.index - p.index → GoForward f.text.end.index es
       → GoForward from (check_events tab bytes p f ++ es)
   check-forward from p f es h far more =
-      let start = further tab bytes p f.check.columns in
-      let value = further tab bytes start 1 in
-      let closing = further tab bytes value 1 in
-      let end = further tab bytes closing 1 in
-      let three = event Exit GfmTaskListItemCheck end ∷ (leaf Data end f.text.end ++ es) in
-      let two = leaf GfmTaskListItemMarker closing end ++ three in
-      let one = leaf (value_name f.check.is_checked) value closing ++ two in
-      let all = event Enter GfmTaskListItemCheck start ∷ (leaf GfmTaskListItemMarker start value ++ one) in
-      let a : start.index ≡ p.index + f.check.columns = further-index tab bytes p f.check.columns in
-      let b : value.index ≡ start.index + 1 = further-index tab bytes start 1 in
-      let c : closing.index ≡ value.index + 1 = further-index tab bytes value 1 in
-      let d : end.index ≡ closing.index + 1 = further-index tab bytes closing 1 in
-      subst (GoForward from) (sym (check-parts tab bytes p f es))
-      (leaf-forward from SpaceOrTab p start all h (omega (arith, a)) (
-        le_refl start.index,
-        leaf-forward start.index GfmTaskListItemMarker start value one (le_refl start.index) (omega (arith, b))
-            (leaf-forward value.index (value_name f.check.is_checked) value closing two (le_refl value.index) (omega (arith, c))
-            (leaf-forward closing.index GfmTaskListItemMarker closing end three (le_refl closing.index) (omega (arith, d)) (
-              le_refl end.index,
-              leaf-forward end.index Data end f.text.end es (le_refl end.index) (omega (arith, a, b, c, d, far)) more,
-            ))),
-      ))
+      let at = check-places tab bytes p f.check.columns in
+      let a = at.start in
+      let b = at.value in
+      let c = at.closing in
+      let d = at.end in
+      check-kept IsFrom GoesFrom forward-by-leafs tab bytes (point 1 1 from 0) p f es h (omega (arith, a)) (omega (arith, a, b)) (omega (arith, b, c)) (omega (arith, c, d)) (omega (arith, d, far)) more
 
   with-forward : (from skip : ℕ) (a : Awaited) (es : List Event) → GoForward from (drop skip es) → GoForward from (events_with tab bytes skip a es)
   with-forward from skip a [] h = tt

@@ -19,10 +19,10 @@ use Rattle.mdgfm_tables.proofs.TableLaid.{found-table}
 use Rattle.mdgfm_tables.specs.Documents.{events_of_part, events_of_parts, events_with_tables, is_defined_among}
 use Rattle.mdgfm_tables.specs.Parts.{Part, parts, parts_in, size_before, size_of_table, tabled, untabled}
 use Rattle.mdgfm_tables.specs.TableEvents.{IsTable, table_events}
-use Rattle.mdhtml_calls.proofs.DocumentAhead.{document-ended, document-inside}
-use Rattle.mdhtml_calls.proofs.Ended.{AreEnded, IsNext}
-use Rattle.mdhtml_calls.proofs.TableAhead.{table-ended, table-inside}
-use Rattle.mdhtml_calls.proofs.TasksAhead.{AreInside, IsInside}
+use Rattle.mdgfm_documents.proofs.DocumentAhead.{document-ended, document-inside}
+use Rattle.mdgfm_documents.proofs.Ended.{AreEnded, IsNext}
+use Rattle.mdgfm_documents.proofs.TableAhead.{table-ended, table-inside}
+use Rattle.mdgfm_documents.proofs.TasksAhead.{AreInside, IsInside}
 
 -- ---- events behind others
 

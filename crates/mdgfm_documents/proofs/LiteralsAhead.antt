@@ -27,8 +27,8 @@ use Rattle.mdgfm_literals.specs.Laws.{literal_names}
 use Rattle.markdown_edits.proofs.Balanced.{same_name-true}
 use Rattle.mdgfm_literals.proofs.Order.{Goes, goes-rise, start-comes, with-goes}
 use Rattle.mdgfm_documents.proofs.CheckEnds.{place-of-end}
-use Rattle.mdhtml_calls.proofs.Ended.{AreEnded, IsNext, leaf-ended, other-ended, taken-ended}
-use Rattle.mdhtml_calls.proofs.TasksAhead.{AreInside, IsInside, at-inside, either-inside}
+use Rattle.mdgfm_documents.proofs.Ended.{AreEnded, IsNext, leaf-ended, other-ended, taken-ended}
+use Rattle.mdgfm_documents.proofs.TasksAhead.{AreInside, IsInside, at-inside, either-inside}
 
 -- ---- order
 

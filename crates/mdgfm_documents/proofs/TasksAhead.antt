@@ -5,11 +5,11 @@ use Rattle.std.specs.Prelude.{◌&&◌, nat_le, nat_lt, IfSome, option_map}
 use Rattle.markdown_base.specs.declared.event.Event.{Event}
 use Rattle.markdown_base.specs.declared.event.Kind.TheVariants.{Enter, Exit}
 use Rattle.markdown_base.specs.declared.event.Name.{Name}
-use Rattle.markdown_base.specs.declared.event.Name.TheVariants.{Data, GfmTaskListItemCheck, GfmTaskListItemMarker, LineEnding, Link, SpaceOrTab}
+use Rattle.markdown_base.specs.declared.event.Name.TheVariants.{Data, GfmTaskListItemCheck, Link}
 use Rattle.markdown_base.specs.declared.event.Point.{Point}
 use Rattle.markdown_base.specs.Events.{is_enter, same_name}
 use Rattle.mdblock_tables.specs.declared.tasks.Check.{Check}
-use Rattle.mdblock_tables.specs.Tasks.{check_at, value_name}
+use Rattle.mdblock_tables.specs.Tasks.{check_at}
 use Rattle.mdgfm_literals.proofs.Order.{beyond}
 use Rattle.mdgfm_events.specs.Places.{event, leaf, place_at}
 use Rattle.mdgfm_tasks.specs.declared.awaited.Awaited.{Awaited}
@@ -20,11 +20,9 @@ use Rattle.mdgfm_tasks.specs.Awaits.{awaited_behind, exits}
 use Rattle.mdgfm_tasks.specs.Checks.{check_of, data_over, found, line_from, linked, text_over, two_more}
 use Rattle.mdgfm_tasks.specs.TaskEvents.{check_events, events_with, further}
 use Rattle.mdgfm_tasks.proofs.Covers.{Covers, found-covers}
-use Rattle.mdgfm_tasks.proofs.Forward.{further-index}
-use Rattle.mdgfm_tasks.proofs.Steps.{check-parts, with-found}
+use Rattle.mdgfm_tasks.proofs.Steps.{IsKeptByLeafs, check-kept, check-places, with-found}
 use Rattle.mdgfm_documents.proofs.CheckEnds.{Stands, found-stands}
-pub use Rattle.mdgfm_documents.proofs.CheckOrder.{tasks-go}
-use Rattle.mdhtml_calls.proofs.Ended.{AreEnded, IsNext, leaf-ended, other-ended}
+use Rattle.mdgfm_documents.proofs.Ended.{AreEnded, IsNext, leaf-ended, other-ended}
 
 -- ---- places
 
@@ -74,55 +72,49 @@ none-found bytes Text f fs h = by (check_at (line_from bytes f.point.index))
 
 -- ---- checks
 
-value-other : (b : Bool) → same_name (value_name b) LineEnding ≡ false
-value-other true = refl
-value-other false = refl
-
 module _ (tab : ℕ) (bytes : List ℕ) where
+  -- places within the document
+  abbrev AtInside : ℕ → Point → Point → Type 0
+  AtInside most p q = IsInside tab most q
+
+  abbrev AllInside : ℕ → Point → List Event → Type 0
+  AllInside most p es = AreInside tab most es
+
+  inside-by-leafs : (most : ℕ) → IsKeptByLeafs (AtInside most) (AllInside most)
+  inside-by-leafs most = record { itself = λ p q h. h; leafs = λ n b p q es other h k more. leaf-inside tab most n p q es h k more; one = λ k b p es h more. (h, more) }
+
   check-inside : (most : ℕ) (p : Point) (f : Found) (es : List Event) → IsInside tab most p → IsInside tab most f.text.end → f.check.columns + 3 ≤ f.text.end.index - p.index → AreInside tab most es
       → AreInside tab most (check_events tab bytes p f ++ es)
   check-inside most p f es h last far more =
       let start = further tab bytes p f.check.columns in
       let value = further tab bytes start 1 in
       let closing = further tab bytes value 1 in
-      let end = further tab bytes closing 1 in
-      let i : start.index ≡ p.index + f.check.columns = further-index tab bytes p f.check.columns in
-      let j : value.index ≡ start.index + 1 = further-index tab bytes start 1 in
-      let k : closing.index ≡ value.index + 1 = further-index tab bytes value 1 in
+      let there = check-places tab bytes p f.check.columns in
+      let i = there.start in
+      let j = there.value in
+      let k = there.closing in
       let low = last.0 in
       let in1 : IsInside tab most start = at-inside tab most bytes p (p.index + f.check.columns) h (omega (arith, far, low)) in
       let in2 : IsInside tab most value = at-inside tab most bytes start (start.index + 1) in1 (omega (arith, i, far, low)) in
-      let in3 : IsInside tab most closing = at-inside tab most bytes value (value.index + 1) in2 (omega (arith, i, j, far, low)) in
-      let in4 : IsInside tab most end = at-inside tab most bytes closing (closing.index + 1) in3 (omega (arith, i, j, k, far, low)) in
-      let three = event Exit GfmTaskListItemCheck end ∷ (leaf Data end f.text.end ++ es) in
-      let two = leaf GfmTaskListItemMarker closing end ++ three in
-      let one = leaf (value_name f.check.is_checked) value closing ++ two in
-      let all = event Enter GfmTaskListItemCheck start ∷ (leaf GfmTaskListItemMarker start value ++ one) in
-      subst (AreInside tab most) (sym (check-parts tab bytes p f es))
-      (leaf-inside tab most SpaceOrTab p start all h in1 (
-        in1,
-        leaf-inside tab most GfmTaskListItemMarker start value one in1 in2
-            (leaf-inside tab most (value_name f.check.is_checked) value closing two in2 in3
-            (leaf-inside tab most GfmTaskListItemMarker closing end three in3 in4 (in4, leaf-inside tab most Data end f.text.end es in4 last more))),
-      ))
+      let in3 : IsInside tab most closing = at-inside tab most bytes value (value.index + 1) in2 (omega (arith, j, far, low)) in
+      check-kept (AtInside most) (AllInside most) (inside-by-leafs most) tab bytes p p f es h in1 in2 in3 (at-inside tab most bytes closing (closing.index + 1) in3 (omega (arith, k, far, low))) last more
+
+  -- line endings
+  abbrev Anywhere : Point → Point → Type 0
+  Anywhere p q = Unit {0}
+
+  abbrev AllEnded : Point → List Event → Type 0
+  AllEnded p es = AreEnded es
+
+  ended-by-leafs : IsKeptByLeafs Anywhere AllEnded
+  ended-by-leafs = record {
+    itself = λ p q h. tt;
+    leafs = λ n b p q es other h k more. leaf-ended n p q es other more;
+    one = λ k b p es h more. (other-ended (event k GfmTaskListItemCheck p) es refl, more);
+  }
 
   check-ended : (p : Point) (f : Found) (es : List Event) → AreEnded es → AreEnded (check_events tab bytes p f ++ es)
-  check-ended p f es more =
-      let start = further tab bytes p f.check.columns in
-      let value = further tab bytes start 1 in
-      let closing = further tab bytes value 1 in
-      let end = further tab bytes closing 1 in
-      let three = event Exit GfmTaskListItemCheck end ∷ (leaf Data end f.text.end ++ es) in
-      let two = leaf GfmTaskListItemMarker closing end ++ three in
-      let one = leaf (value_name f.check.is_checked) value closing ++ two in
-      let all = event Enter GfmTaskListItemCheck start ∷ (leaf GfmTaskListItemMarker start value ++ one) in
-      subst AreEnded (sym (check-parts tab bytes p f es))
-      (leaf-ended SpaceOrTab p start all refl (
-        other-ended (event Enter GfmTaskListItemCheck start) (leaf GfmTaskListItemMarker start value ++ one) refl,
-        leaf-ended GfmTaskListItemMarker start value one refl
-            (leaf-ended (value_name f.check.is_checked) value closing two (value-other f.check.is_checked)
-            (leaf-ended GfmTaskListItemMarker closing end three refl (other-ended (event Exit GfmTaskListItemCheck end) (leaf Data end f.text.end ++ es) refl, leaf-ended Data end f.text.end es refl more))),
-      ))
+  check-ended p f es more = check-kept Anywhere AllEnded ended-by-leafs tab bytes p p f es tt tt tt tt tt tt more
 
   -- ---- events with checks
 

@@ -45,9 +45,9 @@ use Rattle.mddocument.proofs.Innermost.Chains.{IsReadWell, ReadsChain, children-
 use Rattle.mddocument.specs.Documents.{document}
 use Rattle.mdgfm_tables.proofs.TableFormed.{rows-ready, table-formed}
 use Rattle.mdgfm_tables.specs.TableEvents.{IsTable, header_and_rows, last_ending, row_with, rows_with, table_events, table_rows}
-use Rattle.mdhtml_calls.proofs.DocumentAhead.{account-ended, places-inside}
-use Rattle.mdhtml_calls.proofs.Ended.{AreEnded}
-use Rattle.mdhtml_calls.proofs.TasksAhead.{AreInside}
+use Rattle.mdgfm_documents.proofs.DocumentAhead.{account-ended, places-inside}
+use Rattle.mdgfm_documents.proofs.Ended.{AreEnded}
+use Rattle.mdgfm_documents.proofs.TasksAhead.{AreInside}
 
 -- ---- lines of a table
 

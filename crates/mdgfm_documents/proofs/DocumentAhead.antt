@@ -1,5 +1,5 @@
 -- The events of a document go ahead: its innermost spans are over some virtual byte each, and all are at places of the document, in order.
-use Rattle.std.proofs.Common.{◌≡◌, ℕ, ◌+◌, ◌<◌, List, [], ◌∷◌, ◌++◌, length, ap, sym, refl, subst, ◌∙◌, arith, Some}
+use Rattle.std.proofs.Common.{◌≡◌, ℕ, ◌<◌, List, [], ◌∷◌, ◌++◌, length, ap, sym, refl, subst, ◌∙◌, arith, Some}
 use Rattle.std.proofs.lemmas.Bool.{and_parts}
 use Rattle.std.proofs.lemmas.Bool.Decides.{nat_tests}
 use Rattle.std.proofs.lemmas.List.Elements.{recursion_from_All}
@@ -33,8 +33,8 @@ use Rattle.mddocument.proofs.InContainers.TextsFormed.{texts-orderly}
 use Rattle.mddocument.proofs.InContainers.Tight.{texts-tight}
 use Rattle.mddocument.proofs.Innermost.Texts.{texts-account}
 use Rattle.mddocument.specs.DocumentEvents.{document_events_by, document_texts_by}
-use Rattle.mdhtml_calls.proofs.Ended.{AreEnded, IsEnded, IsNext}
-use Rattle.mdhtml_calls.proofs.TasksAhead.{AreInside, IsInside}
+use Rattle.mdgfm_documents.proofs.Ended.{AreEnded, IsEnded, IsNext}
+use Rattle.mdgfm_documents.proofs.TasksAhead.{AreInside, IsInside}
 
 -- a span from a place to one behind it
 abbrev GoesOn : Point × Point → Type 0

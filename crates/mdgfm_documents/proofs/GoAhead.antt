@@ -1,0 +1,68 @@
+-- The events of a document go ahead, with tables, checks and literals too: in order, at places of the document, and over line endings.
+use Rattle.std.proofs.Common.{ℕ, ◌≤◌, List, length, Bool, true, false, cond, refl, arith}
+use Rattle.std.specs.List.{AllByRecursion}
+use Rattle.markdown_base.proofs.Common.{every-map}
+use Rattle.markdown_base.specs.declared.configuration.ParseOptions.{ParseOptions}
+use Rattle.markdown_base.specs.declared.event.Event.{Event}
+use Rattle.markdown_base.specs.declared.event.Point.{Point}
+use Rattle.markdown_base.specs.Virtual.{point}
+use Rattle.markdown_tokenizer.specs.Text.{IsDocument}
+use Rattle.mddocument.specs.Documents.{document}
+use Rattle.mdgfm_documents.specs.Documents.{gfm_events}
+use Rattle.mdgfm_literals.proofs.Order.{Goes, pairs-go-all}
+use Rattle.mdgfm_literals.specs.LiteralEvents.{events_with as with_literals, literal_events}
+use Rattle.mdgfm_literals.specs.Stretches.{literals_of}
+use Rattle.mdgfm_tables.proofs.PartsLaid.{events-laid}
+use Rattle.mdgfm_tables.specs.Documents.{events_with_tables}
+use Rattle.mdgfm_tasks.specs.declared.awaited.Awaited.TheVariants.{Nothing}
+use Rattle.mdgfm_tasks.specs.TaskEvents.{events_with as with_tasks, task_events}
+use Rattle.mdgfm_documents.proofs.Ended.{AreEnded}
+use Rattle.mdgfm_documents.proofs.LiteralsAhead.{literals-ended, literals-go, literals-inside, others-found, places-found}
+use Rattle.mdgfm_documents.proofs.PartsAhead.{tables-ended, tables-inside}
+use Rattle.mdgfm_documents.proofs.CheckOrder.{tasks-go}
+use Rattle.mdgfm_documents.proofs.TasksAhead.{AreInside, IsInside, tasks-ended, tasks-inside}
+
+abbrev pub start : Point
+start = point 1 1 0 0
+
+-- events go ahead: in order, within a document, and over line endings
+pub record IsAhead (tab most : ℕ) (es : List Event) : Type 0 where
+  pub goes : Goes start es
+  pub inside : AreInside tab most es
+  pub ended : AreEnded es
+
+tasks-ahead : (options : ParseOptions) (bytes : List ℕ) (es : List Event) → IsAhead options.tab_size (length bytes) es → IsAhead options.tab_size (length bytes) (task_events options bytes es)
+tasks-ahead options bytes es h = by options.constructs.gfm_task_list_item
+  where
+    by : (t : Bool) → IsAhead options.tab_size (length bytes) (cond t (with_tasks options.tab_size bytes 0 Nothing es) es)
+    by true = record {
+      goes = tasks-go options.tab_size bytes start 0 Nothing es h.goes;
+      inside = tasks-inside options.tab_size bytes (length bytes) 0 Nothing es h.inside;
+      ended = tasks-ended options.tab_size bytes 0 Nothing es h.ended;
+    }
+    by false = h
+
+literals-ahead : (options : ParseOptions) (bytes : List ℕ) (es : List Event) → IsAhead options.tab_size (length bytes) es → IsAhead options.tab_size (length bytes) (literal_events options bytes es)
+literals-ahead options bytes es h = by options.constructs.gfm_autolink_literal
+  where
+    at : AllByRecursion (λ (e : Event). e.point.index ≤ length bytes) es
+    at = every-map (λ (e : Event). IsInside options.tab_size (length bytes) e.point) (λ (e : Event). e.point.index ≤ length bytes) (λ e k. k.0) es h.inside
+
+    by : (t : Bool) → IsAhead options.tab_size (length bytes) (cond t (with_literals options.tab_size bytes 0 0 start (literals_of bytes true 0 0 es) es) es)
+    by true = record {
+      goes = literals-go options.tab_size bytes start es refl refl h.goes;
+      inside = literals-inside options.tab_size (length bytes) bytes 0 0 start (literals_of bytes true 0 0 es) es (omega arith, omega arith) (places-found (length bytes) bytes es at) h.inside;
+      ended = literals-ended options.tab_size bytes 0 0 start (literals_of bytes true 0 0 es) es (others-found bytes options.tab_size es) h.ended;
+    }
+    by false = h
+
+module _ (options : ParseOptions) (bytes : List ℕ) (is : IsDocument (document options bytes)) where
+  tables-ahead : IsAhead options.tab_size (length bytes) (events_with_tables options bytes)
+  tables-ahead = record {
+    goes = pairs-go-all start (events_with_tables options bytes) refl refl (events-laid options bytes is).pairs;
+    inside = tables-inside options bytes is;
+    ended = tables-ended options bytes is;
+  }
+
+  pub gfm-ahead : IsAhead options.tab_size (length bytes) (gfm_events options bytes)
+  gfm-ahead = let events = events_with_tables options bytes in literals-ahead options bytes (task_events options bytes events) (tasks-ahead options bytes events tables-ahead)
