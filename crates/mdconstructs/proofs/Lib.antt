@@ -290,10 +290,12 @@ pub use Rattle.mddocument_editing.proofs.CountedEndings
 pub use Rattle.mddocument_editing.proofs.CutLines
 pub use Rattle.mddocument_editing.proofs.CutSteps
 pub use Rattle.mddocument_editing.proofs.FitSections
+pub use Rattle.mddocument_editing.proofs.FrontSums
 pub use Rattle.mddocument_editing.proofs.Joined
 pub use Rattle.mddocument_editing.proofs.KeptLabels
 pub use Rattle.mddocument_editing.proofs.LabelBytes
 pub use Rattle.mddocument_editing.proofs.LinesBack
+pub use Rattle.mddocument_editing.proofs.ListSums
 pub use Rattle.mddocument_editing.proofs.MayStand
 pub use Rattle.mddocument_editing.proofs.NewLabels
 pub use Rattle.mddocument_editing.proofs.NothingNamed

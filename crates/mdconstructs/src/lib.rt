@@ -10,7 +10,8 @@
 //! on), `mdblock_containers` (block quotes and lists around leaf blocks), `mddocument` (how a document is read, and its
 //! events), `mddocument_costs` (how many calls of states that takes), `mddocument_laws` (laws of whole documents),
 //! `mddocument_parts` (where a document can be cut, so that its parts are read apart), `mddocument_link_targets` (what links and images
-//! lead to, and where labels are defined) and `mddocument_editing` (a document that can be edited).
+//! lead to, and where labels are defined), `mddocument_references` (references that nothing defines) and `mddocument_editing` (a document that can be
+//! edited).
 #![tactic(auto)]
 
 // paths: what the parts have; each machine stands at the root
@@ -42,6 +43,8 @@ pub use mddocument::limit::limit_of;
 pub use mddocument::{choice, documents, limit, ranges};
 pub use mddocument_editing::{edit, packed, positions, sections};
 pub use mddocument_link_targets::{definitions, targets};
+pub use mddocument_references::reading::undefined_references;
+pub use mddocument_references::references::{Reference, undefined_in};
 pub use mdinline_labels::labels::Labels;
 pub use mdinline_machine::inlines;
 pub use mdinline_machine::inlines::Inlines;
