@@ -670,6 +670,12 @@ LIMECOVE_API struct limecove_answer limecove_document_bytes(struct limecove_docu
 LIMECOVE_API struct limecove_answer limecove_document_definition_of(struct limecove_document *document, const uint8_t *label, size_t label_len,
                                                                     struct limecove_defined *found);
 
+/* Writes where the labels are that nothing in the document defines, of the references in the sections from one up to another, over the first
+ * ranges, as many as fit: `a` of [a], [a][], ![a] and [b][a], where brackets were left as text. The count is that of these references, and 0 if the
+ * code is not LIMECOVE_READ. */
+LIMECOVE_API struct limecove_answer limecove_document_undefined(struct limecove_document *document, size_t from, size_t to,
+                                                                struct limecove_byte_range *labels, size_t labels_len);
+
 /* Gives back the memory of a document, which is then not open. If it is not open, nothing changes. */
 LIMECOVE_API void limecove_document_close(struct limecove_document *document);
 

@@ -148,6 +148,35 @@ static void has_definitions(struct limecove_document *document, size_t sections)
     free(all);
 }
 
+static size_t undefined; /* how many references that nothing defines were told */
+
+/* Each label that nothing defines stands between brackets, in order, and no definition is found of one in one line. Sections have theirs. */
+static void has_undefined(struct limecove_document *document, size_t sections) {
+    static struct limecove_byte_range labels[4096];
+    struct limecove_answer answer = limecove_document_undefined(document, 0, sections, labels, 4096);
+    CHECK(answer.code == LIMECOVE_READ);
+    size_t count = answer.count < 4096 ? answer.count : 4096, all = 0;
+    for (size_t i = 0; i < count; i++) {
+        size_t from = labels[i].from, to = labels[i].to;
+        struct limecove_defined found;
+        CHECK(0 < from && from < to && to < len && bytes[from - 1] == '[' && bytes[to] == ']');
+        CHECK(i == 0 || labels[i - 1].to < from);
+        if (memchr(bytes + from, '\n', to - from) != NULL || memchr(bytes + from, '\r', to - from) != NULL)
+            continue;
+        CHECK(limecove_is_label(bytes + from, to - from) == 1);
+        CHECK(limecove_document_definition_of(document, bytes + from, to - from, &found).count == 0);
+        undefined++;
+    }
+    for (size_t i = 0; i < sections; i++) {
+        struct limecove_byte_range one;
+        answer = limecove_document_undefined(document, i, i + 1, &one, 1);
+        CHECK(answer.code == LIMECOVE_READ);
+        CHECK(answer.count == 0 || all >= count || (one.from == labels[all].from && one.to == labels[all].to));
+        all += answer.count;
+    }
+    CHECK(all == limecove_document_undefined(document, 0, sections, NULL, 0).count);
+}
+
 /* The same event, where the section starts is left aside: lines, indices in the document and links are not compared. */
 static int same_in_section(const struct limecove_record *a, size_t a_start, const struct limecove_record *b, size_t b_start) {
     return a->kind == b->kind && a->content == b->content && a->name == b->name && a->column == b->column && a->vs == b->vs &&
@@ -256,8 +285,10 @@ static void not_open(struct limecove_document *document) {
     struct limecove_changed change;
     struct limecove_place place;
     struct limecove_defined found;
+    struct limecove_byte_range label;
     uint8_t byte = 0xa5;
     size_t number = 7;
+    memset(&label, 0xa5, sizeof label);
     memset(&found, 0xa5, sizeof found);
     memset(&record, 0xa5, sizeof record);
     memset(&change, 0xa5, sizeof change);
@@ -270,6 +301,7 @@ static void not_open(struct limecove_document *document) {
     CHECK(limecove_document_others(document, 0, &number, 1) == 0);
     CHECK(limecove_document_bytes(document, 0, 0, &byte, 1).code == LIMECOVE_NOT_OPEN && byte == 0xa5);
     CHECK(limecove_document_definition_of(document, &byte, 1, &found).code == LIMECOVE_NOT_OPEN && untouched(&found, sizeof found));
+    CHECK(limecove_document_undefined(document, 0, 0, &label, 1).code == LIMECOVE_NOT_OPEN && untouched(&label, sizeof label));
     CHECK(limecove_document_section_at(document, 0) == 0 && limecove_document_start_of(document, 0) == 0);
     limecove_document_close(document);
     CHECK(document->is_open == 0);
@@ -289,8 +321,10 @@ static void edit_all(size_t edits) {
         has_places(&document);
         has_bytes(&document);
         has_definitions(&document, sections);
+        has_undefined(&document, sections);
     }
     CHECK(limecove_document_events(&document, 0, sections + 1, &record, 1).code == LIMECOVE_NO_SUCH_RANGES);
+    CHECK(limecove_document_undefined(&document, 0, sections + 1, NULL, 0).code == LIMECOVE_NO_SUCH_RANGES);
     CHECK(sections == 0 || limecove_document_events(&document, 1, 0, &record, 1).code == LIMECOVE_NO_SUCH_RANGES);
     limecove_document_close(&document);
     not_open(&document);
@@ -350,6 +384,7 @@ int main(int argc, char **argv) {
     }
     for (int i = 4; i < argc; i++)
         edit_file(argv[i], edits);
-    printf("%zu sections stayed, %zu others have other events than before, and %zu definitions were looked up\n", kept, others, defined);
+    printf("%zu sections stayed, %zu others have other events than before\n", kept, others);
+    printf("%zu definitions were looked up, and %zu labels of none\n", defined, undefined);
     return 0;
 }

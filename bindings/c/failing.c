@@ -109,22 +109,26 @@ static void documents_in_turn(const uint8_t *document, size_t len, const uint8_t
     }
     for (long n = 0;; n++) {
         struct limecove_defined found;
+        struct limecove_byte_range label;
         uint8_t form[64];
         memset(&found, 0xa5, sizeof found);
+        memset(&label, 0xa5, sizeof label);
         memset(form, 0xa5, sizeof form);
         failed = 0;
         left = n;
         struct limecove_answer told = limecove_document_definition_of(&kept, (const uint8_t *)"A", 1, &found);
+        struct limecove_answer undefined = limecove_document_undefined(&kept, 0, sections, &label, 1);
         struct limecove_answer made = limecove_normalized_label((const uint8_t *)" a  b", 5, form, sizeof form);
         struct limecove_answer copied = limecove_document_bytes(&kept, 0, 0, form, 0);
         left = -1;
         CHECK(copied.code == LIMECOVE_READ && copied.count == 0 && kept.is_open == 1);
         if (failed == 0) {
-            CHECK(told.code == LIMECOVE_READ && made.code == LIMECOVE_READ && made.count == 3 && memcmp(form, "A B", 3) == 0);
+            CHECK(told.code == LIMECOVE_READ && undefined.code == LIMECOVE_READ && made.code == LIMECOVE_READ && made.count == 3 && memcmp(form, "A B", 3) == 0);
             break;
         }
         CHECK(told.code == LIMECOVE_READ || (told.code == LIMECOVE_OUT_OF_MEMORY && told.count == 0 && untouched(&found, sizeof found)));
         CHECK(made.code == LIMECOVE_READ || (made.code == LIMECOVE_OUT_OF_MEMORY && made.count == 0 && untouched(form, sizeof form)));
+        CHECK(undefined.code == LIMECOVE_READ || (undefined.code == LIMECOVE_OUT_OF_MEMORY && undefined.count == 0 && untouched(&label, sizeof label)));
         ended += told.code == LIMECOVE_OUT_OF_MEMORY;
     }
     count = limecove_document_events(&kept, 0, sections, all, 4096).count;

@@ -32,9 +32,10 @@ pub mod edits;
 pub mod held;
 mod keeping;
 
-// bytes and labels: bytes of documents that a caller edits; labels, and where they are defined
+// bytes and labels: bytes of documents that a caller edits; labels, and where they are defined; references that nothing defines
 pub mod bytes;
 pub mod labels;
+pub mod undefined;
 
 ghost use Rattle.std.specs.Prelude.{◌≡◌, ◌≢◌, ◌<◌, ◌≤◌, ◌-◌, ◌↔◌, ◌⊎◌, Err, IfErr, IfOk, IsOkAnd, drop, length, min};
 ghost use Rattle.markdown.specs.Virtual.{IsWithinLimit};

@@ -19,6 +19,7 @@ use crate::labels::{
     Defined, limecove_document_definition_of, limecove_is_label, limecove_normalized_label,
 };
 use crate::record::{NO_INDEX, Record};
+use crate::undefined::limecove_document_undefined;
 use crate::{
     Answer, ended, limecove_close, limecove_copy, limecove_open, limecove_open_text,
     limecove_open_text_in, limecove_read, limecove_read_text, limecove_read_text_in,
@@ -655,4 +656,42 @@ fn fields_lie_in_their_order(rt: HostRuntime) {
         ByteRange { from: 1, to: 2 }, Reading { is_open: 0, kept: Kept }";
     let shown = fields_shown(rt.alloc()).expect(&rt, "memory");
     assert_eq!(rt; shown.as_str(), want);
+}
+
+/// References in a paragraph, in a quote over two lines, in a heading, and a definition. Not defined are `b`, `d`, `e`, what is between `g` and `h`,
+/// `k` and `l`.
+const REFERENCES: &[u8] =
+    b"[a][b] `[c]` [d][] ![e] [f]\n\n> [g\n> h] \\[i] <http://[j]> [f](u)\n\n# [k] [ ] [f [l]]\n\n[f]: u\n";
+
+/// Where their labels are.
+const NOT_DEFINED: [ByteRange; 6] = [
+    ByteRange { from: 4, to: 5 },
+    ByteRange { from: 14, to: 15 },
+    ByteRange { from: 21, to: 22 },
+    ByteRange { from: 32, to: 37 },
+    ByteRange { from: 68, to: 69 },
+    ByteRange { from: 79, to: 80 },
+];
+
+/// Whether these labels are told, of all sections and of each.
+fn is_undefined(alloc: Global) -> bool {
+    let mut document = Document::closed();
+    let made = limecove_document_new(alloc, REFERENCES, &TEXT, &mut document);
+    let old = ByteRange { from: 9, to: 9 };
+    let mut labels = [old; 7];
+    let told = limecove_document_undefined(alloc, &mut document, 0, made.count, &mut labels);
+    let mut one = [old; 1];
+    let last = limecove_document_undefined(alloc, &mut document, 2, 3, &mut one);
+    limecove_document_close(alloc, &mut document);
+    made == ended(READ, 4)
+        && told == ended(READ, 6)
+        && &labels[..6] == NOT_DEFINED.as_slice()
+        && labels[6] == old
+        && last == ended(READ, 2)
+        && one[0] == NOT_DEFINED[4]
+}
+
+#[test]
+fn undefined_labels_are_told(rt: HostRuntime) {
+    assert!(rt; is_undefined(rt.alloc()));
 }

@@ -524,6 +524,22 @@ extern "C" {
         found: *mut Defined,
     ) -> Answer;
 
+    /// Writes where the labels are that nothing in the document defines, of the references in the sections from one up to another, over the
+    /// first ranges, as many as fit: `a` of `[a]`, `[a][]`, `![a]` and `[b][a]`, where brackets were left as text. The count is that of these
+    /// references, and 0 if the code is not [`READ`].
+    ///
+    /// # Safety
+    ///
+    /// The document is [`NO_DOCUMENT`], or as a call of the library left it. The ranges share no byte with it, and are as many as the length
+    /// says.
+    pub fn limecove_document_undefined(
+        document: *mut Document,
+        from: usize,
+        to: usize,
+        labels: *mut ByteRange,
+        labels_len: usize,
+    ) -> Answer;
+
     /// Gives back the memory of a document, which is then not open. If it is not open, nothing changes.
     ///
     /// # Safety

@@ -4,7 +4,7 @@ use crate::definitions::copied;
 use crate::reading::assert_version;
 use crate::tree::Text;
 use crate::{Definitions, Error, Event, Options, Snapshot, TextOptions, Tree};
-use limecove_sys::{Record, NO_DOCUMENT};
+use limecove_sys::{ByteRange, Record, NO_DOCUMENT};
 use std::cell::UnsafeCell;
 use std::fmt;
 use std::mem::size_of;
@@ -122,6 +122,13 @@ pub struct Place {
     pub line: usize,
     /// The units of the line in front of the place.
     pub character: usize,
+}
+
+/// A reference that nothing defines.
+#[derive(Clone, Debug, PartialEq, Eq)]
+pub struct Undefined {
+    /// The bytes of its label in the document: what is between its brackets.
+    pub label: Range<usize>,
 }
 
 /// A definition in a document.
@@ -390,6 +397,56 @@ impl Document {
             section: found.section,
             bytes: found.from..found.to,
         }))
+    }
+
+    /// The references of these sections that nothing in the whole document defines, in their order. They are text, and leave no span: their
+    /// brackets were left, and a label is between them. It copies the document's bytes.
+    ///
+    /// ```
+    /// use limecove::{Document, Options};
+    ///
+    /// let document = Document::new("[a] [b] `[c]`\n\n[a]: d\n", &Options::default())?;
+    /// let found = document.undefined(0..document.sections())?;
+    /// assert_eq!((found.len(), &found[0].label), (1, &(5..6)));
+    /// # Ok::<(), limecove::Error>(())
+    /// ```
+    ///
+    /// # Errors
+    ///
+    /// If memory runs out, or there are no such sections.
+    pub fn undefined(&self, sections: Range<usize>) -> Result<Vec<Undefined>, Error> {
+        let mut labels = Vec::<ByteRange>::new();
+        loop {
+            let room = labels.capacity();
+            // SAFETY: as in `events_in`. There is room for that many.
+            let answer = unsafe {
+                limecove_sys::limecove_document_undefined(
+                    self.document.get(),
+                    sections.start,
+                    sections.end,
+                    labels.as_mut_ptr(),
+                    room,
+                )
+            };
+            read(answer.code, || Error::NoSuchSections {
+                from: sections.start,
+                to: sections.end,
+                count: self.sections,
+            })?;
+            if answer.count <= room {
+                // SAFETY: that many were written.
+                unsafe { labels.set_len(answer.count) };
+                break;
+            }
+            let got = labels.try_reserve_exact(answer.count);
+            got.map_err(|_| Error::OutOfMemory)?;
+        }
+        let mut found = Vec::new();
+        let got = found.try_reserve_exact(labels.len());
+        got.map_err(|_| Error::OutOfMemory)?;
+        let labels = labels.iter().map(|it| it.from..it.to);
+        found.extend(labels.map(|label| Undefined { label }));
+        Ok(found)
     }
 
     /// The bytes.

@@ -454,6 +454,29 @@ fn labels_lead_to_the_first_definition() {
     assert_eq!(document.definition_of("g"), Ok(None));
 }
 
+/// The labels of a document that nothing defines.
+fn undefined(document: &Document) -> Vec<&str> {
+    let found = document.undefined(0..document.sections()).unwrap();
+    let labels = found.into_iter().map(|it| &document.bytes()[it.label]);
+    labels.map(|it| std::str::from_utf8(it).unwrap()).collect()
+}
+
+#[test]
+fn references_that_nothing_defines_are_told() {
+    let text = "[a][b] `[c]` [d][] ![e] [f]\n\n> [g\n> h] \\[i] <http://[j]> [k](u)\n\n# *[l* m] [ ] [n [o]]\n\n[F]: u\n";
+    let mut document = Document::new(text, &Options::default()).unwrap();
+    assert_eq!(undefined(&document), ["b", "d", "e", "g\n> h", "l* m", "o"]);
+    assert_eq!(document.sections(), 4);
+    let found = document.undefined(1..2).unwrap();
+    assert_eq!((found.len(), &found[0].label), (1, &(32..37)));
+    assert!(document.undefined(3..5).is_err());
+    // definitions come, and one goes
+    document.replace(0..0, "[O]: v\n\n[ D ]: v\n\n").unwrap();
+    let end = document.len();
+    document.replace(end - 7..end, "").unwrap();
+    assert_eq!(undefined(&document), ["b", "e", "f", "g\n> h", "l* m"]);
+}
+
 /// What is replaced, and by what.
 type Edit<'a> = (Range<usize>, &'a [u8]);
 

@@ -154,7 +154,8 @@ impl Ends {
             document.replace(range.clone(), with)?;
             let others = document.others()?;
             let definition = document.definition_of("B")?;
-            Ok((document.events()?, others, definition))
+            let undefined = document.undefined(0..document.sections())?;
+            Ok((document.events()?, others, definition, undefined))
         });
         self.of_call(|| {
             let mut document = made()?;
