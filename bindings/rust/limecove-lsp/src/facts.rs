@@ -1,7 +1,7 @@
 //! What a section of a document has, by places in the section: so it stays when what is before the section changes.
 
 use crate::rules::{self, is_nowhere, shown, Findings};
-use limecove::{Definitions, Error, Event, LineIndex, Name, Node, Tree};
+use limecove::{Definitions, Error, Event, LineIndex, Name, Node, Tree, Undefined};
 use std::ops::Range;
 
 /// A place in a section: line and unit of UTF-16, both from 0.
@@ -75,6 +75,8 @@ pub struct Facts {
     pub references: Vec<Reference>,
     /// Where links with a resource, definitions and autolinks go, and what says so.
     pub links: Vec<(Vec<u8>, Span)>,
+    /// References that nothing defines: what is between the brackets of the label.
+    pub undefined: Vec<Span>,
     /// Links without a text.
     pub empty: Vec<Span>,
     /// What the rules find.
@@ -297,12 +299,35 @@ pub fn lossy(bytes: &[u8]) -> String {
     String::from_utf8_lossy(bytes).into_owned()
 }
 
-/// What a section has, from its bytes in the document and its events.
+/// References that nothing defines, without what GFM does not take for such: boxes of tasks, at the front of items, and footnotes.
+fn undefined_in(places: &Places<'_>, tree: &Tree<'_>, asked: &[Undefined]) -> Vec<Span> {
+    let prefixes = tree.nodes().filter(|it| it.name() == Name::ListItemPrefix);
+    let mut fronts = prefixes.map(|it| it.bytes().end).peekable();
+    let mut found = Vec::new();
+    for it in asked {
+        let bytes = it.label.start - places.start..it.label.end - places.start;
+        let label = &places.text[bytes.clone()];
+        while fronts.next_if(|end| end + 1 < it.label.start).is_some() {}
+        let is_in_front = fronts.peek() == Some(&(it.label.start - 1));
+        let is_box = is_in_front && matches!(label, b"x" | b"X");
+        if !is_box && !label.starts_with(b"^") {
+            found.push(places.span(bytes));
+        }
+    }
+    found
+}
+
+/// What a section has, from its bytes in the document, its events, and its references that nothing defines.
 ///
 /// # Errors
 ///
 /// If memory runs out.
-pub fn facts_of(document: &[u8], range: Range<usize>, events: &[Event]) -> Result<Facts, Error> {
+pub fn facts_of(
+    document: &[u8],
+    range: Range<usize>,
+    events: &[Event],
+    undefined: &[Undefined],
+) -> Result<Facts, Error> {
     // where links by reference go is asked of all sections together
     let none = Definitions::default();
     let tree = Tree::with_definitions(document, events, &none)?;
@@ -323,5 +348,8 @@ pub fn facts_of(document: &[u8], range: Range<usize>, events: &[Event]) -> Resul
     }
     let mut facts = reader.facts;
     facts.findings = rules.findings(&tree);
+    if !undefined.is_empty() {
+        facts.undefined = undefined_in(&places, &tree, undefined);
+    }
     Ok(facts)
 }

@@ -435,7 +435,7 @@ fn target(uri: &str, to: &[u8]) -> String {
     }
 }
 
-/// What is wrong with a document: what the rules find, links without a text, and labels. What is off is not told.
+/// What is wrong with a document: what the rules find, links without a text, references that nothing defines, and labels. What is off is not told.
 struct Diagnostics<'a> {
     text: &'a Text,
     off: &'a HashSet<String>,
@@ -479,6 +479,10 @@ impl Diagnostics<'_> {
             for span in &section.facts.empty {
                 let message = || "a link without a text".into();
                 self.say(span, first, 2, "empty-link", message);
+            }
+            for span in &section.facts.undefined {
+                let message = || "a reference that nothing defines".into();
+                self.say(span, first, 2, "undefined-reference", message);
             }
         }
     }

@@ -2,8 +2,11 @@
 
 use crate::facts::{facts_of, Facts};
 use crate::rules::{tell, Rule};
-use limecove::{read_document, Document, Encoding, Error, Event, Kind, Options, Place};
+use limecove::{read_document, Document, Encoding, Error, Event, Kind, Options, Place, Undefined};
 use std::ops::Range;
+
+/// Of so many sections each is asked by itself for its references that nothing defines.
+const FEW: usize = 16;
 
 /// A section: how many bytes it has, and what is in it, by places in it.
 pub struct Section {
@@ -28,14 +31,18 @@ impl Text {
         };
         // all events at once: to ask section by section takes the square of their number
         let events = text.document.events()?;
+        let undefined = text.document.undefined(0..text.document.sections())?;
+        let mut undefined = &undefined[..];
         let (mut from, mut start) = (0, 0);
         for section in 0..text.document.sections() {
             let end = text.document.start_of(section + 1);
             let is_behind = |it: &Event| it.kind() == Kind::Enter && it.point().index >= end;
             let behind = events[from..].iter().position(is_behind);
             let to = behind.map_or(events.len(), |it| from + it);
-            let made = text.section_of(start..end, &events[from..to])?;
+            let here = undefined.partition_point(|it| it.label.start < end);
+            let made = text.section_of(start..end, &events[from..to], &undefined[..here])?;
             text.sections.push(made);
+            undefined = &undefined[here..];
             (from, start) = (to, end);
         }
         Ok(text)
@@ -45,17 +52,24 @@ impl Text {
         self.document.bytes()
     }
 
-    /// What is in a section, read from its events.
-    fn read(&self, section: usize) -> Result<Section, Error> {
+    /// What is in a section, read from its events, and of these references that nothing defines its own.
+    fn read(&self, section: usize, undefined: &[Undefined]) -> Result<Section, Error> {
         let events = self.document.events_in(section..section + 1)?;
         let range = self.document.start_of(section)..self.document.start_of(section + 1);
-        self.section_of(range, &events)
+        let before = |byte| undefined.partition_point(|it| it.label.start < byte);
+        let here = before(range.start)..before(range.end);
+        self.section_of(range, &events, &undefined[here])
     }
 
-    fn section_of(&self, range: Range<usize>, events: &[Event]) -> Result<Section, Error> {
+    fn section_of(
+        &self,
+        range: Range<usize>,
+        events: &[Event],
+        undefined: &[Undefined],
+    ) -> Result<Section, Error> {
         Ok(Section {
             bytes: range.len(),
-            facts: facts_of(self.bytes(), range, events)?,
+            facts: facts_of(self.bytes(), range, events, undefined)?,
         })
     }
 
@@ -66,10 +80,22 @@ impl Text {
     /// If memory runs out, the document would be too long, or the bytes are none of it.
     pub fn replace(&mut self, range: Range<usize>, with: &str) -> Result<(), Error> {
         let change = self.document.replace(range, with)?;
-        let fresh: Result<Vec<_>, _> = change.new_sections().map(|it| self.read(it)).collect();
+        let undefined = self.document.undefined(change.new_sections())?;
+        let new = change.new_sections();
+        let fresh: Result<Vec<_>, _> = new.map(|it| self.read(it, &undefined)).collect();
         self.sections.splice(change.old_sections(), fresh?);
-        for other in self.document.others()? {
-            self.sections[other] = self.read(other)?;
+        let others = self.document.others()?;
+        // each call goes over the whole document: some are dearer than one for all that is between
+        let many = others.len() > FEW;
+        let mut undefined = match (others.first(), others.last()) {
+            (Some(first), Some(last)) if many => self.document.undefined(*first..last + 1)?,
+            _ => Vec::new(),
+        };
+        for other in others {
+            if !many {
+                undefined = self.document.undefined(other..other + 1)?;
+            }
+            self.sections[other] = self.read(other, &undefined)?;
         }
         Ok(())
     }
@@ -125,7 +151,7 @@ impl Text {
         };
         let other = self.sections.iter().zip(&anew.sections).position(is_other);
         // the same, as if all were one section
-        let whole = facts_of(self.bytes(), 0..self.bytes().len(), &fresh)?;
+        let whole = facts_of(self.bytes(), 0..self.bytes().len(), &fresh, &[])?;
         let whole = ordered([(&whole, 0, 0)].into_iter());
         let found = self.findings();
         Ok(if kept != fresh {

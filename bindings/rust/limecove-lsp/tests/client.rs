@@ -231,6 +231,7 @@ fn each_request_is_answered() {
         ("MD042", "[]()"),
         ("duplicate-definition", "[foo bar]: other"),
         ("empty-link", "[]()"),
+        ("undefined-reference", "where"),
         ("unused-definition", "[unused]: #two"),
     ];
     assert_eq!(told(&client.receive(), TEXT), wanted);
@@ -363,6 +364,50 @@ fn each_of_thirteen_rules_is_told() {
     let message = client.receive();
     let told = told(&message, &text);
     assert_eq!(told.len(), wanted.len() - 3, "{told:?}");
+    assert_eq!(client.end(), Some(0));
+}
+
+/// References that nothing defines, as definitions come and go. What is told is typed by hand.
+#[test]
+fn undefined_references_are_told() {
+    let mut text = String::from(
+        "# [a]\n\n> [b][c], ![d][], [ E\n> f ] [g](h) \\[i] `[j]` <kk:[l]>\n\n- [x] [M]\n- [ ] n [^1]\n\n[o]: p\n[o]\n",
+    );
+    let mut client = Client::start();
+    client.open(URI, &text);
+    let is_told = |client: &mut Client, text: &str, wanted: &[&str]| {
+        let message = client.receive();
+        let told = told(&message, text);
+        let told = told.iter().filter(|it| it.0 == "undefined-reference");
+        let told: Vec<_> = told.map(|it| it.1).collect();
+        assert_eq!(told, wanted, "{text}");
+        client.check(URI, text);
+    };
+    is_told(&mut client, &text, &[" E\n> f ", "M", "a", "c", "d"]);
+    // a definition in another section comes, is renamed, and goes
+    for (from, to, wanted) in [
+        ("[o]: p", "[o]: p\n[m]: q", &[" E\n> f ", "a", "c", "d"][..]),
+        ("[m]: q", "[e F]: q", &["M", "a", "c", "d"]),
+        (
+            "[o]: p\n[e F]: q\n",
+            "",
+            &[" E\n> f ", "M", "a", "c", "d", "o"],
+        ),
+        (
+            "[b][c]",
+            "[b][c][a][m]",
+            &[" E\n> f ", "M", "a", "d", "m", "o"],
+        ),
+    ] {
+        let at = text.find(from).unwrap();
+        let range = object([
+            ("start", place(&text, at)),
+            ("end", place(&text, at + from.len())),
+        ]);
+        client.change(URI, vec![object([("range", range), ("text", to.into())])]);
+        text.replace_range(at..at + from.len(), to);
+        is_told(&mut client, &text, wanted);
+    }
     assert_eq!(client.end(), Some(0));
 }
 
