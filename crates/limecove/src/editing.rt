@@ -3,7 +3,9 @@
 ghost use Rattle.std.specs.Prelude.{◌≡◌, ◌≢◌, ◌<◌, ◌≤◌, ◌↔◌, ◌⊎◌, [], Err, None, IfErr, IfOk, IfSome, IsSomeAnd, drop, length, min};
 ghost use Rattle.markdown.specs.Virtual.{IsWithinLimit};
 ghost use Rattle.mdconstructs.specs.Divided.{bytes_of};
-ghost use Rattle.limecove.specs.Choices.{text_choice_of};
+ghost use Rattle.mdconstructs.specs.Documents.{options_with};
+ghost use Rattle.mdconstructs.specs.Fits.{CanBeEdited};
+ghost use Rattle.limecove.specs.Choices.{constructs_of, text_choice_of};
 ghost use Rattle.limecove.specs.Editing.{HoldsSections, IsEdited, IsFoundAt, IsMade, IsNotOpen, IsOf, index_in, others_in, place_in, replaced, start_in, written};
 
 use crate::choose::{TextOptions, choose_text, constructs_of};
@@ -36,6 +38,7 @@ pub extern "C" fn limecove_document_new(
     ensures options { IfErr (text_choice_of options.now) (λ code. result.code ≡ code) }
     ensures chosen { IfOk (text_choice_of options.now) (λ _. result.code ≤ TOO_LONG) }
     ensures too_long { IfOk (text_choice_of options.now) (λ tab. ¬ IsWithinLimit tab bytes.now → result.code ≡ TOO_LONG) }
+    ensures exact { IfOk (text_choice_of options.now) (λ tab. CanBeEdited (options_with (constructs_of options.now.constructs) tab) bytes.now → result.code ≢ TOO_LONG) }
     ensures codes { result.code ≤ LINKS_NO_TEXT }
     ensures version { result.version ≡ VERSION }
 {
@@ -65,6 +68,7 @@ pub extern "C" fn limecove_document_replace(
     ensures none { result.code ≢ READ → result.count ≡ 0 }
     ensures range { (result.code ≡ NO_SUCH_BYTES) ↔ IsSomeAnd document.old.kept.held (λ held. ¬ ((from ≤ to) × (to ≤ length (bytes_of held.sections)))) }
     ensures too_long { IfSome document.old.kept.held (λ held. from ≤ to → to ≤ length (bytes_of held.sections) → ¬ IsWithinLimit held.sections.options.tab_size (replaced from to with.now (bytes_of held.sections)) → result.code ≡ TOO_LONG) }
+    ensures exact { IfSome document.old.kept.held (λ held. CanBeEdited held.sections.options (replaced from to with.now (bytes_of held.sections)) → result.code ≢ TOO_LONG) }
     ensures not_open { (result.code ≡ NOT_OPEN) ↔ (document.old.kept.held ≡ None) }
     ensures codes { (result.code ≤ TOO_LONG) ⊎ ((result.code ≡ NO_SUCH_BYTES) ⊎ (result.code ≡ NOT_OPEN)) }
     ensures version { result.version ≡ VERSION }
@@ -240,6 +244,7 @@ fn sections(alloc: Global, bytes: &[u8], options: &TextOptions) -> Result<Sectio
     ensures options { IfErr (text_choice_of options.now) (λ code. result ≡ Err code) }
     ensures chosen { IfOk (text_choice_of options.now) (λ _. IfErr result (λ code. code ≤ TOO_LONG)) }
     ensures too_long { IfOk (text_choice_of options.now) (λ tab. ¬ IsWithinLimit tab bytes.now → result ≡ Err TOO_LONG) }
+    ensures exact { IfOk (text_choice_of options.now) (λ tab. CanBeEdited (options_with (constructs_of options.now.constructs) tab) bytes.now → result ≢ Err TOO_LONG) }
     ensures codes { IfErr result (λ code. (READ < code) × (code ≤ LINKS_NO_TEXT)) }
 {
     let tab = choose_text(options)?;

@@ -1,9 +1,10 @@
 //! What is asked of a document that is kept, with codes in place of errors.
 
-ghost use Rattle.std.specs.Prelude.{◌≡◌, ◌≤◌, ◌<◌, ◌↔◌, ◌⊎◌, Err, IfErr, IfOk, IsErrOf, OnErr, Some, drop, length, min};
+ghost use Rattle.std.specs.Prelude.{◌≡◌, ◌≢◌, ◌≤◌, ◌<◌, ◌↔◌, ◌⊎◌, Err, IfErr, IfOk, IsErrOf, OnErr, Some, drop, length, min};
 ghost use Rattle.markdown.specs.Virtual.{IsWithinLimit};
 ghost use Rattle.mdconstructs.specs.Divided.{bytes_of, events_between};
 ghost use Rattle.mdconstructs.specs.Edits.{IsInside, edited};
+ghost use Rattle.mdconstructs.specs.Fits.{CanBeEdited};
 ghost use Rattle.limecove.specs.Editing.{IsReplaced, encoding_of, index_in, place_in, start_in, written};
 
 use crate::code::{NO_SUCH_BYTES, NO_SUCH_RANGES, OUT_OF_MEMORY, READ, TOO_LONG};
@@ -49,6 +50,7 @@ impl Held {
         ensures kept { OnErr result (self.new ≡ self.old) }
         ensures range { (result ≡ Err NO_SUCH_BYTES) ↔ ¬ IsInside edit.now (bytes_of self.old.sections) }
         ensures too_long { IsInside edit.now (bytes_of self.old.sections) → ¬ IsWithinLimit self.old.sections.options.tab_size (edited edit.now (bytes_of self.old.sections)) → IsErrOf result TOO_LONG }
+        ensures exact { CanBeEdited self.old.sections.options (edited edit.now (bytes_of self.old.sections)) → result ≢ Err TOO_LONG }
         ensures codes { IfErr result (λ code. (READ < code) × ((code ≤ TOO_LONG) ⊎ (code ≡ NO_SUCH_BYTES))) }
     {
         match self.sections.replace(alloc, edit) {
