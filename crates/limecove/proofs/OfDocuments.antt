@@ -1,14 +1,13 @@
 -- Options with tables, literals or checks choose whole documents.
-use Rattle.std.proofs.Common.{◌≡◌, ◌<◌, ◌≤◌, ℕ, Bool, true, false, cond, Option, Some, None, refl, sym, ap, subst, arith, eqb-true, ltb-true}
+use Rattle.std.proofs.Common.{◌≡◌, ℕ, Bool, true, false, cond, Option, Some, None, refl, sym, ap, subst, arith, eqb-true, ltb-true}
 use Rattle.std.proofs.lemmas.Bool.{false≢true}
 use Rattle.std.proofs.lemmas.Bool.Decides.{nat_tests}
 use Rattle.std.specs.declared.result.Result.TheVariants.{Ok, Err}
 use Rattle.std.specs.Option.{option_map_or}
-use Rattle.std.specs.Prelude.{◌&&◌, ◌||◌, nat_eq, nat_lt, not, is_ok, Result}
+use Rattle.std.specs.Prelude.{◌&&◌, ◌||◌, nat_eq, is_ok, Result}
 use Rattle.mdconstructs.specs.Choices.{choice_together}
 use Rattle.mdconstructs.specs.declared.choice.Choice.{Choice}
 use Rattle.mdconstructs.specs.declared.choice.Which.TheVariants.{Document}
-use Rattle.limecove.specs.declared.choose.Options.{Options}
 use Rattle.limecove.specs.Choices.{are_constructs, are_html_constructs, are_of_documents, cut_of, have_constructs, is_yes, links_no_text, machine_of, no_such_construct, no_such_machine, no_such_tab_size, other_size, tab_of, together}
 use Rattle.limecove.specs.Records.{RewrittenAreDocuments}
 

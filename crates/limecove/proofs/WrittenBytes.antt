@@ -1,9 +1,10 @@
 -- Bytes that are written piece by piece: those of sections from one index up to another, each section's behind those before it.
-use Rattle.std.proofs.Common.{◌≡◌, ℕ, zero, suc, ◌+◌, ◌-◌, ◌≤◌, Bool, true, false, List, [], ◌∷◌, ◌++◌, length, take, drop, flat_map, Some, Option, unwrap_or, append-nil, ap, refl, sym, ◌∙◌, arith, leb-true, leb-false, add-one}
+use Rattle.std.proofs.Common.{◌≡◌, ℕ, zero, suc, ◌+◌, ◌-◌, ◌≤◌, Bool, true, false, List, [], ◌∷◌, ◌++◌, length, take, drop, Some, unwrap_or, append-nil, ap, refl, sym, ◌∙◌, arith, leb-true, leb-false, add-one}
 use Rattle.std.proofs.Math.Seq.{drop-append-add, take-append-add}
 use Rattle.std.proofs.lemmas.List.{drop-append-le, drop_all, length-drop, length-take, take-append-drop, take-append-le, take_all}
 use Rattle.std.proofs.lemmas.Option.{none-some}
 use Rattle.std.specs.Prelude.{nat_le, slice_get, slice_range}
+use Rattle.mdconstructs.proofs.Joined.{document-cut}
 use Rattle.mdconstructs.specs.Sections.{document_of}
 use Rattle.limecove.specs.Editing.{written}
 
@@ -80,6 +81,15 @@ joined-within a b from to low false p =
     ∙ ap (λ k. drop from a ++ take ((to - length a) - (from - length a)) (drop k b)) first
     ∙ ap (λ w. w ++ slice_range b (from - length a) (to - length a)) (sym (take_all (to - from) (drop from a) (omega (arith, gt))))
 
+-- of bytes behind a, where the first index is behind a
+behind : (a b : List ℕ) (from to : ℕ) → length a ≤ from → slice_range (a ++ b) from to ≡ slice_range b (from - length a) (to - length a)
+behind a b from to past =
+    let size : from ≡ length a + (from - length a) = omega (arith, past) in
+    let count : to - from ≡ (to - length a) - (from - length a) = omega (arith, past) in
+    ap (λ k. take (to - from) (drop k (a ++ b))) size
+    ∙ ap (λ w. take (to - from) w) (drop-append-add a b (from - length a))
+    ∙ ap (λ k. take k (drop (from - length a) b)) count
+
 joined-by : (a b : List ℕ) (from to : ℕ) (low : Bool) → nat_le from (length a) ≡ low
     → slice_range (a ++ b) from to ≡ slice_range a from to ++ slice_range b (from - length a) (to - length a)
 joined-by a b from to true p =
@@ -87,12 +97,8 @@ joined-by a b from to true p =
     ap (λ w. take (to - from) w) (drop-append-le from a b low) ∙ joined-within a b from to low (nat_le (to - from) (length (drop from a))) refl
 joined-by a b from to false p =
     let gt = leb-false from (length a) p in
-    let size : from ≡ length a + (from - length a) = omega (arith, gt) in
-    let count : to - from ≡ (to - length a) - (from - length a) = omega (arith, gt) in
     let gone : drop from a ≡ none = drop_all from a (omega (arith, gt)) in
-    ap (λ k. take (to - from) (drop k (a ++ b))) size
-    ∙ ap (λ w. take (to - from) w) (drop-append-add a b (from - length a))
-    ∙ ap (λ k. take k (drop (from - length a) b)) count
+    behind a b from to (omega (arith, gt))
     ∙ ap (λ w. w ++ slice_range b (from - length a) (to - length a)) (sym (ap (λ w. take (to - from) w) gone ∙ take-none (to - from)))
 
 joined : (a b : List ℕ) (from to : ℕ) → slice_range (a ++ b) from to ≡ slice_range a from to ++ slice_range b (from - length a) (to - length a)
@@ -111,6 +117,13 @@ first-next : (sections : List (List ℕ)) (i : ℕ) (section : List ℕ) → sli
 first-next [] i section is = absurd (none-some section is)
 first-next (s ∷ sections) zero section is = ap (λ o. unwrap_or o [] ++ document_of sections) is
 first-next (s ∷ sections) (suc i) section is = first-next sections i section is
+
+-- bytes behind the first sections
+pub behind-sections : (sections : List (List ℕ)) (n from to : ℕ) → length (document_of (take n sections)) ≤ from
+    → slice_range (document_of sections) from to
+    ≡ slice_range (document_of (drop n sections)) (from - length (document_of (take n sections))) (to - length (document_of (take n sections)))
+behind-sections sections n from to past =
+    ap (λ w. slice_range w from to) (sym (document-cut n sections)) ∙ behind (document_of (take n sections)) (document_of (drop n sections)) from to past
 
 -- a section more
 pub section-more : (sections : List (List ℕ)) (i : ℕ) (section out : List ℕ) (done from to : ℕ) → slice_get sections i ≡ Some section

@@ -62,17 +62,19 @@ impl Held {
     }
 }
 
-/// Writes the bytes of a document from one index up to another over the first of others, as many as fit. It goes over the sections up to the
-/// last of these bytes.
+/// Writes the bytes of a document from one index up to another over the first of others, as many as fit. It goes over the sections that these
+/// bytes are in.
 fn write_between(sections: &Sections, from: usize, to: usize, out: &mut [u8])
     ensures { out.new ≡ written out.old (slice_range (bytes_of sections.now) from to) }
 {
     let count = sections.count();
+    let first = sections.section_at(from);
+    let start = sections.start_of(first);
     let mut done = 0;
     // The same indices into what is behind the sections so far.
-    let mut begin = from;
-    let mut end = to;
-    'writing: for index in 0..count {
+    let mut begin = from - start;
+    let mut end = to.saturating_sub(start);
+    'writing: for index in first..count {
         if end == 0 {
             return;
         }

@@ -1,7 +1,8 @@
 use Rattle.std.proofs.Common.{◌≡◌, ap, arith, drop, length, sym, ◌∙◌}
 use Rattle.std.specs.Prelude.{slice_range}
 use Rattle.mdconstructs.specs.Sections.{document_of}
-use Rattle.limecove.proofs.WrittenBytes.{all-written, none-left, piece-fits, section-more}
+use Rattle.limecove.specs.Editing.{written}
+use Rattle.limecove.proofs.WrittenBytes.{all-written, behind-sections, none-left, piece-fits, section-more}
 use Rattle.limecove.proofs.bytes.write_between.Goals as goal
 
 pub overflow_add-done : goal.overflow_add-done
@@ -9,6 +10,14 @@ overflow_add-done c =
     let few = piece-fits c.section-section.result.now c.writing.begin c.writing.end in
     let same : length c.slice-piece.result.now ≡ length (slice_range c.section-section.result.now c.writing.begin c.writing.end) = ap length c.slice-piece.ensures in
     omega (arith, few, same, c.writing.invariant.room)
+
+pub writing-init : goal.writing-init
+writing-init c =
+    let same = behind-sections c.args.sections.now.sections c.section_at-first.result c.args.from c.args.to c.section_at-first.ensures.start in
+    record {
+      same = rw (c.saturating_sub-end.ensures, c.start_of-start.ensures) (ap (λ w. written c.args.out.now w) (sym same));
+      room = omega (arith, c.saturating_sub-end.ensures);
+    }
 
 pub writing-preserved : goal.writing-preserved
 writing-preserved c =
