@@ -305,6 +305,9 @@ if __name__ == "__main__":
     if len(sys.argv) < 3 or "--help" in sys.argv:
         print(__doc__.strip())
         sys.exit(0 if "--help" in sys.argv else 2)
+    for it in sys.argv[2:3] if sys.argv[1] == "--documents" else sys.argv[1:3]:
+        if not os.path.isfile(it):
+            sys.exit(f"bench: {it} is not there")
     with tempfile.TemporaryDirectory() as scratch:
         if sys.argv[1] == "--documents":
             documents(sys.argv[2], scratch, *sys.argv[3:])

@@ -123,6 +123,8 @@ def main():
     parser.add_argument("program")
     parser.add_argument("options", nargs=argparse.REMAINDER)
     given = parser.parse_args()
+    if not os.path.isfile(given.program):
+        sys.exit(f"bad_texts: {given.program} is not there")
     command = [given.program] + (given.options or ["--machine", "document"])
     with tempfile.NamedTemporaryFile("w") as nothing:
         least = count(command, nothing.name, given.only_in) if given.count else 0
