@@ -87,5 +87,5 @@ pub use Rattle.mddocument_editing.specs.declared.packed.PackError.TheVariants.{T
 pub use Rattle.mddocument_editing.specs.declared.positions.Encoding.{Encoding}
 pub use Rattle.mddocument_editing.specs.declared.positions.Encoding.TheVariants.{Utf16, Utf8}
 pub use Rattle.mddocument_editing.specs.declared.positions.Position.{Position}
-pub use Rattle.mddocument_editing.specs.declared.put.Reread.{Reread}
+pub use Rattle.mddocument_editing.specs.declared.reread.Reread.{Reread}
 pub use Rattle.mddocument_editing.specs.declared.section.Section.{Section}

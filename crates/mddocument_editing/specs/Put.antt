@@ -6,7 +6,7 @@ use Rattle.markdown_base.specs.declared.event.Event.{Event}
 use Rattle.markdown_tokenizer.specs.Text.{IsDocument}
 use Rattle.mddocument.specs.Documents.{document}
 use Rattle.mdinline_labels.specs.declared.labels.Labels.{Labels}
-use Rattle.mddocument_editing.specs.declared.put.Reread.{Reread}
+use Rattle.mddocument_editing.specs.declared.reread.Reread.{Reread}
 use Rattle.mddocument_editing.specs.declared.section.Section.{Section}
 use Rattle.mddocument_editing.specs.InBrackets.{changes, may_ask}
 use Rattle.mddocument_editing.specs.Kept.{IsRead}

@@ -13,6 +13,9 @@ mod rests;
 mod kept;
 mod section;
 
+// sections read again: their events, put in
+mod reread;
+
 // the list of sections: with sums of its blocks
 mod list;
 

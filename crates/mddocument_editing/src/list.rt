@@ -7,7 +7,7 @@ ghost use Rattle.mddocument_editing.specs.Listed.{AreBlocks, AreSums, block, par
 ghost use Rattle.mddocument_editing.specs.Lookups.{lookup_turns};
 ghost use Rattle.mddocument_editing.specs.Put.{put_all};
 
-use crate::put::{Reread, put_events};
+use crate::reread::{Reread, put_events};
 use crate::section::Section;
 use mdconstructs_loop_counts::Turns;
 use std::alloc::{AllocError, Global};

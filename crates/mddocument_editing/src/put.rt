@@ -11,13 +11,14 @@ ghost use Rattle.mddocument_editing.specs.Divided.{bytes_of, is_label_of};
 ghost use Rattle.mddocument_editing.specs.Edits.{IsChange};
 ghost use Rattle.mddocument_editing.specs.FirstRest.{items_of};
 ghost use Rattle.mddocument_editing.specs.Kept.{ArePackable, IsKept, IsLabelled, IsPackable, IsRecut, IsRead, bytes_of_parts, bytes_of_sections, divided_of, recut_document};
-ghost use Rattle.mddocument_editing.specs.Put.{AreReread, HasEvents, IsReadDocument, looks_up, put_all};
+ghost use Rattle.mddocument_editing.specs.Put.{AreReread, HasEvents, IsReadDocument, looks_up};
 ghost use Rattle.mddocument_editing.specs.Trims.{AreTrimmed};
 
 use crate::asking::may_ask;
 use crate::edit::{Change, Refused};
 use crate::kept::{Kept, define_parts, define_sections};
 use crate::packed::{PackError, Packed};
+use crate::reread::Reread;
 use crate::section::{Part, Section, events_of, parts_of, sections_of};
 use crate::trim::Recut;
 use markdown_base::configuration::ParseOptions;
@@ -26,13 +27,6 @@ use markdown_base::laws::equal_events_are_one;
 use mdinline_labels::labels::Labels;
 use mdinline_machine::inlines::Inlines;
 use std::alloc::{AllocError, Global};
-
-/// The events of a section that is read again, by its number.
-#[derive(Drop)]
-pub(crate) struct Reread {
-    section: usize,
-    events: Packed,
-}
 
 /// Whether sections define nothing.
 fn define_nothing(sections: &[Section]) -> bool
@@ -187,16 +181,6 @@ fn numbers_of(alloc: Global, others: &[Reread]) -> Result<Vec<usize>, AllocError
         numbers.push(other.section)?;
     }
     Ok(numbers)
-}
-
-/// Puts the events of sections that were read again in the place of those that they had.
-pub(crate) fn put_events(sections: &mut Vec<Section>, others: Vec<Reread>)
-    requires { AllByRecursion (λ other. other.section < length sections.old.items) others.items }
-    ensures { sections.new.items ≡ put_all sections.old.items others.items }
-{
-    for other in others {
-        sections[other.section].events = other.events;
-    }
 }
 
 /// Puts parts in the place of the sections that they replace. If it fails, the document is as it was.

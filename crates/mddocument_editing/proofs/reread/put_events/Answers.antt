@@ -1,6 +1,6 @@
 use Rattle.mddocument_editing.proofs.Prelude.{◌≡◌, ◌<◌, length, subst, sym, ap, ◌∙◌, arith, rules, map-id, YieldsList-from_vec, fold_push, All-from_recursion, put_all, put_at, Reread}
 use Rattle.std.proofs.lemmas.Iterator.Consumers.{YieldsList-end, YieldsList-turn}
-use Rattle.mddocument_editing.proofs.put.put_events.Goals as goal
+use Rattle.mddocument_editing.proofs.reread.put_events.Goals as goal
 use Rattle.mddocument_editing.proofs.Rereads.{length-put-all, put-at-set}
 
 pub index_mut-requires : goal.index_mut-requires
