@@ -19,10 +19,10 @@ abbrev holders : List Name
 holders = name.BlockQuote ∷ name.ListItem ∷ []
 
 -- a name in which neither blocks nor items stand, and one that is none of them
-abbrev Bare : Name → Type 0
+abbrev pub Bare : Name → Type 0
 Bare n = (is_wanted holders n ≡ false) × (is_wanted list_names n ≡ false)
 
-abbrev Low : Name → Type 0
+abbrev pub Low : Name → Type 0
 Low n = (is_wanted item_names n ≡ false) × (is_wanted block_names n ≡ false)
 
 chosen : (item block list holder other : Bool) → holder ≡ false → list ≡ false → cond item list (cond block holder other) ≡ true → (item ≡ false) × (block ≡ false)
@@ -31,12 +31,12 @@ chosen false true list holder other h l m = absurd (false≢true (sym h ∙ m))
 chosen false false list holder other h l m = (refl, refl)
 
 -- what stands directly in such a span is no block and no item
-low : (h n : Name) (around : List Name) → Bare h → may_stand (h ∷ around) n ≡ true → Low n
+pub low : (h n : Name) (around : List Name) → Bare h → may_stand (h ∷ around) n ≡ true → Low n
 low h n around b m =
     chosen (is_wanted item_names n) (is_wanted block_names n) (is_wanted list_names h) (is_wanted holders h) _ b.0 b.1 m
 
 -- what is none of them holds none
-bare : (n : Name) → Low n → Bare n
+pub bare : (n : Name) → Low n → Bare n
 bare n l = (
   false_from_ne_true (is_wanted holders n) (λ e. by-wanted (λ m. Low m → ⊥) holders n ((λ h. false≢true (sym h.1)), ((λ h. false≢true (sym h.0)), tt)) e l),
   false_from_ne_true (is_wanted list_names n) (λ e. by-wanted (λ m. Low m → ⊥) list_names n ((λ h. false≢true (sym h.1)), ((λ h. false≢true (sym h.1)), tt)) e l),

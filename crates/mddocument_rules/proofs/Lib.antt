@@ -20,6 +20,16 @@ pub mod Skeletons
 mod StandingExamples
 pub mod TextItems
 pub mod TightSpans
+-- definitions: those of events are those of sections
+pub mod DefinitionWalk
+pub mod Held
+pub mod HeldStrings
+pub mod HeldTexts
+pub mod HeldSpans
+pub mod HeldSections
+pub mod SpokenDefinitions
+pub mod DefinitionEvents
+pub mod LabelStrings
 -- links: none is in a link
 pub mod DocumentLinks
 pub mod FlatLinks

@@ -3,6 +3,7 @@
 ghost use Rattle.mddocument_rules.specs.DefinitionLaws.{DefinitionsOfDocumentsAreLinear, NoDefinitionInADefinition};
 ghost use Rattle.mddocument_rules.specs.ListLaws.{ItemsHaveTheMarker, ListsHaveOneMarker, NeighboursDiffer, QuotesAreApart};
 ghost use Rattle.mddocument_rules.specs.MarkerLaws.{ListsAreNamedByMarkers, ListsAreOfOneType};
+ghost use Rattle.mddocument_rules.specs.ReferenceLaws.{DefinitionsAreOfSections, DefinitionsHaveLabels, LabelsAreOfSections};
 ghost use Rattle.mddocument_rules.specs.StandingLaws.{BlocksStand, LeafBlocksStand, NoLinkInALink, SkeletonsStand, SpansStand};
 ghost use Rattle.mddocument_rules.specs.TextLaws.{EmphasisStands, InlineTextStands, LinksStand, NoLinkInALinkOfText};
 
@@ -68,4 +69,12 @@ pub fn items_have_the_marker_of_their_list()
 pub fn no_definition_is_in_a_definition()
     ensures documents { NoDefinitionInADefinition }
     ensures linear { DefinitionsOfDocumentsAreLinear }
+{}
+
+/// The link reference definitions among the events of a document are those of its sections, in their order: in each is its label, its destination and its
+/// title, with their strings read. The label of each is what stands between its brackets. So a document has one definition for each label that it defines.
+pub fn definitions_are_those_of_sections()
+    ensures sections { DefinitionsAreOfSections }
+    ensures strings { LabelsAreOfSections }
+    ensures labels { DefinitionsHaveLabels }
 {}
