@@ -2,7 +2,7 @@
 use Rattle.std.proofs.Common.{◌≡◌, ℕ, suc, ◌+◌, ◌<◌, ◌≤◌, true, false, cond, List, [], ◌∷◌, ◌++◌, length, take, drop, map, get_or, refl, sym, ap, ◌∙◌, arith, append_assoc}
 use Rattle.std.specs.Prelude.{◌==◌, ◌&&◌, None, reverse}
 use Rattle.std.specs.List.{flat_map}
-use Rattle.std.proofs.lemmas.List.{append-nil, reverse-append, take-append-le, drop-append-le, take_all, drop_all, drop_more, length_push, map-append}
+use Rattle.std.proofs.lemmas.List.{append-nil, reverse-append, take-append-le, drop-append-le, take_all, take_more, drop_all, drop_more, length_push, map-append}
 use Rattle.std.proofs.lemmas.List.Concat.{flat_map-cons}
 use Rattle.markdown_base.specs.declared.event.Event.{Event}
 use Rattle.markdown_base.specs.declared.event.Kind.TheVariants.{Exit}
@@ -43,6 +43,14 @@ pub frames_end : (place : Point) (many : ℕ) (frames first : List Frame) (event
 frames_end place many frames first events all h t e =
     let none : drop many frames ≡ [] = drop_all many frames h in
     (sym (ap (λ (l : List Frame). events ++ exits_at place l) none ∙ append-nil events) ∙ e, sym (take_all many frames h) ∙ t)
+
+-- the last of the spans that are left ends
+pub frames_left : (place : Point) (frames : List Frame) (n : ℕ) (d : Frame) (before after all : List Event) → n < length frames → after ≡ before ++ event_at Exit (get_or frames n d).name place ∷ []
+    → before ++ exits_at place (take (n + 1) frames) ≡ all → after ++ exits_at place (take n frames) ≡ all
+frames_left place frames n d before after all h e q =
+    let f = get_or frames n d in
+    let exits : exits_at place (take (n + 1) frames) ≡ event_at Exit f.name place ∷ exits_at place (take n frames) = ap (exits_at place) (take_more frames n d h) ∙ exits_push place (take n frames) f in
+    ap (λ (l : List Event). l ++ exits_at place (take n frames)) e ∙ append_assoc before (event_at Exit f.name place ∷ []) (exits_at place (take n frames)) ∙ ap (λ (l : List Event). before ++ l) (sym exits) ∙ q
 
 -- the spans of one more container
 pub frames_more : (xs ys : List Span) (stack : List Open) (i : ℕ) (d : Open) → i < length stack → ys ≡ xs ++ frames_of (open_of (get_or stack i d))

@@ -1,10 +1,11 @@
 -- Lemmas on what is known of the parts of spans from an event on.
-use Rattle.std.proofs.Common.{◌≡◌, ℕ, zero, suc, ◌≤◌, ◌<◌, Bool, true, false, cond, List, [], ◌∷◌, drop, length, refl, sym, ap, ◌∙◌, subst, arith}
+use Rattle.std.proofs.Common.{◌≡◌, ℕ, zero, suc, ◌+◌, ◌-◌, ◌≤◌, ◌<◌, Bool, true, false, cond, List, [], ◌∷◌, ◌++◌, drop, length, length-append, refl, sym, ap, ◌∙◌, subst, arith}
 use Rattle.std.proofs.Math.Bool.{not-not}
-use Rattle.std.specs.Prelude.{◌==◌, ◌&&◌, ◌||◌, max, not, nat_lt, filter, map, Option, None, Some, option_and_then}
+use Rattle.std.specs.Prelude.{◌==◌, ◌&&◌, ◌||◌, max, not, nat_lt, filter, map, replicate, reverse, Option, None, Some, option_and_then}
 use Rattle.std.specs.List.{list_any, take_while}
-use Rattle.std.proofs.lemmas.Bool.{false≢true, false_from_ne_true, or_parts}
+use Rattle.std.proofs.lemmas.Bool.{and_right, false≢true, false_from_ne_true, or_parts}
 use Rattle.std.proofs.lemmas.Bool.Decides.{nat_tests}
+use Rattle.std.proofs.lemmas.List.{length-replicate, length-reverse, reverse-append}
 use Rattle.std.proofs.lemmas.List.Sums.{take_while-cons}
 use Rattle.markdown_base.specs.declared.event.Event.{Event}
 use Rattle.markdown_base.specs.declared.event.Kind.{Kind}
@@ -15,12 +16,13 @@ use Rattle.markdown_base.specs.declared.event.Point.{Point}
 use Rattle.markdown_base.specs.Events.{is_enter, same_name}
 use Rattle.markdown_edits.proofs.Balanced.{same_name-true}
 use Rattle.markdown_edits.specs.SpanWalks.{is_wanted}
+use Rattle.mdblock_containers.specs.declared.list_shapes.Level.{Level}
 use Rattle.mdblock_containers.specs.declared.list_shapes.ListShape.{ListShape}
 use Rattle.mdblock_containers.specs.declared.list_shapes.Parts.{Parts}
 use Rattle.mdblock_containers.specs.declared.list_shapes.Seen.{Seen}
 use Rattle.mdblock_containers.specs.Lists.{Met, behind_enter, behind_first, block_names, directly_by, directly_from, directly_in, is_apart, is_apart_behind, is_blank_behind, is_loose, is_spread, item_names, list_marker, list_names, list_start}
 use Rattle.mdblock_containers.specs.ListShapes.{shape_of, shapes_from}
-use Rattle.mdblock_containers.specs.ListSeen.{AreSeen, IsParts, IsSeen, blank_before, has_blank, is_list, is_quiet, line_of, nothing_seen, parts_before, seen_before, shape_at, stack_at_enter, stack_at_exit, stack_before, top_of}
+use Rattle.mdblock_containers.specs.ListSeen.{AreSeen, IsParts, IsSeen, blank_before, has_blank, is_list, is_quiet, known_from, line_of, nothing_seen, parts_before, seen_before, shape_at, stack_at_enter, stack_at_exit, stack_before, top_of}
 use Rattle.mdblock_containers.specs.ListWalks.{is_item}
 
 -- the greatest of lines
@@ -204,10 +206,27 @@ module _ (e : Event) (es : List Event) where
 pub seen_same : (ss : List Seen) (es fs : List Event) → es ≡ fs → AreSeen ss 0 fs → AreSeen ss 0 es
 seen_same ss es fs q h = subst (λ (l : List Event). AreSeen ss 0 l) (sym q) h
 
+-- spans of which nothing is known, inside others
+pub none_first : (n : ℕ) (ss : List Seen) → 0 < n → (nothing_seen ≡ top_of (replicate n nothing_seen ++ ss)) × (replicate (n - 1) nothing_seen ++ ss ≡ drop 1 (replicate n nothing_seen ++ ss))
+none_first zero ss some = absurd (omega (arith, some))
+none_first (suc n) ss some = let one : suc n - 1 ≡ n = omega arith in (refl, ap (λ k. replicate k nothing_seen ++ ss) one)
+
+pub none_more : (n : ℕ) (ss : List Seen) → replicate (n + 1) nothing_seen ++ ss ≡ nothing_seen ∷ (replicate n nothing_seen ++ ss)
+none_more n ss = let one : n + 1 ≡ suc n = omega arith in ap (λ k. replicate k nothing_seen ++ ss) one
+
+-- what is known of one, and of those around it
+pub last_first : (old left : List Level) (l : Level) → old ≡ left ++ l ∷ [] → known_from (reverse old) ≡ l.seen ∷ (replicate l.around nothing_seen ++ known_from (reverse left))
+last_first old left l is = ap (λ (ls : List Level). known_from (reverse ls)) is ∙ ap known_from (reverse-append left (l ∷ []))
+
 -- some span is open
-pub some_seen : (ss : List Seen) → (length ss == 0) ≡ false → 0 < length ss
-some_seen [] h = absurd (false≢true (sym h))
-some_seen (s ∷ ss) h = omega arith
+some_known : (ls : List Level) → 0 < length ls → 0 < length (known_from ls)
+some_known [] some = absurd (omega (arith, some))
+some_known (l ∷ ls) some = omega arith
+
+pub some_seen : (n : ℕ) (ls : List Level) → 0 < length ls → n < length (replicate n nothing_seen ++ known_from (reverse ls))
+some_seen n ls some =
+    let known = some_known (reverse ls) (omega (arith, length-reverse ls, some)) in
+    omega (arith, length-append (replicate n nothing_seen) (known_from (reverse ls)), length-replicate n nothing_seen, known)
 
 -- An event of whose name nothing is to be known
 same_swapped : (m n : Name) → same_name m m ≡ true → same_name m n ≡ false → same_name n m ≡ false
@@ -242,11 +261,7 @@ module _ (e : Event) (quiet : is_quiet e.name ≡ true) where
       ∙ ap (λ b. record { any = p.any; is_apart = p.is_apart; blank = b }) (blank_off p.blank)
 
   item_event_off : is_item e ≡ false
-  item_event_off = by (is_enter e.kind) (same_name e.name ListItem) (same_swapped ListItem e.name refl item_off)
-    where
-      by : (k s : Bool) → s ≡ false → (k && s) ≡ false
-      by true s q = q
-      by false s q = refl
+  item_event_off = and_right (is_enter e.kind) (same_name e.name ListItem) (same_swapped ListItem e.name refl item_off)
 
   quiet_same : (spread : Bool) (s : Seen) → seen_before e spread s ≡ s
   quiet_same spread s =

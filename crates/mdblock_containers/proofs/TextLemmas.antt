@@ -1,5 +1,5 @@
 -- Lemmas on lines that have no tab.
-use Rattle.std.proofs.Common.{◌≡◌, ℕ, suc, ◌+◌, ◌<◌, ◌≤◌, Bool, true, false, cond, List, [], ◌∷◌, ◌++◌, length, take, drop, refl, sym, ap, ◌∙◌, arith}
+use Rattle.std.proofs.Common.{◌≡◌, ℕ, suc, ◌+◌, ◌*◌, ◌<◌, ◌≤◌, Bool, true, false, cond, List, [], ◌∷◌, ◌++◌, length, take, drop, refl, sym, ap, ◌∙◌, arith}
 use Rattle.std.specs.Prelude.{◌==◌, ◌&&◌, not, replicate}
 use Rattle.std.specs.List.{prefix_len}
 use Rattle.std.proofs.lemmas.Bool.{false≢true}
@@ -24,6 +24,10 @@ plain_few (b ∷ bs) = by (b == 9) (b == 10) (b == 13) (plain_few bs)
 -- a line's size
 pub text_size : (t number start : ℕ) (rest : List ℕ) → 0 < t → t ≤ 16 → length (expanded t 1 (take (prefix_len is_in_line rest) rest)) ≡ length (line_bytes t number 1 start rest)
 text_size t number start rest some most = ap (λ (l : List ℕ). length l) (expanded_is_virtual t some most number 1 start rest)
+
+-- the same, by the tab size that was read
+pub size_of_text : (t number start : ℕ) (rest : List ℕ) (u : ℕ) → 0 < u → u ≤ 16 → u ≡ t → length (expanded u 1 (take (prefix_len is_in_line rest) rest)) ≡ length (line_bytes t number 1 start rest)
+size_of_text t number start rest u some most same = text_size u number start rest some most ∙ (λ k. length (line_bytes (same k) number 1 start rest))
 
 -- the bytes before a tab are no more than the line's virtual bytes
 pub plain_fits : (t : ℕ) (bs : List ℕ) → 0 < t → t ≤ 16 → prefix_len is_plain bs ≤ length (expanded t 1 (take (prefix_len is_in_line bs) bs))
@@ -55,3 +59,11 @@ plain_line t (b ∷ bs) e = by (b == 9) (b == 10) (b == 13) refl e (plain_line t
               let seat : seat_bytes t column b ≡ b ∷ [] = ap (λ (v : Bool). cond v (take (tab_width t column) (9 ∷ replicate 15 32)) (b ∷ [])) q in
               ap (λ k. expanded t column (take k (b ∷ bs))) on ∙ (λ k. seat k ++ expanded t (column + length (seat k)) (take (prefix_len is_plain bs) bs)) ∙ ap (λ l. b ∷ l) (more.1 (column + 1)) ∙ ap (λ k. take k (b ∷ bs)) (sym on),
         )
+
+-- what is looked at of a line is paid by its columns
+pub text_costs : (t : ℕ) (bytes : List ℕ) (start u before after n : ℕ) → 0 < u → u ≤ 16 → u ≡ t → n ≡ prefix_len is_plain (drop start bytes) → after ≤ before + n + 1 → (number : ℕ) → after ≤ before + 4 * length (line_bytes t number 1 start (drop start bytes)) + 2
+text_costs t bytes start u before after n some most same is h number =
+    let rest = drop start bytes in
+    let fits = plain_fits u rest some most in
+    let size = size_of_text t number start rest u some most same in
+    omega (arith, fits, size, is, h)

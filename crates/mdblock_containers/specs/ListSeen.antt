@@ -1,5 +1,5 @@
 -- Inner: what is known of the parts of spans, from an event on. No public contract cites this file.
-use Rattle.std.specs.Prelude.{◌≡◌, ℕ, suc, ◌≤◌, max, ◌==◌, ◌&&◌, ◌||◌, not, nat_lt, Bool, true, false, cond, List, [], ◌∷◌, drop, filter, map, Option, None, Some, option_and_then}
+use Rattle.std.specs.Prelude.{◌≡◌, ℕ, suc, ◌≤◌, max, ◌==◌, ◌&&◌, ◌||◌, not, nat_lt, Bool, true, false, cond, List, [], ◌∷◌, ◌++◌, drop, filter, map, replicate, reverse, Option, None, Some, option_and_then}
 use Rattle.std.specs.List.{list_any, take_while}
 use Rattle.markdown_base.specs.declared.event.Event.{Event}
 use Rattle.markdown_base.specs.declared.event.Kind.TheVariants.{Enter, Exit}
@@ -8,6 +8,8 @@ use Rattle.markdown_base.specs.declared.event.Name.TheVariants.{BlankLineEnding,
 use Rattle.markdown_base.specs.declared.event.Point.{Point}
 use Rattle.markdown_base.specs.Events.{is_enter, same_name}
 use Rattle.markdown_edits.specs.SpanWalks.{is_wanted}
+use Rattle.mdblock_containers.specs.declared.list_shapes.Level.{Level}
+use Rattle.mdblock_containers.specs.declared.list_shapes.Levels.{Levels}
 use Rattle.mdblock_containers.specs.declared.list_shapes.ListShape.{ListShape}
 use Rattle.mdblock_containers.specs.declared.list_shapes.Parts.{Parts}
 use Rattle.mdblock_containers.specs.declared.list_shapes.Seen.{Seen}
@@ -40,6 +42,15 @@ no_parts = record { any = false; is_apart = false; blank = None }
 
 abbrev pub nothing_seen : Seen
 nothing_seen = record { items = no_parts; blocks = no_parts; has_spread_item = false }
+
+-- what is known of open spans, the innermost first: of that one something is known
+abbrev pub known_from : List Level → List Seen
+known_from [] = []
+known_from (l ∷ ls) = l.seen ∷ (replicate l.around nothing_seen ++ known_from ls)
+
+-- what is known of all
+abbrev pub all_seen : Levels → List Seen
+all_seen l = replicate l.inside nothing_seen ++ known_from (reverse l.known.items)
 
 abbrev pub top_of : List Seen → Seen
 top_of [] = nothing_seen

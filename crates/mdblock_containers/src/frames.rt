@@ -4,6 +4,8 @@ ghost use Rattle.std.specs.Prelude.{◌≡◌, ◌≤◌, ◌++◌, ◌==◌, �
 ghost use Rattle.std.specs.List.{flat_map};
 ghost use Rattle.markdown_base.specs.Events.{same_name};
 ghost use Rattle.mdblock_containers.specs.Frames.{exits_at, frame_of, frames_in, list_name_of};
+ghost use Rattle.mdblock_containers.specs.Rest.{exits_to};
+ghost use Rattle.mdblock_containers.specs.SeatPlaces.{events_of};
 ghost use Rattle.mdblock_containers.specs.Stood.{IsStood};
 ghost use Rattle.mdblock_containers.specs.Skeleton.{frames_of, shared};
 ghost use Rattle.mdblock_containers.specs.Views.{open_of};
@@ -13,7 +15,7 @@ use crate::writing::exit;
 use markdown_base::event::{Event, Name, Point};
 use mdblock_lines::containers::Container;
 use mdconstructs_loop_counts::Turns;
-use std::alloc::{AllocError, Global};
+use std::alloc::AllocError;
 use std::sync::ledger::Ledger;
 
 /// A span that is open: a quote, a list or an item.
@@ -59,6 +61,61 @@ pub fn exit_frames<L: Ledger>(
     Ok(())
 }
 
+/// Exits spans, the last one first.
+fn exit_all<L: Ledger>(
+    events: &mut Vec<Event>,
+    frames: &[Frame],
+    place: Point,
+    turns: &mut Turns<L>,
+) -> Result<(), AllocError>
+    ensures events { IfOk result (λ _. events.new.items ≡ events.old.items ++ exits_at place frames.now) }
+    ensures turns { turns.new ≤ turns.old + length frames.now }
+{
+    let mut left = frames.len();
+    while left > 0 {
+        turns.add_one();
+        left -= 1;
+        exit(events, frames[left].name, place)?;
+    }
+    Ok(())
+}
+
+/// Exits the spans that the next part is not in. The first `opened` ones are open. It stands in the first `kept` of them,
+/// and in those behind all.
+pub(crate) fn exit_others<L: Ledger>(
+    events: &mut Vec<Event>,
+    frames: &[Frame],
+    kept: usize,
+    opened: usize,
+    place: Point,
+    turns: &mut Turns<L>,
+) -> Result<(), AllocError>
+    requires kept { kept ≤ opened }
+    requires opened { opened ≤ length frames.now }
+    ensures events { let all = map frame_of (take opened frames.now) in IfOk result (λ _. events.new.items ≡ events.old.items ++ events_of (exits_to (drop (kept + shared (drop kept all) (map frame_of (drop opened frames.now))) all) place)) }
+    ensures turns { turns.new + kept ≤ turns.old + opened }
+{
+    let all = first_frames(frames, opened);
+    let more = shared(
+        behind_frames(all, kept),
+        behind_frames(frames, opened),
+        turns,
+    );
+    exit_all(events, behind_frames(all, kept + more), place, turns)?;
+    Ok(())
+}
+
+/// Drops spans from one on up to another: those behind them move to the front.
+pub(crate) fn drop_frames(frames: &mut Vec<Frame>, from: usize, to: usize)
+    requires order { from ≤ to }
+    requires within { to ≤ length frames.old.items }
+    ensures { frames.new.items ≡ take from frames.old.items ++ drop to frames.old.items }
+{
+    let all = frames.len();
+    frames.copy_within(to..all, from);
+    frames.truncate(from + (all - to));
+}
+
 /// The spans of a container: a quote, or an item in its list.
 fn push_frames_of(frames: &mut Vec<Frame>, entry: &Open) -> Result<(), AllocError>
     ensures { IfOk result (λ _. map frame_of frames.new.items ≡ map frame_of frames.old.items ++ frames_of (open_of entry.now)) }
@@ -79,7 +136,7 @@ fn push_frame(frames: &mut Vec<Frame>, name: Name, line: usize) -> Result<(), Al
 }
 
 /// The spans of containers, from the outermost on.
-fn push_frames<L: Ledger>(
+pub(crate) fn push_frames<L: Ledger>(
     frames: &mut Vec<Frame>,
     stack: &[Open],
     turns: &mut Turns<L>,
@@ -94,20 +151,6 @@ fn push_frames<L: Ledger>(
     Ok(())
 }
 
-/// The spans of containers, from the outermost on, as a list.
-pub(crate) fn frames_from<L: Ledger>(
-    alloc: Global,
-    stack: &[Open],
-    turns: &mut Turns<L>,
-) -> Result<Vec<Frame>, AllocError>
-    ensures value { IfOk result (λ frames. map frame_of frames.items ≡ flat_map frames_of (map open_of stack.now)) }
-    ensures turns { turns.new ≤ turns.old + length stack.now }
-{
-    let mut frames = Vec::new(alloc);
-    push_frames(&mut frames, stack, turns)?;
-    Ok(frames)
-}
-
 /// The span of a list that goes on behind others, if there is one.
 pub(crate) fn push_list(frames: &mut Vec<Frame>, list: Option<Frame>) -> Result<(), AllocError>
     ensures { IfOk result (λ _. map frame_of frames.new.items ≡ map frame_of frames.old.items ++ frames_in list) }
@@ -116,6 +159,14 @@ pub(crate) fn push_list(frames: &mut Vec<Frame>, list: Option<Frame>) -> Result<
         frames.push(frame)?;
     }
     Ok(())
+}
+
+/// The first spans.
+fn first_frames(frames: &[Frame], many: usize) -> &[Frame]
+    requires { many ≤ length frames.now }
+    ensures { result.now ≡ take many frames.now }
+{
+    &frames[..many]
 }
 
 /// Spans behind the first.

@@ -1,9 +1,9 @@
 //! All lists of a document at once, in one walk over its events from the last one on.
 //!
-//! Behind an event it is known, for each span that is open there, what is in the rest of it: that of the innermost span comes last.
+//! Behind an event it is known, for each span that is open there, what is in the rest of it.
 
-ghost use Rattle.std.specs.Prelude.{◌≡◌, ◌∷◌, IfOk, OnOk, cond, drop, reverse, true};
-ghost use Rattle.mdblock_containers.specs.ListSeen.{blank_before, has_blank, is_list, is_quiet, parts_before, seen_before, shape_at, stack_at_enter, stack_at_exit, stack_before, top_of};
+ghost use Rattle.std.specs.Prelude.{◌≡◌, ◌∷◌, ◌++◌, IfOk, OnOk, cond, drop, replicate, reverse, true};
+ghost use Rattle.mdblock_containers.specs.ListSeen.{all_seen, blank_before, has_blank, is_list, is_quiet, nothing_seen, parts_before, seen_before, shape_at, stack_at_enter, stack_at_exit, stack_before, top_of};
 ghost use Rattle.mdblock_containers.specs.ListShapes.{shapes_from};
 
 use crate::lists::{BLOCKS, ITEMS, LISTS, Marker, is_item, is_wanted, marker_of, start_of};
@@ -45,6 +45,24 @@ struct Seen {
     blocks: Parts,
     /// Two blocks of an item have a blank line between them.
     has_spread_item: bool,
+}
+
+/// A span of which something is known.
+#[derive(Clone, Copy)]
+struct Level {
+    /// What is known of it.
+    seen: Seen,
+    /// How many spans are directly around it of which nothing is known.
+    around: usize,
+}
+
+/// The spans that are open behind an event.
+#[derive(Drop)]
+struct Levels {
+    /// Those of which something is known, from the outermost on.
+    known: Vec<Level>,
+    /// How many are inside all of these: nothing is known of them.
+    inside: usize,
 }
 
 const NO_PARTS: Parts = Parts {
@@ -110,39 +128,60 @@ fn seen_before(event: &Event, is_spread: bool, seen: Seen) -> Seen
 }
 
 /// Takes what is known of the innermost span: nothing, if no exit of it came.
-fn take_last(stack: &mut Vec<Seen>) -> Seen
-    ensures last { result ≡ top_of (reverse stack.old.items) }
-    ensures others { reverse stack.new.items ≡ drop 1 (reverse stack.old.items) }
+fn take_last(stack: &mut Levels) -> Seen
+    ensures last { result ≡ top_of (all_seen stack.old) }
+    ensures others { all_seen stack.new ≡ drop 1 (all_seen stack.old) }
 {
-    stack.pop().unwrap_or(NOTHING)
+    if stack.inside > 0 {
+        stack.inside -= 1;
+        return NOTHING;
+    }
+    match stack.known.pop() {
+        None => NOTHING,
+        Some(level) => {
+            stack.inside = level.around;
+            level.seen
+        }
+    }
+}
+
+/// A span is open inside all others, and in it so many more, of which nothing is known.
+fn push_level(stack: &mut Levels, seen: Seen, inside: usize) -> Result<(), AllocError>
+    ensures { IfOk result (λ _. all_seen stack.new ≡ replicate inside nothing_seen ++ (seen ∷ all_seen stack.old)) }
+{
+    stack.known.push(Level {
+        seen,
+        around: stack.inside,
+    })?;
+    stack.inside = inside;
+    Ok(())
 }
 
 /// An exit comes before. Returns what was known of the innermost span.
-fn before_exit(stack: &mut Vec<Seen>, event: &Event) -> Result<Seen, AllocError>
-    ensures last { IfOk result (λ last. last ≡ top_of (reverse stack.old.items)) }
-    ensures stack { IfOk result (λ _. reverse stack.new.items ≡ stack_at_exit event.now (reverse stack.old.items)) }
+fn before_exit(stack: &mut Levels, event: &Event) -> Result<Seen, AllocError>
+    ensures last { IfOk result (λ last. last ≡ top_of (all_seen stack.old)) }
+    ensures stack { IfOk result (λ _. all_seen stack.new ≡ stack_at_exit event.now (all_seen stack.old)) }
 {
     let last = take_last(stack);
-    stack.push(seen_before(event, false, last))?;
-    stack.push(NOTHING)?;
+    push_level(stack, seen_before(event, false, last), 1)?;
     Ok(last)
 }
 
 /// An enter comes before. Returns what was known of the innermost span: of that which it enters.
-fn before_enter(stack: &mut Vec<Seen>, event: &Event) -> Result<Seen, AllocError>
-    ensures last { IfOk result (λ last. last ≡ top_of (reverse stack.old.items)) }
-    ensures stack { IfOk result (λ _. reverse stack.new.items ≡ stack_at_enter event.now (reverse stack.old.items)) }
+fn before_enter(stack: &mut Levels, event: &Event) -> Result<Seen, AllocError>
+    ensures last { IfOk result (λ last. last ≡ top_of (all_seen stack.old)) }
+    ensures stack { IfOk result (λ _. all_seen stack.new ≡ stack_at_enter event.now (all_seen stack.old)) }
 {
     let last = take_last(stack);
     let around = take_last(stack);
-    stack.push(seen_before(event, last.blocks.is_apart, around))?;
+    push_level(stack, seen_before(event, last.blocks.is_apart, around), 0)?;
     Ok(last)
 }
 
 /// An event comes before. Returns what was known of the innermost span.
-fn before(stack: &mut Vec<Seen>, event: &Event) -> Result<Seen, AllocError>
-    ensures last { IfOk result (λ last. last ≡ top_of (reverse stack.old.items)) }
-    ensures stack { IfOk result (λ _. reverse stack.new.items ≡ stack_before event.now (reverse stack.old.items)) }
+fn before(stack: &mut Levels, event: &Event) -> Result<Seen, AllocError>
+    ensures last { IfOk result (λ last. last ≡ top_of (all_seen stack.old)) }
+    ensures stack { IfOk result (λ _. all_seen stack.new ≡ stack_before event.now (all_seen stack.old)) }
 {
     match event.kind {
         Kind::Exit => before_exit(stack, event),
@@ -170,15 +209,13 @@ fn is_quiet(name: Name) -> bool
 }
 
 /// An event comes before of whose name nothing is to be known.
-fn before_quiet(stack: &mut Vec<Seen>, event: &Event) -> Result<(), AllocError>
+fn before_quiet(stack: &mut Levels, event: &Event) -> Result<(), AllocError>
     requires { is_quiet event.now.name ≡ true }
-    ensures { OnOk result (reverse stack.new.items ≡ stack_before event.now (reverse stack.old.items)) }
+    ensures { OnOk result (all_seen stack.new ≡ stack_before event.now (all_seen stack.old)) }
 {
     match event.kind {
-        Kind::Exit if !stack.is_empty() => stack.push(NOTHING)?,
-        Kind::Enter if stack.len() > 1 => {
-            take_last(stack);
-        }
+        Kind::Exit if stack.known.len() > 0 && stack.inside < usize::MAX => stack.inside += 1,
+        Kind::Enter if stack.known.len() > 0 && stack.inside > 0 => stack.inside -= 1,
         _ => {
             before(stack, event)?;
         }
@@ -226,15 +263,15 @@ fn push_list(
 /// An event comes before, at an index. If it enters a list, that goes to the lists.
 #[tactic(auto, using(crate::proofs::ListSeenLemmas::quiet_list))]
 fn meet(
-    stack: &mut Vec<Seen>,
+    stack: &mut Levels,
     lists: &mut Vec<ListShape>,
     bytes: &[u8],
     events: &[Event],
     at: usize,
     event: &Event,
 ) -> Result<(), AllocError>
-    ensures lists { OnOk result (reverse lists.new.items ≡ cond (is_list event.now) (shape_at bytes.now events.now at (top_of (reverse stack.old.items)) ∷ reverse lists.old.items) (reverse lists.old.items)) }
-    ensures stack { OnOk result (reverse stack.new.items ≡ stack_before event.now (reverse stack.old.items)) }
+    ensures lists { OnOk result (reverse lists.new.items ≡ cond (is_list event.now) (shape_at bytes.now events.now at (top_of (all_seen stack.old)) ∷ reverse lists.old.items) (reverse lists.old.items)) }
+    ensures stack { OnOk result (all_seen stack.new ≡ stack_before event.now (all_seen stack.old)) }
 {
     if is_quiet(event.name) {
         before_quiet(stack, event)?;
@@ -250,7 +287,10 @@ pub fn lists_of(alloc: Global, bytes: &[u8], events: &[Event]) -> Result<Vec<Lis
     ensures { IfOk result (λ lists. lists.items ≡ shapes_from bytes.now 0 events.now) }
 {
     let mut lists = Vec::new(alloc);
-    let mut stack = Vec::new(alloc);
+    let mut stack = Levels {
+        known: Vec::new(alloc),
+        inside: 0,
+    };
     let mut at = events.len();
     while at > 0 {
         at -= 1;

@@ -68,6 +68,7 @@ struct Begun {
 }
 
 /// The containers that begin with a line's rest: none, if all open ones go on and what may go on with them is raw.
+#[inline(always)]
 fn begun_in<L: Ledger>(
     alloc: Global,
     on: &Constructs,
@@ -164,6 +165,7 @@ fn list_in(before: &Before, many: usize, number: usize, begun: &[Prefix]) -> usi
 }
 
 /// A line with its containers, by those that go on and those that begin.
+#[inline(always)]
 fn row_with<L: Ledger>(
     on: &Constructs,
     before: &Before,
@@ -236,6 +238,7 @@ impl Before {
     }
 
     /// A line with its containers, by its number and its bytes.
+    #[inline(always)]
     pub fn row<L: Ledger>(
         &self,
         alloc: Global,

@@ -28,15 +28,17 @@ ghost use Rattle.mdblock_containers.specs.Costs.{ArePaid, FirstIsNotLazy, HaveSi
 
 use crate::ahead::{Ahead, aheads_of};
 use crate::frames::{
-    Frame, Stood, behind_frames, exit_frames, frames_from, push_list, shared, stood_in,
+    Frame, Stood, behind_frames, drop_frames, exit_frames, exit_others, push_frames, push_list,
+    shared, stood_in,
 };
 use crate::going::{Open, first_of, rest_of};
 use crate::lines::rows_of;
 use crate::parts::{PartEnd, open_in, part_end, standing, write_ending};
-use crate::prefixes::{At, begun_prefixes};
+use crate::prefixes::{At, begun_prefixes, going_prefixes};
 use crate::rows::Row;
 use crate::spans::{RowAt, Span, start_of};
-use crate::stretches::{prefixes_of, stretch};
+use crate::stretches::stretch;
+use crate::texts::text_at;
 use crate::writing::white;
 use markdown_base::configuration::{Constructs, TabSize};
 use markdown_base::event::{Event, Point};
@@ -142,12 +144,21 @@ pub fn go_to_part<L: Ledger>(
     ensures paid { IfOk result (λ _. turns.new + length frames.new.items ≤ turns.old + length frames.old.items + 3 * (length stack.now - kept.containers) + 1) }
     ensures turns { turns.new ≤ turns.old + length frames.old.items + (length stack.now - kept.containers) }
 {
-    let mut next = frames_from(alloc, rest_of(stack, kept.containers), turns)?;
-    let spans = kept.spans + next.len();
-    push_list(&mut next, list)?;
-    end_part(events, frames, kept.spans, end, next.as_slice(), turns)?;
-    frames.truncate(kept.spans);
-    frames.extend_from_slice(next.as_slice())?;
+    let opened = frames.len();
+    push_frames(frames, rest_of(stack, kept.containers), turns)?;
+    let added = frames.len() - opened;
+    let spans = kept.spans + added;
+    push_list(frames, list)?;
+    exit_others(
+        events,
+        frames.as_slice(),
+        kept.spans,
+        opened,
+        end.place,
+        turns,
+    )?;
+    write_ending(events, end)?;
+    drop_frames(frames, kept.spans, opened);
     let containers = stack.len();
     Ok(Stood { containers, spans })
 }
@@ -195,17 +206,19 @@ pub fn begin_part<L: Ledger>(
         let place = start_of(at.span);
         return Ok(At { place, columns: 0 });
     }
-    let behind = prefixes_of(events, bytes, tab, stack, at, line, turns)?;
-    let begin = begun_of(
+    let span = at.span;
+    let text = text_at(line, bytes, tab, span.start, turns)?;
+    let behind = going_prefixes(
         events,
         bytes,
         tab,
-        behind,
-        at.span,
-        &at.row,
-        line.as_slice(),
+        start_of(span),
+        stack,
+        span.number,
+        text.bytes,
         turns,
     )?;
+    let begin = begun_of(events, bytes, tab, behind, span, &at.row, text.bytes, turns)?;
     Ok(begin)
 }
 

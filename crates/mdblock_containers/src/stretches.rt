@@ -19,7 +19,7 @@ use crate::chunks::begin_chunk;
 use crate::going::{Open, first_of};
 use crate::prefixes::{At, going_prefixes};
 use crate::spans::{RowAt, start_of};
-use crate::texts::read_text;
+use crate::texts::{read_text, text_at};
 use crate::writing::exit;
 use markdown_base::configuration::TabSize;
 use markdown_base::event::{Content, Event, Name, Point};
@@ -78,6 +78,39 @@ pub fn prefixes_of<L: Ledger>(
     )
 }
 
+/// The same, with `line` as room alone: a line without tabs is not copied.
+fn prefixes_at<L: Ledger>(
+    events: &mut Vec<Event>,
+    bytes: &[u8],
+    tab: TabSize,
+    stack: &[Open],
+    at: &RowAt,
+    line: &mut Vec<u8>,
+    turns: &mut Turns<L>,
+) -> Result<At, AllocError>
+    requires inside { at.now.span.start ≤ length bytes.now }
+    requires columns { let s = at.now.span in HasColumns tab bytes.now (point s.number 1 s.start 0) (length (line_bytes tab s.number 1 s.start (drop s.start bytes.now))) }
+    requires sizes { HaveSizes (map open_of stack.now) }
+    ensures marks { let s = at.now.span in let t = line_bytes tab s.number 1 s.start (drop s.start bytes.now) in IfOk result (λ _. (seats : List Seat) → AreSeatsAt tab bytes.now (point s.number 1 s.start 0) seats → t ≡ bytes_of seats → events.new.items ≡ events.old.items ++ events_of (prefixes_marks bytes.now (going_on (map open_of stack.now) s.number t) seats)) }
+    ensures columns { let s = at.now.span in IfOk result (λ p. p.columns ≡ columns_of (going_on (map open_of stack.now) s.number (line_bytes tab s.number 1 s.start (drop s.start bytes.now)))) }
+    ensures within { let s = at.now.span in IfOk result (λ p. p.columns ≤ length (line_bytes tab s.number 1 s.start (drop s.start bytes.now))) }
+    ensures place { let s = at.now.span in IfOk result (λ p. p.place ≡ place_after tab bytes.now (point s.number 1 s.start 0) p.columns) }
+    ensures turns { let s = at.now.span in turns.new ≤ turns.old + 8 * length (line_bytes tab s.number 1 s.start (drop s.start bytes.now)) + 4 }
+{
+    let span = at.span;
+    let text = text_at(line, bytes, tab, span.start, turns)?;
+    going_prefixes(
+        events,
+        bytes,
+        tab,
+        start_of(span),
+        stack,
+        span.number,
+        text.bytes,
+        turns,
+    )
+}
+
 /// The chunks of a stretch that begins at a place of its first line, has these further lines and ends at another place: one chunk for lines that no
 /// prefix divides.
 pub fn stretch<L: Ledger>(
@@ -106,7 +139,7 @@ pub fn stretch<L: Ledger>(
             let index = chunk(events, Content::Content, previous, place, start_of(at.span))?;
             previous = Some(index);
             let front = first_of(stack, at.row.many);
-            place = prefixes_of(events, bytes, tab, front, at, line, turns)?.place;
+            place = prefixes_at(events, bytes, tab, front, at, line, turns)?.place;
         }
     }
     if place.index < to.index {

@@ -102,3 +102,42 @@ pub fn read_text<L: Ledger>(
     line.extend_from_slice(front(rest, n))?;
     Ok(start + n)
 }
+
+/// A line without its line ending.
+#[derive(Clone, Copy)]
+pub struct LineText<'a> {
+    /// Its virtual bytes.
+    pub bytes: &'a [u8],
+    /// The index of its line ending, or of the document's end.
+    pub end: usize,
+}
+
+/// A line. Its virtual bytes are those of the document if no tab is in it; else they go to the list.
+pub fn text_at<'a, L: Ledger>(
+    line: &'a mut Vec<u8>,
+    bytes: &'a [u8],
+    tab: TabSize,
+    start: usize,
+    turns: &mut Turns<L>,
+) -> Result<LineText<'a>, AllocError>
+    requires inside { start ≤ length bytes.now }
+    ensures seats { (number : ℕ) → IfOk result (λ text. text.bytes.now ≡ line_bytes tab number 1 start (drop start bytes.now)) }
+    ensures end { IfOk result (λ text. text.end ≡ start + prefix_len is_in_line (drop start bytes.now)) }
+    ensures turns { (number : ℕ) → turns.new ≤ turns.old + 4 * length (line_bytes tab number 1 start (drop start bytes.now)) + 2 }
+{
+    let tab_size = tab.get();
+    prove!(tab_size >= 1);
+    let rest = behind(bytes, start);
+    let n = plain_size(rest, turns);
+    if begins_with_tab(behind(rest, n)) {
+        let end = read_line(line, bytes, tab, start, turns)?;
+        return Ok(LineText {
+            bytes: line.as_slice(),
+            end,
+        });
+    }
+    Ok(LineText {
+        bytes: front(rest, n),
+        end: start + n,
+    })
+}

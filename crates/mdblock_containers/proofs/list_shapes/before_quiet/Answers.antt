@@ -1,20 +1,21 @@
-use Rattle.std.proofs.Common.{◌<◌, [], ◌∷◌, length, ap, sym, ◌∙◌, arith}
-use Rattle.std.specs.Prelude.{◌==◌, reverse}
-use Rattle.std.proofs.lemmas.List.{length-reverse, reverse-append}
-use Rattle.mdblock_containers.specs.ListSeen.{nothing_seen}
-use Rattle.mdblock_containers.proofs.ListSeenLemmas.{before_enter, before_exit, some_seen}
+use Rattle.std.proofs.Common.{◌<◌, length, sym, ◌∙◌, arith}
+use Rattle.std.specs.Prelude.{reverse}
+use Rattle.mdblock_containers.specs.ListSeen.{all_seen, known_from}
+use Rattle.mdblock_containers.proofs.ListSeenLemmas.{before_enter, before_exit, none_first, none_more, some_seen}
 use Rattle.mdblock_containers.proofs.list_shapes.before_quiet.Goals as goal
 
-pub returns-in_ok-push-in-Exit : goal.returns-in_ok-push-in-Exit
-returns-in_ok-push-in-Exit c =
-    let items = c.args.stack.now.items in
-    let some = some_seen (reverse items) (ap (λ n. n == 0) (length-reverse items ∙ sym c.args.stack.now.ok.0) ∙ (sym c.is_empty.ensures ∙ c.if-not-is_empty.true)) in
-    ap reverse c.in_ok-push-in-Exit.ensures.items
-    ∙ reverse-append items (nothing_seen ∷ [])
-    ∙ sym (before_exit c.args.event.now c.requires (reverse items) some c.in-Exit.is)
+pub returns-in-Exit : goal.returns-in-Exit
+returns-in-Exit c =
+    let stack = c.args.stack.now in
+    let known = known_from (reverse stack.known.items) in
+    let some : 0 < length stack.known.items = omega arith in
+    let seen = some_seen stack.inside stack.known.items some in
+    none_more stack.inside known ∙ sym (before_exit c.args.event.now c.requires (all_seen stack) (omega (arith, seen)) c.in-Exit.is)
 
 pub returns-in-Enter : goal.returns-in-Enter
 returns-in-Enter c =
-    let items = c.args.stack.now.items in
-    let some : 1 < length (reverse items) = omega (arith, length-reverse items, c.len.ensures, c.if-len-gt1.true) in
-    c.take_last.ensures.others ∙ sym (before_enter c.args.event.now c.requires (reverse items) some c.in-Enter.is)
+    let stack = c.args.stack.now in
+    let known = known_from (reverse stack.known.items) in
+    let some : 0 < length stack.known.items = omega arith in
+    let seen = some_seen stack.inside stack.known.items some in
+    (none_first stack.inside known (omega arith)).1 ∙ sym (before_enter c.args.event.now c.requires (all_seen stack) (omega (arith, seen)) c.in-Enter.is)

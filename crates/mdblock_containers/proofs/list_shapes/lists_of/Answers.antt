@@ -3,7 +3,7 @@ use Rattle.std.specs.Prelude.{reverse}
 use Rattle.std.proofs.lemmas.List.{drop_more}
 use Rattle.markdown_base.proofs.SliceLemmas.{filler}
 use Rattle.mdblock_containers.specs.declared.list_shapes.Seen.{Seen}
-use Rattle.mdblock_containers.specs.ListSeen.{AreSeen, top_of}
+use Rattle.mdblock_containers.specs.ListSeen.{AreSeen, all_seen, top_of}
 use Rattle.mdblock_containers.specs.ListShapes.{shapes_from}
 use Rattle.mdblock_containers.proofs.ListSeenLemmas.{seen_same, seen_step, seen_top, shapes_step}
 use Rattle.mdblock_containers.proofs.list_shapes.lists_of.Goals as goal
@@ -15,7 +15,7 @@ loop-at-preserved c =
     let at = c.loop-at.at - 1 in
     let e = get_or events at filler in
     let es = drop (at + 1) events in
-    let ss = reverse c.loop-at.stack.items in
+    let ss = all_seen c.loop-at.stack in
     let inside : at < length events = omega arith in
     let first = drop_more events at filler inside in
     let same : at + 1 ≡ c.loop-at.at = omega arith in

@@ -41,8 +41,8 @@ first_of-front-requires g c =
     let one = further_one c.args.tab c.args.bytes.now some c.requires.limit (map open_of c.args.stack.now) c.at-item.result (drop (c.loop-at.at-index + 1) c.args.more.now) (subst (HasFurther c.args.tab c.args.bytes.now (map open_of c.args.stack.now)) split c.loop-at.invariant.further) in
     omega (arith, one.many, length-map c.args.stack.now open_of)
 
-pub prefixes_of-requires : goal.prefixes_of-requires
-prefixes_of-requires g c =
+pub prefixes_at-requires : goal.prefixes_at-requires
+prefixes_at-requires g c =
     let some : 0 < c.args.tab = omega (arith, c.get-tab_size.ensures.least, c.get-tab_size.ensures.columns) in
     let split : drop c.loop-at.at-index c.args.more.now ≡ c.at-item.result ∷ drop (c.loop-at.at-index + 1) c.args.more.now =
     drop_more c.args.more.now c.loop-at.at-index c.at-item.result c.loop-at-test.true ∙ ap (λ (x : RowAt). x ∷ drop (c.loop-at.at-index + 1) c.args.more.now) (sym c.at-item.is) in
@@ -76,7 +76,7 @@ loop-at-preserved g c =
           w.in_ok-place.ensures.marks seats a b ∙ (λ k. mid ++ events_of (prefixes_marks bytes (going_on (front k) x.span.number line) seats)) in
           let made : mid ≡ with_chunk content.Content c.loop-at.previous c.loop-at.place (point x.span.number 1 x.span.start 0) c.loop-at.events.items = w.in_ok-index.ensures.events ∙ ap (λ (p : Point). with_chunk content.Content c.loop-at.previous c.loop-at.place p c.loop-at.events.items) w.start_of.ensures in
           record {
-            turns = omega (arith, c.loop-at.invariant.turns, c.add_one.ensures, w.turns-is, w.prefixes_of.ensures.turns, one.size, more);
+            turns = omega (arith, c.loop-at.invariant.turns, c.add_one.ensures, w.turns-is, w.prefixes_at.ensures.turns, one.size, more);
             before = λ b e.
                 let same : w.in_ok-index.index ≡ b = some_same (sym w.previous-is ∙ e) in
                 let longer = ap (λ (l : List Event). length l) (ap (λ (v : Vec Event Global). v.items) w.events-is ∙ write one.seats one.seats_at one.seats_bytes) ∙ length-append mid _ in
@@ -84,8 +84,8 @@ loop-at-preserved g c =
                 omega (arith, longer, size, same, w.in_ok-index.ensures.index);
             further = one.behind;
             state = λ is_held rest all v.
-                same_state t bytes stack is_held _ w.prefixes_of.new.events.items _ (Some w.in_ok-index.index) _ w.in_ok-place.field-0.place c.args.to xs rest all (ap (λ (v : Vec Event Global). v.items) w.events-is) w.previous-is w.place-is
-                (step_chunk t bytes some c.requires.limit stack is_held c.loop-at.events.items mid w.prefixes_of.new.events.items c.loop-at.previous w.in_ok-index.index c.loop-at.place c.args.to w.in_ok-place.field-0.place x xs rest all w.if-at-gt0.true w.in_ok-index.ensures.index made write
+                same_state t bytes stack is_held _ w.prefixes_at.new.events.items _ (Some w.in_ok-index.index) _ w.in_ok-place.field-0.place c.args.to xs rest all (ap (λ (v : Vec Event Global). v.items) w.events-is) w.previous-is w.place-is
+                (step_chunk t bytes some c.requires.limit stack is_held c.loop-at.events.items mid w.prefixes_at.new.events.items c.loop-at.previous w.in_ok-index.index c.loop-at.place c.args.to w.in_ok-place.field-0.place x xs rest all w.if-at-gt0.true w.in_ok-index.ensures.index made write
                 (w.in_ok-place.ensures.place ∙ ap (place_after t bytes (point x.span.number 1 x.span.start 0)) (w.in_ok-place.ensures.columns ∙ (λ k. columns_of (going_on (front k) x.span.number line)))) (before is_held rest all v));
           }
       | else-at-gt0 w ↦ record {
@@ -135,4 +135,4 @@ returns-in_err-place-clause-turns g c =
     let one = further_one c.args.tab c.args.bytes.now some c.requires.limit (map open_of c.args.stack.now) c.at-item.result (drop (c.loop-at.at-index + 1) c.args.more.now) (subst (HasFurther c.args.tab c.args.bytes.now (map open_of c.args.stack.now)) split c.loop-at.invariant.further) in
     let more = columns_more c.args.more.now c.loop-at.at-index c.at-item.result c.loop-at-test.true ∙ ap (λ (y : RowAt). columns_in (take c.loop-at.at-index c.args.more.now) + suc y.span.size) (sym c.at-item.is) in
     let few = few_columns c.args.more.now (c.loop-at.at-index + 1) in
-    omega (arith, c.loop-at.invariant.turns, c.add_one.ensures, c.prefixes_of.ensures.turns, one.size, few, more)
+    omega (arith, c.loop-at.invariant.turns, c.add_one.ensures, c.prefixes_at.ensures.turns, one.size, few, more)

@@ -1,22 +1,11 @@
-use Rattle.std.proofs.Common.{◌≡◌, ℕ, ◌+◌, ◌*◌, ◌<◌, ◌≤◌, false, List, ◌++◌, length, take, drop, sym, ap, ◌∙◌, arith}
+use Rattle.std.proofs.Common.{◌≡◌, ◌+◌, ◌<◌, false, ◌++◌, length, take, drop, sym, ap, ◌∙◌, arith}
 use Rattle.std.specs.List.{prefix_len}
 use Rattle.mdblock_leaf_blocks.specs.LineWords.{begins_with}
 use Rattle.mdblock_lines.specs.Lines.{expanded, is_in_line, line_bytes}
 use Rattle.mdblock_lines.proofs.PlaceLemmas.{expanded_is_virtual}
 use Rattle.mdblock_containers.specs.Letters.{is_plain}
-use Rattle.mdblock_containers.proofs.TextLemmas.{plain_fits, plain_line}
+use Rattle.mdblock_containers.proofs.TextLemmas.{plain_fits, plain_line, size_of_text, text_costs}
 use Rattle.mdblock_containers.proofs.texts.read_text.Goals as goal
-
--- a line's size
-text_size : (t number start : ℕ) (rest : List ℕ) (u : ℕ) → 0 < u → u ≤ 16 → u ≡ t → length (expanded u 1 (take (prefix_len is_in_line rest) rest)) ≡ length (line_bytes t number 1 start rest)
-text_size t number start rest u some most same = ap (λ (l : List ℕ). length l) (expanded_is_virtual u some most number 1 start rest ∙ (λ k. line_bytes (same k) number 1 start rest))
-
-text_costs : (t : ℕ) (bytes : List ℕ) (start u before after n : ℕ) → 0 < u → u ≤ 16 → u ≡ t → n ≡ prefix_len is_plain (drop start bytes) → after ≤ before + n + 1 → (number : ℕ) → after ≤ before + 4 * length (line_bytes t number 1 start (drop start bytes)) + 2
-text_costs t bytes start u before after n some most same is h number =
-    let rest = drop start bytes in
-    let fits = plain_fits u rest some most in
-    let size = text_size t number start rest u some most same in
-    omega (arith, fits, size, is, h)
 
 pub returns-then-begins_with_tab-clause-turns : goal.returns-then-begins_with_tab-clause-turns
 returns-then-begins_with_tab-clause-turns g c = λ number.
@@ -25,7 +14,7 @@ returns-then-begins_with_tab-clause-turns g c = λ number.
     let some : 0 < t = omega (arith, c.get-tab_size.ensures.least) in
     let n : c.plain_size-n.result ≡ prefix_len is_plain rest = c.plain_size-n.ensures.value ∙ ap (prefix_len is_plain) c.behind-rest.ensures.value in
     let fits = plain_fits t rest some c.get-tab_size.ensures.most in
-    let size = text_size c.args.tab number c.args.start rest t some c.get-tab_size.ensures.most c.get-tab_size.ensures.columns in
+    let size = size_of_text c.args.tab number c.args.start rest t some c.get-tab_size.ensures.most c.get-tab_size.ensures.columns in
     let same : length (expanded t 1 (take (prefix_len is_in_line rest) rest)) ≡ length (expanded c.args.tab 1 (take (prefix_len is_in_line rest) rest)) = (λ k. length (expanded (c.get-tab_size.ensures.columns k) 1 (take (prefix_len is_in_line rest) rest))) in
     omega (arith, n, fits, size, same, c.plain_size-n.ensures.turns, c.read_line.ensures.turns)
 
