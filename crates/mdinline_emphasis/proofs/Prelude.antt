@@ -1,6 +1,6 @@
 -- What the proofs of this crate cite from below them: words of std, of the crates below and of specs.
 pub use Rattle.std.proofs.Common.{Bool, List, None, Ok, Option, Some, [], ap, append-nil, append_assoc, arith, cond, drop, false, get_or, inl, inr, length, length-append, map, min, refl, replicate, set, subst, suc, sym, take, true, zero, ℕ, ◌*◌, ◌++◌, ◌+◌, ◌-◌, ◌/◌, ◌<◌, ◌∙◌, ◌∷◌, ◌≡◌, ◌≢◌, ◌≤◌}
-pub use Rattle.std.proofs.Math.Seq.{drop-append-add, drop-append_seam, drop-length, get_or-append_seam, set-append_seam, take-append-add, take-append_seam, take-length, take-suc}
+pub use Rattle.std.proofs.Math.Seq.{drop-append-add, drop-append_seam, drop-cons, drop-length, get_or-append_seam, set-append_seam, take-append-add, take-append_seam, take-length, take-suc}
 pub use Rattle.std.proofs.lemmas.Bool.{agree_below, agree_below_at, and_from, and_left, and_parts, and_right, cases_Bool, cases_eq, cases_lt, eq-eqb, eqb-true, false≢true, le-leb, leb-true, lt-leb, lt-ltb, ne_eqb, or_from, or_left, or_right, true≢false}
 pub use Rattle.std.proofs.lemmas.Bool.Decides.{nat_tests}
 pub use Rattle.std.proofs.lemmas.List.{drop-append-le, drop-drop, drop_min, drop_more, get_or-set_other, get_or-set_same, get_or_append_left, get_or_default, length-drop, length-map, length-set, length-take-le, map-append, map-set, nil_from_length, reverse-append, take-append-drop, take_all}
@@ -24,6 +24,7 @@ pub use Rattle.markdown_base.specs.declared.util.char.Kind.TheVariants.{Other, P
 pub use Rattle.markdown_edits.proofs.Balanced.{balanced_from_open, names-none, names_after_all-append, names_after_balanced, same_name-refl, same_name-true}
 pub use Rattle.markdown_edits.proofs.Edits.Splices.{edited-spliced}
 pub use Rattle.markdown_edits.proofs.Edits.Survivors.{slice_get-behind}
+pub use Rattle.markdown_edits.specs.Edited.{edited}
 pub use Rattle.markdown_edits.specs.Edits.{AreDisjoint, Edit, edit_at, put_after, removal_at}
 pub use Rattle.markdown_edits.specs.OpenNames.{names_after, names_after_all}
 pub use Rattle.markdown_edits.specs.Spliced.{relinked_by, spliced}

@@ -1,5 +1,5 @@
 -- One edit for each run leaves emphasis.
-use Rattle.mdinline_emphasis.proofs.Prelude.{◌≡◌, ℕ, zero, suc, ◌+◌, ◌-◌, List, [], ◌∷◌, ◌++◌, Option, map, take, drop, length, refl, sym, ap, ◌∙◌, subst, arith, append_assoc, length-append, take-append_seam, drop-append-add, Event, Point, IsBalanced, AreDisjoint, spliced, relinked_by, edited-spliced, Run, closings, paired, tail_events, head_events, run_events, events_of_runs, openings, data_of, later, markers_of, markers_of_all, runs_in, end_before, text_before, text_behind, in_place, edits_of, index_of, HasRunsAt, EditsMakeEmphasis, EmphasisCanBeMade, HaveNoLinks, no-links-append, no-links-below, no-links-drop, no-links-take, unlinked-same, Style}
+use Rattle.mdinline_emphasis.proofs.Prelude.{◌≡◌, ℕ, zero, suc, ◌+◌, ◌-◌, ◌≤◌, List, [], ◌∷◌, ◌++◌, Option, map, take, drop, length, refl, sym, ap, ◌∙◌, subst, arith, append_assoc, length-append, take-append_seam, drop-append-add, drop-drop, Event, Point, IsBalanced, AreDisjoint, spliced, relinked_by, edited, edited-spliced, Run, closings, paired, tail_events, head_events, run_events, events_of_runs, openings, data_of, later, markers_of, markers_of_all, runs_in, end_before, text_before, text_behind, in_place, edits_of, index_of, HasRunsAt, EditsMakeEmphasis, EmphasisCanBeMade, HaveNoLinks, no-links-append, no-links-below, no-links-drop, no-links-take, unlinked-same, Style}
 use Rattle.mdinline_emphasis.proofs.RunTexts.{runs-and-texts}
 use Rattle.mdinline_emphasis.proofs.Balance.{leaves-balanced}
 use Rattle.mdinline_emphasis.proofs.PairsKeep.{pairs-keep-indices}
@@ -93,3 +93,36 @@ emphasis-can-be-made bytes events balanced none =
           (no-links-runs texts (paired rs) (λ k. let from = end_before 0 rs k in no-links-take (k - from) (drop from events) (no-links-drop from events none)))
           (no-links-drop (end_before 0 rs (length events)) events none),
     )
+
+-- ---- the list in one pass
+
+-- events from an index on, with what comes in the place of runs
+abbrev pub placed_from : List Run → ℕ → List Event → List Event
+placed_from [] i xs = xs
+placed_from (r ∷ rs) i xs = take (r.index - i) xs ++ (in_place r ++ placed_from rs (r.index + 2) (drop (r.index + 2 - i) xs))
+
+spliced-placed : (place : ℕ → Option ℕ) (rs : List Run) (i : ℕ) (xs : List Event) → HaveNoLinks xs → spliced place (edits_of rs) i xs ≡ placed_from rs i xs
+spliced-placed place [] i xs none = relinked-nowhere place xs none
+spliced-placed place (r ∷ rs) i xs none =
+    ap (λ ys. ys ++ (in_place r ++ spliced place (edits_of rs) (r.index + 2) (drop (r.index + 2 - i) xs))) (relinked-nowhere place (take (r.index - i) xs) (no-links-take (r.index - i) xs none))
+    ∙ ap (λ ys. take (r.index - i) xs ++ (in_place r ++ ys)) (spliced-placed place rs (r.index + 2) (drop (r.index + 2 - i) xs) (no-links-drop (r.index + 2 - i) xs none))
+
+-- it is what their edits leave of a list without links
+pub edited-placed : (rs : List Run) (events : List Event) → AreDisjoint 0 (edits_of rs) (length events) → HaveNoLinks events → edited (edits_of rs) events ≡ placed_from rs 0 events
+edited-placed rs events apart none = edited-spliced (edits_of rs) events apart (no-links-below (length events) events none) ∙ spliced-placed _ rs 0 events none
+
+pub placed-within : (rs : List Run) (i n : ℕ) → AreDisjoint i (edits_of rs) n → i ≤ n
+placed-within [] i n h = h
+placed-within (r ∷ rs) i n h = let more = placed-within rs (r.index + 2) n h.1 in omega (arith, h.0, more)
+
+-- behind events that were written: the text before a run, and what comes in its place
+pub placed-step : (out events : List Event) (r : Run) (rs : List Run) (from : ℕ) → from ≤ r.index
+    → ((out ++ take (r.index - from) (drop from events)) ++ in_place r) ++ placed_from rs (r.index + 2) (drop (r.index + 2) events) ≡ out ++ placed_from (r ∷ rs) from (drop from events)
+placed-step out events r rs from order =
+    let text = take (r.index - from) (drop from events) in
+    let more = placed_from rs (r.index + 2) (drop (r.index + 2) events) in
+    let there : from + (r.index + 2 - from) ≡ r.index + 2 = omega (arith, order) in
+    let same : drop (r.index + 2 - from) (drop from events) ≡ drop (r.index + 2) events = drop-drop (r.index + 2 - from) from events ∙ ap (λ n. drop n events) there in
+    append_assoc (out ++ text) (in_place r) more
+    ∙ append_assoc out text (in_place r ++ more)
+    ∙ ap (λ ys. out ++ (text ++ (in_place r ++ placed_from rs (r.index + 2) ys))) (sym same)

@@ -1,5 +1,6 @@
 -- The edits of runs, one by one, and that the runs of a list have room.
-use Rattle.mdinline_emphasis.proofs.Prelude.{◌≡◌, ℕ, zero, suc, ◌+◌, ◌-◌, ◌<◌, ◌≤◌, cond, List, [], ◌∷◌, ◌++◌, Option, Some, inl, inr, map, take, length, get_or, refl, sym, ap, ◌∙◌, subst, arith, ◌==◌, ◌&&◌, slice_get, cases_Bool, nat_tests, map-append, All-head, All-tail, take-suc, Event, Edit, edit_at, put_after, removal_at, Delimiters, Run, HasRoom, markers, standing, AreApart, AllHaveRoom, ArePlacesInside, in_place, edits_of, index_of, index_of_event, is_sequence, depth_after, run_at, runs_from, as_run}
+use Rattle.mdinline_emphasis.proofs.Prelude.{◌≡◌, ℕ, zero, suc, ◌+◌, ◌-◌, ◌<◌, ◌≤◌, cond, List, [], ◌∷◌, ◌++◌, Option, Some, inl, inr, map, take, drop, drop-cons, length, get_or, refl, sym, ap, ◌∙◌, subst, arith, ◌==◌, ◌&&◌, slice_get, cases_Bool, nat_tests, map-append, All-head, All-tail, take-suc, AreDisjoint, Event, Edit, edit_at, put_after, removal_at, Delimiters, Run, HasRoom, markers, standing, AreApart, AllHaveRoom, ArePlacesInside, in_place, edits_of, index_of, index_of_event, is_sequence, depth_after, run_at, runs_from, as_run}
+use Rattle.mdinline_emphasis.proofs.RunEdits.{placed_from, placed-step, placed-within}
 use Rattle.mdinline_emphasis.proofs.RunTexts.{HasRuns}
 
 -- ---- one edit more, behind the others
@@ -45,6 +46,26 @@ module _ (ds : List Delimiters) (i : ℕ) (d : Delimiters) (inside : i < length 
       found [] n lt all = absurd (omega (arith, lt))
       found (x ∷ xs) zero lt all = all.0
       found (x ∷ xs) (suc n) lt all = found xs n (omega (arith, lt)) all.1
+
+  -- the runs from an index on begin with the one there
+  run-next : map as_run (drop i ds) ≡ as_run d ∷ map as_run (drop (i + 1) ds)
+  run-next =
+      let same : suc i ≡ i + 1 = omega arith in
+      ap (map as_run) (drop-cons ds i d inside)
+      ∙ ap (λ y. as_run y ∷ map as_run (drop (suc i) ds)) (sym is)
+      ∙ ap (λ n. as_run d ∷ map as_run (drop n ds)) same
+
+  -- it begins behind what was placed, and it and the others end in the list
+  pub run-within : (from n : ℕ) → AreDisjoint from (edits_of (map as_run (drop i ds))) n → (from ≤ d.index) × (d.index + 2 ≤ n) × AreDisjoint (d.index + 2) (edits_of (map as_run (drop (i + 1) ds))) n
+  run-within from n h =
+      let here = subst (λ rs. AreDisjoint from (edits_of rs) n) run-next h in
+      (here.0, placed-within (map as_run (drop (i + 1) ds)) (d.index + 2) n here.1, here.1)
+
+  -- with it, what was placed and what is left are still the whole
+  pub run-placed : (from : ℕ) (out events whole : List Event) → from ≤ d.index → out ++ placed_from (map as_run (drop i ds)) from (drop from events) ≡ whole
+      → ((out ++ take (d.index - from) (drop from events)) ++ in_place (as_run d)) ++ placed_from (map as_run (drop (i + 1) ds)) (d.index + 2) (drop (d.index + 2) events) ≡ whole
+  run-placed from out events whole order h =
+      placed-step out events (as_run d) (map as_run (drop (i + 1) ds)) from order ∙ ap (λ rs. out ++ placed_from rs from (drop from events)) (sym run-next) ∙ h
 
 -- ---- the runs of a list
 

@@ -1,7 +1,10 @@
-//! The events that take the place of delimiter runs, as edits.
+//! The events that take the place of delimiter runs, as edits, and in lists.
 
 ghost use Rattle.std.specs.Prelude.{ℕ, ◌≡◌, ◌+◌, ◌*◌, ◌<◌, ◌≤◌, ◌^◌, ◌∷◌, [], ◌++◌, length, map, reverse, All, OnOk, IfOk};
 ghost use Rattle.markdown_base.specs.Events.{IsBalanced};
+ghost use Rattle.markdown_edits.specs.Edited.{edited};
+ghost use Rattle.markdown_edits.specs.Edits.{AreDisjoint};
+ghost use Rattle.markdown_tokenizer.specs.Plain.{HaveNoLinks};
 ghost use Rattle.mdinline_emphasis.specs.Costs.{emphasis_a_run, ends_at, ends_of_pairs, markers_left};
 ghost use Rattle.mdinline_emphasis.specs.Emphasis.{paired, later, unlinked_event, outer_name, sequence_name, inner_name, markers_of, markers_of_all, closings, openings, data_of};
 ghost use Rattle.mdinline_emphasis.specs.Places.{HasRoom, markers, AreApart, AllHaveRoom, ArePlacesInside, standing};
@@ -166,7 +169,24 @@ fn push_data(events: &mut Vec<Event>, point: Point, left: usize) -> Result<Point
     Ok(end)
 }
 
-/// The events that take the place of a run: what it closes, what is left of it as data, and what it opens.
+/// Adds the events that take the place of a run: what it closes, what is left of it as data, and what it opens.
+///
+/// A turn is a look at a pair that the run closes or opens. Returns `AllocError` if it runs out of memory; then some events were added.
+pub fn push_in_place<L: Ledger>(
+    events: &mut Vec<Event>,
+    run: &Delimiters,
+    turns: &mut Turns<L>,
+) -> Result<(), AllocError>
+    requires room { HasRoom (markers (as_run run.now)) run.now.start }
+    ensures events { OnOk result (events.new.items ≡ events.old.items ++ in_place (as_run run.now)) }
+    ensures turns { turns.new ≤ turns.old + ends_at (as_run run.now) }
+{
+    let behind_closed = push_closed(events, run.start, run.closed.as_slice(), turns)?;
+    let behind_data = push_data(events, behind_closed, run.left)?;
+    push_opened(events, behind_data, run.opened.as_slice(), turns)
+}
+
+/// The events that take the place of a run, as `push_in_place` adds them.
 ///
 /// A turn is a look at a pair that the run closes or opens.
 pub fn in_place_counted<L: Ledger>(
@@ -179,9 +199,7 @@ pub fn in_place_counted<L: Ledger>(
     ensures turns { turns.new ≤ turns.old + ends_at (as_run run.now) }
 {
     let mut events = Vec::new(alloc);
-    let behind_closed = push_closed(&mut events, run.start, run.closed.as_slice(), turns)?;
-    let behind_data = push_data(&mut events, behind_closed, run.left)?;
-    push_opened(&mut events, behind_data, run.opened.as_slice(), turns)?;
+    push_in_place(&mut events, run, turns)?;
     Ok(events)
 }
 
@@ -323,4 +341,52 @@ pub fn emphasize(
     ensures { OnOk result (edits.new ≡ edits_of (paired (runs_in bytes.now events.now))) }
 {
     emphasize_uncounted::<Brand>(alloc, bytes, events, edits, Blank::new(1))
+}
+
+/// A list of events with what takes the place of runs in their place.
+///
+/// A turn is a look at a run, or at an end of a pair.
+fn placed_counted<L: Ledger>(
+    alloc: Global,
+    events: &[Event],
+    runs: &[Delimiters],
+    turns: &mut Turns<L>,
+) -> Result<Vec<Event>, AllocError>
+    requires disjoint { AreDisjoint 0 (edits_of (map as_run runs.now)) (length events.now) }
+    requires unlinked { HaveNoLinks events.now }
+    requires room { AllHaveRoom (map standing (map as_run runs.now)) }
+    ensures placed { IfOk result (λ out. out.items ≡ edited (edits_of (map as_run runs.now)) events.now) }
+    ensures turns { turns.new ≤ turns.old + length runs.now + ends_of_pairs (map as_run runs.now) }
+{
+    let room = events.len().saturating_add(runs.len());
+    let mut out = Vec::with_capacity(alloc, room.saturating_add(runs.len()))?;
+    let mut from = 0;
+    for run in runs {
+        turns.add_one();
+        out.extend_from_slice(&events[from..run.index])?;
+        push_in_place(&mut out, run, turns)?;
+        from = run.index + 2;
+    }
+    out.extend_from_slice(&events[from..])?;
+    Ok(out)
+}
+
+/// A list of events with emphasis in place of its delimiter runs: what the edits of [`emphasize_counted`] leave, without a map of edits.
+///
+/// A turn is a look at an event, a run or an end of a pair, or a try to make one more pair. Events that are written are copied besides.
+pub fn emphasized_counted<L: Ledger>(
+    alloc: Global,
+    bytes: &[u8],
+    events: &[Event],
+    turns: &mut Turns<L>,
+) -> Result<Vec<Event>, AllocError>
+    requires balanced { IsBalanced events.now }
+    requires unlinked { HaveNoLinks events.now }
+    requires room { ArePlacesInside bytes.now events.now }
+    ensures emphasis { IfOk result (λ out. out.items ≡ edited (edits_of (paired (runs_in bytes.now events.now))) events.now) }
+    ensures linear { turns.new ≤ turns.old + (emphasis_a_run * length (runs_in bytes.now events.now) + 3 * markers_left (runs_in bytes.now events.now)) + length events.now }
+{
+    let mut delimiters = runs_of_counted(alloc, bytes, events, turns)?;
+    pair_counted(alloc, delimiters.as_mut_slice(), turns)?;
+    placed_counted(alloc, events, delimiters.as_slice(), turns)
 }
