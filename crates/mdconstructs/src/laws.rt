@@ -42,6 +42,7 @@ pub use mddocument_costs::laws::chains_are_few;
 pub use mddocument_costs::laws::chains_of_inline_text_are_linear;
 pub use mddocument_costs::laws::chains_of_leaf_blocks_are_linear;
 pub use mddocument_costs::laws::documents_are_read_in_linear_time;
+pub use mddocument_costs::laws::passes_are_of_their_document;
 pub use mddocument_editing::laws::bytes_are_cut_into_characters;
 pub use mddocument_editing::laws::bytes_without_end_ask_nothing;
 pub use mddocument_editing::laws::cuts_start_lines;

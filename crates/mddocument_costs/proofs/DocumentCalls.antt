@@ -72,10 +72,10 @@ module _ (g : Given) (is : IsDocument g) where
     by-options j = record { bytes = g.bytes; options = g.options; tab = is.one_size j }
 
     -- what the first pass makes
-    abbrev blocks : List Event
+    abbrev pub blocks : List Event
     blocks = passes.blocks
 
-    are-blocks : blocks ≡ document_blocks g
+    pub are-blocks : blocks ≡ document_blocks g
     are-blocks =
         let d = document g.options g.bytes in
         let there : IsDocument d = subst IsDocument by-options is in

@@ -4,5 +4,6 @@ mod ChainBytes
 mod ChainCalls
 mod ChainCount
 mod DocumentCalls
+mod DocumentPasses
 mod FlowCalls
 mod InlineCalls

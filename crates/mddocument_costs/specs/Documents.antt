@@ -1,5 +1,5 @@
 -- The passes in which a document is read, and how many calls of states they make.
-use Rattle.std.specs.Prelude.{ℕ, ◌+◌, ◌-◌, ◌*◌, ◌^◌, ◌<◌, ◌≤◌, Bool, List, length, None}
+use Rattle.std.specs.Prelude.{◌≡◌, ℕ, ◌+◌, ◌-◌, ◌*◌, ◌^◌, ◌<◌, ◌≤◌, Bool, List, length, None}
 use Rattle.markdown_base.specs.declared.event.Event.{Event}
 use Rattle.markdown_base.specs.Virtual.{virtual}
 use Rattle.markdown_children.specs.Reads.{IsSubtokenized}
@@ -7,7 +7,9 @@ use Rattle.markdown_tokenizer.specs.declared.subtokenize.Subresult.{Subresult}
 use Rattle.markdown_tokenizer.specs.Text.{Given, IsDocument}
 use Rattle.mdblock_leaf_rows.specs.FlowKnows.{flow_rules}
 use Rattle.mdinline_machine.specs.InlineRules.{inlines_rules}
-use Rattle.mdblock_definitions.specs.Blocks.{document_skeleton, shown_as_text}
+use Rattle.mdblock_definitions.specs.Blocks.{document_blocks, document_skeleton, shown_as_text}
+use Rattle.mdinline_link_strings.specs.Strings.{with_strings}
+use Rattle.mddocument.specs.DocumentEvents.{document_events_by}
 use Rattle.mddocument_costs.specs.Chains.{calls_in}
 
 -- A document is read in two passes of states: first its skeleton gets the leaf blocks of its chains, and then these blocks get their texts and strings, by
@@ -37,3 +39,14 @@ pub record AreLinear (g : Given) (defined : List ℕ → Bool) (passes : Passes 
 -- So it is with each document, if so many calls can be counted
 abbrev pub DocumentsAreLinear : Type 0
 DocumentsAreLinear = (g : Given) (defined : List ℕ → Bool) (passes : Passes g defined) → IsDocument g → 374 * length (virtual g.tab g.bytes) + 4 < 2 ^ 64 - 1 → AreLinear g defined passes
+
+-- Passes are of their document: they leave its blocks, and with these its events. By the labels that the document defines those are what `read_document`
+-- returns. And any others make as many calls: how many are counted is a number of the document
+pub record AreOfDocument (g : Given) (defined : List ℕ → Bool) (passes : Passes g defined) : Type 0 where
+  pub blocks : passes.blocks ≡ document_blocks g
+  pub events : with_strings g.options.constructs g.tab g.bytes passes.events ≡ document_events_by defined g
+  pub calls : (others : Passes g defined) → (calls_of_blocks g defined passes ≡ calls_of_blocks g defined others) × (calls_of_texts g defined passes ≡ calls_of_texts g defined others)
+
+-- So are all passes of each document
+abbrev pub PassesAreOfDocuments : Type 0
+PassesAreOfDocuments = (g : Given) (defined : List ℕ → Bool) (passes : Passes g defined) → IsDocument g → AreOfDocument g defined passes

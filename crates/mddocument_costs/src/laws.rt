@@ -5,7 +5,7 @@ ghost use Rattle.markdown_base.specs.declared.event.Content.TheVariants.{Content
 ghost use Rattle.mdblock_leaf_rows.specs.FlowKnows.{flow_rules};
 ghost use Rattle.mdinline_machine.specs.InlineRules.{inlines_rules};
 ghost use Rattle.mddocument_costs.specs.Chains.{ChainsAreApart, ChainsAreFew, ReadsWithin};
-ghost use Rattle.mddocument_costs.specs.Documents.{DocumentsAreLinear};
+ghost use Rattle.mddocument_costs.specs.Documents.{DocumentsAreLinear, PassesAreOfDocuments};
 ghost use Rattle.mddocument_costs.specs.Examples.{measured};
 
 use mdblock_definitions::laws::innermost_spans_of_skeletons_account_for_documents;
@@ -47,6 +47,12 @@ pub fn documents_are_read_in_linear_time()
     innermost_spans_of_skeletons_account_for_documents();
     innermost_spans_tile_documents_with_containers();
 }
+
+/// The passes whose calls are counted are those in which a document is read: whatever passes there are, what they leave are the events that
+/// `read_document` returns, once plain code has read the strings of destinations, titles and labels. And all make the same number of calls.
+pub fn passes_are_of_their_document()
+    ensures { PassesAreOfDocuments }
+{}
 
 /// An example, computed. In a block quote with the lines `a` and `b`, and a list item with `c`, two chains of leaf blocks have four virtual
 /// bytes: `a`, its line ending, `b` and `c`. So have two chains of text.
