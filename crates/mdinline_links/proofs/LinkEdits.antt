@@ -1,8 +1,7 @@
 -- The edits of brackets and runs can be made, and leave links, images and emphasis.
-use Rattle.std.proofs.Common.{◌≡◌, ◌==◌, ◌+◌, ◌-◌, ◌∙◌, ℕ, List, [], ◌∷◌, ◌++◌, Bool, true, false, cond, Option, inl, inr, ap, append-nil, arith, drop, length, refl, subst, sym}
+use Rattle.std.proofs.Common.{◌≡◌, ◌+◌, ◌-◌, ◌∙◌, ℕ, List, [], ◌∷◌, ◌++◌, Bool, true, false, cond, Option, inl, inr, ap, append-nil, arith, drop, length, refl, subst, sym}
 use Rattle.std.proofs.Math.Seq.{drop-length}
 use Rattle.std.proofs.lemmas.Bool.{cases_Bool}
-use Rattle.std.proofs.lemmas.Bool.Decides.{nat_tests}
 use Rattle.std.specs.List.{AllByRecursion}
 use Rattle.std.specs.Prelude.{◌&&◌, ◌||◌}
 use Rattle.markdown_base.specs.declared.event.Event.{Event}
@@ -10,7 +9,7 @@ use Rattle.markdown_base.specs.declared.event.Name.TheVariants.{LabelEnd, LabelI
 use Rattle.markdown_base.specs.Events.{IsBalanced, is_enter, same_name}
 use Rattle.markdown_edits.proofs.Edits.Splices.{edited-spliced}
 use Rattle.markdown_edits.specs.Edited.{edited}
-use Rattle.markdown_edits.specs.Edits.{AreDisjoint, Edit, added_after, edit_at}
+use Rattle.markdown_edits.specs.Edits.{AreDisjoint, Edit, edit_at}
 use Rattle.markdown_edits.specs.Spliced.{spliced}
 use Rattle.markdown_tokenizer.proofs.Readings.Plain.{no-links-below}
 use Rattle.markdown_tokenizer.specs.Plain.{HaveNoLinks}
@@ -99,13 +98,6 @@ links-can-be-made bytes events balanced none =
           subst (λ t. let edits = cond t (edit_at 0 (length events) new ∷ []) (edits_of (paired (runs_in bytes events))) in AreDisjoint 0 edits (length events) × (edited edits events ≡ new) × IsBalanced new × HaveNoLinks new) (sym h)
           (made.0, made.1 ∙ sym (plain-is bytes events balanced h), still, unlinked)
     ]
-
--- the one edit is put into a map that is empty
-pub one-edit : (events new : List Event) → has_brackets events ≡ true → added_after [] (edit_at 0 (length events) new) ≡ edit_at 0 (length events) new ∷ []
-one-edit [] new h = absurd (cc)
-one-edit (e ∷ es) new h =
-    let some : (length (e ∷ es) == 0) ≡ false = grind (arith, nat_tests) in
-    ap (λ t. cond (t && (length new == 0)) [] (edit_at 0 (length (e ∷ es)) new ∷ [])) some
 
 -- the tests of a loop
 pub none-more : (events : List Event) (i : ℕ) (e : Event) → drop i events ≡ e ∷ drop (i + 1) events → is_of_bracket e.name ≡ false → has_brackets (drop (i + 1) events) ≡ has_brackets (drop i events)

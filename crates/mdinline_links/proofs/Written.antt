@@ -1,10 +1,17 @@
 -- What the code writes of spans.
-use Rattle.std.proofs.Common.{◌≡◌, ◌-◌, ◌∙◌, suc, List, [], ◌∷◌, Some, ap, arith, length, sym}
+use Rattle.std.proofs.Common.{◌≡◌, ◌+◌, ◌-◌, ◌<◌, ◌≤◌, ◌∙◌, ℕ, suc, List, [], ◌∷◌, ◌++◌, Some, ap, append-nil, append_assoc, arith, drop, get_or, length, sym, take}
+use Rattle.std.proofs.Math.Seq.{take-add, take-suc}
+use Rattle.std.proofs.lemmas.Grind.{flat_map-append}
+use Rattle.std.proofs.lemmas.List.{drop-drop}
+use Rattle.std.specs.List.{between, flat_map}
 use Rattle.std.specs.Prelude.{slice_get}
 use Rattle.std.proofs.lemmas.Option.{same_Some}
 use Rattle.markdown_base.specs.declared.event.Event.{Event}
 use Rattle.markdown_base.specs.declared.event.Point.{Point}
+use Rattle.mdinline_links.specs.declared.pieces.Fate.TheVariants.{Same}
+use Rattle.mdinline_links.specs.declared.pieces.Piece.{Piece}
 use Rattle.mdinline_links.specs.Linked.{last_place}
+use Rattle.mdinline_links.specs.Pieces.{in_fate, put}
 
 -- events end where the last one stands
 pub last-is : (p : Point) (es : List Event) (e : Event) → slice_get es (length es - 1) ≡ Some e → last_place p es ≡ e.point
@@ -14,3 +21,27 @@ last-is p (x ∷ y ∷ es) e h =
     let long : length (x ∷ y ∷ es) - 1 ≡ suc (length es) = omega arith in
     let less : length (y ∷ es) - 1 ≡ length es = omega arith in
     last-is x.point (y ∷ es) e (ap (slice_get (y ∷ es)) less ∙ sym (ap (slice_get (x ∷ y ∷ es)) long) ∙ h)
+
+-- ---- events that stay are copied at once
+
+between-join : (es : List Event) (a b c : ℕ) → a ≤ b → b ≤ c → between a b es ++ between b c es ≡ between a c es
+between-join es a b c one two =
+    let there : a + (b - a) ≡ b = omega (arith, one) in
+    let whole : (b - a) + (c - b) ≡ c - a = omega (arith, one, two) in
+    ap (λ xs. take (b - a) (drop a es) ++ take (c - b) xs) (sym (drop-drop (b - a) a es ∙ ap (λ n. drop n es) there))
+    ∙ sym (take-add (b - a) (c - b) (drop a es))
+    ∙ ap (λ n. take n (drop a es)) whole
+
+-- a piece that stays goes on with events that are not written yet
+pub stays-held : (es out : List Event) (from upto : ℕ) (p : Piece) → from ≤ upto → p.start ≤ p.end → p.start ≡ upto → p.fate ≡ Same → out ++ between from p.end es ≡ (out ++ between from upto es) ++ put es p
+stays-held es out from upto p order runs at same =
+    let here : put es p ≡ between upto p.end es = ap (λ f. in_fate f (between p.start p.end es)) same ∙ ap (λ n. between n p.end es) at in
+    sym (append_assoc out (between from upto es) (put es p) ∙ ap (λ xs. out ++ (between from upto es ++ xs)) here ∙ ap (λ xs. out ++ xs) (between-join es from upto p.end order (omega (arith, runs, at))))
+
+-- what is written of one piece more
+pub written-more : (es : List Event) (ps : List Piece) (i : ℕ) (p : Piece) → i < length ps → p ≡ get_or ps i p → flat_map (put es) (take i ps) ++ put es p ≡ flat_map (put es) (take (i + 1) ps)
+written-more es ps i p inside is =
+    let same : i + 1 ≡ suc i = omega arith in
+    ap (λ xs. flat_map (put es) (take i ps) ++ xs) (sym (append-nil (put es p)) ∙ ap (λ q. flat_map (put es) (q ∷ [])) is)
+    ∙ sym (flat_map-append (put es) (take i ps) (get_or ps i p ∷ []))
+    ∙ ap (flat_map (put es)) (sym (take-suc ps i p inside) ∙ ap (λ n. take n ps) (sym same))

@@ -1,8 +1,11 @@
-//! The edits that put links, images and emphasis in their place.
+//! Links, images and emphasis in place of brackets and delimiter runs.
 
-ghost use Rattle.std.specs.Prelude.{◌≡◌, ◌+◌, ◌*◌, ◌<◌, ◌≤◌, [], length, OnOk};
+ghost use Rattle.std.specs.Prelude.{◌≡◌, ◌+◌, ◌*◌, ◌<◌, ◌≤◌, length, option_map, IfOk, OnErr, OnOk};
 ghost use Rattle.std.specs.List.{position_or_len};
+ghost use Rattle.std.specs.Option.{unwrap_or};
 ghost use Rattle.markdown_base.specs.Events.{IsBalanced};
+ghost use Rattle.markdown_edits.specs.Edited.{edited};
+ghost use Rattle.markdown_tokenizer.specs.Plain.{HaveNoLinks};
 ghost use Rattle.mdinline_emphasis.specs.Costs.{emphasis_a_run, markers_left};
 ghost use Rattle.mdinline_emphasis.specs.Places.{ArePlacesInside};
 ghost use Rattle.mdinline_emphasis.specs.Runs.{runs_in};
@@ -10,9 +13,8 @@ ghost use Rattle.mdinline_links.specs.LinkEdits.{has_brackets, is_mark, is_of_br
 
 use crate::brackets::linked;
 use markdown_base::event::{Event, Name};
-use markdown_edits::edit_map::EditMap;
 use mdconstructs_loop_counts::Turns;
-use mdinline_emphasis::emphasis::emphasize_counted;
+use mdinline_emphasis::emphasis::emphasized_counted;
 use std::alloc::{AllocError, Global};
 use std::marker::Brand;
 use std::sync::ledger::{Blank, Ledger};
@@ -67,69 +69,102 @@ fn has_brackets<L: Ledger>(events: &[Event], turns: &mut Turns<L>) -> bool
     false
 }
 
-/// Puts links, images and emphasis in place of the brackets and the delimiter runs of a list of events.
+/// A list of events with links, images and emphasis in place of its brackets and delimiter runs. It is `None` if it has none of these, as
+/// most texts: then it stays as it is.
 ///
-/// If no bracket is among the events, one edit for each run does. Else one edit puts all events anew. Most texts have neither. Returns `AllocError` if it runs
-/// out of memory; then some edits were added. A turn is a look at an event, a run, a span or an end of a pair, or a try to make one more
-/// pair. Events that are written are copied besides.
-pub fn put_links_counted<L: Ledger>(
+/// A turn is a look at an event, a run, a span or an end of a pair, or a try to make one more pair. Events that are written are copied
+/// besides.
+fn linked_counted<L: Ledger>(
     alloc: Global,
     bytes: &[u8],
     events: &[Event],
-    edits: &mut EditMap,
     turns: &mut Turns<L>,
-) -> Result<(), AllocError>
-    requires none { edits.old ≡ [] }
+) -> Result<Option<Vec<Event>>, AllocError>
     requires balanced { IsBalanced events.now }
+    requires unlinked { HaveNoLinks events.now }
     requires room { ArePlacesInside bytes.now events.now }
-    ensures edits { OnOk result (edits.new ≡ link_edits bytes.now events.now) }
+    ensures edits { IfOk result (λ new. unwrap_or (option_map (λ v. v.items) new) events.now ≡ edited (link_edits bytes.now events.now) events.now) }
     ensures linear { OnOk result (turns.new ≤ turns.old + (emphasis_a_run * length (runs_in bytes.now events.now) + 3 * markers_left (runs_in bytes.now events.now)) + 5 * length events.now) }
 {
     let first = first_mark(events, turns);
     if first >= events.len() {
-        return Ok(());
+        return Ok(None);
     }
     if !has_brackets(&events[first..], turns) {
-        return emphasize_counted(alloc, bytes, events, edits, turns);
+        let new = emphasized_counted(alloc, bytes, events, turns)?;
+        return Ok(Some(new));
     }
     let all = linked(alloc, bytes, events, turns)?;
-    edits.add(0, events.len(), all)
+    Ok(Some(all))
+}
+
+/// Makes a list this one. If there is room for it, it is copied, so that the list keeps its room.
+fn put_in(events: &mut Vec<Event>, new: Vec<Event>)
+    ensures { events.new.items ≡ new.items }
+{
+    events.clear();
+    if new.len() > events.capacity() || events.extend_from_slice(new.as_slice()).is_err() {
+        *events = new;
+    }
+}
+
+/// Puts links, images and emphasis in place of the brackets and the delimiter runs of a list of events: it makes the edits of the list.
+///
+/// The edits can be made: they are disjoint, and leave the list balanced and without links. If it runs out of memory, the list stays as it
+/// was. A turn is a look at an event, a run, a span or an end of a pair, or a try to make one more pair. Events that are written are copied
+/// besides.
+pub fn link_events_counted<L: Ledger>(
+    alloc: Global,
+    bytes: &[u8],
+    events: &mut Vec<Event>,
+    turns: &mut Turns<L>,
+) -> Result<(), AllocError>
+    requires balanced { IsBalanced events.old.items }
+    requires unlinked { HaveNoLinks events.old.items }
+    requires room { ArePlacesInside bytes.now events.old.items }
+    ensures edits { OnOk result (events.new.items ≡ edited (link_edits bytes.now events.old.items) events.old.items) }
+    ensures same { OnErr result (events.new.items ≡ events.old.items) }
+    ensures linear { let es = events.old.items in OnOk result (turns.new ≤ turns.old + (emphasis_a_run * length (runs_in bytes.now es) + 3 * markers_left (runs_in bytes.now es)) + 5 * length es) }
+{
+    let found = linked_counted(alloc, bytes, events.as_slice(), turns)?;
+    match found {
+        None => Ok(()),
+        Some(list) => {
+            put_in(events, list);
+            Ok(())
+        }
+    }
 }
 
 /// Puts links, images and emphasis in place, and counts from nothing.
-fn put_links_uncounted<L: Ledger>(
+fn link_events_uncounted<L: Ledger>(
     alloc: Global,
     bytes: &[u8],
-    events: &[Event],
-    edits: &mut EditMap,
+    events: &mut Vec<Event>,
     blank: Blank,
 ) -> Result<(), AllocError>
     requires name { blank.name ≡ L.name }
     requires parts { blank.parts ≡ L.parts }
     requires some { 0 < blank.parts }
-    requires none { edits.old ≡ [] }
-    requires balanced { IsBalanced events.now }
-    requires room { ArePlacesInside bytes.now events.now }
-    ensures { OnOk result (edits.new ≡ link_edits bytes.now events.now) }
+    requires balanced { IsBalanced events.old.items }
+    requires unlinked { HaveNoLinks events.old.items }
+    requires room { ArePlacesInside bytes.now events.old.items }
+    ensures edits { OnOk result (events.new.items ≡ edited (link_edits bytes.now events.old.items) events.old.items) }
+    ensures same { OnErr result (events.new.items ≡ events.old.items) }
 {
     let mut turns = Turns::<L>::new(blank);
-    put_links_counted(alloc, bytes, events, edits, &mut turns)
+    link_events_counted(alloc, bytes, events, &mut turns)
 }
 
-/// Puts links, images and emphasis in place, as `put_links_counted` does.
+/// Puts links, images and emphasis in place, as `link_events_counted` does.
 ///
-/// The edits can be made: they are disjoint, and leave the list balanced and without links, if it was so. Returns `AllocError` if it
-/// runs out of memory; then some edits were added.
-pub fn put_links(
-    alloc: Global,
-    bytes: &[u8],
-    events: &[Event],
-    edits: &mut EditMap,
-) -> Result<(), AllocError>
-    requires none { edits.old ≡ [] }
-    requires balanced { IsBalanced events.now }
-    requires room { ArePlacesInside bytes.now events.now }
-    ensures { OnOk result (edits.new ≡ link_edits bytes.now events.now) }
+/// If it runs out of memory, the list stays as it was.
+pub fn link_events(alloc: Global, bytes: &[u8], events: &mut Vec<Event>) -> Result<(), AllocError>
+    requires balanced { IsBalanced events.old.items }
+    requires unlinked { HaveNoLinks events.old.items }
+    requires room { ArePlacesInside bytes.now events.old.items }
+    ensures edits { OnOk result (events.new.items ≡ edited (link_edits bytes.now events.old.items) events.old.items) }
+    ensures same { OnErr result (events.new.items ≡ events.old.items) }
 {
-    put_links_uncounted::<Brand>(alloc, bytes, events, edits, Blank::new(1))
+    link_events_uncounted::<Brand>(alloc, bytes, events, Blank::new(1))
 }

@@ -1,16 +1,17 @@
 //! The outermost spans of a text, and what comes in the place of each.
 
-ghost use Rattle.std.specs.Prelude.{◌≡◌, ◌+◌, ◌≤◌, ◌<◌, ◌++◌, ◌∷◌, [], cond, drop, length, IfOk, OnOk};
+ghost use Rattle.std.specs.Prelude.{◌≡◌, ◌+◌, ◌≤◌, ◌<◌, ◌++◌, ◌∷◌, [], cond, drop, length, IfOk, IsTrue, OnOk};
 ghost use Rattle.std.specs.List.{AllByRecursion, between, flat_map};
 ghost use Rattle.mdinline_emphasis.specs.Emphasis.{unlinked_event};
 ghost use Rattle.mdinline_emphasis.specs.Runs.{depth_after};
 ghost use Rattle.mdinline_links.specs.Costs.{ends_in, to_write};
+ghost use Rattle.mdinline_links.specs.declared.pieces.Fate.TheVariants.{Same};
 ghost use Rattle.mdinline_links.specs.Linked.{as_data, is_bracket, is_named, is_run, is_tail, last_place, span_at};
 ghost use Rattle.mdinline_links.specs.Pieces.{Fits, HasRoomFor, closing_events, in_fate, opening_events, put, tail_events, whole};
 
 use markdown_base::event::{Event, Kind, Name, Point};
 use mdconstructs_loop_counts::Turns;
-use mdinline_emphasis::emphasis::in_place_counted;
+use mdinline_emphasis::emphasis::push_in_place;
 use mdinline_emphasis::pairs::Delimiters;
 use std::alloc::{AllocError, Global};
 use std::sync::ledger::Ledger;
@@ -230,7 +231,6 @@ fn push_tail(out: &mut Vec<Event>, span: &[Event], image: bool) -> Result<(), Al
 
 /// Adds what comes in the place of a span.
 fn push_fate<L: Ledger>(
-    alloc: Global,
     out: &mut Vec<Event>,
     span: &[Event],
     fate: &Fate,
@@ -246,11 +246,43 @@ fn push_fate<L: Ledger>(
         Fate::Opens(image, filled) => push_opening(out, span, *image, *filled),
         Fate::Ends(image, filled, last) => push_closing(out, span, *image, *filled, *last),
         Fate::Tail(image) => push_tail(out, span, *image),
-        Fate::Paired(run) => {
-            let events = in_place_counted(alloc, run, turns)?;
-            out.extend_from_slice(events.as_slice())
-        }
+        Fate::Paired(run) => push_in_place(out, run, turns),
     }
+}
+
+/// Whether a piece stays as it is and begins at an index.
+fn goes_on(index: usize, piece: &Piece) -> bool
+    ensures { IsTrue result → (piece.now.start ≡ index) × (piece.now.fate ≡ Same) }
+{
+    match piece.fate {
+        Fate::Same => piece.start == index,
+        _ => false,
+    }
+}
+
+/// Adds what comes in the place of a piece, behind the events between two indices, which stay and are not added yet. Returns between which
+/// indices events stay then: a piece that stays goes on with them, so that they are copied at once.
+fn push_piece<L: Ledger>(
+    out: &mut Vec<Event>,
+    events: &[Event],
+    held: (usize, usize),
+    piece: &Piece,
+    turns: &mut Turns<L>,
+) -> Result<(usize, usize), AllocError>
+    requires order { held.0 ≤ held.1 }
+    requires inside { held.1 ≤ length events.now }
+    requires fits { Fits (length events.now) piece.now }
+    ensures order { IfOk result (λ new. new.0 ≤ new.1) }
+    ensures inside { IfOk result (λ new. new.1 ≤ length events.now) }
+    ensures written { IfOk result (λ new. out.new.items ++ between new.0 new.1 events.now ≡ (out.old.items ++ between held.0 held.1 events.now) ++ put events.now piece.now) }
+    ensures turns { turns.new ≤ turns.old + ends_in piece.now.fate }
+{
+    if goes_on(held.1, piece) {
+        return Ok((held.0, piece.end));
+    }
+    out.extend_from_slice(&events[held.0..held.1])?;
+    push_fate(out, &events[piece.start..piece.end], &piece.fate, turns)?;
+    Ok((piece.end, piece.end))
 }
 
 /// The events of a text, by what becomes of each of its outermost spans.
@@ -264,19 +296,16 @@ pub(crate) fn written<L: Ledger>(
     ensures written { IfOk result (λ out. out.items ≡ flat_map (put events.now) pieces.now) }
     ensures turns { turns.new ≤ turns.old + to_write pieces.now }
 {
-    let mut out = Vec::with_capacity(alloc, events.len())?;
+    // (a link of one reference has ten events, and six come around them)
+    let room = events.len().saturating_add(events.len() / 2);
+    let mut out = Vec::with_capacity(alloc, room.saturating_add(8))?;
+    let mut held = (0, 0);
     let mut next = 0;
     while next < pieces.len() {
         turns.add_one();
-        let piece = &pieces[next];
-        push_fate(
-            alloc,
-            &mut out,
-            &events[piece.start..piece.end],
-            &piece.fate,
-            turns,
-        )?;
+        held = push_piece(&mut out, events, held, &pieces[next], turns)?;
         next += 1;
     }
+    out.extend_from_slice(&events[held.0..held.1])?;
     Ok(out)
 }

@@ -9,8 +9,10 @@ use Rattle.mdinline_machine.proofs.StringRuns.{calm-same, string-alone, string-c
 pub reads-strings-of : (defined : List ℕ → Bool) (g : Given) → ReadsTextsFrom StringStart g (inlines_rules defined) (string_events g)
 reads-strings-of defined g text is flag r ends well final sub resolved =
     let read = (ends-as-counted defined g text flag StringStart (ending (string_events g text)) (strings-from-start defined g text flag) r ends).1 in
-    (resolved-so defined g StringStart (1, omega arith, (cc)) text is flag r ends well final sub resolved).1 ∙ ap (λ es. edited (linking_edits g es) es) read
-    ∙ calm-same g (string_events g text) (string-calm g text) (string-alone g text)
+    let same = calm-same g (string_events g text) (string-calm g text) (string-alone g text) in
+    (resolved-so defined g StringStart (1, omega arith, (cc)) text is flag r ends well final sub resolved).1 (subst (λ es. HaveNoLinks (edited (linking_edits g es) es)) (sym read) (subst HaveNoLinks (sym same) (string-alone g text)))
+    ∙ ap (λ es. edited (linking_edits g es) es) read
+    ∙ same
 
 run-reads : (defined : List ℕ → Bool) (g : Given) (events : List Event) (sub : Subresult) → IsDocument g → (resolving : Bool) → IsRun g (inlines_rules defined) resolving StringStart events sub → events ≡ string_events g (whole_text g)
 run-reads defined g events sub document true run =

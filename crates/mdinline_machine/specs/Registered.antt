@@ -1,4 +1,4 @@
--- Machines with one resolver, which the first call registers: once all was read, it adds edits to a list without links.
+-- Machines with one resolver, which the first call registers: once all was read, it edits a list without links.
 use Rattle.std.specs.Prelude.{◌≡◌, ◌⊎◌, ◌&&◌, not, List, [], ◌∷◌, Bool, true, false, filter, map, length, Option, Some, None}
 use Rattle.markdown_base.specs.declared.event.Event.{Event}
 use Rattle.markdown_base.specs.declared.state.Name.{Name}
@@ -48,13 +48,13 @@ module _ {R D : Type 0} where
     pub unlinked : HaveNoLinks k.events
 
   module _ (edits : Given → List Event → List Edit) where
-    -- the resolver adds the edits of the events that are there
-    abbrev pub adds_edits : Given → Sight → Configuration R D → R → Resolved R D
-    adds_edits g s k r = done (record k { local = record k.local { map = edits g k.events } }) None
+    -- the resolver makes the edits of the events that are there
+    abbrev pub makes_edits : Given → Sight → Configuration R D → R → Resolved R D
+    makes_edits g s k r = done (record k { events = edited (edits g k.events) k.events }) None
 
-    -- before the resolver no edit waits, and behind it its edits do
+    -- before the resolver and behind it no edit waits; behind it the edits of the events before it are made
     abbrev pub resolves_edits : Given → Text → List R → Configuration R D → Type 0
-    resolves_edits g text [] k = IsUnresolved g k × (k.local.map ≡ edits g k.events)
+    resolves_edits g text [] k = (before : Configuration R D) × IsUnresolved g before × (k.events ≡ edited (edits g before.events) before.events) × (k.local.map ≡ [])
     resolves_edits g text (r ∷ []) k = IsUnresolved g k × (k.local.map ≡ [])
     resolves_edits g text _ k = ⊥
 
@@ -84,7 +84,7 @@ module _ {W R D : Type 0} (table : Table W R D) (early : Name → Option W → B
     early = early;
     falling = falling;
     knows = λ g text. KnowsRegistered starts r;
-    resolver = adds_edits edits;
+    resolver = makes_edits edits;
     resolves = resolves_edits edits;
     ends = ends;
   }

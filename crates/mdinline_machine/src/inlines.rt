@@ -1,13 +1,8 @@
 //! The machine of inline text.
 
 ghost use Rattle.std.specs.Prelude.{◌≡◌, IfOk, Some};
-ghost use Rattle.markdown_base.specs.Events.{IsBalanced};
-ghost use Rattle.markdown_tokenizer.specs.Calls.{with_local};
 ghost use Rattle.markdown_tokenizer.specs.declared.waiting.Waits.TheVariants.{Byte};
-ghost use Rattle.markdown_tokenizer.specs.Configuration.{at_configuration};
 ghost use Rattle.markdown_tokenizer.specs.Sight.{sight_of};
-ghost use Rattle.mdinline_emphasis.specs.Places.{ArePlacesInside};
-ghost use Rattle.mdinline_links.specs.LinkEdits.{link_edits};
 ghost use Rattle.mdconstructs_tables.specs.Over.{unchanged};
 ghost use Rattle.mdconstructs_tables.specs.RowInvariant.{CanHoldNoted, DoesAll, IsCallable, begun, step_in};
 ghost use Rattle.mdinline_text_machine.specs.TextBytes.{text_byte};
@@ -19,11 +14,10 @@ use crate::attention::{attention_inside, attention_start, run_begins};
 use crate::over::{in_code, in_data, in_marks, in_quotes, in_string, in_uri, spaces};
 use crate::strings::{string_before, string_before_data, string_data};
 use crate::{brackets, names};
-use markdown_tokenizer::event::{self, Event};
+use markdown_tokenizer::event;
 use markdown_tokenizer::state::{ByteSet, Machine, MachineTypes, Name, State};
 use markdown_tokenizer::subtokenize::Subresult;
 use markdown_tokenizer::tokenizer::{Fault, Tokenizer};
-use markdown_tokenizer::util::edit_map::EditMap;
 use mdconstructs_tables::marker;
 use mdinline_constructs::email::{email_atext, email_label, email_start, email_value};
 use mdinline_constructs::hard_break::{
@@ -50,7 +44,7 @@ use mdinline_constructs::remembered_code::{remembered_between, remembered_chunk,
 use mdinline_full_references::{full_reference, names as reference_names};
 use mdinline_labels::labels::Labels;
 use mdinline_link_tails::{names as resource_names, resource};
-use mdinline_links::link_edits::put_links;
+use mdinline_links::link_edits::link_events;
 use mdinline_text_machine::autolink::{
     autolink_open, autolink_scheme, autolink_start, autolink_url, autolinks_are_on,
 };
@@ -240,15 +234,15 @@ impl Machine for Inlines {
         }
     }
 
-    /// Adds the edits that put links, images and emphasis in place of brackets and delimiter runs.
+    /// Puts links, images and emphasis in place of brackets and delimiter runs.
     fn resolve<'a>(
         &self,
         alloc: Global,
         t: &mut Tokenizer<'a, Self>,
         name: (),
     ) -> Result<Option<Subresult>, Fault> {
-        let map = linking_edits(alloc, t.parse_state().bytes, t.events())?;
-        put_edits(t, map);
+        let state = t.parse_state();
+        link_events(alloc, state.bytes, t.events_mut())?;
         Ok(None)
     }
 
@@ -261,24 +255,6 @@ fn begin<'a>(t: &mut Tokenizer<'a, Inlines>)
     ensures { t.new ≡ begun unchanged t.old }
 {
     t.tick();
-}
-
-/// The edits that put links, images and emphasis in place of brackets and delimiter runs.
-fn linking_edits(alloc: Global, bytes: &[u8], events: &[Event]) -> Result<EditMap, AllocError>
-    requires balanced { IsBalanced events.now }
-    requires room { ArePlacesInside bytes.now events.now }
-    ensures { IfOk result (λ map. map ≡ link_edits bytes.now events.now) }
-{
-    let mut map = EditMap::new(alloc);
-    put_links(alloc, bytes, events, &mut map)?;
-    Ok(map)
-}
-
-/// These edits wait, in place of those that waited.
-fn put_edits<'a>(t: &mut Tokenizer<'a, Inlines>, map: EditMap)
-    ensures { t.new ≡ at_configuration t.old (with_local t.old.configuration (record t.old.configuration.local { map = map })) }
-{
-    t.map = map;
 }
 
 /// Before a text: registers the resolver.

@@ -1,5 +1,5 @@
 -- Machines with one resolver keep what they know, and the resolver keeps the law of resolvers.
-use Rattle.std.proofs.Common.{◌≡◌, inl, inr, List, [], ◌∷◌, Bool, true, false, not, Option, Some, None, refl, sym, ◌∙◌, subst}
+use Rattle.std.proofs.Common.{◌≡◌, inl, inr, List, [], ◌∷◌, Bool, true, false, not, Option, Some, None, refl, sym, ap, arith, ◌∙◌, subst}
 use Rattle.std.specs.Prelude.{All}
 use Rattle.std.proofs.lemmas.Bool.{and_parts, not-true}
 use Rattle.markdown_base.proofs.Facts.Lists.{none-left}
@@ -21,7 +21,7 @@ use Rattle.markdown_tokenizer.specs.Reading.{settled_at}
 use Rattle.markdown_tokenizer.specs.Resolving.{done, taken, CanBeEdited, IsInShape}
 use Rattle.markdown_tokenizer.specs.Sight.{Sight, sight}
 use Rattle.markdown_tokenizer.specs.Text.{Given, Text}
-use Rattle.markdown_tokenizer.proofs.Readings.Plain.{no-links-more, no-links-take, no-links-below, no-links-shape}
+use Rattle.markdown_tokenizer.proofs.Readings.Plain.{edited-same, no-links-more, no-links-take, no-links-below, no-links-shape}
 use Rattle.mdconstructs_tables.specs.Calm.{WriteHarmless, RowsHarmless}
 use Rattle.mdconstructs_tables.specs.Knowledge.{EachRow}
 use Rattle.mdconstructs_tables.specs.Plans.{Plan, KnownBehind, AllKeepKnown, KeepsKnowledge, planned_rules}
@@ -29,7 +29,7 @@ use Rattle.mdconstructs_tables.specs.Rows.{Act, enters, exit, consume, links, wr
 use Rattle.mdconstructs_tables.specs.RowTest.{all_rows}
 use Rattle.mdconstructs_tables.specs.Unlinked.{RegistersNothing, RegisterNothing}
 use Rattle.mdconstructs_tables.proofs.Calm.{behind-acts, behind-rows}
-use Rattle.mdinline_machine.specs.Registered.{is_first, are_linkless, is_linkless, KnowsRegistered, IsUnresolved, adds_edits, resolves_edits, EditsCanBeMade, are_later, link_makers, registered_plan}
+use Rattle.mdinline_machine.specs.Registered.{is_first, are_linkless, is_linkless, KnowsRegistered, IsUnresolved, makes_edits, resolves_edits, EditsCanBeMade, are_later, link_makers, registered_plan}
 
 -- ---- rows
 
@@ -134,10 +134,10 @@ module _ {W R D : Type 0} (table : Table W R D) (early : Name → Option W → B
   IsPassed g text rs k new = Resolves g text rs new × IsAsFar new k × (new.stack ≡ k.stack)
 
   passed-by : (g : Given) (text : Text) (one : R) (rs : List R) (k new : Configuration R D) (more : Option Subresult) → Resolves g text (one ∷ rs) k
-      → adds_edits edits g (sight g text k) k one ≡ done new more → IsPassed g text rs k new
+      → makes_edits edits g (sight g text k) k one ≡ done new more → IsPassed g text rs k new
   passed-by g text one [] k new more h e =
-      let same : record k { local = record k.local { map = edits g k.events } } ≡ new = cc in
-      subst (IsPassed g text [] k) same ((record { document = h.0.document; formed = h.0.formed; unlinked = h.0.unlinked }, refl), (refl, refl, refl), refl)
+      let same : record k { events = edited (edits g k.events) k.events } ≡ new = cc in
+      subst (IsPassed g text [] k) same ((k, h.0, refl, h.1), (refl, refl, refl), refl)
   passed-by g text one (two ∷ rs) k new more h e = absurd h
 
   pub registered-resolved : EditsCanBeMade edits ends → (g : Given) → ResolversKeep g (planned_rules plan g)
@@ -147,10 +147,12 @@ module _ {W R D : Type 0} (table : Table W R D) (early : Name → Option W → B
         subst (λ rs. Resolves g text rs (with_resolvers (taken k) [])) (sym known.2) (record { document = is.document; formed = formed; unlinked = known.0 }, known.1);
     by_resolvers = λ text one rs k new more is h e. passed-by g text one rs k new more h e;
     at_last = λ text k is h.
-        let (apart, balanced, unlinked, promised) = made g text k.events h.0.formed h.0.unlinked in
-        let there = sym h.1 in (
-          subst (λ es. CanBeEdited (record k { local = record k.local { map = es } })) there (apart, no-links-below _ k.events h.0.unlinked),
-          subst (λ es. IsInShape (edited es k.events)) there (no-links-shape _ unlinked balanced),
-          subst (λ es. ends g text (edited es k.events)) there promised,
+        let (before, unresolved, made_so, none) = h in
+        let (apart, balanced, unlinked, promised) = made g text before.events unresolved.formed unresolved.unlinked in
+        let none_yet = subst HaveNoLinks (sym made_so) unlinked in
+        let there : edited k.local.map k.events ≡ edited (edits g before.events) before.events = ap (λ es. edited es k.events) none ∙ edited-same k.events none_yet ∙ made_so in (
+          subst (λ es. CanBeEdited (record k { local = record k.local { map = es } })) (sym none) (omega arith, no-links-below _ k.events none_yet),
+          subst IsInShape (sym there) (no-links-shape _ unlinked balanced),
+          subst (ends g text) (sym there) promised,
         );
   }
