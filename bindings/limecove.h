@@ -39,7 +39,7 @@ extern "C" {
  * Since version 4 LIMECOVE_BLOCK_QUOTE and the bits after it are needed for what was on without bits: a sum that is written out, as the 16383
  * that LIMECOVE_ALL_CONSTRUCTS was, has it off. limecove_default_options() choose LIMECOVE_DOCUMENT. LIMECOVE_ALL_CONSTRUCTS grows with each
  * construct that is added; LIMECOVE_COMMONMARK stays. */
-#define LIMECOVE_VERSION 4
+#define LIMECOVE_VERSION 5
 
 /* An index in a record's link that there is not. */
 #define LIMECOVE_NO_INDEX ((size_t)-1)
@@ -508,7 +508,17 @@ struct limecove_changed {
     size_t new_to; /* the section behind the last new one, as they are numbered now */
     size_t start;  /* where the new sections start: a byte index into the document as it is now */
     size_t end;    /* where they end: the index of the byte behind them */
-    size_t others; /* how many other sections have other events than before, since a label came or went */
+    size_t others; /* of how many other sections something is new: limecove_document_others says which */
+};
+
+/* Why a section is named that an edit did not replace. */
+#define LIMECOVE_WHY_EVENTS 0  /* it has other events than before, since a label came or went */
+#define LIMECOVE_WHY_TARGETS 1 /* it has the events that it had, and a link or an image in it leads elsewhere */
+
+/* A section that an edit did not replace, and of which something is new. */
+struct limecove_named {
+    size_t section; /* its number, as sections are numbered now */
+    uint32_t why;   /* LIMECOVE_WHY_EVENTS or LIMECOVE_WHY_TARGETS */
 };
 
 /* A place in a document as editors ask for it. */
@@ -641,9 +651,9 @@ LIMECOVE_API struct limecove_answer limecove_document_replace(struct limecove_do
 LIMECOVE_API struct limecove_answer limecove_document_events(struct limecove_document *document, size_t from, size_t to,
                                                              struct limecove_record *records, size_t records_len);
 
-/* Writes the numbers of the sections that the last edit did not replace and that have other events than before it, in order, from this one of
- * them on, over the first numbers, as many as fit. Returns how many were written. */
-LIMECOVE_API size_t limecove_document_others(struct limecove_document *document, size_t from, size_t *numbers, size_t numbers_len);
+/* Writes the sections that the last edit did not replace and of which something is new, in order, from this one of them on, over the first of
+ * others, as many as fit. Returns how many were written. */
+LIMECOVE_API size_t limecove_document_others(struct limecove_document *document, size_t from, struct limecove_named *named, size_t named_len);
 
 /* Writes the place of a byte index, in units of UTF-8 if utf16 is 0, else of UTF-16. Returns LIMECOVE_READ, LIMECOVE_NO_SUCH_BYTES behind the
  * document's end and in a character, or LIMECOVE_NOT_OPEN. Only for LIMECOVE_READ it writes. */

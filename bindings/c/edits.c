@@ -204,10 +204,11 @@ static void free_sections(struct section *sections, size_t count) {
     free(sections);
 }
 
-/* Sections that are not named have the events that they had. Returns how many others were named. */
+/* Sections that are not named have the events that they had, and so have those that are named for their targets; those that are named for their
+ * events have not. Returns how many others were named. */
 static size_t is_change(struct limecove_document *document, const struct limecove_changed *change, const struct section *old, size_t old_count,
                         size_t count) {
-    size_t *others = malloc((change->others + 1) * sizeof *others);
+    struct limecove_named *others = malloc((change->others + 1) * sizeof *others);
     CHECK(others != NULL);
     memset(others, 0xa5, (change->others + 1) * sizeof *others);
     CHECK(limecove_document_others(document, 0, others, change->others + 1) == change->others);
@@ -218,15 +219,16 @@ static size_t is_change(struct limecove_document *document, const struct limecov
     CHECK(change->start == limecove_document_start_of(document, change->from) && change->end == limecove_document_start_of(document, change->new_to));
     struct section *now = sections_of(document, count);
     for (size_t i = 0; i < count; i++) {
-        int is_named = change->from <= i && i < change->new_to;
-        for (size_t n = 0; n < change->others; n++)
-            is_named |= others[n] == i;
-        if (is_named)
+        int has_others = 0;
+        if (change->from <= i && i < change->new_to)
             continue;
+        for (size_t n = 0; n < change->others; n++)
+            has_others |= others[n].section == i && others[n].why == LIMECOVE_WHY_EVENTS;
         const struct section *was = &old[i < change->from ? i : i - change->new_to + change->old_to];
-        CHECK(now[i].count == was->count);
-        for (size_t n = 0; n < was->count; n++)
-            CHECK(same_in_section(&now[i].records[n], now[i].start, &was->records[n], was->start));
+        int is_same = now[i].count == was->count;
+        for (size_t n = 0; is_same && n < was->count; n++)
+            is_same = same_in_section(&now[i].records[n], now[i].start, &was->records[n], was->start);
+        CHECK(is_same == !has_others);
     }
     free_sections(now, count);
     free(others);
@@ -288,6 +290,8 @@ static void not_open(struct limecove_document *document) {
     struct limecove_byte_range label;
     uint8_t byte = 0xa5;
     size_t number = 7;
+    struct limecove_named named;
+    memset(&named, 0xa5, sizeof named);
     memset(&label, 0xa5, sizeof label);
     memset(&found, 0xa5, sizeof found);
     memset(&record, 0xa5, sizeof record);
@@ -298,7 +302,7 @@ static void not_open(struct limecove_document *document) {
     CHECK(limecove_document_events(document, 0, 0, &record, 1).code == LIMECOVE_NOT_OPEN && untouched(&record, sizeof record));
     CHECK(limecove_document_place(document, 0, 0, &place) == LIMECOVE_NOT_OPEN && untouched(&place, sizeof place));
     CHECK(limecove_document_index(document, 0, 0, 0, &number) == LIMECOVE_NOT_OPEN && number == 7);
-    CHECK(limecove_document_others(document, 0, &number, 1) == 0);
+    CHECK(limecove_document_others(document, 0, &named, 1) == 0 && untouched(&named, sizeof named));
     CHECK(limecove_document_bytes(document, 0, 0, &byte, 1).code == LIMECOVE_NOT_OPEN && byte == 0xa5);
     CHECK(limecove_document_definition_of(document, &byte, 1, &found).code == LIMECOVE_NOT_OPEN && untouched(&found, sizeof found));
     CHECK(limecove_document_undefined(document, 0, 0, &label, 1).code == LIMECOVE_NOT_OPEN && untouched(&label, sizeof label));

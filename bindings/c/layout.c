@@ -64,6 +64,10 @@ LIES(limecove_changed, end, 32, 8);
 LIES(limecove_changed, others, 40, 8);
 IS(sizeof(struct limecove_changed) == 48);
 
+LIES(limecove_named, section, 0, 8);
+LIES(limecove_named, why, 8, 4);
+IS(sizeof(struct limecove_named) == 16);
+
 LIES(limecove_place, line, 0, 8);
 LIES(limecove_place, character, 8, 8);
 IS(sizeof(struct limecove_place) == 16);

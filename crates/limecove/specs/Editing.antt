@@ -1,5 +1,5 @@
 -- A document that a caller keeps between calls, and edits.
-use Rattle.std.specs.Prelude.{◌≡◌, ℕ, List, [], ◌++◌, Option, Some, None, Result, cond, nat_eq, length, take, drop, option_map}
+use Rattle.std.specs.Prelude.{◌≡◌, ℕ, List, [], ◌++◌, map, Option, Some, None, Result, cond, nat_eq, length, take, drop, option_map}
 use Rattle.std.specs.declared.result.Result.TheVariants.{Ok, Err}
 use Rattle.std.specs.Global.{Box}
 use Rattle.std.specs.Option.{option_map_or}
@@ -7,12 +7,16 @@ use Rattle.mdconstructs.specs.declared.positions.Encoding.{Encoding}
 use Rattle.mdconstructs.specs.declared.positions.Encoding.TheVariants.{Utf8, Utf16}
 use Rattle.mdconstructs.specs.Divided.{Divided, bytes_of, events_between}
 use Rattle.mdconstructs.specs.Documents.{options_with}
+use Rattle.mdconstructs.specs.declared.edit.Other.{Other}
+use Rattle.mdconstructs.specs.declared.edit.Why.{Why}
+use Rattle.mdconstructs.specs.declared.edit.Why.TheVariants as why
 use Rattle.mdconstructs.specs.Edits.{IsChange}
 use Rattle.mdconstructs.specs.Lookups.{IsSectionAt, start_of}
 use Rattle.mdconstructs.specs.Positions.{offset_of, position_of}
 use Rattle.limecove.specs.declared.choose.TextOptions.{TextOptions}
 use Rattle.limecove.specs.declared.document.Document.{Document}
 use Rattle.limecove.specs.declared.edits.Changed.{Changed}
+use Rattle.limecove.specs.declared.edits.Named.{Named}
 use Rattle.limecove.specs.declared.edits.Place.{Place}
 use Rattle.limecove.specs.declared.held.Held.{Held}
 use Rattle.limecove.specs.declared.record.Record.{Record}
@@ -62,8 +66,20 @@ start_in held section = option_map_or (λ it. start_of it.sections.sections sect
 abbrev pub written : List ℕ → List ℕ → List ℕ
 written old numbers = take (length old) numbers ++ drop (length numbers) old
 
--- the sections that the last edit did not replace and that have other events than before it
-abbrev pub others_in : Option Held → List ℕ
+-- the number of why a section is named
+abbrev pub why_number : Why → ℕ
+why_number why.Events = 0
+why_number why.Targets = 1
+
+abbrev pub named_of : Other → Named
+named_of other = record { section = other.section; why = why_number other.why }
+
+-- what is named after these sections were written over the first of others, as many as fit
+abbrev pub named_over : List Named → List Other → List Named
+named_over old others = take (length old) (map named_of others) ++ drop (length others) old
+
+-- the sections that the last edit did not replace and of which something is new
+abbrev pub others_in : Option Held → List Other
 others_in held = option_map_or (λ it. it.others.items) held []
 
 -- the value of a box, if there is one

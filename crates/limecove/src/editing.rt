@@ -6,14 +6,14 @@ ghost use Rattle.mdconstructs.specs.Divided.{bytes_of};
 ghost use Rattle.mdconstructs.specs.Documents.{options_with};
 ghost use Rattle.mdconstructs.specs.Fits.{CanBeEdited};
 ghost use Rattle.limecove.specs.Choices.{constructs_of, text_choice_of};
-ghost use Rattle.limecove.specs.Editing.{HoldsSections, IsEdited, IsFoundAt, IsMade, IsNotOpen, IsOf, index_in, others_in, place_in, replaced, start_in, written};
+ghost use Rattle.limecove.specs.Editing.{HoldsSections, IsEdited, IsFoundAt, IsMade, IsNotOpen, IsOf, index_in, named_over, others_in, place_in, replaced, start_in};
 
 use crate::choose::{TextOptions, choose_text, constructs_of};
 use crate::code::{
     LINKS_NO_TEXT, NO_SUCH_BYTES, NO_SUCH_RANGES, NOT_OPEN, OUT_OF_MEMORY, READ, TOO_LONG, VERSION,
 };
 use crate::document::Document;
-use crate::edits::{Changed, Place, copy_numbers};
+use crate::edits::{Changed, Named, Place, copy_named};
 use crate::held::Held;
 use crate::record::{Record, write_records};
 use crate::{Answer, ended};
@@ -118,23 +118,23 @@ pub extern "C" fn limecove_document_events(
     }
 }
 
-/// Writes the numbers of the sections that the last edit did not replace and that have other events than before it, in order, from this one of
-/// them on, over the first numbers, as many as fit. Returns how many were written. There are none if the document is not open.
+/// Writes the sections that the last edit did not replace and of which something is new, in order, from this one of them on, over the first of
+/// others, as many as fit. Returns how many were written. There are none if the document is not open.
 #[unsafe(no_mangle)]
 pub extern "C" fn limecove_document_others(
     alloc: Global,
     document: &mut Document,
     from: usize,
-    numbers: &mut [usize],
+    named: &mut [Named],
 ) -> usize
-    ensures copied { numbers.new ≡ written numbers.old (drop from (others_in document.old.kept.held)) }
-    ensures count { result ≡ min (length numbers.old) (length (drop from (others_in document.old.kept.held))) }
+    ensures copied { named.new ≡ named_over named.old (drop from (others_in document.old.kept.held)) }
+    ensures count { result ≡ min (length named.old) (length (drop from (others_in document.old.kept.held))) }
     ensures kept { document.new.kept.held ≡ document.old.kept.held }
 {
     let Some(held) = document.take(alloc) else {
         return 0;
     };
-    let count = copy_numbers(held.others.as_slice(), from, numbers);
+    let count = copy_named(held.others.as_slice(), from, named);
     *document = Document::of(held);
     count
 }

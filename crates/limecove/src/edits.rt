@@ -5,12 +5,12 @@ ghost use Rattle.markdown.specs.Virtual.{IsWithinLimit};
 ghost use Rattle.mdconstructs.specs.Divided.{bytes_of, events_between};
 ghost use Rattle.mdconstructs.specs.Edits.{IsInside, edited};
 ghost use Rattle.mdconstructs.specs.Fits.{CanBeEdited};
-ghost use Rattle.limecove.specs.Editing.{IsReplaced, encoding_of, index_in, place_in, start_in, written};
+ghost use Rattle.limecove.specs.Editing.{IsReplaced, encoding_of, index_in, named_of, named_over, place_in, start_in, why_number};
 
 use crate::code::{NO_SUCH_BYTES, NO_SUCH_RANGES, OUT_OF_MEMORY, READ, TOO_LONG};
 use crate::held::Held;
 use markdown::event::Event;
-use mdconstructs::edit::{Change, Edit, Refused};
+use mdconstructs::edit::{Change, Edit, Other, Refused, Why};
 use mdconstructs::positions::{Encoding, Position};
 use std::alloc::Global;
 use std::cmp;
@@ -29,8 +29,19 @@ pub struct Changed {
     pub start: usize,
     /// Where they end: the index of the byte behind them.
     pub end: usize,
-    /// How many other sections have other events than before, since a label came or went.
+    /// Of how many other sections something is new: they have other events than before, or a link or an image in them leads elsewhere.
     pub others: usize,
+}
+
+/// A section that an edit did not replace, and of which something is new.
+#[repr(C)]
+#[derive(Clone, Copy, Debug, PartialEq, Eq)]
+pub struct Named {
+    /// Its number, as sections are numbered now.
+    pub section: usize,
+    /// Why it is named: 0 if it has other events than before, since a label came or went; 1 if it has the same ones, and a link or an image in it
+    /// leads elsewhere.
+    pub why: u32,
 }
 
 /// A place in a document as editors ask for it.
@@ -135,15 +146,45 @@ fn encoding_of(utf16: u32) -> Encoding
     }
 }
 
-/// Writes the numbers from this one on over the first of others, as many as fit. Returns how many were written.
-pub(crate) fn copy_numbers(list: &[usize], from: usize, numbers: &mut [usize]) -> usize
-    ensures copied { numbers.new ≡ written numbers.old (drop from list.now) }
-    ensures count { result ≡ min (length numbers.old) (length (drop from list.now)) }
+/// The number of why a section is named.
+fn why_number(why: Why) -> u32
+    ensures { result ≡ why_number why }
+{
+    match why {
+        Why::Events => 0,
+        Why::Targets => 1,
+    }
+}
+
+/// A section that is named, with why.
+fn named_of(other: &Other) -> Named
+    ensures { result ≡ named_of other.now }
+{
+    Named {
+        section: other.section,
+        why: why_number(other.why),
+    }
+}
+
+/// Writes sections that are named over the first of others, as many as fit. Returns how many were written.
+fn write_named(named: &mut [Named], others: &[Other]) -> usize
+    ensures copied { named.new ≡ named_over named.old others.now }
+    ensures count { result ≡ min (length named.old) (length others.now) }
+{
+    let written = cmp::min(named.len(), others.len());
+    'writing: for i in 0..written {
+        named[i] = named_of(&others[i]);
+    }
+    written
+}
+
+/// Writes the sections that are named, from this one of them on, over the first of others, as many as fit. Returns how many were written.
+pub(crate) fn copy_named(list: &[Other], from: usize, named: &mut [Named]) -> usize
+    ensures copied { named.new ≡ named_over named.old (drop from list.now) }
+    ensures count { result ≡ min (length named.old) (length (drop from list.now)) }
 {
     let Some(left) = list.get(from..) else {
         return 0;
     };
-    let count = cmp::min(numbers.len(), left.len());
-    numbers[..count].copy_from_slice(&left[..count]);
-    count
+    write_named(named, left)
 }

@@ -1,13 +1,13 @@
-//! A document that can be edited, with the sections to which its last edit gave other events.
+//! A document that can be edited, with the sections of which its last edit made something new.
 
+use mdconstructs::edit::Other;
 use mdconstructs::sections::Sections;
 
-/// A document that can be edited, with the sections to which its last edit gave other events.
+/// A document that can be edited, with the sections of which its last edit made something new.
 #[derive(Drop)]
 pub struct Held {
     /// The document.
     pub sections: Sections,
-    /// The sections that the last edit did not replace and that have other events than before it, by their numbers, in order. None, if the document
-    /// was not edited yet.
-    pub others: Vec<usize>,
+    /// The sections that the last edit did not replace and of which something is new, in order. None, if the document was not edited yet.
+    pub others: Vec<Other>,
 }

@@ -12,7 +12,7 @@ use crate::editing::{
     limecove_document_close, limecove_document_events, limecove_document_new,
     limecove_document_others, limecove_document_replace,
 };
-use crate::edits::Changed;
+use crate::edits::{Changed, Named};
 use crate::html::limecove_html;
 use crate::kept::Reading;
 use crate::labels::{
@@ -518,6 +518,9 @@ const CHANGED: Changed = Changed {
     others: 1,
 };
 
+/// No section.
+const NAMED: Named = Named { section: 9, why: 9 };
+
 /// The heading with which the last section but one begins.
 const LAST: Row = (0, 0, Name::HeadingAtx, 5, 1, 10, NO_INDEX, NO_INDEX);
 
@@ -526,7 +529,7 @@ const LAST: Row = (0, 0, Name::HeadingAtx, 5, 1, 10, NO_INDEX, NO_INDEX);
 fn is_defined(alloc: Global) -> bool {
     let mut document = Document::closed();
     let mut change = Changed { from: 9, ..CHANGED };
-    let mut others = [9; 2];
+    let mut others = [NAMED; 2];
     let mut records = [OLD; 1];
     let made = limecove_document_new(alloc, LINKED, &TEXT, &mut document);
     let edited = limecove_document_replace(
@@ -543,7 +546,7 @@ fn is_defined(alloc: Global) -> bool {
     made == ended(READ, 3)
         && edited == ended(READ, 4)
         && change == CHANGED
-        && (written, others) == (1, [1, 9])
+        && (written, others) == (1, [Named { section: 1, why: 0 }, NAMED])
         && found == ended(READ, 14)
         && are(&records, &[LAST])
 }

@@ -23,6 +23,12 @@ pub mod SettledBytes
 pub mod Unique
 -- trims
 pub mod Trims
+-- targets
+pub mod AnyOf
+pub mod FirstSaid
+pub mod SaidFirst
+pub mod SaidSides
+pub mod Stays
 -- putting in
 pub mod AskedAgain
 pub mod AskedInBrackets
@@ -38,6 +44,7 @@ pub mod PutKept
 pub mod PutOthers
 pub mod PutSections
 pub mod Rereads
+pub mod ToldOthers
 -- moved events
 pub mod PartsMove
 -- undefined

@@ -7,7 +7,7 @@ pub use Rattle.std.proofs.lemmas.Bool.{and_from, and_parts, cases_Bool, cases_lt
 pub use Rattle.std.proofs.lemmas.Bool.Decides.{nat_tests}
 pub use Rattle.std.proofs.lemmas.Iterator.Adapters.{YieldsList-from_vec}
 pub use Rattle.std.proofs.lemmas.List.{append-nil, drop-append-le, drop-drop, drop-map, drop-take, drop_all, drop_at, drop_more, get_or-append-add, get_or-append_right, get_or-drop, get_or-map, get_or-take, get_or_append_left, get_or_past, get_or_push, length-append, length-drop, length-map, length-take, length-take-le, length_push, map-append, take-append-drop, take-append-le, take-map, take-take, take_all, take_at, take_more, take_more_same, take_rest}
-pub use Rattle.std.proofs.lemmas.List.Elements.{All-append, All-drop, All-from_get_or, All-from_recursion, All-take, Contains-append_right}
+pub use Rattle.std.proofs.lemmas.List.Elements.{All-append, All-drop, All-from_get_or, All-from_recursion, All-take, Contains-append_left, Contains-append_right}
 pub use Rattle.std.proofs.lemmas.List.Folds.{list_all-append, list_any-append}
 pub use Rattle.std.proofs.lemmas.List.Sums.{fold_push, prefix_len-le-length, prefix_len_passes, prefix_len_stops, sum_by-append, sum_by-cons, take_while-cons}
 pub use Rattle.std.proofs.lemmas.Option.{cond_some, get_or_from_slice_get, same_Some, slice_get-get_or, slice_get-map, slice_get_past, slice_get_read, slice_get_within}
@@ -67,7 +67,7 @@ pub use Rattle.mddocument_parts.specs.Rests.{begins_near}
 pub use Rattle.mddocument_parts.specs.Sections.{are_sections_by, document_of, events_of_sections}
 pub use Rattle.mddocument_editing.specs.Asking.{AskedLabelsAreInBrackets, BracketsDecide, BytesWithoutEndAskNothing}
 pub use Rattle.mddocument_editing.specs.Divided.{Divided, DividedIsUnique, EventsOfAllSectionsAreTheDocuments, IsDivided, bytes_of, events_between, events_of, is_label_of, section_events}
-pub use Rattle.mddocument_editing.specs.Edits.{IsChange, KeepsEvents, NothingIsNamed, ascend_from, edited, section_of}
+pub use Rattle.mddocument_editing.specs.Edits.{IsChange, IsWhy, KeepsEvents, KeepsTargets, NothingIsNamed, ascend_from, edited, numbers_of, section_of}
 pub use Rattle.mddocument_editing.specs.FirstRest.{AreSectionsOf, HasNoRestBefore, IsFirstRest, IsWhole, items_of}
 pub use Rattle.mddocument_editing.specs.Fronts.{IsFrontOf, IsSmall, moved_by}
 pub use Rattle.mddocument_editing.specs.InBrackets.{changes, is_in_brackets, is_untold, label_ends, may_ask, may_stand}
@@ -81,6 +81,8 @@ pub use Rattle.mddocument_editing.specs.Seams.{IsSeam}
 pub use Rattle.mddocument_editing.specs.Settled.{is_settled}
 pub use Rattle.mddocument_editing.specs.Trims.{AreTrimmed, StayBehind, StayInFront}
 pub use Rattle.mddocument_editing.specs.declared.edit.Edit.{Edit}
+pub use Rattle.mddocument_editing.specs.declared.edit.Other.{Other}
+pub use Rattle.mddocument_editing.specs.declared.edit.Why.{Why}
 pub use Rattle.mddocument_editing.specs.declared.kept.Kept.{Kept}
 pub use Rattle.mddocument_editing.specs.declared.moved.Front.{Front}
 pub use Rattle.mddocument_editing.specs.declared.packed.PackError.TheVariants.{TooLong}

@@ -1,15 +1,15 @@
 -- Sections with others in the place of some, where labels change: the document that is kept then, and what changed.
-use Rattle.mddocument_editing.proofs.Prelude.{◌≡◌, ◌⊎◌, ℕ, zero, suc, ◌+◌, ◌-◌, ◌≤◌, ◌<◌, List, [], ◌∷◌, ◌++◌, length, get_or, take, drop, refl, subst, sym, ap, ◌∙◌, arith, append_assoc, inl, inr, cases_lt, get_or-append_right, get_or-map, get_or_append_left, length-append, length-map, length-take-le, AllByRecursion, Contains, Global, Vec, every-append, every-drop, every-map, every-take, Event, defines, events_by, Divided, is_label_of, IsChange, KeepsEvents, ascend_from, section_of, IsKept, IsRead, IsRecut, bytes_of_sections, divided_of, recut_document, AreReread, HasEvents, put_all, AreTrimmed, Kept, Reread, Section}
+use Rattle.mddocument_editing.proofs.Prelude.{◌≡◌, ◌⊎◌, ℕ, zero, suc, ◌+◌, ◌-◌, ◌≤◌, ◌<◌, List, [], ◌∷◌, ◌++◌, length, get_or, take, drop, refl, subst, sym, ap, ◌∙◌, arith, append_assoc, inl, inr, cases_lt, get_or-append_right, get_or-map, get_or_append_left, length-append, length-map, length-take-le, AllByRecursion, Contains, Global, Vec, every-append, every-drop, every-map, every-take, Event, defines, events_by, Divided, is_label_of, IsChange, IsWhy, KeepsEvents, KeepsTargets, ascend_from, numbers_of, section_events, section_of, Option, IsKept, IsRead, IsRecut, bytes_of_sections, divided_of, recut_document, AreReread, HasEvents, put_all, AreTrimmed, Kept, Other, Reread, Section, Why}
 use Rattle.mddocument_editing.specs.Listed.{Listed}
 use Rattle.mdinline_machine.specs.declared.inlines.Inlines.{Inlines}
 use Rattle.mddocument_editing.proofs.PutSections.{bytes-put, change-of, kept-as}
-use Rattle.mddocument_editing.proofs.Rereads.{IsReadBySome, numbers, put-again, rereads-ascend, rereads-each, rereads-same}
+use Rattle.mddocument_link_targets.specs.declared.targets.Parts.{Parts}
+use Rattle.mddocument_editing.specs.declared.edit.Why.TheVariants as why
+use Rattle.mddocument_editing.specs.Leading.{first_said, leads_to, section_targets, targets_in}
+use Rattle.mddocument_editing.specs.Told.{AreToldAround, HasTargets, IsNew}
+use Rattle.mddocument_editing.proofs.Rereads.{IsReadBySome, put-again, rereads-each}
+use Rattle.mddocument_editing.proofs.ToldOthers.{ascend-append, in-first, in-last, told-ascend, told-each, told-same}
 use Rattle.mddocument_editing.proofs.SectionBytes.{every-at}
-
--- what holds of each number of those that were read again
-each-number : (Q : ℕ → Type 0) (os : List Reread) → AllByRecursion (λ (other : Reread). Q other.section) os → AllByRecursion Q (numbers os)
-each-number Q [] all = tt
-each-number Q (o ∷ os) all = (all.0, each-number Q os all.1)
 
 -- an element of a list, by its number
 at-element : {X : Type 0} {G : Type 0} (xs : List X) (i : ℕ) → i < length xs → ((x : X) → x ≡ get_or xs i x → G) → G
@@ -19,7 +19,7 @@ at-element (x ∷ xs) (suc i) lt f = at-element xs i (omega (arith, lt)) f
 
 -- Parts were read by a machine that knows the new labels, and so were the others that have other events by them; then the sections that were read are put in
 -- the place of some
-pub record ArePutIn (k : Kept) (machine : Inlines) (from end new_to : ℕ) (parts : List (List ℕ)) (read sections : List Section) (others : List Reread) : Type 0 where
+pub record ArePutIn (k : Kept) (machine : Inlines) (from end new_to : ℕ) (parts : List (List ℕ)) (read sections : List Section) (others : List Reread) (told : List Other) : Type 0 where
   pub kept : IsKept k
   pub recut : IsRecut k from end parts
   pub trimmed : AreTrimmed (bytes_of_sections k.sections.items) from end parts
@@ -29,9 +29,11 @@ pub record ArePutIn (k : Kept) (machine : Inlines) (from end new_to : ℕ) (part
   pub ends : new_to ≡ from + length read
   pub rereads_are : AreReread (events_by k.options (defines machine.labels)) 0 (take from k.sections.items ++ (read ++ drop end k.sections.items)) others
   pub sections_are : sections ≡ take from k.sections.items ++ (read ++ drop end k.sections.items)
+  pub told_are : AreToldAround (events_by k.options (defines machine.labels)) (first_said (events_by k.options (defines k.machine.labels)) (bytes_of_sections k.sections.items))
+      (first_said (events_by k.options (defines machine.labels)) (bytes_of_sections (take from k.sections.items ++ (read ++ drop end k.sections.items)))) new_to (take from k.sections.items) (drop end k.sections.items) told
 
-module _ {k : Kept} {machine : Inlines} {from end new_to : ℕ} {parts : List (List ℕ)} {read sections : List Section} {others : List Reread}
-    (are : ArePutIn k machine from end new_to parts read sections others) where
+module _ {k : Kept} {machine : Inlines} {from end new_to : ℕ} {parts : List (List ℕ)} {read sections : List Section} {others : List Reread} {told : List Other}
+    (are : ArePutIn k machine from end new_to parts read sections others told) where
   abbrev front : List Section
   front = take from k.sections.items
 
@@ -137,43 +139,115 @@ module _ {k : Kept} {machine : Inlines} {from end new_to : ℕ} {parts : List (L
     has-kept s is same =
         ap (λ (read_by : List ℕ → List Event). read_by (bytes s)) by_new-is ∙ same ∙ ap (λ (read_by : List ℕ → List Event). read_by (bytes s)) (sym by_old-is) ∙ sym is.events
 
-    -- a section with other events is in front or behind
-    outside-of : (i : ℕ) (s : Section) → s ≡ get_or all i s → ¬ HasEvents by_new s → (i < from) ⊎ (new_to ≤ i)
-    outside-of i s there differs = elim (cases_lt i from) [
-      | inl less ↦ inl less
-      | inr least ↦ elim (cases_lt i new_to) [ inl less ↦ absurd (differs (now-has i s there least less)) | inr more ↦ inr more ]
-    ]
+    -- what labels led to, and what they lead to
+    abbrev old_leads : List ℕ → Option Parts
+    old_leads = first_said (events_by k.options (defines k.machine.labels)) (bytes_of_sections k.sections.items)
 
-    abbrev IsTold : ℕ → Type 0
-    IsTold i = ((i < length new.sections) × ((i < from) ⊎ (new_to ≤ i))) × ¬ KeepsEvents old new (section_of new i)
+    abbrev new_leads : List ℕ → Option Parts
+    new_leads = first_said by_new (bytes_of_sections all)
 
-    told : AllByRecursion IsTold (numbers others)
-    told =
-        each-number IsTold others
-        (rereads-each by_new IsTold 0 all others are.rereads_are
-        (λ i s lt there differs.
+    old-leads-are : leads_to old ≡ old_leads
+    old-leads-are = ap (λ (read_by : List ℕ → List Event). first_said read_by old.sections) (sym by_old-is)
+
+    new-leads-are : leads_to new ≡ new_leads
+    new-leads-are = ap (λ (read_by : List ℕ → List Event). first_said read_by new.sections) (sym by_new-is) ∙ ap (first_said by_new) (sym placed)
+
+    -- what the links of a section lead to, by the events that it has
+    old-targets : (s : Section) → by_old s → section_targets old (bytes s) ≡ targets_in old_leads (bytes s) s.events
+    old-targets s is =
+        ap (λ leads. targets_in leads (bytes s) (section_events old (bytes s))) old-leads-are
+        ∙ ap (targets_in old_leads (bytes s)) (ap (λ (read_by : List ℕ → List Event). read_by (bytes s)) (sym by_old-is) ∙ sym is.events)
+
+    new-targets : (s : Section) → HasEvents by_new s → section_targets new (bytes s) ≡ targets_in new_leads (bytes s) s.events
+    new-targets s has =
+        ap (λ leads. targets_in leads (bytes s) (section_events new (bytes s))) new-leads-are
+        ∙ ap (targets_in new_leads (bytes s)) (ap (λ (read_by : List ℕ → List Event). read_by (bytes s)) (sym by_new-is) ∙ has)
+
+    -- what is new of a section
+    news : (s : Section) (w : Why) → by_old s → IsNew by_new old_leads new_leads s w → IsWhy old new (bytes s) w
+    news s why.Events is differs = λ same. differs (has-kept s is same)
+    news s why.Targets is differ = (keeps s is differ.0, λ same. differ.1 (sym (new-targets s differ.0) ∙ same ∙ old-targets s is))
+
+    -- and nothing is
+    no-news : (s : Section) → by_old s → HasEvents by_new s × HasTargets by_new old_leads new_leads s → KeepsEvents old new (bytes s) × KeepsTargets old new (bytes s)
+    no-news s is has = (keeps s is has.0, new-targets s has.0 ∙ has.1 ∙ sym (old-targets s is))
+
+    -- a section in front or behind, among all
+    in-front : (i : ℕ) (s : Section) → i < length front → s ≡ get_or front i s → s ≡ get_or all i s
+    in-front i s lt there = there ∙ sym (get_or_append_left front (read ++ behind) s i lt)
+
+    at-behind : (i : ℕ) (s : Section) → s ≡ get_or behind i s → s ≡ get_or all (new_to + i) s
+    at-behind i s there =
+        let long : length (front ++ read) ≡ new_to = length-append front read ∙ ap (λ n. n + length read) count ∙ sym are.ends in
+        let e : all ≡ (front ++ read) ++ behind = sym (append_assoc front read behind) in
+        let same : new_to + i - new_to ≡ i = omega arith in
+        there ∙ sym (ap (λ ss. get_or ss (new_to + i) s) e ∙ get_or-append_right (front ++ read) behind new_to (new_to + i) s long (omega arith) ∙ ap (λ j. get_or behind j s) same)
+
+    sizes : length all ≡ new_to + length behind
+    sizes = length-append front (read ++ behind) ∙ ap (λ n. length front + n) (length-append read behind) ∙ omega (arith, count, are.ends)
+
+    abbrev IsTold : Other → Type 0
+    IsTold other = ((other.section < length new.sections) × ((other.section < from) ⊎ (new_to ≤ other.section))) × IsWhy old new (section_of new other.section) other.why
+
+    one-told : (i : ℕ) (s : Section) (w : Why) → i < length all → s ≡ get_or all i s → (i < from) ⊎ (new_to ≤ i) → IsNew by_new old_leads new_leads s w → IsTold (record { section = i; why = w })
+    one-told i s w lt there side is =
+        ((omega (arith, lt, same-count), side), subst (λ bs. IsWhy old new bs w) (sym (section-is i s lt there)) (news s w (was-read i s lt there side) is))
+
+    told-front : AllByRecursion (λ (other : Other). IsTold other × (other.section < from)) are.told_are.first
+    told-front =
+        told-each by_new old_leads new_leads (λ (other : Other). IsTold other × (other.section < from)) 0 front are.told_are.first are.told_are.told
+        (λ i s w lt there is.
         let e : i ≡ 0 + i = omega arith in
-        let side = outside-of i s there differs in
-        subst IsTold e
-        ((omega (arith, lt, same-count), side), (λ same. differs (has-kept s (was-read i s lt there side) (subst (KeepsEvents old new) (section-is i s lt there) same))))))
+        let few : i < from = omega (arith, lt, count) in
+        subst (λ k. IsTold (record { section = k; why = w }) × (k < from)) e ((one-told i s w (omega (arith, few, sizes, are.ends)) (in-front i s lt there) (inl few) is), few))
+
+    told-behind : AllByRecursion IsTold are.told_are.last
+    told-behind =
+        told-each by_new old_leads new_leads IsTold new_to behind are.told_are.last are.told_are.told_behind
+        (λ i s w lt there is. one-told (new_to + i) s w (omega (arith, lt, sizes)) (at-behind i s there) (inr (omega arith)) is)
+
+    told-all : AllByRecursion IsTold told
+    told-all =
+        subst (AllByRecursion IsTold) (sym are.told_are.both)
+        (every-append IsTold are.told_are.first are.told_are.last (every-map (λ (other : Other). IsTold other × (other.section < from)) IsTold (λ other is. is.0) are.told_are.first told-front) told-behind)
+
+    told-up : ascend_from 0 (numbers_of told)
+    told-up =
+        subst (λ os. ascend_from 0 (numbers_of os)) (sym are.told_are.both)
+        (ascend-append 0 new_to are.told_are.first are.told_are.last (omega arith) (told-ascend by_new old_leads new_leads 0 front are.told_are.first are.told_are.told)
+        (every-map (λ (other : Other). IsTold other × (other.section < from)) (λ (other : Other). other.section < new_to) (λ other is. omega (arith, is.1, are.ends)) are.told_are.first told-front)
+        (told-ascend by_new old_leads new_leads new_to behind are.told_are.last are.told_are.told_behind))
+
+    -- of a section that is not told nothing is new
+    untold : (i : ℕ) (s : Section) → i < length all → s ≡ get_or all i s → (i < from) ⊎ (new_to ≤ i) → ¬ Contains (numbers_of told) i → HasEvents by_new s × HasTargets by_new old_leads new_leads s
+    untold i s lt there (inl less) unnamed =
+        let e : 0 + i ≡ i = omega arith in
+        let few : i < length front = omega (arith, less, count) in
+        told-same by_new old_leads new_leads 0 front are.told_are.first are.told_are.told i s few (there ∙ get_or_append_left front (read ++ behind) s i few)
+        (λ has. unnamed (subst (λ os. Contains (numbers_of os) i) (sym are.told_are.both) (in-first are.told_are.first are.told_are.last i (subst (Contains (numbers_of are.told_are.first)) e has))))
+    untold i s lt there (inr more) unnamed =
+        let long : length (front ++ read) ≡ new_to = length-append front read ∙ ap (λ n. n + length read) count ∙ sym are.ends in
+        let a : all ≡ (front ++ read) ++ behind = sym (append_assoc front read behind) in
+        let e : new_to + (i - new_to) ≡ i = omega arith in
+        told-same by_new old_leads new_leads new_to behind are.told_are.last are.told_are.told_behind (i - new_to) s (omega (arith, lt, more, sizes))
+        (there ∙ ap (λ ss. get_or ss i s) a ∙ get_or-append_right (front ++ read) behind new_to i s long more)
+        (λ has. unnamed (subst (λ os. Contains (numbers_of os) i) (sym are.told_are.both) (in-last are.told_are.first are.told_are.last i (subst (Contains (numbers_of are.told_are.last)) e has))))
 
     -- and this changed
-    pub then-change : (changed : Vec ℕ Global) → changed.items ≡ numbers others → IsChange (divided_of k) (divided_of kept_then) (record { from = from; old_to = end; new_to = new_to; others = changed })
+    pub then-change : (changed : Vec Other Global) → changed.items ≡ told → IsChange (divided_of k) (divided_of kept_then) (record { from = from; old_to = end; new_to = new_to; others = changed })
     then-change changed named =
-        let known = subst (AllByRecursion IsTold) (sym named) told in
+        let known = subst (AllByRecursion IsTold) (sym named) told-all in
         let parts_end : new_to ≡ from + length parts = are.ends ∙ ap (λ n. from + n) (sym (length-map read bytes) ∙ ap length are.bytes) in
         let long = length-map k.sections.items bytes in
-        let same : (i : ℕ) → i < length new.sections → (i < from) ⊎ (new_to ≤ i) → ¬ Contains changed.items i → KeepsEvents old new (section_of new i) = λ i within side unnamed.
+        let same : (i : ℕ) → i < length new.sections → (i < from) ⊎ (new_to ≤ i) → ¬ Contains (numbers_of changed.items) i → KeepsEvents old new (section_of new i) × KeepsTargets old new (section_of new i) = λ i within side unnamed.
         let lt : i < length all = omega (arith, within, same-count) in
         at-element all i lt
         (λ s there.
-        let e : 0 + i ≡ i = omega arith in
-        subst (KeepsEvents old new) (sym (section-is i s lt there))
-        (keeps s (was-read i s lt there side)
-        (rereads-same by_new 0 all others are.rereads_are i s lt there (λ has. unnamed (subst (λ ks. Contains ks i) (sym named) (subst (Contains (numbers others)) e has))))))
+        subst (λ bs. KeepsEvents old new bs × KeepsTargets old new bs) (sym (section-is i s lt there))
+        (no-news s (was-read i s lt there side) (untold i s lt there side (λ has. unnamed (subst (λ os. Contains (numbers_of os) i) (sym named) has)))))
         in
         subst (λ (d : Divided). IsChange old d (record { from = from; old_to = end; new_to = new_to; others = changed })) (sym then-document)
         (change-of old from end parts new_to changed are.recut.order (omega (arith, are.recut.within, long)) parts_end are.trimmed
-        (subst (ascend_from 0) (sym named) (rereads-ascend by_new 0 all others are.rereads_are))
-        (every-map IsTold (λ i. (i < length new.sections) × ((i < from) ⊎ (new_to ≤ i))) (λ i is. is.0) changed.items known)
-        (every-map IsTold (λ i. ¬ KeepsEvents old new (section_of new i)) (λ i is. is.1) changed.items known) same)
+        (subst (λ os. ascend_from 0 (numbers_of os)) (sym named) told-up)
+        (every-map IsTold (λ (other : Other). (other.section < length new.sections) × ((other.section < from) ⊎ (new_to ≤ other.section))) (λ other is. is.0) changed.items known)
+        (every-map IsTold (λ (other : Other). IsWhy old new (section_of new other.section) other.why) (λ other is. is.1) changed.items known) same)

@@ -1,5 +1,5 @@
 -- Sections with others in the place of some: the document that is kept then, and what changed.
-use Rattle.mddocument_editing.proofs.Prelude.{◌≡◌, ◌⊎◌, ℕ, ◌+◌, ◌-◌, ◌≤◌, ◌<◌, List, [], ◌++◌, length, get_or, take, drop, subst, sym, ap, ◌∙◌, arith, map-id, YieldsList-from_vec, drop-map, drop_at, get_or-append_right, get_or_append_left, length-append, length-take-le, map-append, take-map, take_at, AllByRecursion, Contains, into_iter_items, into_iter_len, into_iter_steps, Global, Vec, every-append, every-drop, every-take, IsWithinLimit, every-back, every-front, defines, document_of, Divided, IsDivided, is_label_of, IsChange, KeepsEvents, ascend_from, section_of, IsKept, IsRead, bytes_of_sections, divided_of, AreTrimmed, Kept, Section}
+use Rattle.mddocument_editing.proofs.Prelude.{◌≡◌, ◌⊎◌, ℕ, ◌+◌, ◌-◌, ◌≤◌, ◌<◌, List, [], ◌++◌, length, get_or, take, drop, subst, sym, ap, ◌∙◌, arith, map-id, YieldsList-from_vec, drop-map, drop_at, get_or-append_right, get_or_append_left, length-append, length-take-le, map-append, take-map, take_at, AllByRecursion, Contains, into_iter_items, into_iter_len, into_iter_steps, Global, Vec, every-append, every-drop, every-take, IsWithinLimit, every-back, every-front, defines, document_of, Divided, IsDivided, is_label_of, IsChange, IsWhy, KeepsEvents, KeepsTargets, ascend_from, numbers_of, section_of, Other, IsKept, IsRead, bytes_of_sections, divided_of, AreTrimmed, Kept, Section}
 use Rattle.std.proofs.lemmas.Iterator.{items_from_drains}
 use Rattle.std.proofs.lemmas.List.{append_assoc}
 use Rattle.std.specs.Iterator.{Drains}
@@ -52,12 +52,13 @@ module _ (old : Divided) (from end : ℕ) (parts : List (List ℕ)) where
   abbrev pub replaced : Divided
   replaced = record { options = old.options; sections = take from old.sections ++ (parts ++ drop end old.sections) }
 
-  -- what changes, if these are the others that do
-  pub change-of : (new_to : ℕ) (others : Vec ℕ Global) → from ≤ end → end ≤ length old.sections → new_to ≡ from + length parts → AreTrimmed old.sections from end parts → ascend_from 0 others.items
-      → AllByRecursion (λ i. (i < length replaced.sections) × ((i < from) ⊎ (new_to ≤ i))) others.items → AllByRecursion (λ i. ¬ KeepsEvents old replaced (section_of replaced i)) others.items
-      → ((i : ℕ) → i < length replaced.sections → (i < from) ⊎ (new_to ≤ i) → ¬ Contains others.items i → KeepsEvents old replaced (section_of replaced i))
+  -- what changes, if of these others something is new
+  pub change-of : (new_to : ℕ) (others : Vec Other Global) → from ≤ end → end ≤ length old.sections → new_to ≡ from + length parts → AreTrimmed old.sections from end parts → ascend_from 0 (numbers_of others.items)
+      → AllByRecursion (λ (other : Other). (other.section < length replaced.sections) × ((other.section < from) ⊎ (new_to ≤ other.section))) others.items
+      → AllByRecursion (λ (other : Other). IsWhy old replaced (section_of replaced other.section) other.why) others.items
+      → ((i : ℕ) → i < length replaced.sections → (i < from) ⊎ (new_to ≤ i) → ¬ Contains (numbers_of others.items) i → KeepsEvents old replaced (section_of replaced i) × KeepsTargets old replaced (section_of replaced i))
       → IsChange old replaced (record { from = from; old_to = end; new_to = new_to; others = others })
-  change-of new_to others order within is trimmed up outside differ same =
+  change-of new_to others order within is trimmed up outside why same =
       let front = take from old.sections in
       let behind = drop end old.sections in
       let size : length front ≡ from = length-take-le from old.sections (omega arith) in
@@ -85,14 +86,6 @@ module _ (old : Divided) (from end : ℕ) (parts : List (List ℕ)) where
             trimmed.last gone some (sym (ap (λ j. get_or (front ++ (parts ++ behind)) j []) e ∙ one (length parts - 1) lt) ∙ alike);
         ascend = up;
         outside = outside;
-        differ = differ;
+        why = why;
         same = same;
       }
-
-  -- the same, if no others do
-  pub change-alone : (new_to : ℕ) (others : Vec ℕ Global) → from ≤ end → end ≤ length old.sections → new_to ≡ from + length parts → AreTrimmed old.sections from end parts → others.items ≡ []
-      → ((bytes : List ℕ) → KeepsEvents old replaced bytes) → IsChange old replaced (record { from = from; old_to = end; new_to = new_to; others = others })
-  change-alone new_to others order within is trimmed none keeps =
-      change-of new_to others order within is trimmed (subst (ascend_from 0) (sym none) tt)
-      (subst (AllByRecursion (λ i. (i < length replaced.sections) × ((i < from) ⊎ (new_to ≤ i)))) (sym none) tt)
-      (subst (AllByRecursion (λ i. ¬ KeepsEvents old replaced (section_of replaced i))) (sym none) tt) (λ i lt side unnamed. keeps (section_of replaced i))

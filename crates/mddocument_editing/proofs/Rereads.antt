@@ -1,5 +1,5 @@
 -- Sections that are read again, and their events put in.
-use Rattle.mddocument_editing.proofs.Prelude.{◌≡◌, ℕ, zero, suc, ◌+◌, ◌<◌, Bool, List, [], ◌∷◌, ◌++◌, length, Option, Some, None, get_or, take, set, map, refl, sym, ap, ◌∙◌, subst, arith, append_assoc, inl, inr, length-append, length-take-le, take_more, Contains-append_right, AllByRecursion, Contains, IfNone, IfSome, ParseOptions, Event, events_by, ascend_from, IsRead, bytes_of_sections, AreReread, HasEvents, put_all, put_at, with_events, Reread, Section}
+use Rattle.mddocument_editing.proofs.Prelude.{◌≡◌, ℕ, zero, suc, ◌+◌, ◌<◌, Bool, List, [], ◌∷◌, ◌++◌, length, Option, Some, None, get_or, take, set, map, refl, sym, ap, ◌∙◌, subst, arith, append_assoc, inl, inr, length-append, length-take-le, take_more, Contains-append_right, AllByRecursion, every-map, Contains, IfNone, IfSome, ParseOptions, Event, events_by, ascend_from, IsRead, bytes_of_sections, AreReread, HasEvents, put_all, put_at, with_events, Reread, Section}
 use Rattle.std.proofs.Common.{append-nil}
 
 -- what is put at the number of a section that was read there
@@ -21,15 +21,6 @@ length-put-all (o ∷ os) xs = length-put-all os (put_at o.section o.events xs) 
 put-behind : (xs : List Section) (s : Section) (ys : List Section) (events : List Event) → put_at (length xs) events (xs ++ s ∷ ys) ≡ xs ++ with_events events s ∷ ys
 put-behind [] s ys events = refl
 put-behind (x ∷ xs) s ys events = ap (λ zs. x ∷ zs) (put-behind xs s ys events)
-
--- the numbers of those that were read again
-abbrev pub numbers : List Reread → List ℕ
-numbers others = map (λ other. other.section) others
-
--- numbers that ascend do so from a lower one, too
-ascend-lower : (n : ℕ) (ks : List ℕ) → ascend_from (suc n) ks → ascend_from n ks
-ascend-lower n [] up = tt
-ascend-lower n (k ∷ ks) up = (omega (arith, up.0), up.1)
 
 module _ (read : List ℕ → List Event) where
   -- one list of sections behind another
@@ -73,16 +64,6 @@ module _ (read : List ℕ → List Event) where
   rereads-found n i xs s (Some events) before after lt is so_far has new stays more =
       subst (AreReread read n (take (i + 1) xs)) (sym more) (rereads-differ n i xs s before lt is so_far events new.0 new.1)
 
-  -- numbers ascend
-  pub rereads-ascend : (n : ℕ) (ss : List Section) (os : List Reread) → AreReread read n ss os → ascend_from n (numbers os)
-  rereads-ascend n [] os none = subst (λ zs. ascend_from n (numbers zs)) (sym none) tt
-  rereads-ascend n (s ∷ ss) os (inl is) =
-      let e : n + 1 ≡ suc n = omega arith in
-      ascend-lower n (numbers os) (subst (λ k. ascend_from k (numbers os)) e (rereads-ascend (n + 1) ss os is.1))
-  rereads-ascend n (s ∷ ss) os (inr is) =
-      let e : n + 1 ≡ suc n = omega arith in
-      subst (λ zs. ascend_from n (numbers zs)) (sym is.1.0) (omega arith, subst (λ k. ascend_from k (numbers is.0)) e (rereads-ascend (n + 1) ss is.0 is.1.1.1))
-
   -- what holds of each section with other events holds of all that are read again
   pub rereads-each : (Q : ℕ → Type 0) (n : ℕ) (ss : List Section) (os : List Reread) → AreReread read n ss os
       → ((i : ℕ) (s : Section) → i < length ss → s ≡ get_or ss i s → ¬ HasEvents read s → Q (n + i)) → AllByRecursion (λ (other : Reread). Q other.section) os
@@ -96,21 +77,6 @@ module _ (read : List ℕ → List Event) where
         subst Q z (q 0 x (omega arith) refl is.1.1.0),
         rereads-each Q (n + 1) xs is.0 is.1.1.1 (λ i s lt there differs. let e : n + suc i ≡ n + 1 + i = omega arith in subst Q e (q (suc i) s (omega (arith, lt)) there differs)),
       )
-
-  -- a section that is not read again has its events
-  pub rereads-same : (n : ℕ) (ss : List Section) (os : List Reread) → AreReread read n ss os → (i : ℕ) (s : Section) → i < length ss → s ≡ get_or ss i s → ¬ Contains (numbers os) (n + i) → HasEvents read s
-  rereads-same n [] os none i s lt there unnamed = absurd (omega (arith, lt))
-  rereads-same n (x ∷ xs) os (inl is) zero s lt there unnamed = subst (HasEvents read) (sym there) is.0
-  rereads-same n (x ∷ xs) os (inl is) (suc i) s lt there unnamed =
-      let e : n + 1 + i ≡ n + suc i = omega arith in
-      rereads-same (n + 1) xs os is.1 i s (omega (arith, lt)) there (λ has. unnamed (subst (Contains (numbers os)) e has))
-  rereads-same n (x ∷ xs) os (inr is) zero s lt there unnamed =
-      let e : n ≡ n + 0 = omega arith in
-      absurd (unnamed (subst (λ zs. Contains (numbers zs) (n + 0)) (sym is.1.0) (0, omega arith, e)))
-  rereads-same n (x ∷ xs) os (inr is) (suc i) s lt there unnamed =
-      let e : n + 1 + i ≡ n + suc i = omega arith in
-      rereads-same (n + 1) xs is.0 is.1.1.1 i s (omega (arith, lt)) there
-      (λ has. unnamed (subst (λ zs. Contains (numbers zs) (n + suc i)) (sym is.1.0) (Contains-append_right (n ∷ []) (numbers is.0) (n + suc i) (subst (Contains (numbers is.0)) e has))))
 
   -- sections with their events between two lists of others
   pub rereads-three : (front between behind : List Section) (from new_to : ℕ) (os ps : List Reread) → length front ≡ from → new_to ≡ from + length between → AllByRecursion (HasEvents read) between
@@ -157,3 +123,7 @@ put-again options defined xs (s ∷ ss) n os len (inr is) all =
         ),
       ),
     )
+
+-- sections that were read so are not read again
+pub none-again : (options : ParseOptions) (defined : List ℕ → Bool) (n : ℕ) (ss : List Section) → AllByRecursion (IsRead options defined) ss → AreReread (events_by options defined) n ss []
+none-again options defined n ss are = rereads-none (events_by options defined) n ss (every-map (IsRead options defined) (HasEvents (events_by options defined)) (λ s is. sym is.events) ss are)

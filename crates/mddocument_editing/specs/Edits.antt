@@ -1,9 +1,13 @@
 -- Edits of a document, and what they change.
-use Rattle.std.specs.Prelude.{◌≡◌, ◌⊎◌, ℕ, suc, ◌-◌, ◌≤◌, ◌<◌, List, [], ◌∷◌, ◌++◌, length, take, drop, Contains}
+use Rattle.std.specs.Prelude.{◌≡◌, ◌⊎◌, ℕ, suc, ◌-◌, ◌≤◌, ◌<◌, List, [], ◌∷◌, ◌++◌, length, map, take, drop, Contains, Option}
 use Rattle.std.specs.List.{AllByRecursion, slice_index_or}
 use Rattle.mddocument_editing.specs.declared.edit.Change.{Change}
 use Rattle.mddocument_editing.specs.declared.edit.Edit.{Edit}
+use Rattle.mddocument_editing.specs.declared.edit.Other.{Other}
+use Rattle.mddocument_editing.specs.declared.edit.Why.{Why}
+use Rattle.mddocument_editing.specs.declared.edit.Why.TheVariants as why
 use Rattle.mddocument_editing.specs.Divided.{Divided, IsDivided, bytes_of, section_events}
+use Rattle.mddocument_editing.specs.Leading.{section_targets}
 
 -- bytes with those of an edit in the place of others
 abbrev pub edited : Edit → List ℕ → List ℕ
@@ -27,12 +31,24 @@ IsOutside change i = (i < change.from) ⊎ (change.new_to ≤ i)
 abbrev pub KeepsEvents : (old new : Divided) → (section : List ℕ) → Type 0
 KeepsEvents old new section = section_events new section ≡ section_events old section
 
+-- what its links and images lead to is what they led to
+abbrev pub KeepsTargets : (old new : Divided) → (section : List ℕ) → Type 0
+KeepsTargets old new section = section_targets new section ≡ section_targets old section
+
+-- why a section is named that was not replaced: it has other events; or it has those that it had, and a link or an image in it leads elsewhere
+abbrev pub IsWhy : (old new : Divided) → (section : List ℕ) → Why → Type 0
+IsWhy old new section why.Events = ¬ KeepsEvents old new section
+IsWhy old new section why.Targets = KeepsEvents old new section × ¬ KeepsTargets old new section
+
+abbrev pub numbers_of : List Other → List ℕ
+numbers_of others = map (λ other. other.section) others
+
 -- numbers ascend, each above the one before it, and the first is at least this
 abbrev pub ascend_from : (least : ℕ) → List ℕ → Type 0
 ascend_from least [] = Unit {0}
 ascend_from least (n ∷ ns) = (least ≤ n) × ascend_from (suc n) ns
 
--- A change says exactly which sections an edit replaced, and which others have new events
+-- A change says exactly which sections an edit replaced, and of which others something is new, and what
 pub record IsChange (old new : Divided) (change : Change) : Type 0 where
   pub old_within : (change.from ≤ change.old_to) × (change.old_to ≤ length old.sections)
   pub new_within : (change.from ≤ change.new_to) × (change.new_to ≤ length new.sections)
@@ -43,12 +59,13 @@ pub record IsChange (old new : Divided) (change : Change) : Type 0 where
   pub first : change.from < change.old_to → change.from < change.new_to → ¬ (section_of new change.from ≡ section_of old change.from)
   pub last : change.from < change.old_to → change.from < change.new_to → ¬ (section_of new (change.new_to - 1) ≡ section_of old (change.old_to - 1))
   -- the others are sections of the document as it is now, none of the new ones, in order and each once
-  pub ascend : ascend_from 0 change.others.items
-  pub outside : AllByRecursion (λ i. (i < length new.sections) × IsOutside change i) change.others.items
-  -- each of them has other events than before
-  pub differ : AllByRecursion (λ i. ¬ KeepsEvents old new (section_of new i)) change.others.items
-  -- and those that are no others have the events that they had
-  pub same : (i : ℕ) → i < length new.sections → IsOutside change i → ¬ Contains change.others.items i → KeepsEvents old new (section_of new i)
+  pub ascend : ascend_from 0 (numbers_of change.others.items)
+  pub outside : AllByRecursion (λ other. (other.section < length new.sections) × IsOutside change other.section) change.others.items
+  -- each of them is named for what is new of it
+  pub why : AllByRecursion (λ other. IsWhy old new (section_of new other.section) other.why) change.others.items
+  -- and of those that are not named nothing is: they have the events that they had, and their links lead where they led
+  pub same : (i : ℕ) → i < length new.sections → IsOutside change i → ¬ Contains (numbers_of change.others.items) i
+      → KeepsEvents old new (section_of new i) × KeepsTargets old new (section_of new i)
 
 -- ---- laws
 

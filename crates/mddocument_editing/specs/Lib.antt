@@ -2,6 +2,9 @@
 pub mod Divided
 pub mod Edits
 pub mod Fits
+-- targets
+pub mod Leading
+pub mod Said
 -- cuts
 pub mod FirstRest
 -- one section
@@ -16,6 +19,7 @@ pub mod Trims
 pub mod Asking
 pub mod InBrackets
 pub mod Put
+pub mod Told
 -- the list of sections
 pub mod Listed
 -- moved events

@@ -17,6 +17,25 @@ pub struct Edit<'a> {
     pub with: &'a [u8],
 }
 
+/// Why a section is named that was not replaced.
+#[derive(Clone, Copy, Debug, PartialEq, Eq)]
+pub enum Why {
+    /// It has other events than before, since a label came or went.
+    Events,
+    /// It has the events that it had, and a link or an image in it leads elsewhere, since another definition of its label is the first, or says something
+    /// else.
+    Targets,
+}
+
+/// A section that was not replaced, and of which something is new.
+#[derive(Clone, Copy, Debug, PartialEq, Eq)]
+pub struct Other {
+    /// Its number, as sections are numbered now.
+    pub section: usize,
+    /// What is new of it.
+    pub why: Why,
+}
+
 /// What an edit changed. Sections in front of the replaced ones and behind them have the bytes that they had. As many stay at both ends as can: if
 /// sections were replaced by others, the first ones differ, and so do the last. An edit that leaves the document as it was changes nothing.
 #[derive(Debug, Drop)]
@@ -27,8 +46,8 @@ pub struct Change {
     pub old_to: usize,
     /// The section behind the last new one, as they are numbered now.
     pub new_to: usize,
-    /// Other sections that have other events than before, since a label came or went: all of them, in order, as they are numbered now.
-    pub others: Vec<usize>,
+    /// Other sections that have other events than before, or of which a link leads elsewhere: all of them, in order.
+    pub others: Vec<Other>,
 }
 
 /// Why a document was not edited. It is as it was.

@@ -25,9 +25,14 @@ mod recut;
 // trims: sections that stay at the ends of those
 mod trim;
 
-// putting in: sections that changed; which others are read again
+// targets: what links of sections lead to
+mod leads;
+mod said;
+
+// putting in: sections that changed; which others are read again, and which have links that lead elsewhere
 mod asking;
 mod put;
+mod told;
 
 // moved events: events of sections, moved; lookups
 mod lookup;

@@ -11,15 +11,18 @@ ghost use Rattle.mddocument_editing.specs.Divided.{bytes_of, is_label_of};
 ghost use Rattle.mddocument_editing.specs.Edits.{IsChange};
 ghost use Rattle.mddocument_editing.specs.FirstRest.{items_of};
 ghost use Rattle.mddocument_editing.specs.Kept.{ArePackable, IsKept, IsLabelled, IsPackable, IsRecut, IsRead, bytes_of_parts, bytes_of_sections, divided_of, recut_document};
+ghost use Rattle.mddocument_editing.specs.Leading.{first_said};
 ghost use Rattle.mddocument_editing.specs.Put.{AreReread, HasEvents, IsReadDocument, looks_up};
+ghost use Rattle.mddocument_editing.specs.Told.{AreToldAround};
 ghost use Rattle.mddocument_editing.specs.Trims.{AreTrimmed};
 
 use crate::asking::may_ask;
-use crate::edit::{Change, Refused};
+use crate::edit::{Change, Other, Refused};
 use crate::kept::{Kept, define_parts, define_sections};
 use crate::packed::{PackError, Packed};
 use crate::reread::Reread;
 use crate::section::{Part, Section, events_of, parts_of, sections_of};
+use crate::told::{Around, Side, tell};
 use crate::trim::Recut;
 use markdown_base::configuration::ParseOptions;
 use markdown_base::event::Event;
@@ -27,6 +30,13 @@ use markdown_base::laws::equal_events_are_one;
 use mdinline_labels::labels::Labels;
 use mdinline_machine::inlines::Inlines;
 use std::alloc::{AllocError, Global};
+
+/// The sections in front of those that are replaced that are read again, and those behind.
+#[derive(Drop)]
+struct Rereads {
+    front: Vec<Reread>,
+    behind: Vec<Reread>,
+}
 
 /// Whether sections define nothing.
 fn define_nothing(sections: &[Section]) -> bool
@@ -172,17 +182,6 @@ fn read_again(
     Ok(others)
 }
 
-/// The numbers of sections that were read again.
-fn numbers_of(alloc: Global, others: &[Reread]) -> Result<Vec<usize>, AllocError>
-    ensures { IfOk result (λ numbers. numbers.items ≡ map (λ other. other.section) others.now) }
-{
-    let mut numbers = Vec::with_capacity(alloc, others.len())?;
-    for other in others {
-        numbers.push(other.section)?;
-    }
-    Ok(numbers)
-}
-
 /// Puts parts in the place of the sections that they replace. If it fails, the document is as it was.
 pub(crate) fn put(alloc: Global, kept: &mut Kept, recut: Recut) -> Result<Change, Refused>
     requires kept { IsKept kept.old }
@@ -227,12 +226,13 @@ fn put_same(
     let read = read_parts(alloc, &kept.options, &kept.machine, parts)?;
     kept.sections.are_few();
     let new_to = from + read.len();
+    let others = tell_same(alloc, kept, from, end, read.as_slice())?;
     kept.sections.splice(from, end, read)?;
     Ok(Change {
         from,
         old_to: end,
         new_to,
-        others: Vec::new(alloc),
+        others,
     })
 }
 
@@ -261,16 +261,17 @@ fn put_other(
     let read = read_parts(alloc, &kept.options, &machine, parts)?;
     kept.sections.are_few();
     let new_to = from + read.len();
-    let others = read_others(alloc, kept, &machine, from, end, read.as_slice())?;
-    let numbers = numbers_of(alloc, others.as_slice())?;
+    let rereads = read_others(alloc, kept, &machine, from, end, read.as_slice())?;
+    let others = tell_other(alloc, kept, &machine, from, end, read.as_slice(), &rereads)?;
+    let rereads = joined(rereads)?;
     kept.sections.splice(from, end, read)?;
     kept.machine = machine;
-    kept.sections.put_events(others);
+    kept.sections.put_events(rereads);
     Ok(Change {
         from,
         old_to: end,
         new_to,
-        others: numbers,
+        others,
     })
 }
 
@@ -321,8 +322,8 @@ fn read_side(
     }
 }
 
-/// Those of the sections in front of some and behind them that have other events by this machine, which knows the new labels. Sections that it read
-/// come between.
+/// Those of the sections in front of some and behind them that have other events by this machine, which knows the new labels. As many sections as were
+/// read come between.
 fn read_others(
     alloc: Global,
     kept: &Kept,
@@ -330,22 +331,101 @@ fn read_others(
     from: usize,
     end: usize,
     read: &[Section],
-) -> Result<Vec<Reread>, Refused>
+) -> Result<Rereads, Refused>
     requires kept { AllByRecursion (IsReadDocument kept.now.options (defines kept.now.machine.labels)) kept.now.sections.items }
     requires order { from ≤ end }
     requires within { end ≤ length kept.now.sections.items }
-    requires read { AllByRecursion (IsRead kept.now.options (defines machine.now.labels)) read.now }
     requires numbers { from + length read.now + length (drop end kept.now.sections.items) < 2 ^ 64 }
-    ensures others { IfOk result (λ others. AreReread (events_by kept.now.options (defines machine.now.labels)) 0 (take from kept.now.sections.items ++ (read.now ++ drop end kept.now.sections.items)) others.items) }
+    ensures front { IfOk result (λ others. AreReread (events_by kept.now.options (defines machine.now.labels)) 0 (take from kept.now.sections.items) others.front.items) }
+    ensures behind { IfOk result (λ others. AreReread (events_by kept.now.options (defines machine.now.labels)) (from + length read.now) (drop end kept.now.sections.items) others.behind.items) }
     ensures range { ¬ IsErrOf result Refused.Range }
     ensures fits { let are_packable = AllByRecursion (λ section. IsPackable kept.now.options (defines machine.now.labels) section.part.bytes.items) in are_packable (take from kept.now.sections.items) → are_packable (drop end kept.now.sections.items) → ¬ IsErrOf result Refused.TooLong }
 {
     let sections = kept.sections.as_slice();
-    let mut others = read_side(alloc, kept, machine, &sections[..from], 0)?;
+    let front = read_side(alloc, kept, machine, &sections[..from], 0)?;
     let new_to = from + read.len();
-    let mut more = read_side(alloc, kept, machine, &sections[end..], new_to)?;
-    others.append(&mut more)?;
-    Ok(others)
+    let behind = read_side(alloc, kept, machine, &sections[end..], new_to)?;
+    Ok(Rereads { front, behind })
+}
+
+/// All that are read again.
+fn joined(rereads: Rereads) -> Result<Vec<Reread>, AllocError>
+    ensures { IfOk result (λ all. all.items ≡ rereads.front.items ++ rereads.behind.items) }
+{
+    let Rereads {
+        mut front,
+        mut behind,
+    } = rereads;
+    front.append(&mut behind)?;
+    Ok(front)
+}
+
+/// Those of the sections in front of some and behind them of which something is new, if this machine knows the new labels. Sections that it read come
+/// between.
+fn tell_other(
+    alloc: Global,
+    kept: &Kept,
+    machine: &Inlines,
+    from: usize,
+    end: usize,
+    read: &[Section],
+    rereads: &Rereads,
+) -> Result<Vec<Other>, AllocError>
+    requires kept { AllByRecursion (IsRead kept.now.options (defines kept.now.machine.labels)) kept.now.sections.items }
+    requires order { from ≤ end }
+    requires within { end ≤ length kept.now.sections.items }
+    requires read { AllByRecursion (IsRead kept.now.options (defines machine.now.labels)) read.now }
+    requires numbers { from + length read.now + length (drop end kept.now.sections.items) < 2 ^ 64 }
+    requires front { AreReread (events_by kept.now.options (defines machine.now.labels)) 0 (take from kept.now.sections.items) rereads.now.front.items }
+    requires behind { AreReread (events_by kept.now.options (defines machine.now.labels)) (from + length read.now) (drop end kept.now.sections.items) rereads.now.behind.items }
+    ensures { let sections = kept.now.sections.items in
+        IfOk result (λ told. AreToldAround (events_by kept.now.options (defines machine.now.labels))
+        (first_said (events_by kept.now.options (defines kept.now.machine.labels)) (bytes_of_sections sections))
+        (first_said (events_by kept.now.options (defines machine.now.labels)) (bytes_of_sections (take from sections ++ (read.now ++ drop end sections))))
+        (from + length read.now) (take from sections) (drop end sections) told.items) }
+{
+    let sections = kept.sections.as_slice();
+    let around = Around {
+        front: Side {
+            sections: &sections[..from],
+            first: 0,
+            rereads: rereads.front.as_slice(),
+        },
+        gone: &sections[from..end],
+        read,
+        behind: Side {
+            sections: &sections[end..],
+            first: from + read.len(),
+            rereads: rereads.behind.as_slice(),
+        },
+    };
+    tell(alloc, &kept.options, &kept.machine, machine, around)
+}
+
+/// The same, if the labels stay: none is read again.
+fn tell_same(
+    alloc: Global,
+    kept: &Kept,
+    from: usize,
+    end: usize,
+    read: &[Section],
+) -> Result<Vec<Other>, AllocError>
+    requires kept { AllByRecursion (IsRead kept.now.options (defines kept.now.machine.labels)) kept.now.sections.items }
+    requires order { from ≤ end }
+    requires within { end ≤ length kept.now.sections.items }
+    requires read { AllByRecursion (IsRead kept.now.options (defines kept.now.machine.labels)) read.now }
+    requires numbers { from + length read.now + length (drop end kept.now.sections.items) < 2 ^ 64 }
+    ensures { let sections = kept.now.sections.items in let knows = defines kept.now.machine.labels in
+        IfOk result (λ told. AreToldAround (events_by kept.now.options knows)
+        (first_said (events_by kept.now.options knows) (bytes_of_sections sections))
+        (first_said (events_by kept.now.options knows) (bytes_of_sections (take from sections ++ (read.now ++ drop end sections))))
+        (from + length read.now) (take from sections) (drop end sections) told.items) }
+{
+    let rereads = Rereads {
+        front: Vec::new(alloc),
+        behind: Vec::new(alloc),
+    };
+    tell_other(alloc, kept, &kept.machine, from, end, read, &rereads)
 }
 
 /// Why a document is not edited, if events are not packed.

@@ -69,6 +69,10 @@ module _ (bytes : List ℕ) where
   abbrev pub defined_label : List Event → List ℕ
   defined_label es = normalised (written (first_in name.DefinitionLabelString es))
 
+  -- the label of the definition that is entered at an index; nothing, where none is
+  abbrev pub label_at : List Event → (at : ℕ) → Option (List ℕ)
+  label_at events at = option_map defined_label (inside_at (enters name.Definition) at events)
+
   -- Where a label is defined: the index of the first definition with this label. "If there are several matching definitions, the first one takes
   -- precedence" (4.7)
   abbrev pub definition_from : (label : List ℕ) → (at : ℕ) → List Event → Option ℕ

@@ -7,7 +7,7 @@ ghost use Rattle.markdown_base.specs.declared.event.Name.TheVariants as name;
 ghost use Rattle.mddocument_link_targets.specs.Costs.{size_of};
 ghost use Rattle.mddocument_link_targets.specs.Spans.{enters, first_in, inside_at};
 ghost use Rattle.mddocument_link_targets.specs.Strings.{decoded};
-ghost use Rattle.mddocument_link_targets.specs.Targets.{decoded_at, defined_label, enters_link, label_of, parts_in, parts_of, string_in, target_behind, target_in, target_of, written};
+ghost use Rattle.mddocument_link_targets.specs.Targets.{decoded_at, defined_label, enters_link, label_at, label_of, parts_in, parts_of, string_in, target_behind, target_in, target_of, written};
 
 use crate::spans::{enters, first_in, inside, split};
 use crate::strings::{Reading, text_of};
@@ -459,4 +459,55 @@ pub(crate) fn defined_label<L: Ledger>(
     let string = first_in(definition, Name::DefinitionLabelString, turns);
     let text = written(alloc, bytes, string, turns)?;
     normalised(alloc, text.as_slice())
+}
+
+/// The label of the definition that is entered at an index, normalised. None if none is entered there. Fails only if it runs out of memory. It looks at
+/// each event in the definition three times at most.
+pub fn label_at_counted<L: Ledger>(
+    alloc: Global,
+    bytes: &[u8],
+    events: &[Event],
+    at: usize,
+    turns: &mut Turns<L>,
+) -> Result<Option<Items<u8>>, AllocError>
+    ensures label { IfOk result (λ label. label ≡ label_at bytes.now events.now at) }
+    ensures turns { turns.new ≤ turns.old + 3 * size_of (inside_at (enters name.Definition) at events.now) + 2 }
+{
+    match definition_in(events, at, turns) {
+        None => Ok(None),
+        Some(definition) => {
+            let label = defined_label(alloc, bytes, definition, turns)?;
+            Ok(Some(Items::from_vec(label)))
+        }
+    }
+}
+
+/// The label of the definition that is entered at an index, counted from nothing.
+fn label_at_uncounted<L: Ledger>(
+    alloc: Global,
+    bytes: &[u8],
+    events: &[Event],
+    at: usize,
+    blank: Blank,
+) -> Result<Option<Items<u8>>, AllocError>
+    requires name { blank.name ≡ L.name }
+    requires parts { blank.parts ≡ L.parts }
+    requires some { 0 < blank.parts }
+    ensures { IfOk result (λ label. label ≡ label_at bytes.now events.now at) }
+{
+    let mut turns = Turns::<L>::new(blank);
+    label_at_counted(alloc, bytes, events, at, &mut turns)
+}
+
+/// The label of the definition that is entered at an index, normalised. None if none is entered there. Fails only if it runs out of memory. It takes
+/// the turns of `label_at_counted`.
+pub fn label_at(
+    alloc: Global,
+    bytes: &[u8],
+    events: &[Event],
+    at: usize,
+) -> Result<Option<Items<u8>>, AllocError>
+    ensures { IfOk result (λ label. label ≡ label_at bytes.now events.now at) }
+{
+    label_at_uncounted::<Brand>(alloc, bytes, events, at, Blank::new(1))
 }

@@ -2,7 +2,7 @@
 
 use crate::shown::assert_holds;
 use markdown::configuration::ParseOptions;
-use mdconstructs::edit::{Edit, Refused};
+use mdconstructs::edit::{Edit, Other, Refused, Why};
 use mdconstructs::positions::{Encoding, Position};
 use mdconstructs::read_document;
 use mdconstructs::sections::Sections;
@@ -298,38 +298,84 @@ fn sections_in_blocks_are_looked_up(rt: HostRuntime) {
     assert_holds(&rt, many_are_found(rt.alloc()), "what many sections have");
 }
 
-/// What an edit changes: the sections that are replaced and those that come, and the others that are read again.
-type Changes = ((usize, usize, usize), &'static [usize]);
+/// What an edit changes: the sections that are replaced and those that come, and the others of which something is new.
+type Changes = ((usize, usize, usize), &'static [Other]);
 
-/// Documents, the range of which nothing stays, what that changes, and what is left. If a definition goes, the sections that may refer to it are
-/// read again, though they are far: one with its label, however it is written, and one in which a line ends behind a `[`; and none with another
-/// label.
+/// The first two sections of a document have other events than before.
+const OF_TWO: &[Other] = &[
+    Other {
+        section: 0,
+        why: Why::Events,
+    },
+    Other {
+        section: 1,
+        why: Why::Events,
+    },
+];
+
+/// Documents, the range of which nothing stays, what that changes, and what is left. If a definition goes, the sections that refer to it have other
+/// events, though they are far: one with its label, however it is written, and one in which a line ends in the label; and none with another label.
 const GONE: &[(&[u8], (usize, usize), Changes, &[u8])] = &[
     (
         b"[l]\n\nx\n\ny\n\n[l]: u\n",
         (11, 18),
-        ((3, 4, 3), &[0]),
+        (
+            (3, 4, 3),
+            &[Other {
+                section: 0,
+                why: Why::Events,
+            }],
+        ),
         b"[l]\n\nx\n\ny\n\n",
     ),
     (
         b"x [\nl]\n\n[ L ]\n\n[m]\n\ny\n\n[l]: u\n",
         (23, 30),
-        ((4, 5, 4), &[0, 1]),
+        ((4, 5, 4), OF_TWO),
         b"x [\nl]\n\n[ L ]\n\n[m]\n\ny\n\n",
     ),
 ];
 
-/// Whether bytes of a document that go change this, and leave what reading what is left gives.
+/// Documents, the range that a letter comes for, what that changes, and what is left: a definition says something else. A section whose link leads
+/// elsewhere is told, and none whose link has a resource, or another label; none is told if another definition of the label stands in front, or the range
+/// is the letter.
+const REDEFINED: &[(&[u8], (usize, usize), Changes, &[u8])] = &[
+    (
+        b"[l]: b\n\n# h\n\n![x][L]\n\n[l](c)\n\n[m]\n",
+        (5, 6),
+        (
+            (0, 1, 1),
+            &[Other {
+                section: 2,
+                why: Why::Targets,
+            }],
+        ),
+        b"[l]: u\n\n# h\n\n![x][L]\n\n[l](c)\n\n[m]\n",
+    ),
+    (
+        b"[l]: b\n\n[l]\n\n[l]: c\n",
+        (18, 19),
+        ((2, 3, 3), &[]),
+        b"[l]: b\n\n[l]\n\n[l]: u\n",
+    ),
+    (
+        b"[l]: u\n\n[l]\n",
+        (5, 6),
+        ((1, 1, 1), &[]),
+        b"[l]: u\n\n[l]\n",
+    ),
+];
+
+/// Whether bytes in the place of a range of a document change this, and leave what reading what is left gives.
 fn changes_so(
     alloc: Global,
     bytes: &[u8],
-    (from, to): (usize, usize),
+    edit: &Edit,
     (numbers, others): Changes,
     left: &[u8],
 ) -> Result<bool, AllocError> {
     let mut sections = sections_of(alloc, bytes)?;
-    let with = b"";
-    match sections.replace(alloc, &Edit { from, to, with }) {
+    match sections.replace(alloc, edit) {
         Ok(change) => Ok(
             (change.from, change.old_to, change.new_to) == numbers
                 && change.others.as_slice() == others
@@ -342,9 +388,19 @@ fn changes_so(
 
 #[test]
 fn references_are_read_again(rt: HostRuntime) {
-    for &(bytes, range, changes, left) in GONE {
-        let found = changes_so(rt.alloc(), bytes, range, changes, left);
-        assert_holds(&rt, found, "what may refer is read again");
+    for &(bytes, (from, to), changes, left) in GONE {
+        let with = b"";
+        let found = changes_so(rt.alloc(), bytes, &Edit { from, to, with }, changes, left);
+        assert_holds(&rt, found, "what refers is read again");
+    }
+}
+
+#[test]
+fn links_that_lead_elsewhere_are_told(rt: HostRuntime) {
+    for &(bytes, (from, to), changes, left) in REDEFINED {
+        let with = b"u";
+        let found = changes_so(rt.alloc(), bytes, &Edit { from, to, with }, changes, left);
+        assert_holds(&rt, found, "what leads elsewhere is told");
     }
 }
 

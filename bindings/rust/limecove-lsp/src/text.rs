@@ -2,7 +2,9 @@
 
 use crate::facts::{facts_of, Facts};
 use crate::rules::{tell, Rule};
-use limecove::{read_document, Document, Encoding, Error, Event, Kind, Options, Place, Undefined};
+use limecove::{
+    read_document, Document, Encoding, Error, Event, Kind, Options, Other, Place, Undefined,
+};
 use std::ops::Range;
 
 /// Of so many sections each is asked by itself for its references that nothing defines.
@@ -88,14 +90,16 @@ impl Text {
         // each call goes over the whole document: some are dearer than one for all that is between
         let many = others.len() > FEW;
         let mut undefined = match (others.first(), others.last()) {
-            (Some(first), Some(last)) if many => self.document.undefined(*first..last + 1)?,
+            (Some(first), Some(last)) if many => {
+                self.document.undefined(first.section..last.section + 1)?
+            }
             _ => Vec::new(),
         };
-        for other in others {
+        for Other { section, .. } in others {
             if !many {
-                undefined = self.document.undefined(other..other + 1)?;
+                undefined = self.document.undefined(section..section + 1)?;
             }
-            self.sections[other] = self.read(other, &undefined)?;
+            self.sections[section] = self.read(section, &undefined)?;
         }
         Ok(())
     }

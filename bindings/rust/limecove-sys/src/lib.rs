@@ -12,7 +12,7 @@ use core::ffi::c_void;
 use core::ptr::null_mut;
 
 /// The version of these declarations. [`limecove_version`] has that of the library, and is asked first.
-pub const VERSION: u32 = 4;
+pub const VERSION: u32 = 5;
 
 /// The document was read.
 pub const READ: u32 = 0;
@@ -247,8 +247,23 @@ pub struct Changed {
     pub start: usize,
     /// Where they end: the index of the byte behind them.
     pub end: usize,
-    /// How many other sections have other events than before, since a label came or went.
+    /// Of how many other sections something is new: [`limecove_document_others`] says which.
     pub others: usize,
+}
+
+/// A section has other events than before, since a label came or went.
+pub const WHY_EVENTS: u32 = 0;
+/// A section has the events that it had, and a link or an image in it leads elsewhere.
+pub const WHY_TARGETS: u32 = 1;
+
+/// A section that an edit did not replace, and of which something is new.
+#[repr(C)]
+#[derive(Clone, Copy, Debug, Default, PartialEq, Eq)]
+pub struct Named {
+    /// Its number, as sections are numbered now.
+    pub section: usize,
+    /// Why it is named: [`WHY_EVENTS`] or [`WHY_TARGETS`].
+    pub why: u32,
 }
 
 /// A place in a document as editors ask for it.
@@ -441,8 +456,8 @@ extern "C" {
         records_len: usize,
     ) -> Answer;
 
-    /// Writes the numbers of the sections that the last edit did not replace and that have other events than before it, in order, from this
-    /// one of them on, over the first numbers, as many as fit. Returns how many were written.
+    /// Writes the sections that the last edit did not replace and of which something is new, in order, from this one of them on, over the
+    /// first of others, as many as fit. Returns how many were written.
     ///
     /// # Safety
     ///
@@ -450,8 +465,8 @@ extern "C" {
     pub fn limecove_document_others(
         document: *mut Document,
         from: usize,
-        numbers: *mut usize,
-        numbers_len: usize,
+        named: *mut Named,
+        named_len: usize,
     ) -> usize;
 
     /// Writes the place of a byte index, in units of UTF-8 if `utf16` is 0, else of UTF-16. Returns [`READ`], [`NO_SUCH_BYTES`] behind the

@@ -109,10 +109,29 @@ impl Changed {
         self.line..self.line + self.endings.1
     }
 
-    /// How many other sections have other events than before, since a label came or went: [`Document::others`] says which.
+    /// Of how many other sections something is new: [`Document::others`] says which.
     pub const fn others(&self) -> usize {
         self.change.others
     }
+}
+
+/// Why a section is named that an edit did not replace.
+#[derive(Clone, Copy, Debug, PartialEq, Eq, Hash)]
+pub enum Why {
+    /// It has other events than before, since a label came or went.
+    Events,
+    /// It has the events that it had, and a link or an image in it leads elsewhere: another definition of its label is the first, or that one
+    /// says something else.
+    Targets,
+}
+
+/// A section that an edit did not replace, and of which something is new.
+#[derive(Clone, Copy, Debug, PartialEq, Eq, Hash)]
+pub struct Other {
+    /// Its number, as sections are numbered now.
+    pub section: usize,
+    /// What is new of it.
+    pub why: Why,
 }
 
 /// A place in a document as editors ask for it, in the units of an [`Encoding`].
@@ -273,22 +292,41 @@ impl Document {
         self.replace(all, with.into_bytes())
     }
 
-    /// The sections that the last edit did not replace and that have other events than before it, in order, as they are numbered now.
+    /// The sections that the last edit did not replace and of which something is new, in order. All others have the events that they had, and
+    /// their links lead where they led.
+    ///
+    /// ```
+    /// use limecove::{Document, Options, Other, Why};
+    ///
+    /// let mut document = Document::new("[a]\n\n[b]\n\n[a]: c\n", &Options::default())?;
+    /// document.replace(15..16, "d")?;
+    /// let leads_elsewhere = Other { section: 0, why: Why::Targets };
+    /// assert_eq!(document.others()?, [leads_elsewhere]);
+    /// # Ok::<(), limecove::Error>(())
+    /// ```
     ///
     /// # Errors
     ///
     /// If memory runs out.
-    pub fn others(&self) -> Result<Vec<usize>, Error> {
-        let mut others = Vec::new();
-        let got = others.try_reserve_exact(self.others);
+    pub fn others(&self) -> Result<Vec<Other>, Error> {
+        let (mut named, mut others) = (Vec::new(), Vec::new());
+        let got = named.try_reserve_exact(self.others);
+        let got = got.and_then(|()| others.try_reserve_exact(self.others));
         got.map_err(|_| Error::OutOfMemory)?;
-        let numbers = others.as_mut_ptr();
+        let room = named.as_mut_ptr();
         // SAFETY: as in `events_in`, and there is room for that many.
         let written = unsafe {
-            limecove_sys::limecove_document_others(self.document.get(), 0, numbers, self.others)
+            limecove_sys::limecove_document_others(self.document.get(), 0, room, self.others)
         };
         // SAFETY: that many were written.
-        unsafe { others.set_len(written) };
+        unsafe { named.set_len(written) };
+        others.extend(named.iter().map(|it: &limecove_sys::Named| Other {
+            section: it.section,
+            why: match it.why {
+                limecove_sys::WHY_EVENTS => Why::Events,
+                _ => Why::Targets,
+            },
+        }));
         Ok(others)
     }
 

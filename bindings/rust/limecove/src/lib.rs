@@ -54,7 +54,7 @@ struct Readme;
 
 pub use crate::definitions::{Definition, Definitions};
 pub use crate::differing::differing;
-pub use crate::document::{Changed, Defined, Document, Encoding, Place, Undefined};
+pub use crate::document::{Changed, Defined, Document, Encoding, Other, Place, Undefined, Why};
 pub use crate::event::{
     spans, spans_by_start, with_ranges, Content, Event, Kind, Link, Point, Span, Spans, WithRanges,
 };

@@ -43,7 +43,7 @@ fn events_are_read_anew() {
             );
             let others = document.others().unwrap();
             assert_eq!(others.len(), change.others());
-            assert!(others.iter().all(|other| !sections.contains(other)));
+            assert!(others.iter().all(|other| !sections.contains(&other.section)));
         }
     }
 }

@@ -1,0 +1,55 @@
+-- Inner: sections of which something is new, for private functions.
+use Rattle.std.specs.Prelude.{◌≡◌, ◌⊎◌, ℕ, ◌+◌, ◌==◌, Bool, true, false, cond, List, [], ◌∷◌, ◌++◌, Option, None, Some, unwrap_or}
+use Rattle.std.specs.List.{flat_map}
+use Rattle.markdown_base.specs.declared.event.Event.{Event}
+use Rattle.mddocument_link_targets.specs.declared.targets.Parts.{Parts}
+use Rattle.mddocument_editing.specs.declared.edit.Other.{Other}
+use Rattle.mddocument_editing.specs.declared.edit.Why.{Why}
+use Rattle.mddocument_editing.specs.declared.edit.Why.TheVariants as why
+use Rattle.mddocument_editing.specs.declared.reread.Reread.{Reread}
+use Rattle.mddocument_editing.specs.declared.said.Said.{Said}
+use Rattle.mddocument_editing.specs.declared.section.Section.{Section}
+use Rattle.mddocument_editing.specs.Leading.{targets_in}
+use Rattle.mddocument_editing.specs.Put.{HasEvents}
+use Rattle.mddocument_editing.specs.Said.{saids}
+
+-- the definitions of sections, by how they are read
+abbrev pub all_saids : (read : List ℕ → List Event) → List (List ℕ) → List Said
+all_saids read sections = flat_map (λ section. saids section (read section)) sections
+
+-- the events of the section with a number, if the first of those that were read again is that one
+abbrev pub read_next : (number : ℕ) → List Reread → Option (List Event)
+read_next number [] = None
+read_next number (r ∷ rs) = cond (r.section == number) (Some r.events) None
+
+module _ (read : List ℕ → List Event) (old new : List ℕ → Option Parts) where
+  -- the links of a section lead where they led
+  abbrev pub HasTargets : Section → Type 0
+  HasTargets s = targets_in new s.part.bytes.items s.events ≡ targets_in old s.part.bytes.items s.events
+
+  -- what is new of a section
+  abbrev pub IsNew : Section → Why → Type 0
+  IsNew s why.Events = ¬ HasEvents read s
+  IsNew s why.Targets = HasEvents read s × ¬ HasTargets s
+
+  -- Of sections, those are told of which something is new, and those alone; the first of the sections has this number
+  abbrev pub AreTold : (first : ℕ) → List Section → List Other → Type 0
+  AreTold first [] others = others ≡ []
+  AreTold first (s ∷ more) others =
+      ((HasEvents read s × HasTargets s) × AreTold (first + 1) more others)
+      ⊎ ((why : Why) × ((rest : List Other) × ((others ≡ record { section = first; why = why } ∷ rest) × (IsNew s why × AreTold (first + 1) more rest))))
+
+  -- the same of sections in front of others and behind them, which have numbers from this one on
+  pub record AreToldAround (new_to : ℕ) (front behind : List Section) (others : List Other) : Type 0 where
+    pub first : List Other
+    pub last : List Other
+    pub both : others ≡ first ++ last
+    pub told : AreTold 0 front first
+    pub told_behind : AreTold new_to behind last
+
+module _ (old new : List ℕ → Option Parts) where
+  -- what is told of a section, which was read again or was not
+  abbrev pub IsToldAs : Section → (is_read : Bool) → Option Why → Type 0
+  IsToldAs s is_read None = (is_read ≡ false) × (targets_in new s.part.bytes.items s.events ≡ targets_in old s.part.bytes.items s.events)
+  IsToldAs s is_read (Some why.Events) = is_read ≡ true
+  IsToldAs s is_read (Some why.Targets) = (is_read ≡ false) × ¬ (targets_in new s.part.bytes.items s.events ≡ targets_in old s.part.bytes.items s.events)

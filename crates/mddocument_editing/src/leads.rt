@@ -1,0 +1,172 @@
+//! What labels lead to, and which sections have links that lead elsewhere.
+
+ghost use Rattle.std.specs.Option.{option_copied};
+ghost use Rattle.std.specs.Prelude.{◌≡◌, ◌↔◌, ◌<◌, IfOk, IfSome, List, Some, ℕ, bytes_eq, length, option_map, slice_get, true};
+ghost use Rattle.std.specs.List.{list_any};
+ghost use Rattle.std.specs.Map.{lookup};
+ghost use Rattle.mddocument_link_targets.specs.Targets.{enters_link, target_of};
+ghost use Rattle.mddocument_editing.specs.Leading.{resolved, targets_in};
+ghost use Rattle.mddocument_editing.specs.Said.{said_by, said_of};
+
+use crate::packed::Packed;
+use crate::said::{Said, same_parts, unpack_all};
+use markdown_base::event::{Event, Name};
+use mddocument_link_targets::spans::enters;
+use mddocument_link_targets::targets::{Parts, Target, target_of};
+use std::alloc::{AllocError, Global};
+use std::collections::BTreeMap;
+
+/// Definitions in order, and where the first one of each label is.
+#[derive(Drop)]
+pub(crate) struct Leads {
+    /// The definitions.
+    all: Vec<Said>,
+    /// The index of the first one of a label.
+    indices: BTreeMap<Vec<u8>, usize>,
+}
+
+/// A copy of the label of a definition.
+fn label_at(alloc: Global, all: &[Said], at: usize) -> Result<Vec<u8>, AllocError>
+    requires { at < length all.now }
+    ensures { IfOk result (λ label. option_map (λ said. said.label) (slice_get all.now at) ≡ Some label.items) }
+{
+    let mut label = Vec::new(alloc);
+    label.extend_from_slice(all[at].label.as_slice())?;
+    Ok(label)
+}
+
+impl Leads {
+    /// What these definitions say.
+    pub(crate) fn of(alloc: Global, all: Vec<Said>) -> Result<Leads, AllocError>
+        ensures { IfOk result (λ leads. (label : List ℕ) → said_by leads label ≡ said_of all.items label) }
+    {
+        let mut indices = BTreeMap::new(alloc);
+        let mut at = all.len();
+        while at > 0 {
+            at -= 1;
+            let label = label_at(alloc, all.as_slice(), at)?;
+            indices.insert(label, at)?;
+        }
+        Ok(Leads { all, indices })
+    }
+
+    /// The index of the first definition of a label.
+    fn index_of(&self, label: &[u8]) -> Option<usize>
+        ensures { result ≡ lookup (λ known. bytes_eq label.now known.items) self.now.indices.entries }
+    {
+        self.indices.get(label).copied()
+    }
+
+    /// What the definition with an index says.
+    fn parts_at(&self, index: usize) -> Option<&Parts>
+        ensures { option_copied result ≡ option_map (λ said. said.parts) (slice_get self.now.all.items index) }
+    {
+        let said = self.all.as_slice().get(index)?;
+        Some(&said.parts)
+    }
+
+    /// What a label leads to.
+    fn get(&self, label: &[u8]) -> Option<&Parts>
+        ensures { option_copied result ≡ said_by self.now label.now }
+    {
+        match self.index_of(label) {
+            None => None,
+            Some(index) => self.parts_at(index),
+        }
+    }
+}
+
+/// Whether these say the same.
+fn same_leads(one: Option<&Parts>, other: Option<&Parts>) -> bool
+    ensures { (result ≡ true) ↔ (option_copied one.entry ≡ option_copied other.entry) }
+{
+    match (one, other) {
+        (None, None) => true,
+        (Some(one), Some(other)) => same_parts(one, other),
+        _ => false,
+    }
+}
+
+/// Whether a link leads where it led.
+fn stays(old: &Leads, new: &Leads, target: &Target) -> bool
+    ensures { (result ≡ true) ↔ (resolved (said_by new.now) target.now ≡ resolved (said_by old.now) target.now) }
+{
+    match target {
+        Target::Parts(_) => true,
+        Target::Label(label) => same_leads(new.get(label.as_slice()), old.get(label.as_slice())),
+    }
+}
+
+/// Whether the link or image that is entered at an index leads where it led, if one is entered there.
+fn stays_at(
+    alloc: Global,
+    old: &Leads,
+    new: &Leads,
+    bytes: &[u8],
+    events: &[Event],
+    at: usize,
+) -> Result<bool, AllocError>
+    ensures { IfOk result (λ stays. (stays ≡ true) ↔ IfSome (target_of bytes.now events.now at) (λ target. resolved (said_by new.now) target ≡ resolved (said_by old.now) target)) }
+{
+    match target_of(alloc, bytes, events, at)? {
+        None => Ok(true),
+        Some(target) => Ok(stays(old, new, &target)),
+    }
+}
+
+/// Whether all links and images among events lead where they led.
+fn all_stay(
+    alloc: Global,
+    old: &Leads,
+    new: &Leads,
+    bytes: &[u8],
+    events: &[Event],
+) -> Result<bool, AllocError>
+    ensures { IfOk result (λ stay. (stay ≡ true) ↔ (targets_in (said_by new.now) bytes.now events.now ≡ targets_in (said_by old.now) bytes.now events.now)) }
+{
+    for at in 0..events.len() {
+        let stays = stays_at(alloc, old, new, bytes, events, at)?;
+        if !stays {
+            return Ok(false);
+        }
+    }
+    Ok(true)
+}
+
+/// Whether an event enters a link or an image.
+fn enters_link(event: &Event) -> bool
+    ensures { result ≡ enters_link event.now }
+{
+    enters(event, Name::Link) || enters(event, Name::Image)
+}
+
+/// Whether a link or an image is among events.
+fn link(events: &Packed) -> bool
+    ensures { result ≡ list_any enters_link events.now }
+{
+    for index in 0..events.len() {
+        let event = events.event(index);
+        let is_link = enters_link(&event);
+        if is_link {
+            return true;
+        }
+    }
+    false
+}
+
+/// Whether all links and images of a section lead where they led.
+pub(crate) fn lead_as_before(
+    alloc: Global,
+    old: &Leads,
+    new: &Leads,
+    bytes: &[u8],
+    events: &Packed,
+) -> Result<bool, AllocError>
+    ensures { IfOk result (λ stay. (stay ≡ true) ↔ (targets_in (said_by new.now) bytes.now events.now ≡ targets_in (said_by old.now) bytes.now events.now)) }
+{
+    if !link(events) {
+        return Ok(true);
+    }
+    let events = unpack_all(alloc, events)?;
+    all_stay(alloc, old, new, bytes, events.as_slice())
+}

@@ -1,0 +1,156 @@
+//! What the definitions of sections say.
+
+ghost use Rattle.std.specs.Prelude.{◌≡◌, ◌↔◌, ◌++◌, IfOk, OnOk, drop, option_to_list, true};
+ghost use Rattle.std.specs.List.{list_any};
+ghost use Rattle.markdown_base.specs.declared.event.Name.TheVariants as name;
+ghost use Rattle.mddocument_link_targets.specs.Spans.{enters};
+ghost use Rattle.mddocument_editing.specs.Said.{said_at, saids};
+
+use crate::packed::Packed;
+use markdown_base::event::{Event, Name};
+use markdown_base::owned::Items;
+use mddocument_link_targets::spans::enters;
+use mddocument_link_targets::targets::{Parts, label_at, parts_of};
+use std::alloc::{AllocError, Global};
+
+/// A definition: its label, normalised, and what it says.
+#[derive(Drop)]
+pub(crate) struct Said {
+    /// Its label.
+    pub(crate) label: Items<u8>,
+    /// What it says.
+    pub(crate) parts: Parts,
+}
+
+/// Events, unpacked.
+pub(crate) fn unpack_all(alloc: Global, packed: &Packed) -> Result<Vec<Event>, AllocError>
+    ensures { IfOk result (λ events. events.items ≡ packed.now) }
+{
+    let mut events = Vec::with_capacity(alloc, packed.len())?;
+    for index in 0..packed.len() {
+        events.push(packed.event(index))?;
+    }
+    Ok(events)
+}
+
+/// The definition that is entered at an index, if one is.
+fn said_at(
+    alloc: Global,
+    bytes: &[u8],
+    events: &[Event],
+    at: usize,
+) -> Result<Option<Said>, AllocError>
+    ensures { IfOk result (λ said. said ≡ said_at bytes.now (drop at events.now)) }
+{
+    let label = label_at(alloc, bytes, events, at)?;
+    let parts = parts_of(alloc, bytes, events, at)?;
+    match (label, parts) {
+        (Some(label), Some(parts)) => Ok(Some(Said { label, parts })),
+        _ => Ok(None),
+    }
+}
+
+/// Appends a definition, if there is one.
+fn push_found(all: &mut Vec<Said>, found: Option<Said>) -> Result<(), AllocError>
+    ensures { OnOk result (all.new.items ≡ all.old.items ++ option_to_list found) }
+{
+    if let Some(said) = found {
+        all.push(said)?;
+    }
+    Ok(())
+}
+
+/// Appends the definitions among events.
+fn push_all(
+    all: &mut Vec<Said>,
+    alloc: Global,
+    bytes: &[u8],
+    events: &[Event],
+) -> Result<(), AllocError>
+    ensures { OnOk result (all.new.items ≡ all.old.items ++ saids bytes.now events.now) }
+{
+    for at in 0..events.len() {
+        let found = said_at(alloc, bytes, events, at)?;
+        push_found(all, found)?;
+    }
+    Ok(())
+}
+
+/// Whether a definition is among events.
+fn define(events: &Packed) -> bool
+    ensures { result ≡ list_any (enters name.Definition) events.now }
+{
+    for index in 0..events.len() {
+        let event = events.event(index);
+        let defines = enters(&event, Name::Definition);
+        if defines {
+            return true;
+        }
+    }
+    false
+}
+
+/// Appends the definitions among the events of a section.
+pub(crate) fn push_saids(
+    all: &mut Vec<Said>,
+    alloc: Global,
+    bytes: &[u8],
+    events: &Packed,
+) -> Result<(), AllocError>
+    ensures { OnOk result (all.new.items ≡ all.old.items ++ saids bytes.now events.now) }
+{
+    if !define(events) {
+        return Ok(());
+    }
+    let events = unpack_all(alloc, events)?;
+    push_all(all, alloc, bytes, events.as_slice())
+}
+
+/// Whether these are the same bytes.
+fn same_bytes(one: &[u8], other: &[u8]) -> bool
+    ensures { (result ≡ true) ↔ (one.now ≡ other.now) }
+{
+    one == other
+}
+
+/// Whether these are the same titles.
+fn same_titles(one: &Option<Items<u8>>, other: &Option<Items<u8>>) -> bool
+    ensures { (result ≡ true) ↔ (one.now ≡ other.now) }
+{
+    match (one, other) {
+        (None, None) => true,
+        (Some(one), Some(other)) => same_bytes(one.as_slice(), other.as_slice()),
+        _ => false,
+    }
+}
+
+/// Whether these are the same destinations and titles.
+pub(crate) fn same_parts(one: &Parts, other: &Parts) -> bool
+    ensures { (result ≡ true) ↔ (one.now ≡ other.now) }
+{
+    same_bytes(one.destination.as_slice(), other.destination.as_slice())
+        && same_titles(&one.title, &other.title)
+}
+
+/// Whether these are the same definitions.
+fn same_said(one: &Said, other: &Said) -> bool
+    ensures { (result ≡ true) ↔ (one.now ≡ other.now) }
+{
+    same_bytes(one.label.as_slice(), other.label.as_slice()) && same_parts(&one.parts, &other.parts)
+}
+
+/// Whether these are the same definitions, in the same order.
+pub(crate) fn same_saids(one: &[Said], other: &[Said]) -> bool
+    ensures { result ≡ true → one.now ≡ other.now }
+{
+    if one.len() != other.len() {
+        return false;
+    }
+    for index in 0..one.len() {
+        let same = same_said(&one[index], &other[index]);
+        if !same {
+            return false;
+        }
+    }
+    true
+}
