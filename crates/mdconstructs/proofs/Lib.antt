@@ -276,6 +276,7 @@ pub use Rattle.mddocument_link_targets.proofs.Lookups
 pub use Rattle.mddocument_link_targets.proofs.Numerals
 pub use Rattle.mddocument_link_targets.proofs.SpanEnds
 pub use Rattle.mddocument_editing.proofs.Anew
+pub use Rattle.mddocument_editing.proofs.AnyOf
 pub use Rattle.mddocument_editing.proofs.Apart
 pub use Rattle.mddocument_editing.proofs.AskedAgain
 pub use Rattle.mddocument_editing.proofs.AskedInBrackets
@@ -289,6 +290,7 @@ pub use Rattle.mddocument_editing.proofs.ComeBack
 pub use Rattle.mddocument_editing.proofs.CountedEndings
 pub use Rattle.mddocument_editing.proofs.CutLines
 pub use Rattle.mddocument_editing.proofs.CutSteps
+pub use Rattle.mddocument_editing.proofs.FirstSaid
 pub use Rattle.mddocument_editing.proofs.FitSections
 pub use Rattle.mddocument_editing.proofs.FrontSums
 pub use Rattle.mddocument_editing.proofs.Joined
@@ -310,6 +312,8 @@ pub use Rattle.mddocument_editing.proofs.PutSections
 pub use Rattle.mddocument_editing.proofs.Rereads
 pub use Rattle.mddocument_editing.proofs.RestBytes
 pub use Rattle.mddocument_editing.proofs.RestLines
+pub use Rattle.mddocument_editing.proofs.SaidFirst
+pub use Rattle.mddocument_editing.proofs.SaidSides
 pub use Rattle.mddocument_editing.proofs.SectionBytes
 pub use Rattle.mddocument_editing.proofs.SectionEvents
 pub use Rattle.mddocument_editing.proofs.SectionFronts
@@ -320,6 +324,8 @@ pub use Rattle.mddocument_editing.proofs.SectionPositions
 pub use Rattle.mddocument_editing.proofs.SectionSizes
 pub use Rattle.mddocument_editing.proofs.SettledBytes
 pub use Rattle.mddocument_editing.proofs.StartsUpTo
+pub use Rattle.mddocument_editing.proofs.Stays
 pub use Rattle.mddocument_editing.proofs.TextChars
+pub use Rattle.mddocument_editing.proofs.ToldOthers
 pub use Rattle.mddocument_editing.proofs.Trims
 pub use Rattle.mddocument_editing.proofs.Unique

@@ -245,6 +245,7 @@ pub use Rattle.mddocument_editing.specs.Fits
 pub use Rattle.mddocument_editing.specs.Fronts
 pub use Rattle.mddocument_editing.specs.InBrackets
 pub use Rattle.mddocument_editing.specs.Kept
+pub use Rattle.mddocument_editing.specs.Leading
 pub use Rattle.mddocument_editing.specs.Listed
 pub use Rattle.mddocument_editing.specs.Lookups
 pub use Rattle.mddocument_editing.specs.Packed
@@ -252,8 +253,10 @@ pub use Rattle.mddocument_editing.specs.PackedEvents
 pub use Rattle.mddocument_editing.specs.PositionParts
 pub use Rattle.mddocument_editing.specs.Positions
 pub use Rattle.mddocument_editing.specs.Put
+pub use Rattle.mddocument_editing.specs.Said
 pub use Rattle.mddocument_editing.specs.Seams
 pub use Rattle.mddocument_editing.specs.Seen
 pub use Rattle.mddocument_editing.specs.Settled
+pub use Rattle.mddocument_editing.specs.Told
 pub use Rattle.mddocument_editing.specs.Trims
 pub use Rattle.mddocument_editing.specs.Undefined

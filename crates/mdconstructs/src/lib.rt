@@ -45,6 +45,8 @@ pub use mddocument_editing::{edit, packed, positions, sections};
 pub use mddocument_link_targets::{definitions, targets};
 pub use mddocument_references::reading::undefined_references;
 pub use mddocument_references::references::{Reference, undefined_in};
+pub use mddocument_sinks::reading::read_document_into;
+pub use mddocument_sinks::sink;
 pub use mdinline_labels::labels::Labels;
 pub use mdinline_machine::inlines;
 pub use mdinline_machine::inlines::Inlines;

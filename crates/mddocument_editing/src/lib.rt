@@ -7,7 +7,7 @@ pub mod sections;
 
 // cuts: where it is cut
 mod cut;
-mod rests;
+pub mod rests;
 
 // one section: its bytes, read
 mod kept;

@@ -154,11 +154,7 @@ fn first_rest_uncounted<L: Ledger>(
 }
 
 /// The index of the first rest in a document behind its beginning; its end, if there is none. It fails only if it runs out of memory.
-pub(crate) fn first_rest(
-    alloc: Global,
-    bytes: &[u8],
-    options: &ParseOptions,
-) -> Result<usize, AllocError>
+pub fn first_rest(alloc: Global, bytes: &[u8], options: &ParseOptions) -> Result<usize, AllocError>
     requires some { 0 < length bytes.now }
     ensures { IfOk result (IsFirstRest options.now bytes.now) }
 {

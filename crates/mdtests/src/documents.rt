@@ -9,7 +9,8 @@ use mdcases_forms::spans::spans_of;
 use mdconstructs::choice::links_text;
 use mdconstructs::ranges::{ByteRange, are_ranges, text_events_in};
 use mdconstructs::{
-    Which, limit_of, options_with, read_document, read_leaf_blocks, text_events_of,
+    Which, limit_of, options_with, read_document, read_document_into, read_leaf_blocks,
+    text_events_of,
 };
 use std::alloc::{AllocError, Global};
 
@@ -21,6 +22,48 @@ fn nested_with(alloc: Global, bytes: &[u8], constructs: Constructs) -> Result<St
     let options = options_with(constructs, TabSize::default());
     let events = read_document(alloc, bytes, &options)?;
     spans_of(alloc, bytes, events.as_slice())
+}
+
+/// The same events, handed on to a list.
+fn handed_on(alloc: Global, bytes: &[u8]) -> Result<String, AllocError> {
+    if bytes.len() > limit_of(TabSize::default()) {
+        return String::from_str(alloc, "too long");
+    }
+    let options = options_with(Constructs::default(), TabSize::default());
+    let mut events = Vec::new(alloc);
+    match read_document_into(alloc, bytes, &options, &mut events) {
+        Ok(()) => spans_of(alloc, bytes, events.as_slice()),
+        Err(_) => String::from_str(alloc, "not read to its end"),
+    }
+}
+
+/// So many paragraphs are longer than what is read at once.
+const PARAGRAPHS: usize = 40_000;
+
+/// How many events are handed on of so many paragraphs, and a definition behind them all that each of them asks for.
+fn handed_on_in_pieces(alloc: Global) -> Result<usize, AllocError> {
+    let mut bytes = Vec::new(alloc);
+    for _ in 0..PARAGRAPHS {
+        bytes.extend_from_slice(b"[a]\n\n")?;
+    }
+    bytes.extend_from_slice(b"[a]: b\n[c]: d")?;
+    let mut events = Vec::new(alloc);
+    if bytes.len() > limit_of(TabSize::default()) {
+        return Ok(0);
+    }
+    let options = options_with(Constructs::default(), TabSize::default());
+    match read_document_into(alloc, bytes.as_slice(), &options, &mut events) {
+        Ok(()) => Ok(events.len()),
+        Err(_) => Ok(0),
+    }
+}
+
+/// Of each paragraph, as enters and exits: itself, a link, its label, the start and the end of that, each with a marker, a text, data; a line ending
+/// and a blank line. Of each definition: itself, its label, two markers, a string, data; a marker and white space; a destination, raw, its string,
+/// data. And a line ending.
+#[test]
+fn long_documents_are_handed_on(rt: HostRuntime) {
+    assert!(rt; handed_on_in_pieces(rt.alloc()).is_ok_and(|count| count == 880_050));
 }
 
 /// Documents as CommonMark has them. 5.1 and 5.3: a quote with a heading and a paragraph, and two lists, as the marker changes. Tildes are data, as
@@ -132,6 +175,7 @@ fn documents_are_read_as_their_options_say(rt: HostRuntime) {
         ..off
     };
     for row in READ {
+        assert_shown(&rt, handed_on(rt.alloc(), row.0), row.1);
         assert_shown(&rt, nested_with(alloc, row.0, off), row.1);
     }
     for row in STRUCK {

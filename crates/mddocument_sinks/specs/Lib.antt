@@ -1,0 +1,6 @@
+-- sinks
+pub mod Taken
+-- pieces
+pub mod Seams
+-- reading
+pub mod Reached
