@@ -2,7 +2,7 @@
 
 /// The version of the functions, options and records. It changes with each of their layouts and meanings. A function that is added
 /// does not change it: a caller of that function cannot be linked to a library without it.
-pub const VERSION: u32 = 4;
+pub const VERSION: u32 = 5;
 
 /// The document was read.
 pub const READ: u32 = 0;

@@ -22,7 +22,7 @@ use crate::code::{
 /// The value of each number; the bits of CommonMark's constructs have these on and no other, and all bits have
 /// strikethrough on too, in HTML also tables, literals and checks.
 pub fn numbers_are_stated()
-    ensures version { VERSION ≡ 4 }
+    ensures version { VERSION ≡ 5 }
     ensures read { READ ≡ 0 }
     ensures out_of_memory { OUT_OF_MEMORY ≡ 1 }
     ensures too_long { TOO_LONG ≡ 2 }

@@ -1,5 +1,5 @@
--- pieces: a document at its seams
+-- pieces
 pub mod Seams
 pub mod PieceEvents
--- reading: one piece more
+-- reading
 pub mod NextPieces
