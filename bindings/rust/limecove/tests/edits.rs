@@ -43,7 +43,9 @@ fn events_are_read_anew() {
             );
             let others = document.others().unwrap();
             assert_eq!(others.len(), change.others());
-            assert!(others.iter().all(|other| !sections.contains(&other.section)));
+            assert!(others
+                .iter()
+                .all(|other| !sections.contains(&other.section)));
         }
     }
 }
