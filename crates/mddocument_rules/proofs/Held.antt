@@ -1,10 +1,11 @@
 -- What is in the spans of a name, with the ends of these: where chains of chunks are replaced by what they are read as, it stays, if no chunk is in it.
-use Rattle.mddocument_rules.proofs.Prelude.{◌≡◌, ◌∙◌, ℕ, ◌+◌, List, [], ◌∷◌, ◌++◌, Bool, true, false, not, Option, None, drop, length, map, refl, sym, ap, subst, arith, AllByRecursion, between, option_and_then, option_map, Content, Event, Name, relinked, with_ends, content_at, content_of, every-back, Fits, chunk, some_content, fitting_starts, IsReady}
+use Rattle.mddocument_rules.proofs.Prelude.{◌≡◌, ◌∙◌, ℕ, ◌+◌, List, [], ◌∷◌, ◌++◌, Bool, true, false, not, Option, None, drop, length, map, refl, sym, ap, subst, arith, AllByRecursion, between, option_and_then, option_map, Content, Event, Name, relinked, content_at, content_of, every-back, Fits, chunk, some_content, fitting_starts, IsReady}
 use Rattle.std.proofs.lemmas.Option.{none-some}
 use Rattle.markdown_base.specs.declared.event.Link.{Link}
 use Rattle.markdown_base.specs.Events.{is_void}
 use Rattle.markdown_edits.proofs.Edits.Passes.{woven-pass}
 use Rattle.markdown_edits.specs.Woven.{AreApart, Change, Tagged, placed_end, placed_in, woven}
+use Rattle.markdown_tokenizer.proofs.Readings.Plain.{unlinked-same}
 use Rattle.markdown_children.proofs.ChainOrder.Spaced.{changes_are_apart}
 use Rattle.markdown_children.proofs.Parts.Kept.{after-step, after_changes, split-at, untagged, untagged-olds}
 use Rattle.markdown_children.proofs.Parts.Staying.{AtChunk, all-at}
@@ -30,9 +31,6 @@ IsAlone e = e.link ≡ None
 
 abbrev pub AreAlone : List Event → Type 0
 AreAlone es = AllByRecursion IsAlone es
-
-alone-stays : (f : ℕ → Option ℕ) (e : Event) → e.link ≡ None → relinked f e ≡ e
-alone-stays f e h = ap (λ (l : Option Link). record e { link = option_map (with_ends f) l }) h ∙ ap (λ (l : Option Link). record e { link = l }) (sym h)
 
 module _ (is : Name → Bool) where
   -- what is in spans with such a name, by whether the first event is in one
@@ -76,8 +74,8 @@ module _ (is : Name → Bool) where
     where
       by : ((b : Bool) → AreAlone (held b (untagged us)) → held b (placed_in ts us) ≡ held b (untagged us)) → (ends inside : Bool) → AreAlone (held_one ends inside u.event (λ b. held b (untagged us)))
           → held_one ends inside (relinked (placed_end ts u.identity) u.event) (λ b. held b (placed_in ts us)) ≡ held_one ends inside u.event (λ b. held b (untagged us))
-      by more true inside h = (λ i. alone-stays (placed_end ts u.identity) u.event h.0 i ∷ more (not inside) h.1 i)
-      by more false true h = (λ i. alone-stays (placed_end ts u.identity) u.event h.0 i ∷ more true h.1 i)
+      by more true inside h = (λ i. unlinked-same (placed_end ts u.identity) u.event h.0 i ∷ more (not inside) h.1 i)
+      by more false true h = (λ i. unlinked-same (placed_end ts u.identity) u.event h.0 i ∷ more true h.1 i)
       by more false false h = more false h
 
   module _ (tab : ℕ) (bytes : List ℕ) (wanted : Option Content) (events : List Event) (ready : IsReady tab bytes wanted events) (of_chain : ℕ → List Event)

@@ -17,6 +17,7 @@ use Rattle.mdinline_labels.specs.Tails.{begins_with, is_white, label_size}
 use Rattle.mdinline_link_strings.specs.Strings.{is_string}
 use Rattle.mdblock_definitions.proofs.Covered.{lines-of-parts}
 use Rattle.mdblock_definitions.proofs.DefinitionsWithin.{definitions-one}
+use Rattle.mdblock_definitions.proofs.MarksCursor.{bytes-text}
 use Rattle.mdblock_definitions.proofs.PartTexts.{all-texts}
 use Rattle.mdblock_definitions.proofs.SectionSound.{part-sections}
 use Rattle.mdblock_definitions.specs.Definitions.{Place, all_seats, between, byte_at, ending_at, ending_marks, gap_marks, is_byte, line_marks, parts_marks, places_in, places_of, seats_of, string_lines, text_byte, text_of}
@@ -255,12 +256,8 @@ module _ (bytes : List ℕ) where
   all-spoken (d ∷ ds) xs h = (spoken d xs h.0, all-spoken ds (drop (d.size + 1) xs) h.1)
 
   -- ---- lines
-  byte-text : (ss : List Seat) → text_of (map byte_at ss) ≡ map (λ (s : Seat). s.byte) ss
-  byte-text [] = refl
-  byte-text (s ∷ ss) = ap (λ l. s.byte ∷ l) (byte-text ss)
-
   row-text : (r : Row) → text_of (map byte_at (drop r.columns (line_text r.line))) ≡ rest_of r
-  row-text r = byte-text (drop r.columns (line_text r.line)) ∙ sym (drop-map (λ (s : Seat). s.byte) r.columns (line_text r.line))
+  row-text r = bytes-text (drop r.columns (line_text r.line)) ∙ sym (drop-map (λ (s : Seat). s.byte) r.columns (line_text r.line))
 
   pub rows-text : (rs : List Row) → text_of (places_in bytes rs) ≡ text_in rs
   rows-text [] = refl
