@@ -27,6 +27,7 @@ use Rattle.mdblock_definitions.specs.Sections.{Inside, Section, defined, lines, 
 use Rattle.mdblock_definitions.specs.Skeleton.{all_rows, letters}
 use Rattle.mdblock_paragraphs.proofs.OpenLines.{lines-of-rows, open-lines}
 use Rattle.mdblock_paragraphs.proofs.ReadLines.{AreLines, EndsLine, IsShown, ends-behind, ends-line, ends-shown, endings-shown, lines-of-all, whole-shown}
+use Rattle.mdblock_paragraphs.proofs.SaidRows.{some-long}
 use Rattle.mdblock_paragraphs.proofs.SaidSections.{all-kept}
 use Rattle.mdblock_paragraphs.proofs.ShownLines.{left, left-text, left-whole}
 use Rattle.mdblock_paragraphs.proofs.ToldRows.{IsKept}
@@ -48,10 +49,6 @@ one-more : (line : Line) (ls : List Line) → EndsLine line → AreLines ls → 
 one-more line [] h k = (whole-ends line h, some-ends line h)
 one-more line (m ∷ ls) h k = (h, k)
 
-some-bytes : (t : List ℕ) → has_none t ≡ false → 1 ≤ length t
-some-bytes [] h = absurd (false≢true (sym h))
-some-bytes (b ∷ bs) h = omega arith
-
 module _ (on : Constructs) (at : List ℕ) (r : Row) (kept : IsKept on r) (is-text : is_paragraph r.leaf ≡ true) (is-shown : AllByRecursion (IsShown at) r.line) where
   left-shown : (x : Bool) → AllByRecursion (IsShown at) (left on r kept x)
   left-shown true = every-drop (IsShown at) r.columns r.line is-shown
@@ -61,7 +58,7 @@ module _ (on : Constructs) (at : List ℕ) (r : Row) (kept : IsKept on r) (is-te
   last-shown x =
       let l = left on r kept x in
       let text = ap (λ (t : List ℕ). length t) (left-text on r kept x) in
-      let some = some-bytes (rest_of r) (not-blank-some (rest_of r) (kept.full is-text)) in
+      let some = some-long (rest_of r) (not-blank-some (rest_of r) (kept.full is-text)) in
       let both = ap (λ (k : Line). length k) (text-and-ending l (left-whole on r kept x)) in
       let sum = length-append (line_text l) (ending_of l) in
       let bytes : length (text_of l) ≡ length (line_text l) = length-map (line_text l) (λ (s : Seat). s.byte) in

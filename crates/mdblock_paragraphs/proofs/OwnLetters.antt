@@ -2,6 +2,7 @@
 use Rattle.std.proofs.Common.{◌≡◌, ◌<◌, ◌+◌, ◌∙◌, ℕ, Bool, true, false, cond, List, [], ◌∷◌, ◌++◌, ap, arith, drop, eqb-true, map, refl, subst, sym, take}
 use Rattle.std.specs.Prelude.{◌==◌, ◌&&◌, ◌||◌, is_some}
 use Rattle.std.specs.List.{AllByRecursion, flat_map, list_any}
+use Rattle.std.proofs.Math.Bool.{or-false}
 use Rattle.std.proofs.lemmas.List.{map-append}
 use Rattle.std.proofs.lemmas.List.Folds.{flat_map-map, list_any-append}
 use Rattle.std.proofs.lemmas.Grind.{flat_map-append}
@@ -93,10 +94,6 @@ own-behind l h at (m ∷ ls) o k = (by m.0.line o.0 k.0, own-behind l h at ls o.
 own-front : (own at : List ℕ) (line : Line) → AllByRecursion (λ (q : Seat). has_letter at q ≡ false) line → HasOwn (own ++ at) own line
 own-front own at [] h = tt
 own-front own at (q ∷ qs) h = (list_any-append (λ i. i == q.point.index) own at ∙ ap (λ b. has_letter own q || b) h.0 ∙ or-false (has_letter own q), own-front own at qs h.1)
-  where
-    or-false : (x : Bool) → (x || false) ≡ x
-    or-false true = refl
-    or-false false = refl
 
 all-own : (ls : List Lettered) → AreInOrder (lines_of ls) → AllByRecursion IsOwn ls → AllByRecursion (λ (m : Lettered). HasOwn (letters_in ls) m.1 m.0.line) ls
 all-own [] o h = tt

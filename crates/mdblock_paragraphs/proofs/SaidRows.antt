@@ -2,6 +2,7 @@
 use Rattle.std.proofs.Common.{◌≡◌, ◌⊎◌, ◌∙◌, ◌+◌, ◌<◌, ◌≤◌, ℕ, zero, suc, Bool, true, false, cond, List, [], ◌∷◌, ◌++◌, ap, append_assoc, arith, drop, inl, inr, length, length-append, length-drop, not, refl, subst, sym, take}
 use Rattle.std.specs.Prelude.{◌==◌, ◌&&◌, nat_le, is_some}
 use Rattle.std.specs.List.{AllByRecursion, prefix_len}
+use Rattle.std.proofs.Math.Bool.{and-false}
 use Rattle.std.proofs.lemmas.Bool.{false≢true, leb-false}
 use Rattle.markdown_base.proofs.Common.{every-drop}
 use Rattle.markdown_base.specs.declared.configuration.Constructs.{Constructs}
@@ -31,7 +32,7 @@ full-line (x ∷ []) h e = record { front = []; last = x; is = refl; full = by (
     by false e = refl
 full-line (x ∷ y ∷ xs) h e = full-more (x ∷ []) (y ∷ xs) (full-line (y ∷ xs) refl (omega (arith, e, tens-both (x ∷ []) (y ∷ xs))))
 
-some-long : (t : List ℕ) → has_none t ≡ false → 0 < length t
+pub some-long : (t : List ℕ) → has_none t ≡ false → 0 < length t
 some-long [] h = absurd (cc)
 some-long (x ∷ t) h = omega arith
 
@@ -50,10 +51,6 @@ paragraph-more r rs e =
     let n = prefix_len (λ (row : Row). is_paragraph row.leaf) rs in
     let one : 1 + n ≡ suc n = omega arith in
     ap (λ b. take (cond b (1 + n) 0) (r ∷ rs)) e ∙ ap (λ k. take k (r ∷ rs)) one
-
-nothing-and : (x : Bool) → (x && false) ≡ false
-nothing-and true = refl
-nothing-and false = refl
 
 -- A paragraph may be open before lines: none is; one is, and it begins with fewer definitions than it has lines; or one is of which nothing is said
 pub data Mode : Type 0 where
@@ -197,9 +194,9 @@ module _ (on : Constructs) where
         subst (λ (b : Bool). Inside (cond b (so_far ++ 10 ∷ rest_of r) (rest_of r)) (s ∷ ss)) (sym both) (goes-inside is_open so_far r (s ∷ ss) told e (ready.inside d));
   }
   next-ready not_said is_open q so_far r s ss told ready stay none true e = tt
-  next-ready none_open is_open q so_far r s ss told ready stay none false e = record { out = refl; apart = λ f. nothing-and s.stays }
-  next-ready goes_on is_open q so_far r s ss told ready stay none false e = record { out = refl; apart = λ f. nothing-and s.stays }
-  next-ready not_said is_open q so_far r s ss told ready stay none false e = record { out = refl; apart = λ f. nothing-and s.stays }
+  next-ready none_open is_open q so_far r s ss told ready stay none false e = record { out = refl; apart = λ f. and-false s.stays }
+  next-ready goes_on is_open q so_far r s ss told ready stay none false e = record { out = refl; apart = λ f. and-false s.stays }
+  next-ready not_said is_open q so_far r s ss told ready stay none false e = record { out = refl; apart = λ f. and-false s.stays }
 
   all-ready : (m : Mode) (is_open q : Bool) (so_far : List ℕ) (r : Row) (rs : List Row) → Told on is_open so_far r → FirstReady m is_open q so_far r rs → AllByRecursion StaysOn rs
       → (not q && nat_le 1 (defined_in on (r ∷ rs))) ≡ false → Ready (mode_behind m (is_paragraph r.leaf)) (is_paragraph r.leaf) (is_paragraph r.leaf) (text_behind on is_open so_far r) rs

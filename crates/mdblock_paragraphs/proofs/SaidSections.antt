@@ -2,6 +2,7 @@
 use Rattle.std.proofs.Common.{◌≡◌, ◌∙◌, ℕ, zero, suc, Bool, true, false, cond, List, [], ◌∷◌, ◌++◌, ap, arith, drop, inl, inr, length, map, refl, subst, sym, take}
 use Rattle.std.specs.Prelude.{◌&&◌, nat_le}
 use Rattle.std.specs.List.{AllByRecursion, flat_map}
+use Rattle.std.proofs.Math.Bool.{and-false}
 use Rattle.std.proofs.lemmas.Bool.{false≢true}
 use Rattle.markdown_base.proofs.Common.{every-append, every-drop, every-take}
 use Rattle.markdown_base.specs.declared.configuration.Constructs.{Constructs}
@@ -17,10 +18,6 @@ use Rattle.mdblock_definitions.specs.Sections.{Section, before_defined, cut, def
 use Rattle.mdblock_definitions.specs.Skeleton.{all_rows}
 use Rattle.mdblock_paragraphs.proofs.SaidRows.{AreSaid, Mode, Ready, StaysOn, goes_on, mode_behind, none_open, not_said, ready-apart, ready-unsaid, said-before}
 use Rattle.mdblock_paragraphs.proofs.ToldRows.{AreTold, IsKept, rows-told, text_behind, told-drop, told-kept, told-take}
-
-nothing-and : (x : Bool) → (x && false) ≡ false
-nothing-and true = refl
-nothing-and false = refl
 
 -- ---- lines that a stretch goes on with
 
@@ -199,7 +196,7 @@ module _ (on : Constructs) where
 
   apart-shut : (is_open : Bool) (rs : List Row) → is_open ≡ false → Apart is_open rs
   apart-shut is_open [] e = tt
-  apart-shut is_open (r ∷ rs) e = λ _. ap (λ b. r.stays && b) e ∙ nothing-and r.stays
+  apart-shut is_open (r ∷ rs) e = λ _. ap (λ b. r.stays && b) e ∙ and-false r.stays
 
   -- behind a part
   next-apart : (is_open : Bool) (so_far : List ℕ) (r : Row) (rs : List Row) → AreTold on is_open so_far (r ∷ rs) → HasApart (drop (cond r.is_blank 0 (further rs)) rs)

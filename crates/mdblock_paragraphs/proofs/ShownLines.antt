@@ -2,6 +2,7 @@
 use Rattle.std.proofs.Common.{◌≡◌, ◌∙◌, ◌+◌, ◌-◌, ◌<◌, ◌≤◌, ℕ, zero, suc, Bool, true, false, cond, List, [], ◌∷◌, ◌++◌, ap, append-nil, arith, drop, eq-eqb, eqb-true, inl, inr, length, length-append, length-drop, map, not, refl, subst, sym, take}
 use Rattle.std.specs.Prelude.{◌==◌, ◌&&◌, ◌||◌, None, Some, is_some}
 use Rattle.std.specs.List.{AllByRecursion}
+use Rattle.std.proofs.Math.Bool.{and-false}
 use Rattle.std.proofs.lemmas.Bool.{false≢true}
 use Rattle.std.proofs.lemmas.List.{drop-append-le, drop-drop, length-map}
 use Rattle.markdown_base.proofs.Common.{every-drop}
@@ -21,10 +22,6 @@ use Rattle.mdblock_definitions.proofs.KnownReads.{blank-unindented}
 use Rattle.mdblock_paragraphs.proofs.OwnLetters.{HasOwn, has_letter}
 use Rattle.mdblock_paragraphs.proofs.ToldRows.{IsKept, IsMore, ends}
 
-nothing-and : (x : Bool) → (x && false) ≡ false
-nothing-and true = refl
-nothing-and false = refl
-
 -- ---- a line that begins with the letter behind its white space
 
 -- it begins with nothing else
@@ -40,12 +37,12 @@ module _ (on : Constructs) where
   kind-of-letter : (columns : ℕ) (bs : List ℕ) → kind_of_rest on columns (letter ∷ bs) ≡ text
   kind-of-letter columns bs =
       let r : List ℕ = letter ∷ bs in
-      (λ i. cond (nothing-and on.heading_atx i) heading
-      (cond (nothing-and on.code_fenced i) (fence (record { byte = 96; size = run 96 r; indent = columns }))
-      (cond (nothing-and on.code_fenced i) (fence (record { byte = 126; size = run 126 r; indent = columns }))
+      (λ i. cond (and-false on.heading_atx i) heading
+      (cond (and-false on.code_fenced i) (fence (record { byte = 96; size = run 96 r; indent = columns }))
+      (cond (and-false on.code_fenced i) (fence (record { byte = 126; size = run 126 r; indent = columns }))
       (elim (no-html bs on.html_flow i) as (λ _. LineKind) [
         | Some kind ↦ html kind
-        | None ↦ cond (nothing-and on.thematic_break i) thematic_break text
+        | None ↦ cond (and-false on.thematic_break i) thematic_break text
       ]))))
 
   letter-kind : (columns : ℕ) (u : List ℕ) → begins_with letter u ≡ true → interrupts (kind_of_rest on columns u) ≡ false
@@ -84,7 +81,8 @@ rest-line (suc n) (s ∷ ss) (inr h) l =
     let long = ap (λ (t : List ℕ). length t) is in
     absurd (omega (arith, l, long))
 
-text-twice : (line : Line) → line_text (line_text line) ≡ line_text line
+-- the text of a text is itself
+pub text-twice : (line : Line) → line_text (line_text line) ≡ line_text line
 text-twice [] = refl
 text-twice (s ∷ ss) = by (text-twice ss) (is_line_ending s) refl
   where
@@ -228,7 +226,7 @@ module _ (on : Constructs) (r : Row) (kept : IsKept on r) where
       where
         by : (u : Bool) → (u || interrupts (line_kind on (rest_of r))) ≡ false → cond (r.is_lazy && u) (map (λ (s : Seat). s.point.index) (take 1 (drop (r.columns + indent (rest_of r)) r.line))) [] ≡ []
         by true e = absurd (false≢true (sym e))
-        by false e = ap (λ b. cond b (map (λ (s : Seat). s.point.index) (take 1 (drop (r.columns + indent (rest_of r)) r.line))) []) (nothing-and r.is_lazy)
+        by false e = ap (λ b. cond b (map (λ (s : Seat). s.point.index) (take 1 (drop (r.columns + indent (rest_of r)) r.line))) []) (and-false r.is_lazy)
     more-shown (inr h) x = lazy-shown h.0 h.1 x
 
     -- and one that begins it

@@ -1,11 +1,11 @@
 -- The blocks of a document are those that are read of it with letters.
-use Rattle.std.proofs.Common.{◌≡◌, ℕ, suc, ◌+◌, ◌<◌, ◌≤◌, Bool, true, false, cond, List, [], ◌∷◌, ◌++◌, ap, arith, drop, length, map, refl, subst, sym, ◌∙◌}
-use Rattle.std.specs.Prelude.{◌&&◌, ◌||◌, is_none, is_some, Some}
+use Rattle.std.proofs.Common.{◌≡◌, ℕ, ◌<◌, ◌≤◌, Bool, true, false, cond, List, [], ◌∷◌, ◌++◌, ap, arith, drop, length, map, refl, subst, sym, ◌∙◌}
+use Rattle.std.specs.Prelude.{◌||◌, is_none, is_some, Some}
 use Rattle.std.specs.List.{AllByRecursion, flat_map, range_with_len}
 use Rattle.std.proofs.lemmas.Bool.{false≢true, and_parts}
 use Rattle.std.proofs.lemmas.List.{drop-append-le, drop-map, length-map}
 use Rattle.std.proofs.lemmas.List.Sums.{prefix_len-le-length}
-use Rattle.markdown_base.proofs.Common.{every-append}
+use Rattle.markdown_base.proofs.Common.{and-right, every-append}
 use Rattle.markdown_base.specs.declared.configuration.Constructs.{Constructs}
 use Rattle.markdown_base.specs.declared.event.Content.TheVariants.{Content}
 use Rattle.markdown_base.specs.declared.event.Event.{Event}
@@ -21,17 +21,18 @@ use Rattle.markdown_children.specs.Reads.{text_from}
 use Rattle.mdconstructs_machines.specs.LineEvents.{ending_of, line_text, lines_in}
 use Rattle.mdblock_leaf_blocks.specs.LeafBlocks.{Line}
 use Rattle.mdblock_leaf_blocks.specs.LeafEvents as now
-use Rattle.mdblock_leaf_blocks.specs.LineKinds.{indent, is_blank_line, is_underline_of_marks, underline_rank, unindented}
-use Rattle.mdblock_leaf_blocks.proofs.Lines.WholeLines.{IsWhole, whole-behind}
+use Rattle.mdblock_leaf_blocks.specs.LineKinds.{indent, is_blank_line, is_underline_of_marks, underline_rank}
+use Rattle.mdblock_leaf_blocks.proofs.Lines.WholeLines.{IsWhole, whole-behind, whole-text}
 use Rattle.mdblock_leaf_blocks.proofs.Marks.LeafSpans.{text-shorter}
 use Rattle.mdconstructs_tables.specs.Breaks.{is_white}
 use Rattle.mdblock_containers.proofs.LetterPlaces.{places_kept, texts_kept}
 use Rattle.mdblock_containers.proofs.PartGoes.{lines_of}
-use Rattle.mdblock_containers.proofs.SeatFacts.{LinesEnd, document_lines, lines_end}
+use Rattle.mdblock_containers.proofs.SeatFacts.{LinesEnd, document_lines, drop_text, lines_end}
 use Rattle.mdblock_containers.specs.Letters.{ArePlainFrom}
 use Rattle.mdblock_containers.specs.Rows.{Row, has_none, rest_of}
 use Rattle.mdblock_containers.specs.Skeleton.{Frame, is_held}
 use Rattle.mdblock_definitions.proofs.Covered.{rows_of}
+use Rattle.mdblock_definitions.proofs.KnownReads.{blank-unindented}
 use Rattle.mdblock_definitions.proofs.PlainLetters.{letters-are-plain}
 use Rattle.mdblock_definitions.proofs.SectionGoes.{ends-front, ends-rest, lines_in_all}
 use Rattle.mdblock_definitions.proofs.SectionTurns.{AreCut, InsideIs, RowIs, SectionIs, all-of-sections, document-cut, document-lines}
@@ -47,19 +48,12 @@ use Rattle.mdblock_text_lines.proofs.ChunkRuns.{chains-good}
 use Rattle.mdblock_text_lines.proofs.LetterBlocks.{AllAlike, IsAlike, IsBehind, behind-alike, events-alike}
 use Rattle.mdblock_text_lines.proofs.LetterKinds.{underline-is}
 use Rattle.mdblock_text_lines.proofs.LetterMarks.{IsKept, lettered}
-use Rattle.mdblock_text_lines.proofs.RowLines.{first-left, lazy-left, plain-left, text-dropped}
+use Rattle.mdblock_text_lines.proofs.RowLines.{first-left, lazy-left, plain-left}
 use Rattle.mdblock_text_lines.proofs.SectionTexts.{BehindTails, IsFine, document-good}
-use Rattle.mdblock_text_lines.proofs.StretchLines.{AreLeft, IsLeft, TextTails, ending-dropped, first-line, lines-left, only-line, texts, whole-of-text}
+use Rattle.mdblock_text_lines.proofs.StretchLines.{AreLeft, IsLeft, TextTails, ending-dropped, first-line, lines-left, only-line, texts}
 use Rattle.mdblock_text_lines.proofs.ToldLines.{Flagged, IsTold, document-told, flagged, is_lazy_underline}
 
 -- what would be an underline is not blank
-nothing-behind : (t : List ℕ) → is_blank_line t ≡ true → unindented t ≡ []
-nothing-behind [] h = refl
-nothing-behind (b ∷ bs) h =
-    let both = and_parts (is_white b) (is_blank_line bs) h in
-    let on : 1 + indent bs ≡ suc (indent bs) = omega arith in
-    ap (λ c. drop (cond c (1 + indent bs) 0) (b ∷ bs)) both.0 ∙ ap (λ n. drop n (b ∷ bs)) on ∙ nothing-behind bs both.1
-
 underline-filled : (on : Constructs) (t : List ℕ) → is_some (underline_rank on t) ≡ true → is_blank_line t ≡ false
 underline-filled on t e = by (is_blank_line t) refl
   where
@@ -67,11 +61,7 @@ underline-filled on t e = by (is_blank_line t) refl
     by false h = refl
     by true h =
         let (m, is, marks, near) = underline-is on t e in
-        absurd (false≢true (sym (ap (λ u. is_underline_of_marks m u) (nothing-behind t h)) ∙ marks))
-
-and-left-of : (a b : Bool) → (a && b) ≡ true → b ≡ true
-and-left-of true b e = e
-and-left-of false b e = absurd (false≢true e)
+        absurd (false≢true (sym (ap (λ u. is_underline_of_marks m u) (blank-unindented t h)) ∙ marks))
 
 module _ (g : Given) (is : IsDocument g) where
   abbrev on : Constructs
@@ -120,7 +110,7 @@ module _ (g : Given) (is : IsDocument g) where
   -- ---- lines that begin nothing
   texts-kept : (held : Bool) (r : Row) (more : List Row) → AreLeft P r more → AllByRecursion (IsKept at) (texts held r more)
   texts-kept true r [] h = h.line.alike.kept
-  texts-kept false r [] h = subst (AllByRecursion (IsKept at)) (text-dropped r.line r.columns h.whole h.few) h.text.alike.kept
+  texts-kept false r [] h = subst (AllByRecursion (IsKept at)) (drop_text r.line r.columns h.whole h.few) h.text.alike.kept
   texts-kept held r (next ∷ more) h = every-append (IsKept at) (drop r.columns r.line) (texts held next more) h.0.line.alike.kept (texts-kept held next more h.2)
 
   one-text : (held : Bool) (r : Row) (more : List Row) → AreLeft P r more → Q (texts held r more)
@@ -148,24 +138,21 @@ module _ (g : Given) (is : IsDocument g) where
     within : n ≤ length (line_text l)
     within =
         let same : length (rest_of r) ≡ length (line_text l) =
-        ap length (drop-map (λ (x : Seat). x.byte) r.columns (line_text r.line)) ∙ length-map (drop r.columns (line_text r.line)) (λ (x : Seat). x.byte) ∙ sym (ap length (text-dropped r.line r.columns whole few)) in
+        ap length (drop-map (λ (x : Seat). x.byte) r.columns (line_text r.line)) ∙ length-map (drop r.columns (line_text r.line)) (λ (x : Seat). x.byte) ∙ sym (ap length (drop_text r.line r.columns whole few)) in
         subst (λ m. n ≤ m) same (prefix_len-le-length is_white (rest_of r))
 
     abbrev BehindOf : List Row → Type 0
     BehindOf [] = Unit {0}
     BehindOf (next ∷ more) = AreLeft P next more
 
-    shorter : (x : Line) → IsWhole x → length (line_text x) ≤ length x
-    shorter = text-shorter
-
     first-text : (held : Bool) (more : List Row) → (has_none more ≡ false → has_none (ending_of r.line) ≡ false) → BehindOf more → Q (drop n (texts held r more))
     first-text true [] e k = so (drop n l) first.0.kept (one-alike (drop n l) (whole-behind n l whole-left) first.0)
     first-text false [] e k =
-        subst (λ x. Q (drop n x)) (text-dropped r.line r.columns whole few)
-        (so (drop n (line_text l)) first.1.kept (one-alike (drop n (line_text l)) (whole-behind n (line_text l) (whole-of-text P l)) first.1))
+        subst (λ x. Q (drop n x)) (drop_text r.line r.columns whole few)
+        (so (drop n (line_text l)) first.1.kept (one-alike (drop n (line_text l)) (whole-behind n (line_text l) (whole-text l)) first.1))
     first-text held (next ∷ more) e k =
         let rest = texts held next more in
-        let longer = shorter l whole-left in
+        let longer = text-shorter l whole-left in
         let inside = within in
         let split : drop n (l ++ rest) ≡ drop n l ++ rest = drop-append-le n l rest (omega (arith, inside, longer)) in
         let ending : has_none (ending_of (drop n l)) ≡ false = ap has_none (ending-dropped l n whole-left inside ∙ ending-dropped r.line r.columns whole few) ∙ e refl in
@@ -186,7 +173,7 @@ module _ (g : Given) (is : IsDocument g) where
       by : (f : Bool) → is_lazy_underline on r ≡ f → IsTold numbers at (r, f) → IsLeft P r
       by false e k = let both = plain-left on numbers at r false k whole few refl in record { whole = whole; few = few; line = both.0; text = both.1 }
       by true e k =
-          let under = and-left-of r.is_lazy (is_some (underline_rank on (rest_of r))) e in
+          let under = and-right r.is_lazy (is_some (underline_rank on (rest_of r))) e in
           let both = lazy-left on numbers at r true k whole few refl (underline-filled on (rest_of r) under) under in
           record { whole = whole; few = few; line = both.0; text = both.1 }
 

@@ -15,6 +15,7 @@ use Rattle.markdown_children.specs.Reads.{text_of_chain}
 use Rattle.markdown_children.specs.Ready.{place_at}
 use Rattle.mdinline_text_machine.proofs.DeepSpans.Chunks.{chain-seats, chunk_seats}
 use Rattle.mdblock_leaf_blocks.specs.LeafEvents.{Chunk, Mark}
+use Rattle.mdblock_containers.proofs.WrittenLemmas.{chained_length}
 use Rattle.mdblock_containers.specs.Skeleton.{chained_from, next_chunk}
 
 -- ---- events by indices
@@ -129,15 +130,10 @@ module _ (g : Given) (Q : List Seat → Type 0) where
         subst (λ k. Q (text_of_chain g es (chain_of es k)).seats) (sym on)
         (from-good (suc i) (Some i) ms (next-at i x (chained_from (suc i) (Some i) ms) h) (omega (arith, few)) good.1 j (λ z. some (ap (content_at es) on ∙ z)))
 
-  chained-long : (i : ℕ) (p : Option ℕ) (ms : List Mark) → length (chained_from i p ms) ≡ length ms
-  chained-long i p [] = refl
-  chained-long i p ((e, None) ∷ ms) = ap suc (chained-long (suc i) p ms)
-  chained-long i p ((e, Some c) ∷ ms) = ap suc (chained-long (suc i) (Some i) ms)
-
   -- What holds of the runs of marks holds of the text of each chain of their events
   pub chains-good : (ms : List Mark) → Good ms → let es = chained_from 0 None ms in (c : ℕ) → (content_at es c ≡ None → ⊥) → Q (text_of_chain g es (chain_of es c)).seats
   chains-good ms good c some =
       let es = chained_from 0 None ms in
-      let long = chained-long 0 None ms in
+      let long = chained_length 0 None ms in
       let same : 0 + c ≡ c = omega arith in
       subst (λ k. Q (text_of_chain g es (chain_of es k)).seats) same (from-good es 0 None ms refl (omega (arith, long)) good c (λ z. some (sym (ap (content_at es) same) ∙ z)))

@@ -2,15 +2,13 @@
 use Rattle.std.proofs.Common.{◌≡◌, ◌⊎◌, inl, inr, ℕ, suc, ◌+◌, Bool, true, false, cond, List, [], ◌∷◌, ◌++◌, ap, arith, drop, length, map, refl, subst, sym, ◌∙◌}
 use Rattle.std.specs.Prelude.{◌==◌, ◌&&◌, ◌||◌, codes, is_some, nat_le, not, None, Option, Some}
 use Rattle.std.specs.List.{AllByRecursion, list_any}
+use Rattle.std.proofs.Math.Bool.{and-false}
 use Rattle.std.proofs.lemmas.Bool.{false≢true, and_parts, eqb-true}
 use Rattle.markdown_base.specs.declared.configuration.Constructs.{Constructs}
 use Rattle.mdconstructs_tables.specs.Breaks.{is_white}
 use Rattle.mdblock_leaf_blocks.specs.HtmlLines.{HtmlKind, any_tag, block_tag, cdata, comment, declaration, ends, holds, html_kind, instruction, lower, raw, starts_with}
 use Rattle.mdblock_leaf_blocks.specs.LineKinds.{Fence, LineKind, blank, closes, fence, heading, html, indent, indented, is_atx_heading, is_blank_line, is_far, is_fence_of, is_thematic_break, is_underline_of_marks, kind_of_rest, line_kind, run, text, thematic_break, underline_rank, unindented}
-
-and-none : (a : Bool) → (a && false) ≡ false
-and-none true = refl
-and-none false = refl
+use Rattle.mdblock_containers.proofs.WrittenLemmas.{cond_none}
 
 -- ---- white space, a byte that is none, and more
 module _ (w : List ℕ) (all : AllByRecursion (λ (b : ℕ). is_white b ≡ true) w) (x : ℕ) (r : List ℕ) (plain : is_white x ≡ false) where
@@ -36,7 +34,7 @@ module _ (w : List ℕ) (all : AllByRecursion (λ (b : ℕ). is_white b ≡ true
     where
       on : (w : List ℕ) → is_blank_line (w ++ x ∷ r) ≡ false
       on [] = ap (λ c. c && is_blank_line r) plain
-      on (b ∷ bs) = ap (λ c. is_white b && c) (on bs) ∙ and-none (is_white b)
+      on (b ∷ bs) = ap (λ c. is_white b && c) (on bs) ∙ and-false (is_white b)
 
   pub far-is : (on : Constructs) → is_far on whole ≡ (on.code_indented && nat_le 4 (length w))
   far-is on = ap (λ n. on.code_indented && nat_le 4 n) indent-is
@@ -49,7 +47,7 @@ module _ (w : List ℕ) (all : AllByRecursion (λ (b : ℕ). is_white b ≡ true
   closes-is on f other =
       (λ i. not (is_far on whole) && (nat_le f.size (run-is f.byte other i) && is_blank_line (drop (run-is f.byte other i) (rest-is i))))
       ∙ (λ i. not (is_far on whole) && (nat_le f.size 0 && (plain i && is_blank_line r)))
-      ∙ (λ i. not (is_far on whole) && and-none (nat_le f.size 0) i) ∙ and-none (not (is_far on whole))
+      ∙ (λ i. not (is_far on whole) && and-false (nat_le f.size 0) i) ∙ and-false (not (is_far on whole))
 
 -- ---- a letter
 pick : {A : Type 0} (a : Bool) (x y : A) → cond (a && false) x y ≡ y
@@ -97,11 +95,7 @@ module _ (on : Constructs) where
     pub letter-rank : underline_rank on lettered ≡ None
     letter-rank =
         (λ i. let u = rest-is w all 97 r refl i in cond (is_far on lettered || not on.heading_setext) None (cond (is_underline_of_marks 61 u) (Some 1) (cond (is_underline_of_marks 45 u) (Some 2) None)))
-        ∙ by (is_far on lettered || not on.heading_setext)
-      where
-        by : (b : Bool) → cond {A = Option ℕ} b None None ≡ None
-        by true = refl
-        by false = refl
+        ∙ cond_none (is_far on lettered || not on.heading_setext)
 
   -- ---- underlines
   -- An underline is not far to the right, and of one mark
@@ -128,7 +122,7 @@ white-calm b h = by (b == 32) refl h
     by true e k = subst IsCalm (sym (eqb-true b 32 e)) (refl, refl)
     by false e k = subst IsCalm (sym (eqb-true b 9 k)) (refl, refl)
 
-mark-calm : (m : ℕ) → (m ≡ 61) ⊎ (m ≡ 45) → IsCalm m
+pub mark-calm : (m : ℕ) → (m ≡ 61) ⊎ (m ≡ 45) → IsCalm m
 mark-calm m (inl e) = subst IsCalm (sym e) (refl, refl)
 mark-calm m (inr e) = subst IsCalm (sym e) (refl, refl)
 
@@ -163,7 +157,7 @@ starts-not (b ∷ bs) (c ∷ cs) h k = by (λ g. starts-not bs cs g k.1) (b == 6
   where
     by : (HasIt bs → starts_with bs cs ≡ false) → (x : Bool) → (b == 62) ≡ x → (x || list_any (λ b. b == 62) bs) ≡ true → ((b == c) && starts_with bs cs) ≡ false
     by more true e g = ap (λ y. (y == c) && starts_with bs cs) (eqb-true b 62 e) ∙ ap (λ y. y && starts_with bs cs) k.0
-    by more false e g = ap (λ y. (b == c) && y) (more g) ∙ and-none (b == c)
+    by more false e g = ap (λ y. (b == c) && y) (more g) ∙ and-false (b == c)
 
 holds-not : (bs t : List ℕ) → HasIt bs → NoneIs t → holds bs t ≡ false
 holds-not bs [] h k = starts-not bs [] h k

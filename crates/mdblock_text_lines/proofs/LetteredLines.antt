@@ -1,29 +1,22 @@
 -- Each line of a stretch is alike with letters: what a container's prefix leaves of it, and its text alone; and the first one directly behind definitions, without its white space.
-use Rattle.std.proofs.Common.{◌≡◌, ◌⊎◌, inl, inr, ℕ, Bool, true, false, cond, List, [], ◌∷◌, ◌++◌, ap, drop, length, map, refl, subst, sym, ◌∙◌}
-use Rattle.std.specs.Prelude.{◌==◌, ◌&&◌, ◌||◌, is_some, nat_le, not, None}
+use Rattle.std.proofs.Common.{◌≡◌, ℕ, Bool, true, false, cond, List, [], ◌∷◌, ◌++◌, ap, drop, length, map, refl, sym, ◌∙◌}
+use Rattle.std.specs.Prelude.{◌==◌, ◌&&◌, is_some, nat_le, not, None}
 use Rattle.std.specs.List.{AllByRecursion, list_any}
-use Rattle.std.proofs.lemmas.Bool.{false≢true, eqb-true}
+use Rattle.std.proofs.lemmas.Bool.{false≢true, and_parts, eqb-true}
 use Rattle.std.proofs.lemmas.List.{map-append}
 use Rattle.markdown_base.proofs.Common.{every-append, every-map}
 use Rattle.markdown_base.specs.declared.configuration.Constructs.{Constructs}
 use Rattle.markdown_base.specs.Virtual.{Seat}
 use Rattle.mdconstructs_tables.specs.Breaks.{is_white}
 use Rattle.mdconstructs_machines.specs.LineEvents.{is_line_ending, line_text}
+use Rattle.mdblock_leaf_blocks.proofs.Looks.ByteClasses.{white-no-feed}
 use Rattle.mdblock_leaf_blocks.specs.HtmlLines.{ends}
 use Rattle.mdblock_leaf_blocks.specs.LeafBlocks.{Line, text_of}
 use Rattle.mdblock_leaf_blocks.specs.LineKinds.{begins_with, closes, indent, is_blank_line, is_far, line_kind, run, text, underline_rank, unindented}
 use Rattle.mdblock_containers.specs.Letters.{letter, lettered_seat}
 use Rattle.mdblock_text_lines.proofs.LetterBlocks.{IsAlike, IsBehind}
-use Rattle.mdblock_text_lines.proofs.LetterKinds.{IsCalm, IsFenceByte, all-white-calm, blank-is, closes-is, ends-not, far-is, indent-is, letter-kind, letter-no-fence, letter-rank, mark-no-fence, marks-calm, rest-is, run-is, underline-is}
+use Rattle.mdblock_text_lines.proofs.LetterKinds.{IsCalm, IsFenceByte, all-white-calm, blank-is, closes-is, ends-not, far-is, indent-is, letter-kind, letter-no-fence, letter-rank, mark-calm, mark-no-fence, marks-calm, rest-is, run-is, underline-is}
 use Rattle.mdblock_text_lines.proofs.LetterMarks.{IsKept, lettered}
-
--- a byte of white space is no line ending
-white-in-line : (b : ℕ) → is_white b ≡ true → (b == 10) ≡ false
-white-in-line b h = by (b == 32) refl h
-  where
-    by : (x : Bool) → (b == 32) ≡ x → (x || (b == 9)) ≡ true → (b == 10) ≡ false
-    by true e k = ap (λ c. c == 10) (eqb-true b 32 e)
-    by false e k = ap (λ c. c == 10) (eqb-true b 9 k)
 
 -- no letter is there
 abbrev pub IsBare : List ℕ → Seat → Type 0
@@ -44,7 +37,7 @@ pub text-parts : (front : List Seat) (y : Seat) (behind : List Seat) → AllByRe
     → line_text (front ++ y ∷ behind) ≡ front ++ y ∷ line_text behind
 text-parts [] y behind h e = ap (λ b. cond (not b) (y ∷ line_text behind) (line_text behind)) e
 text-parts (s ∷ ss) y behind h e =
-    ap (λ b. cond (not b) (s ∷ line_text (ss ++ y ∷ behind)) (line_text (ss ++ y ∷ behind))) (white-in-line s.byte h.0) ∙ ap (λ l. s ∷ l) (text-parts ss y behind h.1 e)
+    ap (λ b. cond (not b) (s ∷ line_text (ss ++ y ∷ behind)) (line_text (ss ++ y ∷ behind))) (white-no-feed s.byte h.0) ∙ ap (λ l. s ∷ l) (text-parts ss y behind h.1 e)
 
 white-bytes : (front : List Seat) → AllByRecursion (λ (s : Seat). is_white s.byte ≡ true) front → AllByRecursion (λ (b : ℕ). is_white b ≡ true) (map (λ (s : Seat). s.byte) front)
 white-bytes [] h = tt
@@ -101,9 +94,9 @@ module _ (on : Constructs) (is_text : Line → Bool) (at : List ℕ) (front : Li
       let unind : unindented (text_of l) ≡ y.byte ∷ rest = ap unindented text-is ∙ rest-is w whites y.byte rest plain in
       let of-mark : (begins_with m (y.byte ∷ rest) && is_blank_line (drop (run m (y.byte ∷ rest)) (y.byte ∷ rest))) ≡ true =
       sym (ap (λ u. begins_with m u && is_blank_line (drop (run m u) u)) unind) ∙ marks in
-      let both = two (begins_with m (y.byte ∷ rest)) (is_blank_line (drop (run m (y.byte ∷ rest)) (y.byte ∷ rest))) of-mark in
+      let both = and_parts (begins_with m (y.byte ∷ rest)) (is_blank_line (drop (run m (y.byte ∷ rest)) (y.byte ∷ rest))) of-mark in
       let mark : y.byte ≡ m = eqb-true y.byte m both.0 in
-      let calm-mark : IsCalm m = mark-is-calm m is in
+      let calm-mark : IsCalm m = mark-calm m is in
       let calm : AllByRecursion IsCalm (y.byte ∷ rest) = marks-calm m calm-mark (y.byte ∷ rest) both.1 in
       let calm-before : AllByRecursion IsCalm (w ++ y.byte ∷ rest) = every-append IsCalm w (y.byte ∷ rest) (all-white-calm w whites) calm in
       let calm-after : AllByRecursion IsCalm (w ++ 97 ∷ rest) = every-append IsCalm w (97 ∷ rest) (all-white-calm w whites) ((refl, refl), calm.1) in
@@ -117,12 +110,3 @@ module _ (on : Constructs) (is_text : Line → Bool) (at : List ℕ) (front : Li
         closes = λ f q. ap (closes on f) lettered-text ∙ closes-is w whites 97 rest refl on f (letter-no-fence f.byte q) ∙ sym (ap (closes on f) text-is ∙ closes-is w whites y.byte rest plain on f (no-fence f.byte q));
         marks = λ q f. ap (λ t. run q (unindented t)) lettered-text ∙ run-is w whites 97 rest refl q (letter-no-fence q f) ∙ sym (ap (λ t. run q (unindented t)) text-is ∙ run-is w whites y.byte rest plain q (no-fence q f));
       }
-    where
-      two : (a b : Bool) → (a && b) ≡ true → (a ≡ true) × (b ≡ true)
-      two true true e = (refl, refl)
-      two true false e = absurd (false≢true e)
-      two false b e = absurd (false≢true e)
-
-      mark-is-calm : (m : ℕ) → (m ≡ 61) ⊎ (m ≡ 45) → IsCalm m
-      mark-is-calm m (inl e) = subst IsCalm (sym e) (refl, refl)
-      mark-is-calm m (inr e) = subst IsCalm (sym e) (refl, refl)

@@ -2,6 +2,7 @@
 use Rattle.std.proofs.Common.{◌≡◌, inl, inr, ℕ, zero, suc, ◌+◌, ◌≤◌, Bool, true, false, cond, List, [], ◌∷◌, ◌++◌, ap, arith, drop, eq-eqb, length, map, ne_eqb, refl, subst, sym, take, ◌∙◌}
 use Rattle.std.specs.Prelude.{◌==◌, ◌&&◌, ◌||◌, is_some, nat_le, not, None}
 use Rattle.std.specs.List.{AllByRecursion, list_any}
+use Rattle.std.proofs.Math.Bool.{and-false}
 use Rattle.std.proofs.lemmas.Bool.{false≢true}
 use Rattle.std.proofs.lemmas.List.{drop-drop, drop-map}
 use Rattle.markdown_base.proofs.Common.{every-append, every-drop, every-filter, every-map}
@@ -13,8 +14,10 @@ use Rattle.mdconstructs_machines.specs.LineEvents.{is_line_ending, line_text}
 use Rattle.mdblock_leaf_blocks.proofs.Lines.WholeLines.{IsWhole, whole-behind}
 use Rattle.mdblock_leaf_blocks.specs.LeafBlocks.{Line, text_of}
 use Rattle.mdblock_leaf_blocks.specs.LineKinds.{indent, is_blank_line, line_kind, text, underline_rank}
+use Rattle.mdblock_containers.proofs.SeatFacts.{drop_text}
 use Rattle.mdblock_containers.specs.Rows.{Row, has_none, rest_of}
 use Rattle.mdblock_definitions.specs.Skeleton.{text_begin}
+use Rattle.mdblock_paragraphs.proofs.ShownLines.{text-twice}
 use Rattle.mdblock_text_lines.specs.DocumentBlocks.{has_number}
 use Rattle.mdblock_text_lines.proofs.LaidLines.{AreApart, IsApart}
 use Rattle.mdblock_text_lines.proofs.LetterBlocks.{IsAlike, IsBehind, plain-behind}
@@ -22,27 +25,6 @@ use Rattle.mdblock_text_lines.proofs.LetteredLines.{IsBare, bare-kept, bare-line
 use Rattle.mdblock_text_lines.proofs.ToldLines.{IsTold}
 
 -- ---- parts of a line
-pub text-dropped : (line : Line) (c : ℕ) → IsWhole line → c ≤ length (line_text line) → line_text (drop c line) ≡ drop c (line_text line)
-text-dropped [] zero w few = refl
-text-dropped [] (suc c) w few = refl
-text-dropped (s ∷ ss) zero w few = refl
-text-dropped (s ∷ ss) (suc c) (inl w) few =
-    let here : line_text (s ∷ ss) ≡ s ∷ line_text ss = ap (λ b. cond (not b) (s ∷ line_text ss) (line_text ss)) w.0 in
-    let long = ap length here in
-    text-dropped ss c w.1 (omega (arith, few, long)) ∙ sym (ap (drop (suc c)) here)
-text-dropped (s ∷ ss) (suc c) (inr w) few =
-    let here : line_text (s ∷ ss) ≡ [] = ap (λ b. cond (not b) (s ∷ line_text ss) (line_text ss)) w.0 ∙ ap line_text w.1 in
-    let long = ap length here in
-    absurd (omega (arith, few, long))
-
-pub text-twice : (ss : List Seat) → line_text (line_text ss) ≡ line_text ss
-text-twice [] = refl
-text-twice (s ∷ ss) = by (text-twice ss) (is_line_ending s) refl
-  where
-    by : line_text (line_text ss) ≡ line_text ss → (x : Bool) → is_line_ending s ≡ x → line_text (cond (not x) (s ∷ line_text ss) (line_text ss)) ≡ cond (not x) (s ∷ line_text ss) (line_text ss)
-    by more true e = more
-    by more false e = ap (λ b. cond (not b) (s ∷ line_text (line_text ss)) (line_text (line_text ss))) e ∙ ap (λ l. s ∷ l) more
-
 -- a line that is not blank: white space, another byte, and more
 pub record IsParted (l : Line) : Type 0 where
   pub front : List Seat
@@ -99,10 +81,6 @@ apart-drop zero ss h = h
 apart-drop (suc n) [] h = tt
 apart-drop (suc n) (s ∷ ss) h = apart-drop n ss h.1
 
-and-none : (a : Bool) → (a && false) ≡ false
-and-none true = refl
-and-none false = refl
-
 drop-front : (xs ys : List Seat) → drop (length xs) (xs ++ ys) ≡ ys
 drop-front [] ys = refl
 drop-front (x ∷ xs) ys = drop-front xs ys
@@ -121,7 +99,7 @@ module _ (on : Constructs) (numbers letters : List ℕ) (r : Row) (f : Bool) (to
   left = drop r.columns r.line
 
   text-left : text_of left ≡ rest_of r
-  text-left = ap (map (λ (s : Seat). s.byte)) (text-dropped r.line r.columns whole few) ∙ sym (drop-map (λ (s : Seat). s.byte) r.columns (line_text r.line))
+  text-left = ap (map (λ (s : Seat). s.byte)) (drop_text r.line r.columns whole few) ∙ sym (drop-map (λ (s : Seat). s.byte) r.columns (line_text r.line))
 
   abbrev InLine : Seat → Type 0
   InLine x = x.point.line ≡ r.number
@@ -196,7 +174,7 @@ module _ (on : Constructs) (numbers letters : List ℕ) (r : Row) (f : Bool) (to
         both : (ss : List Seat) → AllByRecursion IsToldOf ss → AllByRecursion (λ s. IsApart s y) ss → AllByRecursion (IsBare letters) ss
         both [] h k = tt
         both (s ∷ ss) h k =
-            let less = k.0 (ap (λ b. is_white s.byte && b) parts.plain ∙ and-none (is_white s.byte)) in
+            let less = k.0 (ap (λ b. is_white s.byte && b) parts.plain ∙ and-false (is_white s.byte)) in
             (h.0 ∙ ap (λ b. b || false) (ne_eqb y.point.index s.point.index (λ e. omega (arith, e, less))), both ss h.1 k.1)
 
     bare-after : AllByRecursion (IsBare letters) parts.behind
@@ -247,7 +225,7 @@ module _ (on : Constructs) (numbers letters : List ℕ) (r : Row) (f : Bool) (to
         let back-text = every-back InLine front (y ∷ line_text parts.behind) in-text in
         let dropped : drop n left ≡ y ∷ parts.behind = (λ i. drop (size i) (parts.is i)) ∙ drop-front front (y ∷ parts.behind) in
         let dropped-text : drop n (line_text left) ≡ y ∷ line_text parts.behind = (λ i. drop (size i) (text-of-left i)) ∙ drop-front front (y ∷ line_text parts.behind) in
-        let near : (on.code_indented && nat_le 4 0) ≡ false = and-none on.code_indented in (
+        let near : (on.code_indented && nat_le 4 0) ≡ false = and-false on.code_indented in (
           subst (IsAlike on is_text letters) (sym dropped)
               (text-alike on is_text letters [] y parts.behind tt parts.plain parts.in_line tt hit bare-after (number-of (y ∷ parts.behind) back refl ∙ some) near),
           subst (IsAlike on is_text letters) (sym dropped-text)

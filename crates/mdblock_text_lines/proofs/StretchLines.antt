@@ -4,12 +4,12 @@ use Rattle.std.specs.Prelude.{not}
 use Rattle.std.specs.List.{AllByRecursion, flat_map}
 use Rattle.std.proofs.lemmas.Bool.{false≢true}
 use Rattle.markdown_base.specs.Virtual.{Seat}
-use Rattle.mdconstructs_machines.specs.LineEvents.{ending_of, is_line_ending, joined, line_text, lines_in}
-use Rattle.mdblock_leaf_blocks.proofs.Lines.WholeLines.{IsWhole, whole-behind}
+use Rattle.mdconstructs_machines.specs.LineEvents.{ending_of, joined, line_text, lines_in}
+use Rattle.mdblock_leaf_blocks.proofs.Lines.WholeLines.{IsWhole, whole-behind, whole-text}
 use Rattle.mdblock_leaf_blocks.specs.LeafBlocks.{Line}
+use Rattle.mdblock_containers.proofs.SeatFacts.{drop_text}
 use Rattle.mdblock_containers.specs.Rows.{Row, has_none}
 use Rattle.mdblock_containers.specs.Skeleton.{Piece, joined_pieces, pieces_of}
-use Rattle.mdblock_text_lines.proofs.RowLines.{text-dropped}
 
 -- ---- lines, one behind another
 -- a line with its line ending is the first one
@@ -63,18 +63,10 @@ module _ (P : Line → Type 0) where
   one-left [] w h = tt
   one-left (s ∷ ss) w h = subst (AllByRecursion P) (sym (only-line (s ∷ ss) w refl)) (h, tt)
 
-  pub whole-of-text : (line : Line) → IsWhole (line_text line)
-  whole-of-text [] = tt
-  whole-of-text (s ∷ ss) = by (whole-of-text ss) (is_line_ending s) refl
-    where
-      by : IsWhole (line_text ss) → (x : Bool) → is_line_ending s ≡ x → IsWhole (cond (not x) (s ∷ line_text ss) (line_text ss))
-      by more true e = more
-      by more false e = inl (e, more)
-
   pub lines-left : (held : Bool) (r : Row) (more : List Row) → AreLeft r more → AllByRecursion P (lines_in (texts held r more))
   lines-left true r [] h = one-left (drop r.columns r.line) (whole-behind r.columns r.line h.whole) h.line
   lines-left false r [] h =
-      subst (λ l. AllByRecursion P (lines_in l)) (text-dropped r.line r.columns h.whole h.few) (one-left (line_text (drop r.columns r.line)) (whole-of-text (drop r.columns r.line)) h.text)
+      subst (λ l. AllByRecursion P (lines_in l)) (drop_text r.line r.columns h.whole h.few) (one-left (line_text (drop r.columns r.line)) (whole-text (drop r.columns r.line)) h.text)
   lines-left held r (next ∷ more) h =
       let l = drop r.columns r.line in
       let ending = ap has_none (ending-dropped r.line r.columns h.0.whole h.0.few) ∙ h.1 in

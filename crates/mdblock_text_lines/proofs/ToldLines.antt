@@ -2,6 +2,7 @@
 use Rattle.std.proofs.Common.{◌≡◌, ℕ, suc, ◌<◌, ◌≤◌, Bool, true, false, cond, List, [], ◌∷◌, ◌++◌, ap, append_assoc, arith, drop, eq-eqb, map, ne_eqb, refl, subst, sym, take, ◌∙◌}
 use Rattle.std.specs.Prelude.{◌==◌, ◌&&◌, ◌||◌, ◌+◌, is_some}
 use Rattle.std.specs.List.{AllByRecursion, flat_map, list_any}
+use Rattle.std.proofs.Math.Bool.{or-false}
 use Rattle.std.proofs.lemmas.Grind.{flat_map-append}
 use Rattle.std.proofs.lemmas.List.{map-append}
 use Rattle.std.proofs.lemmas.List.Folds.{list_any-append}
@@ -141,11 +142,7 @@ module _ (write asks : Row → List ℕ) where
           list_any-append f done (here z ++ all zs) ∙ (λ i. front i || list_any-append f (here z) (all zs) i) ∙ (λ i. list_any f (here z) || back i) ∙ by z.1
         where
           by : (b : Bool) → (list_any (λ m. m == v) (cond b (write z.0) []) || false) ≡ (b && list_any (λ m. m == v) (write z.0))
-          by true = or-none (list_any (λ m. m == v) (write z.0))
-            where
-              or-none : (x : Bool) → (x || false) ≡ x
-              or-none true = refl
-              or-none false = refl
+          by true = or-false (list_any (λ m. m == v) (write z.0))
           by false = refl
 
 -- ---- the lines of a document
