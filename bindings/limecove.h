@@ -512,8 +512,10 @@ struct limecove_changed {
 };
 
 /* Why a section is named that an edit did not replace. */
-#define LIMECOVE_WHY_EVENTS 0  /* it has other events than before, since a label came or went */
-#define LIMECOVE_WHY_TARGETS 1 /* it has the events that it had, and a link or an image in it leads elsewhere */
+enum limecove_why {
+    LIMECOVE_WHY_EVENTS = 0, /* it has other events than before, since a label came or went */
+    LIMECOVE_WHY_TARGETS = 1 /* it has the events that it had, and a link or an image in it leads elsewhere */
+};
 
 /* A section that an edit did not replace, and of which something is new. */
 struct limecove_named {

@@ -180,7 +180,7 @@ def rust(names, machines):
 
 # What crosses the border: the name of each struct in both Rattle and Rust, and where Rattle declares it.
 RANGES = CRATES / "mddocument/src/ranges.rt"
-STRUCTS = {"Record": "record.rt", "TextOptions": "choose.rt", "Options": "choose.rt", "HtmlOptions": "choose.rt", "Answer": "lib.rt", "ByteRange": RANGES, "Changed": "edits.rt", "Place": "edits.rt", "Defined": "labels.rt"}
+STRUCTS = {"Record": "record.rt", "TextOptions": "choose.rt", "Options": "choose.rt", "HtmlOptions": "choose.rt", "Answer": "lib.rt", "ByteRange": RANGES, "Changed": "edits.rt", "Named": "edits.rt", "Place": "edits.rt", "Defined": "labels.rt"}
 # The same type in Rattle and Rust, and in C.
 TYPES = {"u16": "uint16_t", "u32": "uint32_t", "u64": "uint64_t", "usize": "size_t"}
 # The fields of a reading, as the three declare them. `kept` is a struct of one pointer.
@@ -247,7 +247,7 @@ def differences():
             lines.append(f"{path}: a document has other fields")
     root = numbers(LIMECOVE / "src/code.rt", r"pub const (\w+): u32 = (\d+);")
     bits = numbers(LIMECOVE / "src/choose.rt", r"pub const (\w+): u64 = (\d+);")
-    rust = numbers(FOREIGN, r"pub const (\w+): u(?:32|64) = (\d+);")
+    rust = numbers(FOREIGN, r"pub const (?!WHY_)(\w+): u(?:32|64) = (\d+);")
     c = numbers(HEADER, r"#define LIMECOVE_(VERSION) (\d+)")
     c |= enum_numbers("code") | enum_numbers("construct") | enum_numbers("permission")
     for other, theirs in [(FOREIGN, rust), (HEADER, c)]:
@@ -260,6 +260,10 @@ def differences():
     for other, theirs in [(SAFE / "event.rs", rust), (HEADER, numbers(HEADER, r"LIMECOVE_CONTENT_(\w+) = (\d+)"))]:
         if theirs != contents:
             lines.append(f"{other}: contents are {theirs}, and {contents} in Records.antt")
+    whys = numbers(LIMECOVE / "specs/Editing.antt", r"(?m)^why_number why\.(\w+) = (\d+)$")
+    for other, theirs in [(FOREIGN, numbers(FOREIGN, r"pub const WHY_(\w+): u32 = (\d+);")), (HEADER, numbers(HEADER, r"LIMECOVE_WHY_(\w+) = (\d+)"))]:
+        if not whys or theirs != whys:
+            lines.append(f"{other}: why a section is named is {theirs}, and {whys} in Editing.antt")
     kinds = numbers(LIMECOVE / "specs/Records.antt", r"(?m)^kind_number (\w+) = (\d+)$")
     if kinds != enum_numbers("kind"):
         lines.append(f"{HEADER}: kinds are {enum_numbers('kind')}, and {kinds} in Records.antt")
