@@ -11,8 +11,9 @@ use Rattle.markdown_base.specs.declared.event.Name.TheVariants as name
 use Rattle.markdown_base.specs.Events.{is_void}
 use Rattle.markdown_base.specs.Virtual.{Seat}
 use Rattle.markdown_base.proofs.Common.{every-take, every-drop}
+use Rattle.mdblock_leaf_blocks.proofs.Marks.MarkSpans.{IsKeptAround}
 use Rattle.mdblock_leaf_blocks.specs.LeafBlocks.{bytes_of}
-use Rattle.mdblock_leaf_blocks.specs.LeafEvents.{Mark, leaf_marks, span_marks}
+use Rattle.mdblock_leaf_blocks.specs.LeafEvents.{Mark, leaf_marks}
 use Rattle.mdblock_leaf_blocks.specs.LineKinds.{indent}
 use Rattle.mdinline_labels.specs.declared.definitions.Definition.{Definition}
 use Rattle.mdinline_labels.specs.declared.definitions.Stretch.{Stretch}
@@ -60,7 +61,7 @@ pub record IsKeptByAnySpans (bytes : List ℕ) (P : List Mark → List Seat → 
   pub none : P [] []
   pub both : (xs ys : List Mark) (a b : List Seat) → P xs a → P ys b → P (xs ++ ys) (a ++ b)
   pub alone : (n : Name) (ss : List Seat) → P (leaf_marks bytes n ss) ss
-  pub around : (n : Name) (ss : List Seat) (inside : List Mark) → is_void n ≡ false → P inside ss → P (span_marks bytes n ss inside) ss
+  pub around : IsKeptAround bytes P
 
 module _ (bytes : List ℕ) (P : List Mark → List Seat → Type 0) (kept : IsKeptByAnySpans bytes P) where
   -- marks over places

@@ -11,6 +11,7 @@ use Rattle.markdown_base.specs.declared.event.Point.{Point}
 use Rattle.markdown_base.specs.Places.{shown}
 use Rattle.markdown_base.specs.Virtual.{Seat}
 use Rattle.mdconstructs_machines.specs.LineEvents.{ending_of, line_text, lines_in}
+use Rattle.mdblock_leaf_blocks.proofs.Marks.Cuts.{ranked}
 use Rattle.mdblock_leaf_blocks.specs.HtmlLines.{HtmlKind, ends, waits_for_blank}
 use Rattle.mdblock_leaf_blocks.specs.LeafBlocks.{Line, LeafBlock, atx_heading, blank_line, break_line, fenced_code, has_line, html_block, html_block_at, indented_code, interrupts, is_blank, is_indented, lines_through, lines_until, paragraph, setext_heading, text_of}
 use Rattle.mdblock_leaf_blocks.specs.LeafBlocks as now
@@ -114,15 +115,12 @@ module _ (on : Constructs) (is_text : Line → Bool) (at : List ℕ) where
   underlined-alike ls [] h = let m = length-map ls ll in λ i. (paragraph (lls ls), m i)
   underlined-alike ls (next ∷ behind) h = by-rank (underline_rank on (text_of (ll next))) (rank_at on is_text next) h.0.alike.rank
     where
-      cut : List Line → Line → Option ℕ → LeafBlock × ℕ
-      cut ls next rank = elim rank [ None ↦ (paragraph ls, length ls) | Some rank ↦ (setext_heading rank ls next, suc (length ls)) ]
-
-      same : (rank : Option ℕ) → cut (lls ls) (ll next) rank ≡ lettered_cut at (cut ls next rank)
+      same : (rank : Option ℕ) → ranked (lls ls) (ll next) rank ≡ lettered_cut at (ranked ls next rank)
       same None = let m = length-map ls ll in λ i. (paragraph (lls ls), m i)
       same (Some rank) = let m = length-map ls ll in λ i. (setext_heading rank (lls ls) (ll next), suc (m i))
 
-      by-rank : (k j : Option ℕ) → k ≡ j → cut (lls ls) (ll next) k ≡ lettered_cut at (cut ls next j)
-      by-rank k j e = ap (cut (lls ls) (ll next)) e ∙ same j
+      by-rank : (k j : Option ℕ) → k ≡ j → ranked (lls ls) (ll next) k ≡ lettered_cut at (ranked ls next j)
+      by-rank k j e = ap (ranked (lls ls) (ll next)) e ∙ same j
 
   ends-alike : (ls : List Line) → AreBehind ls → AllByRecursion (λ l. now.ends_text on (ll l) ≡ ends_text on is_text l) ls
   ends-alike [] h = tt

@@ -1,5 +1,6 @@
 -- Moved lines are cut into the same leaf blocks, moved.
 use Rattle.mddocument_parts.proofs.Prelude.{◌≡◌, ℕ, zero, suc, ◌+◌, ◌&&◌, ◌||◌, nat_le, nat_lt, List, [], ◌∷◌, Bool, cond, not, Option, Some, None, length, min, take, drop, refl, ap, ◌∙◌, is_some, map, drop-map, length-map, take-map, Constructs, HtmlKind, ends, waits_for_blank, Line, LeafBlock, paragraph, setext_heading, indented_code, fenced_code, html_block, block_of_kind, blocks_in, bytes_of, content_at, ends_text, interrupts, further_code, has_line, html_block_at, is_blank, is_indented, lines_through, lines_until, text_of, underlined, LineKind, blank, indented, heading, fence, html, thematic_break, text, closes, is_blank_line, line_kind, underline_rank, is_line_ending, line_text, BlocksMove, moved_block, moved_line, moved_lines, moved_seat, Seat}
+use Rattle.mdblock_leaf_blocks.proofs.Marks.Cuts.{ranked}
 use Rattle.mddocument_parts.proofs.Choices.{filter-mapped}
 
 module _ (l n : ℕ) where
@@ -48,15 +49,12 @@ module _ (l n : ℕ) where
     underlined-moved lines [] = let m = length-map lines ml in (λ i. (paragraph (mls lines), m i))
     underlined-moved lines (next ∷ behind) = by-rank (underline_rank on (text_of (ml next))) (underline_rank on (text_of next)) (ap (underline_rank on) (text-moved next))
       where
-        at : List Line → Line → Option ℕ → LeafBlock × ℕ
-        at lines next rank = elim rank [ None ↦ (paragraph lines, length lines) | Some rank ↦ (setext_heading rank lines next, suc (length lines)) ]
-
-        same : (rank : Option ℕ) → at (mls lines) (ml next) rank ≡ moved_cut (at lines next rank)
+        same : (rank : Option ℕ) → ranked (mls lines) (ml next) rank ≡ moved_cut (ranked lines next rank)
         same None = let m = length-map lines ml in (λ i. (paragraph (mls lines), m i))
         same (Some rank) = let m = length-map lines ml in (λ i. (setext_heading rank (mls lines) (ml next), suc (m i)))
 
-        by-rank : (k j : Option ℕ) → k ≡ j → at (mls lines) (ml next) k ≡ moved_cut (at lines next j)
-        by-rank k j e = ap (at (mls lines) (ml next)) e ∙ same j
+        by-rank : (k j : Option ℕ) → k ≡ j → ranked (mls lines) (ml next) k ≡ moved_cut (ranked lines next j)
+        by-rank k j e = ap (ranked (mls lines) (ml next)) e ∙ same j
 
     content-moved : (line : Line) (lines : List Line) → content_at on (mls (line ∷ lines)) ≡ moved_cut (content_at on (line ∷ lines))
     content-moved line lines =

@@ -17,6 +17,10 @@ pub record IsCut (block : LeafBlock) (n : ℕ) (all : List Line) : Type 0 where
   pub within : n ≤ length all
   pub long : IsLong block
 
+-- lines of text, by the rank of the underline behind them, if it is one: their leaf block, and how many lines that has
+abbrev pub ranked : (lines : List Line) → (next : Line) → Option ℕ → LeafBlock × ℕ
+ranked lines next rank = elim rank [ None ↦ (paragraph lines, length lines) | Some rank ↦ (setext_heading rank lines next, suc (length lines)) ]
+
 one-more : (n : ℕ) (all : List Line) (next : Line) (behind : List Line) → drop n all ≡ next ∷ behind → take n all ++ next ∷ [] ≡ take (suc n) all
 one-more zero [] next behind e = absurd (cc)
 one-more zero (line ∷ all) next behind e = let same : line ≡ next = cc in ap (λ l. l ∷ []) (sym same)
@@ -34,7 +38,7 @@ module _ (on : Constructs) where
       by-next long as_paragraph behind e
     where
       by-rank : length (take n all) ≡ n → IsCut (paragraph (take n all)) (length (take n all)) all → (next : Line) (more : List Line) → drop n all ≡ next ∷ more → (rank : Option ℕ)
-          → let u : LeafBlock × ℕ = elim rank [ None ↦ (paragraph (take n all), length (take n all)) | Some rank ↦ (setext_heading rank (take n all) next, suc (length (take n all))) ] in IsCut u.0 u.1 all
+          → let u = ranked (take n all) next rank in IsCut u.0 u.1 all
       by-rank long as_paragraph next more e None = as_paragraph
       by-rank long as_paragraph next more e (Some rank) = record { lines = one-more n all next more e ∙ ap (λ m. take (suc m) all) (sym long); some = omega arith; within = rw long (more-there n all next more e); long = tt }
 

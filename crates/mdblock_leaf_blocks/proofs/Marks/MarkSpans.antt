@@ -5,6 +5,10 @@ use Rattle.markdown_base.specs.declared.event.Name.TheVariants as name
 use Rattle.mdblock_leaf_blocks.proofs.Marks.FullBlocks.{StartsText}
 use Rattle.mdblock_leaf_blocks.proofs.Lines.WholeLines.{IsWhole, body-and-last, part-behind, text-and-ending, text-behind, three-parts, whole-behind, whole-ending, whole-front, whole-part, whole-text}
 
+-- what is said of marks over virtual bytes is said of a span around them, if its name may be around others
+abbrev pub IsKeptAround : (bytes : List ℕ) → (List Mark → List Seat → Type 0) → Type 0
+IsKeptAround bytes P = (n : Name) (seats : List Seat) (inside : List Mark) → is_void n ≡ false → P inside seats → P (span_marks bytes n seats inside) seats
+
 -- What is said of marks over virtual bytes is kept by marks behind others, by spans, alone in a line and around others, and by lines of text
 pub record IsKeptBySpans (bytes : List ℕ) (P : List Mark → List Seat → Type 0) : Type 0 where
   pub none : P [] []
@@ -54,7 +58,7 @@ module _ (bytes : List ℕ) (P : List Mark → List Seat → Type 0) (kept : IsK
   spans-leaf n [] w = kept.none
   spans-leaf n (s ∷ ss) w = kept.leaf n s ss w
 
-  pub spans-around : (n : Name) (seats : List Seat) (inside : List Mark) → is_void n ≡ false → P inside seats → P (span_marks bytes n seats inside) seats
+  pub spans-around : IsKeptAround bytes P
   spans-around n [] inside void h = h
   spans-around n (s ∷ ss) inside void h = kept.around n s ss inside void h
 

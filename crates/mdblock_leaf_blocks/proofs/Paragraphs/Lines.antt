@@ -35,6 +35,10 @@ pub record IsAtFeed (g : Given) (t : Text) (has_previous : Bool) (done : List Ev
   pub start : k.local.tokenize_state.start ≡ length done
   pub connects : k.local.tokenize_state.connect ≡ true
 
+-- where an underline comes next, the index of the paragraph's exit is noted
+abbrev pub IsNoted : (underlined : Bool) → Configuration Unit Unit → Type 0
+IsNoted underlined after = underlined ≡ true → after.local.tokenize_state.start ≡ length after.events - 1
+
 -- What comes of it: the lines from this one on are chunks, and the paragraph ends behind them
 pub record IsReadOn (g : Given) (t : Text) (has_previous : Bool) (done : List Event) (lines : List Line) (behind : List Seat) (underlined : Bool) (q : ℕ) (k : Configuration Unit Unit) (from : State) : Type 0 where
   pub after : Configuration Unit Unit
@@ -43,7 +47,7 @@ pub record IsReadOn (g : Given) (t : Text) (has_previous : Bool) (done : List Ev
   pub position_is : after.position ≡ q + length (body lines)
   pub waiting : after.waiting ≡ waits_at (last_ending lines ++ behind)
   pub keeps : Keeps k.local after.local
-  pub noted : underlined ≡ true → after.local.tokenize_state.start ≡ length after.events - 1
+  pub noted : IsNoted underlined after
 
 -- A chunk was begun here, and its bytes are to be read
 pub record IsBegun (g : Given) (t : Text) (has_previous : Bool) (done : List Event) (s : Seat) (behind : List Seat) (p : Point) (k : Configuration Unit Unit) : Type 0 where

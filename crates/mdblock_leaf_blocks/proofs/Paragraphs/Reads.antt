@@ -1,9 +1,9 @@
 -- Paragraphs are read as their definition says.
-use Rattle.mdblock_leaf_blocks.proofs.Prelude.{Bool, List, None, [], ap, append-nil, append_assoc, arith, cond, drop, false, inl, inr, length, length-append, refl, subst, suc, sym, take, true, ℕ, ◌++◌, ◌+◌, ◌-◌, ◌==◌, ◌∙◌, ◌∷◌, ◌≡◌, ◌≤◌, Seat, end_after, Event, Enter, Exit, Paragraph, Point, Retry, FlowAfter, FlowBeforeContent, ParagraphInside, ParagraphStart, Configuration, Local, EndsIn, end_place, Given, Text, flow, HeadingSetextTextAfter, IsAtLines, ParagraphsAreRead, is_underlined, last_ending, Line, Mark, body, linked_from, span_marks, text_marks, IsInLine, LinesAreSeen, all_of, ending_of, line_text, event, waits_at, table_step}
+use Rattle.mdblock_leaf_blocks.proofs.Prelude.{Bool, List, None, [], ap, append-nil, append_assoc, arith, cond, drop, false, inl, inr, length, length-append, refl, subst, suc, sym, take, ℕ, ◌++◌, ◌+◌, ◌==◌, ◌∙◌, ◌∷◌, ◌≡◌, ◌≤◌, Seat, end_after, Event, Enter, Exit, Paragraph, Point, Retry, FlowAfter, FlowBeforeContent, ParagraphInside, ParagraphStart, Configuration, Local, EndsIn, end_place, Given, Text, flow, HeadingSetextTextAfter, IsAtLines, ParagraphsAreRead, is_underlined, last_ending, Line, Mark, body, linked_from, span_marks, text_marks, IsInLine, LinesAreSeen, all_of, ending_of, line_text, event, waits_at, table_step}
 use Rattle.mdblock_leaf_blocks.proofs.Lines.{IsAt, Leads, all-of-split, behind-line, body-with-ending, cut-line, has-first, in-line-ending, in-line-text, lines-behind, lines-taken, text-in-line}
 use Rattle.mdblock_leaf_blocks.proofs.Lines.Leading.{leads-on}
 use Rattle.mdblock_leaf_blocks.proofs.Paragraphs.Calls.{begins, begun, opened, opens}
-use Rattle.mdblock_leaf_blocks.proofs.Paragraphs.Lines.{IsBegun, IsReadOn, chunk_at, text-to-end, text-to-feed}
+use Rattle.mdblock_leaf_blocks.proofs.Paragraphs.Lines.{IsBegun, IsNoted, IsReadOn, chunk_at, text-to-end, text-to-feed}
 use Rattle.mdblock_leaf_blocks.proofs.Paragraphs.Rests.{goes_on_over, rest-read}
 
 -- A paragraph is read: the marks of its lines, how far it reaches, and what is noted of it
@@ -16,7 +16,7 @@ pub record IsParagraph (g : Given) (t : Text) (k : Configuration Unit Unit) (lin
   pub edits : after.local.map ≡ k.local.map
   pub resolvers : after.local.resolvers ≡ k.local.resolvers
   pub begins_at : after.local.tokenize_state.end ≡ length k.events
-  pub ends_at : underlined ≡ true → after.local.tokenize_state.start ≡ length after.events - 1
+  pub ends_at : IsNoted underlined after
 
 -- From the first byte of a paragraph on
 module _ (g : Given) (t : Text) (k : Configuration Unit Unit) (s : Seat) (behind : List Seat) (here : IsAt t k (end_place t k.position) (s ∷ behind)) (in_line : (s.byte == 10) ≡ false) where
