@@ -56,7 +56,7 @@ module _ (bytes : List ℕ) where
   line-rest r = line-text (drop r.columns (line_text r.line)) ∙ sym (drop-map (λ (s : Seat). s.byte) r.columns (line_text r.line))
 
   -- their text is that of the lines
-  text-is : (rs : List Row) → text_of (places_in bytes rs) ≡ text_in rs
+  pub text-is : (rs : List Row) → text_of (places_in bytes rs) ≡ text_in rs
   text-is [] = refl
   text-is (r ∷ []) = map-append text_byte (line_places r) [] ∙ ap (λ l. l ++ []) (line-rest r)
   text-is (r ∷ q ∷ qs) =

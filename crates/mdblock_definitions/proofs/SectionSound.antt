@@ -1,17 +1,21 @@
 -- What is in the sections of a part fits their lines.
-use Rattle.std.proofs.Common.{◌≡◌, ℕ, zero, suc, ◌+◌, Bool, true, false, cond, List, [], ◌∷◌, ◌++◌, length, drop, take, map, refl, sym, ap, ◌∙◌, arith}
+use Rattle.std.proofs.Common.{◌≡◌, ℕ, zero, suc, ◌+◌, Bool, true, false, cond, List, [], ◌∷◌, ◌++◌, length, drop, take, map, refl, sym, ap, subst, ◌∙◌, arith}
 use Rattle.std.specs.Prelude.{◌&&◌}
-use Rattle.std.specs.List.{prefix_len}
+use Rattle.std.specs.List.{flat_map, prefix_len}
 use Rattle.markdown_base.specs.declared.configuration.Constructs.{Constructs}
 use Rattle.markdown_base.proofs.Common.{and-right, every-append, every-take, every-drop}
+use Rattle.markdown_tokenizer.proofs.Positions.Order.{every-back, every-front}
+use Rattle.mdblock_leaf_blocks.specs.LeafBlocks.{Line}
 use Rattle.mdblock_containers.specs.Rows.{Row, is_paragraph}
-use Rattle.mdblock_containers.specs.Skeleton.{Part, further, parts_in}
+use Rattle.mdblock_containers.specs.Skeleton.{Part, further, parts, parts_in}
 use Rattle.mdinline_labels.specs.Definitions.{definitions}
+use Rattle.mdblock_definitions.specs.Rows.{rows}
 use Rattle.mdblock_definitions.specs.Sectioned.{AreSectionsOf, AreSound, TextIsFilled, TextsAreFilled, IsSound}
-use Rattle.mdblock_definitions.specs.Sections.{Section, before_defined, cut, defined_in, defining, in_same, lines, lines_defined, paragraph_of, sections_in, text_in, undefined}
+use Rattle.mdblock_definitions.specs.Sections.{Section, before_defined, cut, defined_in, defining, in_same, lines, lines_defined, paragraph_of, sections, sections_in, text_in, undefined}
 use Rattle.mdblock_definitions.specs.Skeleton.{all_rows}
-use Rattle.mdblock_definitions.proofs.Covered.{cut-lines}
+use Rattle.mdblock_definitions.proofs.Covered.{cut-lines, lines-of-parts}
 use Rattle.mdblock_definitions.proofs.DefinedText.{paragraph-defined}
+use Rattle.mdblock_definitions.proofs.PartTexts.{all-texts}
 use Rattle.mdblock_definitions.proofs.Within.{sections-within}
 
 plain-sound : (around : Part) (ps : List Part) → AreSound (map (λ p. record { part = p; inside = lines false }) (map (in_same around) ps))
@@ -82,3 +86,18 @@ module _ (on : Constructs) where
 
   pub cut-blank : (p : Part) → p.first.is_blank ≡ true → cut on p ≡ record { part = p; inside = lines false } ∷ []
   cut-blank p e = ap (λ b. cond b (record { part = p; inside = lines false } ∷ []) (sections_in on (suc (length p.more)) false p (all_rows p))) e
+
+  -- ---- the sections of a document
+  parts-sound : (ps : List Part) → TextsAreFilled (flat_map all_rows ps) → AreSound (flat_map (cut on) ps)
+  parts-sound [] h = tt
+  parts-sound (p ∷ ps) h =
+      every-append (λ (s : Section). IsSound s.part s.inside) (cut on p) (flat_map (cut on) ps) (by p.first.is_blank) (parts-sound ps (every-back TextIsFilled (all_rows p) (flat_map all_rows ps) h))
+    where
+      by : (b : Bool) → AreSound (cond b (record { part = p; inside = lines false } ∷ []) (sections_in on (suc (length p.more)) false p (p.first ∷ p.more)))
+      by true = (tt, tt)
+      by false = (part-sections p (every-front TextIsFilled (all_rows p) (flat_map all_rows ps) h)).sound
+
+  pub document-sound : (ls : List Line) → AreSound (sections on (rows on ls))
+  document-sound ls =
+      let all = rows on ls in
+      parts-sound (parts all) (subst TextsAreFilled (sym (lines-of-parts (length all) all (omega arith))) (all-texts on ls))

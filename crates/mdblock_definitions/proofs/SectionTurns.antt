@@ -32,10 +32,14 @@ use Rattle.mdblock_definitions.proofs.KnownReads.{known-reads, nothing}
 use Rattle.mdblock_definitions.proofs.PlainLetters.{open-not-blank}
 use Rattle.mdblock_definitions.proofs.Within.{shared-all}
 
+-- no paragraph is open behind a line without text
+abbrev pub IsOpenWithText : Row → Type 0
+IsOpenWithText r = is_paragraph r.leaf ≡ true → is_blank_line (rest_of r) ≡ false
+
 -- a line fits, and no paragraph is open behind a blank one
 pub record RowIs (r : Row) : Type 0 where
   pub fits : RowFits r
-  pub open_behind : is_paragraph r.leaf ≡ true → is_blank_line (rest_of r) ≡ false
+  pub open_behind : IsOpenWithText r
 
 pub rows-fit : (rs : List Row) → AllByRecursion RowIs rs → AllByRecursion RowFits rs
 rows-fit rs h = every-map RowIs RowFits (λ r k. k.fits) rs h

@@ -17,6 +17,7 @@ use Rattle.mdblock_containers.specs.Prefixes.{containers_of}
 use Rattle.mdblock_containers.specs.Rows.{Before, Leaf, Row, closed, has_none, is_paragraph, leaf_after, open_fence, open_html, open_paragraph, opened_by, rest_of}
 use Rattle.mdblock_containers.specs.Rows as without
 use Rattle.mdblock_definitions.proofs.PlainLetters.{open-not-blank}
+use Rattle.mdblock_definitions.proofs.SectionTurns.{IsOpenWithText}
 use Rattle.mdblock_definitions.specs.Rows.{Known, is_behind_text, is_used_up, known_after, row_of, rows_from, underlines_nothing}
 
 not-so : (x : Bool) → not x ≡ true → x ≡ false
@@ -42,7 +43,7 @@ module _ (on : Constructs) where
   pub record Told (is_open : Bool) (so_far : List ℕ) (r : Row) : Type 0 where
     pub whole : IsWhole r.line
     pub within : r.columns ≤ length (text_of r.line)
-    pub full : is_paragraph r.leaf ≡ true → is_blank_line (rest_of r) ≡ false
+    pub full : IsOpenWithText r
     pub blank : r.is_blank ≡ true → is_paragraph r.leaf ≡ false
     pub left : r.is_left_blank ≡ true → is_paragraph r.leaf ≡ false
     pub more : is_paragraph r.leaf ≡ true → (r.stays && is_open) ≡ true → IsMore r ⊎ IsUnderDefinitions so_far r
@@ -203,7 +204,7 @@ module _ (on : Constructs) where
   pub record IsKept (r : Row) : Type 0 where
     pub whole : IsWhole r.line
     pub within : r.columns ≤ length (text_of r.line)
-    pub full : is_paragraph r.leaf ≡ true → is_blank_line (rest_of r) ≡ false
+    pub full : IsOpenWithText r
     pub blank : r.is_blank ≡ true → is_paragraph r.leaf ≡ false
     pub left : r.is_left_blank ≡ true → is_paragraph r.leaf ≡ false
 

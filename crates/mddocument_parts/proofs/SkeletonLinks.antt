@@ -6,7 +6,6 @@ use Rattle.std.proofs.lemmas.List.Filters.{length-filter_both}
 use Rattle.std.proofs.lemmas.List.Sums.{sum_by-cons}
 use Rattle.std.specs.List.{AllByRecursion, flat_map}
 use Rattle.std.specs.Prelude.{is_some, reverse}
-use Rattle.markdown_base.proofs.Common.{every-append}
 use Rattle.markdown_base.specs.Virtual.{Seat}
 use Rattle.markdown_base.specs.declared.configuration.Constructs.{Constructs}
 use Rattle.markdown_base.specs.declared.event.Content.TheVariants as content
@@ -27,16 +26,15 @@ use Rattle.mdblock_containers.proofs.RestLemmas.{plain_map}
 use Rattle.mdblock_containers.proofs.RowFacts.{begun_sizes, columns_within}
 use Rattle.mdblock_containers.specs.Prefixes.{columns_of}
 use Rattle.mdblock_containers.specs.Rows.{Row, has_none, rest_of}
-use Rattle.mdblock_containers.specs.Skeleton.{Frame, Part, Piece, begun_all, chunks_of, end_of, ending_marks, exits, is_held, joined_pieces, last_line, next_chunk, parts, piece_of, pieces_of, prefixes_marks, shared}
+use Rattle.mdblock_containers.specs.Skeleton.{Frame, Part, Piece, begun_all, chunks_of, end_of, ending_marks, exits, is_held, joined_pieces, last_line, next_chunk, piece_of, pieces_of, prefixes_marks, shared}
 use Rattle.mdblock_containers.specs.Written.{NoChunk}
-use Rattle.mdblock_definitions.proofs.Covered.{lines-of-parts, sections-hold-lines}
-use Rattle.mdblock_definitions.proofs.PartTexts.{all-texts}
+use Rattle.mdblock_definitions.proofs.Covered.{sections-hold-lines}
 use Rattle.mdblock_definitions.proofs.PlainDefinitions.{plain-definitions, plain-places}
-use Rattle.mdblock_definitions.proofs.SectionSound.{part-sections}
+use Rattle.mdblock_definitions.proofs.SectionSound.{document-sound}
 use Rattle.mdblock_definitions.specs.Definitions.{definitions_marks, places_in}
 use Rattle.mdblock_definitions.specs.Rows.{Known, known_after, row_of, rows, rows_from}
-use Rattle.mdblock_definitions.specs.Sectioned.{AreSound, IsSound, TextIsFilled, TextsAreFilled}
-use Rattle.mdblock_definitions.specs.Sections.{Inside, Section, cut, defined, lines, sections, sections_in}
+use Rattle.mdblock_definitions.specs.Sectioned.{AreSound, IsSound}
+use Rattle.mdblock_definitions.specs.Sections.{Inside, Section, defined, lines, sections}
 use Rattle.mdblock_definitions.specs.Skeleton.{all_rows, behind_marks, inside_marks, section_marks, sections_marks}
 use Rattle.mddocument.proofs.FlowTexts.Segments.{HasByte}
 use Rattle.mddocument_parts.proofs.Chained.{AreLinkedOn, BeginsApart}
@@ -279,15 +277,6 @@ module _ (bytes : List ℕ) where
   blank-rows on k number [] = tt
   blank-rows on k number (line ∷ ls) = (refl, blank-rows on (known_after on k (row_of on k number line)) (suc number) ls)
 
-  parts-sound : (on : Constructs) (ps : List Part) → TextsAreFilled (flat_map all_rows ps) → AreSound (flat_map (cut on) ps)
-  parts-sound on [] h = tt
-  parts-sound on (p ∷ ps) h =
-      every-append (λ (s : Section). IsSound s.part s.inside) (cut on p) (flat_map (cut on) ps) (by p.first.is_blank) (parts-sound on ps (every-back TextIsFilled (all_rows p) (flat_map all_rows ps) h))
-    where
-      by : (b : Bool) → AreSound (cond b (record { part = p; inside = lines false } ∷ []) (sections_in on (suc (length p.more)) false p (p.first ∷ p.more)))
-      by true = (tt, tt)
-      by false = (part-sections on p (every-front TextIsFilled (all_rows p) (flat_map all_rows ps) h)).sound
-
   fit : (ss : List Section) → AllByRecursion (λ (s : Section). IsBlankAsText s.part.first × AllByRecursion IsBlankAsText s.part.more) ss → AreSound ss → AllByRecursion IsFit ss
   fit [] h k = tt
   fit (s ∷ ss) h k = ((h.0.0, k.0), fit ss h.1 k.1)
@@ -295,5 +284,4 @@ module _ (bytes : List ℕ) where
   pub document-alone : (on : Constructs) (ls : List Line) → StandAlone (sections_marks bytes (sections on (rows on ls)))
   document-alone on ls =
       let all = rows on ls in
-      let texts = subst TextsAreFilled (sym (lines-of-parts (length all) all (omega arith))) (all-texts on ls) in
-      sections-alone (sections on all) (fit (sections on all) (in-sections IsBlankAsText on all (blank-rows on (known_at_start on) 1 ls)) (parts-sound on (parts all) texts))
+      sections-alone (sections on all) (fit (sections on all) (in-sections IsBlankAsText on all (blank-rows on (known_at_start on) 1 ls)) (document-sound on ls))
