@@ -20,10 +20,10 @@ use Rattle.mdblock_paragraphs.proofs.ToldRows.{AreTold, IsMore, IsUnderDefinitio
 
 -- ---- texts
 
-full-more : (xs ys : List ℕ) → EndsFull ys → EndsFull (xs ++ ys)
+pub full-more : (xs ys : List ℕ) → EndsFull ys → EndsFull (xs ++ ys)
 full-more xs ys h = record { front = xs ++ h.front; last = h.last; is = ap (λ l. xs ++ l) h.is ∙ sym (append_assoc xs h.front (h.last ∷ [])); full = h.full }
 
-full-line : (xs : List ℕ) → has_none xs ≡ false → tens xs ≡ 0 → EndsFull xs
+pub full-line : (xs : List ℕ) → has_none xs ≡ false → tens xs ≡ 0 → EndsFull xs
 full-line [] h e = absurd (cc)
 full-line (x ∷ []) h e = record { front = []; last = x; is = refl; full = by (x == 10) e }
   where
@@ -46,7 +46,7 @@ full-long t h =
 abbrev pub text_after : List Row → List ℕ
 text_after ps = cond (has_none ps) [] (10 ∷ text_in ps)
 
-paragraph-more : (r : Row) (rs : List Row) → is_paragraph r.leaf ≡ true → paragraph_of (r ∷ rs) ≡ r ∷ paragraph_of rs
+pub paragraph-more : (r : Row) (rs : List Row) → is_paragraph r.leaf ≡ true → paragraph_of (r ∷ rs) ≡ r ∷ paragraph_of rs
 paragraph-more r rs e =
     let n = prefix_len (λ (row : Row). is_paragraph row.leaf) rs in
     let one : 1 + n ≡ suc n = omega arith in
@@ -86,7 +86,7 @@ module _ (on : Constructs) where
     pub full : EndsFull so_far
 
   -- they have all lines before an underline of them alone
-  none-here : (t line more : List ℕ) → EndsFull t → is_used_up t ≡ true → is_some (underline_rank on line) ≡ true → lines_defined (t ++ 10 ∷ (line ++ more)) ≡ lines_of t
+  pub none-here : (t line more : List ℕ) → EndsFull t → is_used_up t ≡ true → is_some (underline_rank on line) ≡ true → lines_defined (t ++ 10 ∷ (line ++ more)) ≡ lines_of t
   none-here t line more full used underline =
       let w = line ++ more in
       let y = t ++ 10 ∷ w in

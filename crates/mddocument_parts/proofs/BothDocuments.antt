@@ -19,7 +19,6 @@ use Rattle.mdblock_containers.specs.Letters.{ArePlainFrom, letter, lettered_seat
 use Rattle.mdblock_containers.specs.Rows.{Row, rest_of}
 use Rattle.mdblock_containers.specs.Skeleton.{is_held}
 use Rattle.mdblock_definitions.proofs.Covered.{rows_of}
-use Rattle.mdblock_definitions.proofs.LeftLines.{underline-is-left}
 use Rattle.mdblock_definitions.proofs.PlainLetters.{letters-are-plain}
 use Rattle.mdblock_definitions.proofs.SectionTight.{all-sections-tight}
 use Rattle.mdblock_definitions.proofs.SectionsReady.{document-goes}
@@ -310,7 +309,7 @@ blocks-with-stretch options a b is rest goes = by (lines_in (virtual options.tab
         let first = sections on (document_rows on t a) in
         let second = map (moved_section n (length a)) (sections on (document_rows on t b)) in
         blocks-at-seam options a b is rest line behind e goes h
-        (λ x is. stretch-at-seam underline-is-left on t a b rest goes line behind e rs whole first second h x is.same is.letter_first h.it.end.first.line (near-at-seam underline-is-left on t a b rest goes line behind e rs whole first second h))
+        (λ x is. stretch-at-seam on t a b rest goes line behind e rs whole first second h x is.same is.letter_first h.it.end.first.line (near-at-seam on t a b rest goes line behind e rs whole first second h))
         (seam-text on n (length a) one line behind there on_behind Place whole first second (ap (λ l. map (moved_section n (length a)) (sections on (rows on l))) e) h)
         (seam-not-lazy on n (length a) one line behind there on_behind Place whole first second h)
 

@@ -1,20 +1,17 @@
 -- Lines of a stretch that goes on over a rest: their leaf blocks, and that none is an underline.
 use Rattle.mddocument_parts.proofs.Prelude.{AllByRecursion, Bool, Constructs, Line, List, Mark, Seat, [], ap, append_assoc, arith, begins_near, blank_line, bytes_of, cond, false, flat_map-append, is_at_rest, kind_of_line, last_end, leaf_block_marks, leaf_blocks, leaf_blocks_marks, length, line_kind, line_text, lines_in, map, not, refl, subst, sym, take, text_of, true, ℕ, ◌&&◌, ◌++◌, ◌∙◌, ◌∷◌, ◌≡◌, ◌≤◌}
-use Rattle.std.proofs.Common.{length-append, length-drop, nat_le, suc, ◌+◌, ◌<◌, ◌==◌, ◌||◌}
+use Rattle.std.proofs.Common.{length-append, nat_le, suc, ◌<◌, ◌||◌}
 use Rattle.std.proofs.Math.Bool.{and-false}
 use Rattle.std.proofs.Math.Seq.{take-append_seam}
 use Rattle.std.proofs.lemmas.Bool.{leb-false}
 use Rattle.std.proofs.lemmas.List.{length-take-le}
-use Rattle.std.specs.List.{prefix_len}
 use Rattle.std.specs.Prelude.{is_some}
 use Rattle.markdown_base.proofs.Common.{and-right}
 use Rattle.markdown_base.proofs.Facts.Bools.{and-left}
 use Rattle.markdown_tokenizer.proofs.Positions.Order.{every-back, every-front}
-use Rattle.mdinline_labels.specs.Definitions.{rest}
 use Rattle.mdblock_leaf_blocks.proofs.Lines.WholeLines.{IsWhole}
 use Rattle.mdblock_leaf_blocks.specs.BlocksRead.{block_seats}
-use Rattle.mdblock_leaf_blocks.specs.LineKinds.{indent, is_blank_line, underline_rank}
-use Rattle.mdblock_containers.proofs.LazyLemmas.{underline_some}
+use Rattle.mdblock_leaf_blocks.specs.LineKinds.{is_blank_line, underline_rank}
 use Rattle.mdblock_containers.proofs.PartGoes.{lines_end_behind, lines_end_front}
 use Rattle.mdblock_containers.proofs.SeatFacts.{LineIs, LinesEnd}
 use Rattle.mdblock_containers.specs.Rows as without
@@ -27,9 +24,11 @@ use Rattle.mdblock_definitions.proofs.SectionLemmas.{tens}
 use Rattle.mdblock_definitions.proofs.SectionTurns.{not-blank-some}
 use Rattle.mdblock_definitions.specs.Rows.{Known, is_behind_text, is_used_up, known_after, row_of, rows_from, underlines_nothing}
 use Rattle.mdblock_definitions.specs.Sections.{before_defined, defined_in, lines_defined, lines_of, paragraph_of, text_in}
+use Rattle.mdblock_paragraphs.proofs.SaidRows.{full-line, full-more, none-here, paragraph-more, some-long, text_after}
+use Rattle.mdblock_paragraphs.proofs.ShownLines.{text-twice}
 use Rattle.mddocument_parts.proofs.DocumentLabels.{leaf-behind}
 use Rattle.mddocument_parts.proofs.Rests.{rests-cut-blocks}
-use Rattle.mddocument_parts.proofs.WithoutContainers.Stretch.{shut-behind, cut_last, text-twice, IsStretch, front-dropped, front-taken, held-both, held_lines, last-both, stretch}
+use Rattle.mddocument_parts.proofs.WithoutContainers.Stretch.{shut-behind, cut_last, IsStretch, front-dropped, front-taken, held-both, held_lines, last-both, stretch}
 use Rattle.mddocument_parts.proofs.WithoutContainers.CutOff.{lines-held, lines-whole}
 use Rattle.mddocument_parts.proofs.WithoutContainers.Leaves.{HasText, is_left, kept, last_line, leaf_behind, leaf_next, not-left, one-kept}
 use Rattle.mddocument_parts.proofs.WithoutContainers.PlainParts.{IsBare, further-plain, known-plain, plain_before, plain_row, plain_rows, row-plain, take-plain}
@@ -193,69 +192,21 @@ module _ (on : Constructs) where
         near = near;
       }
 
--- ==== Lines of sections in which no definitions begin: none of them is text because the text before it is of definitions alone. So it is if an underline behind a text of definitions alone is all that is left of the longer text.
--- of a text of definitions alone, and an underline behind it, the line is left that would be one, with what comes behind it
-abbrev pub LineIsLeft : Type 0
-LineIsLeft = (on : Constructs) (text line more : List ℕ) → is_used_up text ≡ true → EndsFull text → is_some (underline_rank on line) ≡ true → rest (text ++ 10 ∷ (line ++ more)) ≡ line ++ more
-
-full-more : (xs ys : List ℕ) → EndsFull ys → EndsFull (xs ++ ys)
-full-more xs ys h = record { front = xs ++ h.front; last = h.last; is = ap (λ l. xs ++ l) h.is ∙ sym (append_assoc xs h.front (h.last ∷ [])); full = h.full }
-
-full-line : (xs : List ℕ) → has_none xs ≡ false → tens xs ≡ 0 → EndsFull xs
-full-line [] h e = absurd (cc)
-full-line (x ∷ []) h e = record { front = []; last = x; is = refl; full = by (x == 10) e }
-  where
-    by : (b : Bool) → length (cond b (x ∷ []) []) ≡ 0 → b ≡ false
-    by true e = absurd (omega (arith, e))
-    by false e = refl
-full-line (x ∷ y ∷ xs) h e = full-more (x ∷ []) (y ∷ xs) (full-line (y ∷ xs) refl (omega (arith, e, tens-both (x ∷ []) (y ∷ xs))))
-
--- what comes behind a line of a paragraph
-abbrev pub behind_text : List Row → List ℕ
-behind_text ps = cond (has_none ps) [] (10 ∷ text_in ps)
-
-more-text : (text : List ℕ) (r : Row) (ps : List Row) → text ++ behind_text (r ∷ ps) ≡ (text ++ 10 ∷ rest_of r) ++ behind_text ps
-more-text text r ps = sym (append_assoc text (10 ∷ rest_of r) (behind_text ps))
-
-pub paragraph-more : (r : Row) (rs : List Row) → is_paragraph r.leaf ≡ true → paragraph_of (r ∷ rs) ≡ r ∷ paragraph_of rs
-paragraph-more r rs e =
-    let n = prefix_len (λ (row : Row). is_paragraph row.leaf) rs in
-    let one : 1 + n ≡ suc n = omega arith in
-    ap (λ b. take (cond b (1 + n) 0) (r ∷ rs)) e ∙ ap (λ k. take k (r ∷ rs)) one
+-- ==== Lines of sections in which no definitions begin: none of them is text because the text before it is of definitions alone.
+more-text : (text : List ℕ) (r : Row) (ps : List Row) → text ++ text_after (r ∷ ps) ≡ (text ++ 10 ∷ rest_of r) ++ text_after ps
+more-text text r ps = sym (append_assoc text (10 ∷ rest_of r) (text_after ps))
 
 some-full : (text : List ℕ) → 0 < lines_of text → has_none text ≡ false
 some-full [] h = absurd (omega (arith, h))
 some-full (x ∷ text) h = refl
 
-pub some-long : (text : List ℕ) → has_none text ≡ false → 0 < length text
-some-long [] h = absurd (cc)
-some-long (x ∷ text) h = omega arith
-
-module _ (left : LineIsLeft) (on : Constructs) (defines : on.definition ≡ true) where
+module _ (on : Constructs) (defines : on.definition ≡ true) where
   -- where a paragraph is open, the definitions at its front have fewer lines than it has so far
   pub record Inside (k : Known) (rows : List Row) : Type 0 where
-    pub few : lines_defined (k.text ++ behind_text (paragraph_of rows)) < lines_of k.text
+    pub few : lines_defined (k.text ++ text_after (paragraph_of rows)) < lines_of k.text
     pub full : EndsFull k.text
 
-  -- the definitions at the front of a text have all lines before such a line
-  none-here : (text t more : List ℕ) → EndsFull text → is_used_up text ≡ true → is_some (underline_rank on t) ≡ true → lines_defined (text ++ 10 ∷ (t ++ more)) ≡ lines_of text
-  none-here text t more full used underline =
-      let w = t ++ more in
-      let y = text ++ 10 ∷ w in
-      let gone : rest y ≡ w = left on text t more used full underline in
-      let some = underline_some on t underline in
-      let few = length-drop (indent t) t in
-      let size = length-append t more in
-      let one = ap (λ (l : List ℕ). length l) full.is in
-      let two = length-append full.front (full.last ∷ []) in
-      let three = length-append text (10 ∷ w) in
-      let behind = ap lines_of gone ∙ lines-some w (omega (arith, some, few, size)) in
-      let whole = lines-some y (omega (arith, three)) in
-      let here = lines-some text (omega (arith, one, two)) in
-      let tens-are = tens-both text (10 ∷ w) in
-      omega (arith, behind, whole, here, tens-are)
-
-  -- so it is none where fewer have
+  -- so no line is an underline of definitions alone: they would have all lines before it
   not-here : (k : Known) (n : ℕ) (line : Line) (rows : List Row) → (is_paragraph k.before.leaf ≡ true → Inside k (row_of on k n line ∷ rows)) → underlines_nothing on k (without.row_of on k.before n line) ≡ false
   not-here k n line rows inside = by (underlines_nothing on k plain) refl
     where
@@ -275,9 +226,9 @@ module _ (left : LineIsLeft) (on : Constructs) (defines : on.definition ≡ true
           let there = inside is-open in
           let text : is_paragraph row.leaf ≡ true = ap (λ u. is_paragraph (cond u open_paragraph plain.leaf)) e in
           let more = paragraph-more row rows text in
-          let many = none-here k.text (rest_of plain) (behind_text (paragraph_of rows)) there.full (and-right underline used last) (and-left underline used last) in
+          let many = none-here on k.text (rest_of plain) (text_after (paragraph_of rows)) there.full (and-right underline used last) (and-left underline used last) in
           let few = there.few in
-          let same : lines_defined (k.text ++ behind_text (paragraph_of (row ∷ rows))) ≡ lines_of k.text = ap (λ ps. lines_defined (k.text ++ behind_text ps)) more ∙ many in
+          let same : lines_defined (k.text ++ text_after (paragraph_of (row ∷ rows))) ≡ lines_of k.text = ap (λ ps. lines_defined (k.text ++ text_after ps)) more ∙ many in
           absurd (omega (arith, few, same))
 
   -- the row behind which a paragraph is open
@@ -298,11 +249,11 @@ module _ (left : LineIsLeft) (on : Constructs) (defines : on.definition ≡ true
     ps = paragraph_of rows
 
     -- it goes on, if definitions have no more lines than it had
-    pub goes-on : is_behind_text k.before row ≡ true → lines_defined (k.text ++ behind_text (paragraph_of (row ∷ rows))) ≤ lines_of k.text → has_none k.text ≡ false → Inside next rows
+    pub goes-on : is_behind_text k.before row ≡ true → lines_defined (k.text ++ text_after (paragraph_of (row ∷ rows))) ≤ lines_of k.text → has_none k.text ≡ false → Inside next rows
     goes-on e few full-text =
         let text : next.text ≡ k.text ++ 10 ∷ rest_of row = (λ i. cond (is-open i) (cond (e i) (k.text ++ 10 ∷ rest_of row) (rest_of row)) []) in
-        let same : lines_defined (next.text ++ behind_text ps) ≡ lines_defined (k.text ++ behind_text (paragraph_of (row ∷ rows))) =
-        ap (λ t. lines_defined (t ++ behind_text ps)) text ∙ ap lines_defined (sym (more-text k.text row ps)) ∙ ap (λ qs. lines_defined (k.text ++ behind_text qs)) (sym (paragraph-more row rows is-open)) in
+        let same : lines_defined (next.text ++ text_after ps) ≡ lines_defined (k.text ++ text_after (paragraph_of (row ∷ rows))) =
+        ap (λ t. lines_defined (t ++ text_after ps)) text ∙ ap lines_defined (sym (more-text k.text row ps)) ∙ ap (λ qs. lines_defined (k.text ++ text_after qs)) (sym (paragraph-more row rows is-open)) in
         let here = lines-some k.text (some-long k.text full-text) in
         let size = length-append k.text (10 ∷ rest_of row) in
         let both = tens-both k.text (10 ∷ rest_of row) in
@@ -313,10 +264,10 @@ module _ (left : LineIsLeft) (on : Constructs) (defines : on.definition ≡ true
     pub begins : is_behind_text k.before row ≡ false → nat_le 1 (defined_in on (row ∷ rows)) ≡ false → Inside next rows
     begins e nothing =
         let text : next.text ≡ rest_of row = (λ i. cond (is-open i) (cond (e i) (k.text ++ 10 ∷ rest_of row) (rest_of row)) []) in
-        let zero-many : defined_in on (row ∷ rows) ≡ lines_defined (rest_of row ++ behind_text ps) = ap (λ b. cond b (lines_defined (text_in (paragraph_of (row ∷ rows)))) 0) defines ∙ ap (λ qs. lines_defined (text_in qs)) (paragraph-more row rows is-open) in
+        let zero-many : defined_in on (row ∷ rows) ≡ lines_defined (rest_of row ++ text_after ps) = ap (λ b. cond b (lines_defined (text_in (paragraph_of (row ∷ rows)))) 0) defines ∙ ap (λ qs. lines_defined (text_in qs)) (paragraph-more row rows is-open) in
         let long = lines-some (rest_of row) (some-long (rest_of row) (not-blank-some (rest_of row) full)) in
         let here = ap lines_of text in
-        let same : lines_defined (next.text ++ behind_text ps) ≡ lines_defined (rest_of row ++ behind_text ps) = ap (λ t. lines_defined (t ++ behind_text ps)) text in
+        let same : lines_defined (next.text ++ text_after ps) ≡ lines_defined (rest_of row ++ text_after ps) = ap (λ t. lines_defined (t ++ text_after ps)) text in
         let few = leb-false 1 (defined_in on (row ∷ rows)) nothing in
         record { few = omega (arith, few, same, zero-many, long, here); full = subst EndsFull (sym text) line-full }
 

@@ -25,7 +25,7 @@ use Rattle.mddocument_parts.proofs.JoinedDocument.{all-bare, bare-from, first-of
 use Rattle.mddocument_parts.proofs.JoinedMarks.{lines_of}
 use Rattle.mddocument_parts.proofs.JoinedSections.{lefts}
 use Rattle.mddocument_parts.proofs.MovedBlocks.{text-moved}
-use Rattle.mddocument_parts.proofs.NoUnderlines.{LineIsLeft, goes-on, EndsBefore}
+use Rattle.mddocument_parts.proofs.NoUnderlines.{goes-on, EndsBefore}
 use Rattle.mddocument_parts.proofs.JoinedChunks.{DocumentPlace, Good, PlaceAt, anew, directly, known_at_end}
 use Rattle.mddocument_parts.proofs.SectionRows.{AllLeft}
 use Rattle.mddocument_parts.proofs.StretchStarts.{stretch-ends, stretch-ends-before, StartsClosed, State, rows_at, whole-next, Used}
@@ -138,7 +138,7 @@ module _ (on : Constructs) where
               absurd (cc)
 
   -- ---- the last stretch
-  module _ (left : LineIsLeft) (end : Known) (stack : end.before.stack ≡ []) (shut : is_closed end.before.leaf ≡ true) (q : Row) (more bs : List Row) (full : q.is_blank ≡ false) (bare : AllByRecursion IsBare (q ∷ (more ++ bs))) (stay : AllStay (more ++ bs)) (lefts : AllLeft bs)
+  module _ (end : Known) (stack : end.before.stack ≡ []) (shut : is_closed end.before.leaf ≡ true) (q : Row) (more bs : List Row) (full : q.is_blank ≡ false) (bare : AllByRecursion IsBare (q ∷ (more ++ bs))) (stay : AllStay (more ++ bs)) (lefts : AllLeft bs)
       (reach : further (more ++ bs) ≡ length more) (whole : before_defined on false (q ∷ (more ++ bs)) ≡ length (q ∷ (more ++ bs))) (is_behind : Bool) (x : Line) (same : is_behind ≡ false → x ≡ q.line) (lettered : is_behind ≡ true → BeginsLetter x) (l : Line)
       (near : begins_near (kind_of_line on l) ≡ true) where
     abbrev Goal : Type 0
@@ -152,7 +152,7 @@ module _ (on : Constructs) where
         let both = first-of on q r (more ++ bs) rs are in
         let first : r.line ≡ x = sym (ap (λ (r : Row). r.line) both.0) ∙ sym (same plain) in
         subst (λ y. EndsBefore on (y ∷ lines_of more) (lines_of bs) l) first
-        (stretch-ends-before on left k n line ls starts (sym (ap (λ (r : Row). r.is_blank) both.0) ∙ full) (subst (λ rows. before_defined on false rows ≡ length rows) are whole) (subst (AllByRecursion IsBare) are bare) (subst AllStay both.1 stay) deep more bs (sym both.1) lefts
+        (stretch-ends-before on k n line ls starts (sym (ap (λ (r : Row). r.is_blank) both.0) ∙ full) (subst (λ rows. before_defined on false rows ≡ length rows) are whole) (subst (AllByRecursion IsBare) are bare) (subst AllStay both.1 stay) deep more bs (sym both.1) lefts
         (sym (ap further both.1) ∙ reach) (ap (λ (k : Known). k.before.stack) known ∙ stack) (ap (λ (k : Known). is_closed k.before.leaf) known ∙ shut) l near)
 
     ends-directly : (k : Known) (n : ℕ) (ls : List Line) → q ∷ (more ++ bs) ≡ rows_from on k n ls → known_behind on k n ls ≡ end → IsDeep on k → is_behind ≡ begins_text (rows_from on k n ls) → Used on k (rows_from on k n ls) → AllStay (rows_from on k n ls) → Goal
@@ -168,8 +168,8 @@ module _ (on : Constructs) where
         let none = ap (λ (k : Known). k.before.stack) known ∙ stack in
         let parts = whole-next on false r rs (subst (λ rows. before_defined on false rows ≡ length rows) are whole) in
         let one : is_blank_line (text_of x) ≡ false = first-full is_behind refl (λ e. ap (λ (r : Row). r.line) both.0) here in
-        stretch-ends on left k n line ls x (known-bare k n line ls r_full deep all-stay.1 none) one (first-leaf is_behind refl (ap (λ (r : Row). r.line) both.0) r_full text here stays)
-        (λ defines e. goes-on left on defines k n line rs e (λ i. stays i && used.is_open i) used.few used.text) parts.1 bares.1 all-stay.1 deep more bs (sym both.1) lefts
+        stretch-ends on k n line ls x (known-bare k n line ls r_full deep all-stay.1 none) one (first-leaf is_behind refl (ap (λ (r : Row). r.line) both.0) r_full text here stays)
+        (λ defines e. goes-on on defines k n line rs e (λ i. stays i && used.is_open i) used.few used.text) parts.1 bares.1 all-stay.1 deep more bs (sym both.1) lefts
         (sym (ap further both.1) ∙ reach) none (ap (λ (k : Known). is_closed k.before.leaf) known ∙ shut) l near
       where
         r : Row
@@ -198,7 +198,7 @@ module _ (on : Constructs) where
         by s are known deep (directly flag used all) = ends-directly s.known s.number s.lines are known deep flag used all
 
 -- ---- at a seam of a document
-module _ (left : LineIsLeft) (on : Constructs) (t : ℕ) (a b : List ℕ) (rest : begins_at_document_rest on t a b ≡ true) (goes : goes_on_behind on (lines_in (virtual t a)) (lines_in (virtual t b)) ≡ true) (line : Line) (behind : List Line) (are : lines_in (virtual t b) ≡ line ∷ behind)
+module _ (on : Constructs) (t : ℕ) (a b : List ℕ) (rest : begins_at_document_rest on t a b ≡ true) (goes : goes_on_behind on (lines_in (virtual t a)) (lines_in (virtual t b)) ≡ true) (line : Line) (behind : List Line) (are : lines_in (virtual t b) ≡ line ∷ behind)
     (rs : List Row) (whole first second : List Section)
     (h : let r = moved_row (line_endings a) (length a) (row_of on (known_at_start on) 1 line) in SectionSeam (DocumentPlace on t a) (at_top r) (document_rows on t a) r rs whole first second) where
   abbrev one : List Line
@@ -221,4 +221,4 @@ module _ (left : LineIsLeft) (on : Constructs) (t : ℕ) (a b : List ℕ) (rest 
       let end = stretches-go-on-at-top on one line there on_behind in
       let shut = and-left (is_closed (known_at_end on one).before.leaf) _ there in
       let bare = bare-from on (known_at_start on) 1 one end.0 h.above h.it.begin.first (h.it.begin.more ++ firsts h.it.blanks) h.rows_are h.it.full h.it.stay in
-      ends-at on left (known_at_end on one) end.0 shut h.it.begin.first h.it.begin.more (firsts h.it.blanks) h.it.full bare h.it.stay (lefts h.it.blanks h.it.are_blank) h.it.reach h.within.place.1 h.within.is_behind x same lettered l near h.within.place
+      ends-at on (known_at_end on one) end.0 shut h.it.begin.first h.it.begin.more (firsts h.it.blanks) h.it.full bare h.it.stay (lefts h.it.blanks h.it.are_blank) h.it.reach h.within.place.1 h.within.is_behind x same lettered l near h.within.place

@@ -28,11 +28,12 @@ use Rattle.mdblock_definitions.proofs.Shorter.{definitions-shorter, left-begins}
 use Rattle.mdblock_definitions.specs.Rows.{Known, is_behind_text, is_used_up, known_after, row_of, rows_from, underlines_nothing}
 use Rattle.mdblock_definitions.specs.Sections.{before_defined, defined_in, lines_defined, lines_of as text_lines, paragraph_of, text_in}
 use Rattle.mdblock_definitions.specs.Skeleton.{all_rows}
+use Rattle.mdblock_paragraphs.proofs.SaidRows.{paragraph-more, some-long, text_after}
 use Rattle.mddocument_parts.proofs.DocumentLabels.{leaf-behind, left-is-blank}
 use Rattle.mddocument_parts.proofs.JoinedDocument.{IsDeep, deep-next, last-holds-from}
 use Rattle.mddocument_parts.proofs.JoinedMarks.{lines_of}
 use Rattle.mddocument_parts.proofs.JoinedSections.{parts_by}
-use Rattle.mddocument_parts.proofs.NoUnderlines.{Inside, LineIsLeft, begins, behind_text, none-underlines, paragraph-more, some-long, EndsBefore, NoneUnderlines, are-plain, ends-before}
+use Rattle.mddocument_parts.proofs.NoUnderlines.{Inside, begins, none-underlines, EndsBefore, NoneUnderlines, are-plain, ends-before}
 use Rattle.mddocument_parts.proofs.SectionRows.{AllLeft, LeftIsBlank}
 use Rattle.mddocument_parts.proofs.WithoutContainers.Leaves.{leaf_next}
 use Rattle.mddocument_parts.proofs.WithoutContainers.PlainParts.{IsBare, plain_before}
@@ -304,7 +305,7 @@ module _ (on : Constructs) where
       (ap (λ b. b && (is_behind_text k.before plain && (is_some (underline_rank on (rest_of plain)) && is_used_up k.text))) off, none-off off (known_after on k (row_of on k n line)) (suc n) ls)
 
   -- A stretch, by what is known behind its first line, and by a line of which leaf blocks are read in place of that
-  module _ (left : LineIsLeft) (k : Known) (n : ℕ) (line : Line) (ls : List Line) where
+  module _ (k : Known) (n : ℕ) (line : Line) (ls : List Line) where
     abbrev q : Row
     q = row_of on k n line
 
@@ -314,7 +315,7 @@ module _ (on : Constructs) where
     abbrev behind : List Row
     behind = rows_from on next (suc n) ls
 
-    pub stretch-ends : (x : Line) → next.before ≡ plain_before on q.leaf → is_blank_line (text_of x) ≡ false → leaf_next on closed x ≡ q.leaf → ((defines : on.definition ≡ true) → is_paragraph q.leaf ≡ true → Inside left on defines next behind)
+    pub stretch-ends : (x : Line) → next.before ≡ plain_before on q.leaf → is_blank_line (text_of x) ≡ false → leaf_next on closed x ≡ q.leaf → ((defines : on.definition ≡ true) → is_paragraph q.leaf ≡ true → Inside on defines next behind)
         → before_defined on (is_paragraph q.leaf) behind ≡ length behind → AllByRecursion IsBare behind → AllStay behind → IsDeep on k → (more bs : List Row) → behind ≡ more ++ bs → AllLeft bs → further behind ≡ length more
         → (known_behind on k n (line ∷ ls)).before.stack ≡ [] → is_closed (known_behind on k n (line ∷ ls)).before.leaf ≡ true → (l : Line) → begins_near (kind_of_line on l) ≡ true → EndsBefore on (x ∷ lines_of more) (lines_of bs) l
     stretch-ends x known full opens inside whole bare stay deep more bs are lefts reach stack shut l near =
@@ -333,7 +334,7 @@ module _ (on : Constructs) where
           where
             by : (b : Bool) → on.definition ≡ b → NoneUnderlines on next (suc n) ls
             by false off = none-off off next (suc n) ls
-            by true defines = none-underlines left on defines next (suc n) ls stay (λ e. inside defines (sym (ap is_paragraph leaf) ∙ e)) (ap (λ l. before_defined on (is_paragraph l) behind) leaf ∙ whole)
+            by true defines = none-underlines on defines next (suc n) ls stay (λ e. inside defines (sym (ap is_paragraph leaf) ∙ e)) (ap (λ l. before_defined on (is_paragraph l) behind) leaf ∙ whole)
 
     -- from the first line of a part on, where no definitions begin in the stretch
     module _ (starts : StartsClosed on k n (line ∷ ls)) (full : q.is_blank ≡ false) where
@@ -347,7 +348,7 @@ module _ (on : Constructs) where
           let same : rest_of q ≡ text_of line = ap (λ c. drop c (text_of line)) columns in
           let parts = whole-next on false q behind whole in
           stretch-ends line (head-known on k n line starts kept bare.0) (ap is_blank_line (sym same) ∙ full) (head-leaf on k n line starts kept bare.0 full)
-          (λ defines e. begins left on defines k n line behind e (no-text on k n line starts kept) parts.0) parts.1 bare.1 stay deep more bs are lefts reach stack shut l near
+          (λ defines e. begins on defines k n line behind e (no-text on k n line starts kept) parts.0) parts.1 bare.1 stay deep more bs are lefts reach stack shut l near
 
 -- ==== Directly behind the definitions of a paragraph: its text so far is that of the definitions, and nothing is left of it.
 -- ---- texts
@@ -384,17 +385,17 @@ abbrev is_open : Row → Bool
 is_open r = is_paragraph r.leaf
 
 -- lines of a paragraph, and those behind them
-behind-cut : (d : ℕ) (rs : List Row) → d ≤ prefix_len is_open rs → behind_text (paragraph_of rs) ≡ behind_text (take d rs) ++ behind_text (paragraph_of (drop d rs))
+behind-cut : (d : ℕ) (rs : List Row) → d ≤ prefix_len is_open rs → text_after (paragraph_of rs) ≡ text_after (take d rs) ++ text_after (paragraph_of (drop d rs))
 behind-cut zero rs h = refl
 behind-cut (suc d) [] h = absurd (omega (arith, h))
 behind-cut (suc d) (r ∷ rs) h = by (behind-cut d rs) (is_open r) refl h
   where
-    by : (d ≤ prefix_len is_open rs → behind_text (paragraph_of rs) ≡ behind_text (take d rs) ++ behind_text (paragraph_of (drop d rs))) → (b : Bool) → is_open r ≡ b → suc d ≤ cond b (1 + prefix_len is_open rs) 0 → behind_text (paragraph_of (r ∷ rs)) ≡ behind_text (take (suc d) (r ∷ rs)) ++ behind_text (paragraph_of (drop d rs))
+    by : (d ≤ prefix_len is_open rs → text_after (paragraph_of rs) ≡ text_after (take d rs) ++ text_after (paragraph_of (drop d rs))) → (b : Bool) → is_open r ≡ b → suc d ≤ cond b (1 + prefix_len is_open rs) 0 → text_after (paragraph_of (r ∷ rs)) ≡ text_after (take (suc d) (r ∷ rs)) ++ text_after (paragraph_of (drop d rs))
     by later false e k = absurd (omega (arith, k))
     by later true e k =
-        ap behind_text (paragraph-more r rs e)
+        ap text_after (paragraph-more r rs e)
         ∙ ap (λ l. 10 ∷ (rest_of r ++ l)) (later (omega (arith, k)))
-        ∙ ap (λ l. 10 ∷ l) (sym (append_assoc (rest_of r) (behind_text (take d rs)) (behind_text (paragraph_of (drop d rs)))))
+        ∙ ap (λ l. 10 ∷ l) (sym (append_assoc (rest_of r) (text_after (take d rs)) (text_after (paragraph_of (drop d rs)))))
 
 module _ (on : Constructs) where
   -- Directly behind definitions: their text is used up, and the paragraph goes on behind it or ends
@@ -403,13 +404,13 @@ module _ (on : Constructs) where
     pub is_open : is_paragraph k.before.leaf ≡ true
     pub used : is_used_up k.text ≡ true
     pub text : has_none k.text ≡ false
-    pub few : lines_defined (k.text ++ behind_text (paragraph_of rows)) ≤ text_lines k.text
+    pub few : lines_defined (k.text ++ text_after (paragraph_of rows)) ≤ text_lines k.text
     pub none : defined_in on rows ≡ 0
 
   -- the text of an open paragraph, so many lines on
   pub record Grown (m : ℕ) (k : Known) (n : ℕ) (ls : List Line) : Type 0 where
     pub is_open : is_paragraph (state_on on m k n ls).known.before.leaf ≡ true
-    pub text : (state_on on m k n ls).known.text ≡ k.text ++ behind_text (take m (rows_from on k n ls))
+    pub text : (state_on on m k n ls).known.text ≡ k.text ++ text_after (take m (rows_from on k n ls))
 
   -- a row of a paragraph is not left blank, and stays if it may be in a stretch
   not-left : (r : Row) → LeftIsBlank r → is_paragraph r.leaf ≡ true → r.is_left_blank ≡ false
@@ -444,7 +445,7 @@ module _ (on : Constructs) where
           let more = later (leaf-behind on (open-not-blank on) k n line ∙ f) stay.1 (omega (arith, few)) in
           record {
             is_open = more.is_open;
-            text = more.text ∙ ap (λ t. t ++ behind_text (take m rows)) text ∙ append_assoc k.text (10 ∷ rest_of row) (behind_text (take m rows));
+            text = more.text ∙ ap (λ t. t ++ text_after (take m rows)) text ∙ append_assoc k.text (10 ∷ rest_of row) (text_after (take m rows));
           }
 
   -- a paragraph that begins with definitions begins in the first of lines
@@ -500,26 +501,26 @@ module _ (on : Constructs) where
           let few : d ≤ prefix_len is_open more = omega (arith, e, within, size) in
           let g = grown d next (suc n) ls (leaf-behind on (open-not-blank on) k n line ∙ is_text) stay few in
           let first : next.text ≡ rest_of row = (λ i. cond (is_text i) (cond (start i) (k.text ++ 10 ∷ rest_of row) (rest_of row)) []) in
-          let text : s.known.text ≡ text_in (take (suc d) rows) = g.text ∙ ap (λ t. t ++ behind_text (take d more)) first in
-          let whole : text_in (take (suc d) rows) ++ behind_text (paragraph_of (drop d more)) ≡ text_in (paragraph_of rows) =
-          append_assoc (rest_of row) (behind_text (take d more)) (behind_text (paragraph_of (drop d more)))
+          let text : s.known.text ≡ text_in (take (suc d) rows) = g.text ∙ ap (λ t. t ++ text_after (take d more)) first in
+          let whole : text_in (take (suc d) rows) ++ text_after (paragraph_of (drop d more)) ≡ text_in (paragraph_of rows) =
+          append_assoc (rest_of row) (text_after (take d more)) (text_after (paragraph_of (drop d more)))
           ∙ ap (λ l. rest_of row ++ l) (sym (behind-cut d more few))
           ∙ sym (ap text_in (paragraph-more row more is_text)) in
           let full = not-blank-some (rest_of row) (open-not-blank on k n line is_text) in
-          let some-there : has_none (text_in (take (suc d) rows)) ≡ false = some_more (rest_of row) (behind_text (take d more)) full in
+          let some-there : has_none (text_in (take (suc d) rows)) ≡ false = some_more (rest_of row) (text_after (take d more)) full in
           let long = lines-some (text_in (take (suc d) rows)) (some-long (text_in (take (suc d) rows)) some-there) in
           let count = tens-in row (take d more) in
           let taken = length-take d more in
           let there = prefix_len-le-length is_open more in
           let lines : text_lines (text_in (take (suc d) rows)) ≡ suc d = omega (arith, long, count, taken, few, there) in
           let many : defined_in on rows ≡ lines_defined (text_in (paragraph_of rows)) = ap (λ b. cond b (lines_defined (text_in (paragraph_of rows))) 0) defines in
-          let here : lines_defined (text_in (take (suc d) rows) ++ behind_text (paragraph_of (drop d more))) ≡ suc d = ap lines_defined whole ∙ sym many ∙ e in
+          let here : lines_defined (text_in (take (suc d) rows) ++ text_after (paragraph_of (drop d more))) ≡ suc d = ap lines_defined whole ∙ sym many ∙ e in
           record {
             defines = defines;
             is_open = g.is_open;
             used = ap is_used_up (text ∙ ap (λ m. text_in (take m rows)) (sym e)) ∙ ap (λ (l : List ℕ). has_none l) (used-text rows defines some);
             text = ap (λ (l : List ℕ). has_none l) text ∙ some-there;
-            few = subst (λ t. lines_defined (t ++ behind_text (paragraph_of (drop d more))) ≤ text_lines t) (sym text) (omega (arith, lines, here));
+            few = subst (λ t. lines_defined (t ++ text_after (paragraph_of (drop d more))) ≤ text_lines t) (sym text) (omega (arith, lines, here));
             none = ap (λ m. defined_in on (drop m rows)) (sym e) ∙ nothing-behind on rows some;
           }
 

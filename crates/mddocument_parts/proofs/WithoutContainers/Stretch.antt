@@ -12,6 +12,7 @@ use Rattle.mdblock_leaf_blocks.proofs.Marks.Cuts.{IsCut, IsLong}
 use Rattle.mdblock_leaf_blocks.specs.LineKinds.{is_far, kind_of_rest}
 use Rattle.mdblock_containers.proofs.SeatFacts.{drop_text, take_text}
 use Rattle.mdblock_containers.specs.Rows.{Leaf, closed, holds_ending, leaf_after, open_html, open_paragraph}
+use Rattle.mdblock_paragraphs.proofs.ShownLines.{text-twice}
 use Rattle.mddocument_parts.proofs.DocumentRests.{closed-is}
 use Rattle.mddocument_parts.proofs.Rests.{blank_text, leaf-step}
 use Rattle.mddocument_parts.proofs.WithoutContainers.Leaves.{Acts, Front, HasText, acts-behind, acts-closed, acts-kept, blank-is, ends-by-none, front, is_left, is_open, kept, last_line, leaf_behind, leaf_next, opens, text-goes, until, until-more}
@@ -156,15 +157,7 @@ cut_last [] = []
 cut_last (line ∷ []) = line_text line ∷ []
 cut_last (line ∷ next ∷ lines) = line ∷ cut_last (next ∷ lines)
 
--- ---- the text of a text is itself
-pub text-twice : (line : Line) → line_text (line_text line) ≡ line_text line
-text-twice [] = refl
-text-twice (s ∷ ss) = by (text-twice ss) (is_line_ending s) refl
-  where
-    by : line_text (line_text ss) ≡ line_text ss → (b : Bool) → is_line_ending s ≡ b → line_text (cond (not b) (s ∷ line_text ss) (line_text ss)) ≡ cond (not b) (s ∷ line_text ss) (line_text ss)
-    by more true e = more
-    by more false e = ap (λ b. cond (not b) (s ∷ line_text (line_text ss)) (line_text (line_text ss))) e ∙ ap (λ l. s ∷ l) more
-
+-- ---- the text of a line has no line ending
 pub ending-none : (line : Line) → ending_of (line_text line) ≡ []
 ending-none [] = refl
 ending-none (s ∷ ss) = by (ending-none ss) (is_line_ending s) refl
