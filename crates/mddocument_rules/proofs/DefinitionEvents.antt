@@ -2,6 +2,7 @@
 use Rattle.mddocument_rules.proofs.Prelude.{◌≡◌, ◌∙◌, ℕ, suc, ◌+◌, List, [], ◌∷◌, false, None, append-nil, ap, arith, drop, flat_map, length, map, refl, subst, sym, Event, Definition, document_skeleton, lines_in, rows, Part, Inside, Section, all_rows, defined, lines, sections, sections_marks, text_in, virtual, chained_from}
 use Rattle.std.proofs.lemmas.List.{length-append, length-map}
 use Rattle.mdblock_containers.proofs.SeatFacts.{document_lines}
+use Rattle.mdblock_definitions.proofs.SectionSound.{document-sound}
 use Rattle.mdblock_definitions.proofs.SectionTurns.{document-cut}
 use Rattle.mdblock_definitions.specs.Definitions.{Place, places_in}
 use Rattle.mdblock_definitions.specs.Skeleton.{labels_in, labels_of_section}
@@ -13,7 +14,7 @@ use Rattle.mddocument_rules.proofs.HeldSections.{sections-found}
 use Rattle.mddocument_rules.proofs.HeldSpans.{definitions-are, no-data, spans-calm, spans-read}
 use Rattle.mddocument_rules.proofs.HeldStrings.{AreCalm, read, strings-held}
 use Rattle.mddocument_rules.proofs.HeldTexts.{is_definition, string-other, texts-held}
-use Rattle.mddocument_rules.proofs.SpokenDefinitions.{all-told, sections-sound}
+use Rattle.mddocument_rules.proofs.SpokenDefinitions.{all-told}
 use Rattle.mddocument_rules.specs.ReferenceLaws.{DefinitionsAreOfSections, DefinitionsHaveLabels, parts_of_definitions, parts_of_section}
 
 pub definitions-are-of-sections : DefinitionsAreOfSections
@@ -23,7 +24,7 @@ definitions-are-of-sections g is =
     let ls = lines_in (virtual t g.bytes) in
     let ss : List Section = sections on (rows on ls) in
     let uss : List (List Event) = flat_map (parts_of_section g.bytes) ss in
-    let found = sections-found g.bytes ss (document-cut g.bytes on ls (document_lines t g.bytes)) (all-told g.bytes ss (sections-sound on ls)) in
+    let found = sections-found g.bytes ss (document-cut g.bytes on ls (document_lines t g.bytes)) (all-told g.bytes ss (document-sound on ls)) in
     let first : held is_definition false (document_skeleton g) ≡ found.events =
     ap (λ l. held is_definition false (chained_from 0 None l)) (sym (append-nil (sections_marks g.bytes ss))) ∙ found.gives [] [] (λ i previous. refl) 0 None ∙ append-nil found.events in
     let texts : held is_definition false (document_texts g) ≡ found.events = texts-held g is (subst AreAlone (sym first) found.alone) ∙ first in

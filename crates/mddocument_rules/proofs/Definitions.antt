@@ -1,8 +1,8 @@
 -- Lists of marks that spans of free names keep: what is in prefixes and in definitions has such names.
-use Rattle.mddocument_rules.proofs.Prelude.{◌≡◌, ℕ, List, [], ◌++◌, true, refl, AllByRecursion, Name, Seat, every-all, Definition, line_text, Mark, leaf_marks, span_marks, Container, Prefix, item, quote, Row, begun_marks, prefixes_marks, AnySeat, any-seats, Walk, leafs, AreInDefinition, MayPrefix, RowAt, definitions-are, places, prefixes}
+use Rattle.mddocument_rules.proofs.Prelude.{◌≡◌, ℕ, List, [], ◌++◌, true, refl, AllByRecursion, flat_map, Name, Seat, every-all, Definition, line_text, Mark, leaf_marks, span_marks, Container, Prefix, item, quote, Row, begun_marks, prefixes_marks, AnySeat, any-seats, Walk, leafs, AreInDefinition, MayPrefix, RowAt, definitions-are, places, prefixes}
 use Rattle.markdown_base.specs.declared.event.Name.TheVariants as name
-use Rattle.mdblock_definitions.specs.Definitions.{definitions_marks, places_in}
-use Rattle.mddocument.proofs.Walks.SkeletonWalk.{begins}
+use Rattle.mdblock_definitions.specs.Definitions.{Place, between, definitions_marks, ending_marks, line_marks, parts_marks, places_in, string_lines}
+use Rattle.mddocument.proofs.Walks.SkeletonWalk.{PlaceIs, begins, endings, of-lines, of-parts, some-places, string-lines-are}
 use Rattle.mddocument_rules.proofs.Places.{is_free}
 
 abbrev pub FreeName : Name → Type 0
@@ -52,10 +52,30 @@ module _ {bytes : List ℕ} {Are : List Mark → Type 0} (w : IsKept bytes Are) 
   data-is : (seats : List Seat) → AllByRecursion AnySeat seats → Are (leaf_marks bytes name.Data seats)
   data-is seats at = leafs w name.Data seats refl at
 
+  -- ---- places, with prefixes between their lines
+  abbrev pub EndingIs : Place → Type 0
+  EndingIs place = PlaceIs w AnyContainer free-prefix AnySeat data-is place
+
+  abbrev pub EndingsAre : List Place → Type 0
+  EndingsAre ps = AllByRecursion EndingIs ps
+
+  pub rows-are : (rs : List Row) → EndingsAre (places_in bytes rs)
+  rows-are rs =
+      places w AnyContainer free-prefix AnySeat data-is rs (every-all (λ (r : Row). AllByRecursion (λ (p : Prefix). AnyContainer p.container) r.went_on) (λ r. any-prefixes r.went_on) rs)
+      (every-all (RowAt AnySeat) (λ r. any-seats (line_text r.line)) rs)
+
+  pub line-ends : (from to : ℕ) (ps : List Place) → EndingsAre ps → Are (flat_map (ending_marks bytes) (between from to ps))
+  line-ends from to ps h = endings w AnyContainer free-prefix AnySeat data-is (between from to ps) (some-places w AnyContainer free-prefix AnySeat data-is from to ps h)
+
+  pub lines-are : (ps : List Place) → EndingsAre ps → Are (line_marks bytes true (string_lines ps))
+  lines-are ps h = of-lines w AnyContainer free-prefix AnySeat data-is true (string_lines ps) (string-lines-are w AnyContainer free-prefix AnySeat data-is ps h)
+
+  -- What is in a definition
+  pub parts-are : (q : Definition) (ps : List Place) → EndingsAre ps → Are (parts_marks bytes q ps)
+  parts-are q ps h = of-parts w AnyContainer free-prefix AnySeat data-is in-definition q ps h
+
   -- Definitions of such rows, each by its span
   pub defined-in-rows : (All : List Mark → Type 0) → All [] → ((xs ys : List Mark) → All xs → All ys → All (xs ++ ys)) → ((ms : List Mark) → Are ms → All ms)
       → ((seats : List Seat) (inside : List Mark) → Are inside → All (span_marks bytes name.Definition seats inside)) → (ds : List Definition) (rs : List Row) → All (definitions_marks bytes ds (places_in bytes rs))
   defined-in-rows All none both any one ds rs =
-      definitions-are w AnyContainer free-prefix AnySeat data-is in-definition All none both any one ds (places_in bytes rs)
-      (places w AnyContainer free-prefix AnySeat data-is rs (every-all (λ (r : Row). AllByRecursion (λ (p : Prefix). AnyContainer p.container) r.went_on) (λ r. any-prefixes r.went_on) rs)
-      (every-all (RowAt AnySeat) (λ r. any-seats (line_text r.line)) rs))
+      definitions-are w AnyContainer free-prefix AnySeat data-is in-definition All none both any one ds (places_in bytes rs) (rows-are rs)

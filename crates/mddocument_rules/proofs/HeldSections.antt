@@ -9,8 +9,7 @@ use Rattle.mdblock_definitions.proofs.SectionTurns.{AreCut}
 use Rattle.mdblock_definitions.specs.Definitions.{Place, between, definition_marks, definitions_marks, parts_marks, places_in, seats_of}
 use Rattle.mdblock_definitions.specs.Definitions as definitions
 use Rattle.mddocument_laws.proofs.Chosen.{AreOther}
-use Rattle.mddocument_rules.proofs.Definitions.{FreeName, IsKept, begins-are, kept, prefixes-are}
-use Rattle.mddocument_rules.proofs.DefinitionWalk.{EndingIs, EndingsAre, line-ends, parts-are, rows-are}
+use Rattle.mddocument_rules.proofs.Definitions.{EndingIs, EndingsAre, FreeName, IsKept, begins-are, kept, line-ends, parts-are, prefixes-are, rows-are}
 use Rattle.mddocument_rules.proofs.Held.{AreAlone, IsAlone, held, held_one}
 use Rattle.mddocument_rules.proofs.HeldSpans.{Spans, spans-both}
 use Rattle.mddocument_rules.proofs.HeldStrings.{is_quiet}

@@ -7,16 +7,17 @@ use Rattle.markdown_edits.proofs.Balanced.{IsBalanced-pair, balanced_from_open, 
 use Rattle.markdown_edits.specs.OpenNames.{names_after, names_after_all}
 use Rattle.mdinline_link_strings.proofs.Kept.{data-is}
 use Rattle.mdinline_link_strings.specs.Strings.{in_string_after, is_data, is_string, line_as_string, seats_between, with_strings}
+use Rattle.mdblock_definitions.proofs.SectionSound.{document-sound}
 use Rattle.mdblock_definitions.specs.Definitions.{Place, between, gap_marks, line_marks, parts_marks, places_in, places_of, seats_of, string_lines, text_of}
 use Rattle.mdblock_definitions.specs.Sectioned.{AreSound, IsSound}
 use Rattle.mddocument_link_targets.proofs.SpanEnds.{spans-end}
 use Rattle.mddocument_link_targets.specs.Spans.{enters, first_in, inside}
 use Rattle.mddocument_rules.proofs.DefinitionEvents.{definitions-are-of-sections}
-use Rattle.mddocument_rules.proofs.DefinitionWalk.{EndingIs, EndingsAre, behind_label, lines-are, rows-are}
+use Rattle.mddocument_rules.proofs.Definitions.{EndingIs, EndingsAre, lines-are, rows-are}
 use Rattle.mddocument_rules.proofs.HeldSections.{bare, inner-kept}
 use Rattle.mddocument_rules.proofs.HeldSpans.{read-both}
 use Rattle.mddocument_rules.proofs.HeldStrings.{AreOutside, first-stays, read}
-use Rattle.mddocument_rules.proofs.SpokenDefinitions.{AreLabelled, IsLabelled, before-bytes, gap-no-data, label-seat, letter-seat, letters-are, no-data-both, no-data-leaf, section-labelled, sections-sound}
+use Rattle.mddocument_rules.proofs.SpokenDefinitions.{AreLabelled, IsLabelled, before-bytes, behind_label, gap-no-data, label-seat, letter-seat, letters-are, no-data-both, no-data-leaf, section-labelled}
 use Rattle.mddocument_rules.proofs.TextItems.{string-balanced}
 use Rattle.mddocument_rules.specs.ReferenceLaws.{LabelsAreOfSections, label_events_of_section, labels_of_definitions, parts_of_definitions, parts_of_section}
 
@@ -183,4 +184,4 @@ labels-are-of-sections g is =
     let ss : List Section = sections on (rows on ls) in
     ap (map (first_in name.DefinitionLabelString)) (definitions-are-of-sections g is)
     ∙ twice on g.tab g.bytes (flat_map (parts_of_section g.bytes) ss)
-    ∙ of-sections on g.tab g.bytes ss (sections-sound on ls)
+    ∙ of-sections on g.tab g.bytes ss (document-sound on ls)

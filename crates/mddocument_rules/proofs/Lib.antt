@@ -21,7 +21,6 @@ mod StandingExamples
 pub mod TextItems
 pub mod TightSpans
 -- definitions: those of events are those of sections
-pub mod DefinitionWalk
 pub mod Held
 pub mod HeldStrings
 pub mod HeldTexts

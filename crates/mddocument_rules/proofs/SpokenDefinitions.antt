@@ -1,5 +1,5 @@
 -- Each definition of a document has a label with text: so it has virtual bytes, and in it a string is entered before any data.
-use Rattle.mddocument_rules.proofs.Prelude.{◌≡◌, ◌∙◌, ℕ, suc, ◌+◌, ◌-◌, Bool, true, false, cond, List, [], ◌∷◌, ◌++◌, None, Option, Some, ap, arith, drop, flat_map, length, map, refl, subst, sym, take, and_parts, false≢true, AllByRecursion, every-append, every-back, every-front, option_and_then, option_map, nat_le, ◌&&◌, not, Constructs, Event, Enter, Exit, Name, Seat, end_after, same_name, event, Definition, Line, Mark, leaf_marks, span_marks, white, Row, rest_of, rows, Part, parts, Inside, Section, defined, lines, cut, sections, sections_in, text_in, all_rows}
+use Rattle.mddocument_rules.proofs.Prelude.{◌≡◌, ◌∙◌, ℕ, suc, ◌+◌, ◌-◌, Bool, true, false, cond, List, [], ◌∷◌, ◌++◌, None, Option, Some, ap, arith, drop, flat_map, length, refl, subst, sym, take, and_parts, false≢true, AllByRecursion, every-append, option_and_then, option_map, nat_le, ◌&&◌, not, Event, Enter, Exit, Name, Seat, end_after, same_name, event, Definition, Mark, leaf_marks, span_marks, white, Part, Inside, Section, defined, all_rows}
 use Rattle.std.proofs.lemmas.Bool.{or_left}
 use Rattle.std.proofs.lemmas.Grind.{flat_map-append}
 use Rattle.std.proofs.lemmas.List.{drop-drop, drop-map, drop-take, length-drop, length-map, length-take-le, map-append, take-append-drop, take-map, take-take}
@@ -9,23 +9,32 @@ use Rattle.std.specs.Option.{option_or}
 use Rattle.std.specs.Prelude.{◌≤◌}
 use Rattle.markdown_base.proofs.Common.{every-drop, every-take}
 use Rattle.markdown_base.specs.declared.event.Name.TheVariants as name
-use Rattle.mdconstructs_machines.specs.LineEvents.{line_text}
 use Rattle.mdinline_labels.specs.declared.definitions.Stretch.{Stretch}
 use Rattle.mdinline_labels.specs.Definitions.{definition_at, definitions, definitions_from, destination_at, end, end_of, ended, label_at, line_left, stretch_at, title_at, titled_or_not}
 use Rattle.mdinline_labels.specs.Labels.{characters, has_no_bracket, is_filled, is_label}
 use Rattle.mdinline_labels.specs.Tails.{begins_with, is_white, label_size}
 use Rattle.mdinline_link_strings.specs.Strings.{is_string}
-use Rattle.mdblock_definitions.proofs.Covered.{lines-of-parts}
+use Rattle.mdblock_definitions.proofs.DefinitionLines.{text-is}
 use Rattle.mdblock_definitions.proofs.DefinitionsWithin.{definitions-one}
-use Rattle.mdblock_definitions.proofs.MarksCursor.{bytes-text}
-use Rattle.mdblock_definitions.proofs.PartTexts.{all-texts}
-use Rattle.mdblock_definitions.proofs.SectionSound.{part-sections}
-use Rattle.mdblock_definitions.specs.Definitions.{Place, all_seats, between, byte_at, ending_at, ending_marks, gap_marks, is_byte, line_marks, parts_marks, places_in, places_of, seats_of, string_lines, text_byte, text_of}
+use Rattle.mdblock_definitions.specs.Definitions.{Place, all_seats, between, byte_at, destination_marks, ending_at, ending_marks, gap_marks, is_byte, leaf, line_marks, marked, parts_marks, places_in, places_of, seats_of, span, string_lines, text_byte, text_of}
 use Rattle.mdblock_definitions.specs.Labelled.{IsInText}
-use Rattle.mdblock_definitions.specs.Sectioned.{AreSound, IsSound, TextIsFilled, TextsAreFilled}
-use Rattle.mddocument_rules.proofs.DefinitionWalk.{behind_label}
+use Rattle.mdblock_definitions.specs.Sectioned.{AreSound, IsSound}
 use Rattle.mddocument_rules.proofs.HeldSections.{AreSpoken, HasSeat, IsSpoken, IsTold, bare}
 use Rattle.mddocument_rules.proofs.HeldStrings.{AreOutside, IsOutside, is_quiet, quiet-behind, quiet-more}
+
+-- what is behind the label
+abbrev pub behind_label : (bytes : List ℕ) (q : Definition) (ps : List Place) → List Mark
+behind_label bytes q ps =
+    leaf bytes name.DefinitionMarker (between (end q.label) (end q.label + 1) ps)
+    ++ (gap_marks bytes (between (end q.label + 1) q.destination.from ps)
+    ++ (destination_marks bytes (places_of q.destination ps)
+    ++ (elim q.title as (λ _. List Mark) [
+      | None ↦ []
+      | Some t ↦
+          gap_marks bytes (between (end q.destination) t.from ps)
+          ++ span bytes name.DefinitionTitle (places_of t ps) (marked bytes name.DefinitionTitleMarker name.DefinitionTitleString (places_of t ps))
+    ]
+    ++ gap_marks bytes (between (end_of q.title q.destination) q.size ps))))
 
 -- ---- the label of a definition, by the text that this begins
 pub record LabelIs (x : List ℕ) (s : Stretch) : Type 0 where
@@ -255,36 +264,12 @@ module _ (bytes : List ℕ) where
   all-spoken [] xs h = tt
   all-spoken (d ∷ ds) xs h = (spoken d xs h.0, all-spoken ds (drop (d.size + 1) xs) h.1)
 
-  -- ---- lines
-  row-text : (r : Row) → text_of (map byte_at (drop r.columns (line_text r.line))) ≡ rest_of r
-  row-text r = bytes-text (drop r.columns (line_text r.line)) ∙ sym (drop-map (λ (s : Seat). s.byte) r.columns (line_text r.line))
-
-  pub rows-text : (rs : List Row) → text_of (places_in bytes rs) ≡ text_in rs
-  rows-text [] = refl
-  rows-text (r ∷ []) = map-append text_byte (map byte_at (drop r.columns (line_text r.line))) [] ∙ ap (λ l. l ++ []) (row-text r)
-  rows-text (r ∷ q ∷ qs) = map-append text_byte (map byte_at (drop r.columns (line_text r.line))) (_ ∷ places_in bytes (q ∷ qs)) ∙ (λ k. row-text r k ++ 10 ∷ rows-text (q ∷ qs) k)
-
   -- ---- sections
   pub section-labelled : (part : Part) (inside : Inside) → IsSound part inside → (ds : List Definition) → inside ≡ defined ds → AreLabelled ds (places_in bytes (all_rows part))
   section-labelled part inside sound ds e =
       let h : IsSound part (defined ds) = subst (IsSound part) e sound in
-      all-labelled ds (places_in bytes (all_rows part)) (h.1 ∙ ap definitions (sym (rows-text (all_rows part))))
+      all-labelled ds (places_in bytes (all_rows part)) (h.1 ∙ ap definitions (sym (text-is bytes (all_rows part))))
 
   pub all-told : (ss : List Section) → AreSound ss → AllByRecursion (IsTold bytes) ss
   all-told [] h = tt
   all-told (s ∷ ss) h = ((λ ds e. all-spoken ds (places_in bytes (all_rows s.part)) (section-labelled s.part s.inside h.0 ds e)), all-told ss h.1)
-
-parts-sound : (on : Constructs) (ps : List Part) → TextsAreFilled (flat_map all_rows ps) → AreSound (flat_map (cut on) ps)
-parts-sound on [] h = tt
-parts-sound on (p ∷ ps) h =
-    every-append (λ (s : Section). IsSound s.part s.inside) (cut on p) (flat_map (cut on) ps) (by p.first.is_blank) (parts-sound on ps (every-back TextIsFilled (all_rows p) (flat_map all_rows ps) h))
-  where
-    by : (b : Bool) → AreSound (cond b (record { part = p; inside = lines false } ∷ []) (sections_in on (suc (length p.more)) false p (p.first ∷ p.more)))
-    by true = (tt, tt)
-    by false = (part-sections on p (every-front TextIsFilled (all_rows p) (flat_map all_rows ps) h)).sound
-
--- The sections of a document fit their lines
-pub sections-sound : (on : Constructs) (ls : List Line) → AreSound (sections on (rows on ls))
-sections-sound on ls =
-    let all = rows on ls in
-    parts-sound on (parts all) (subst TextsAreFilled (sym (lines-of-parts (length all) all (omega arith))) (all-texts on ls))

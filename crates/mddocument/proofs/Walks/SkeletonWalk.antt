@@ -143,10 +143,10 @@ module _ {bytes : List ℕ} {Are : List Mark → Type 0} {May : Name → Type 0}
       places (row ∷ next ∷ more) m h =
           every-append PlaceIs (map byte_at (drop row.columns (line_text row.line))) (ending_at _ _ _ ∷ places_in bytes (next ∷ more)) (row-bytes row h.0) (prefixes next.went_on next.line m.1.0, places (next ∷ more) m.1 h.1)
 
-      some-places : (from to : ℕ) (ps : List Place) → PlacesAre ps → PlacesAre (definitions.between from to ps)
+      pub some-places : (from to : ℕ) (ps : List Place) → PlacesAre ps → PlacesAre (definitions.between from to ps)
       some-places from to ps h = every-take PlaceIs (to - from) (drop from ps) (every-drop PlaceIs from ps h)
 
-      endings : (ps : List Place) → PlacesAre ps → Are (flat_map (definitions.ending_marks bytes) ps)
+      pub endings : (ps : List Place) → PlacesAre ps → Are (flat_map (definitions.ending_marks bytes) ps)
       endings [] h = w.none
       endings (byte_at s ∷ ps) h = w.both _ _ w.none (endings ps h.1)
       endings (ending_at ending further marks ∷ ps) h = w.both _ _ (w.both _ _ (bare name.LineEnding ending w.line_ending) h.0) (endings ps h.1)
@@ -154,11 +154,11 @@ module _ {bytes : List ℕ} {Are : List Mark → Type 0} {May : Name → Type 0}
       gaps : (ps : List Place) → PlacesAre ps → Are (gap_marks bytes ps)
       gaps ps h = let n = prefix_len is_byte ps in w.both _ _ (spaces (seats_of (take n ps))) (w.both _ _ (endings (take 1 (drop n ps)) (every-take PlaceIs 1 (drop n ps) (every-drop PlaceIs n ps h))) (spaces (seats_of (drop (n + 1) ps))))
 
-      record LineIs (line : StringLine) : Type 0 where
+      pub record LineIs (line : StringLine) : Type 0 where
         seats : AllByRecursion At line.seats
         behind : PlacesAre line.behind
 
-      string-lines-are : (ps : List Place) → PlacesAre ps → AllByRecursion LineIs (string_lines ps)
+      pub string-lines-are : (ps : List Place) → PlacesAre ps → AllByRecursion LineIs (string_lines ps)
       string-lines-are [] h = tt
       string-lines-are (ending_at ending further marks ∷ ps) h = (record { seats = tt; behind = (h.0, tt) }, string-lines-are ps h.1)
       string-lines-are (byte_at s ∷ ps) h = by (string_lines ps) (string-lines-are ps h.1)
@@ -170,7 +170,7 @@ module _ {bytes : List ℕ} {Are : List Mark → Type 0} {May : Name → Type 0}
       further : (seats : List Seat) → AllByRecursion At seats → Are (further_line bytes seats)
       further seats i = w.both _ _ (spaces (take (indent (bytes_of seats)) seats)) (some-data (drop (indent (bytes_of seats)) seats) (every-drop At (indent (bytes_of seats)) seats i))
 
-      of-lines : (is_first : Bool) (ls : List StringLine) → AllByRecursion LineIs ls → Are (line_marks bytes is_first ls)
+      pub of-lines : (is_first : Bool) (ls : List StringLine) → AllByRecursion LineIs ls → Are (line_marks bytes is_first ls)
       of-lines is_first [] h = w.none
       of-lines is_first (line ∷ ls) h =
           w.both _ _ (cond_both is_first (leaf_marks bytes name.Data line.seats) (further_line bytes line.seats) Are (λ e. some-data line.seats h.0.seats) (λ e. further line.seats h.0.seats)) (w.both _ _ (endings line.behind h.0.behind) (of-lines false ls h.1))
@@ -206,7 +206,7 @@ module _ {bytes : List ℕ} {Are : List Mark → Type 0} {May : Name → Type 0}
             w.both _ _ (gaps (definitions.between (end q.destination) t.from ps) (some-places (end q.destination) t.from ps h))
             (over name.DefinitionTitle (seats_of (places_of t ps)) d.title (marked-are name.DefinitionTitleMarker name.DefinitionTitleString (places_of t ps) d.title_marker d.title_string (some-places t.from (end t) ps h)))
 
-        of-parts : (q : Definition) (ps : List Place) → PlacesAre ps → Are (definitions.parts_marks bytes q ps)
+        pub of-parts : (q : Definition) (ps : List Place) → PlacesAre ps → Are (definitions.parts_marks bytes q ps)
         of-parts q ps h =
             let label = places_of q.label ps in
             w.both _ _ (gaps (definitions.between 0 q.label.from ps) (some-places 0 q.label.from ps h))
