@@ -63,11 +63,11 @@ kept-line-next k kept i x lt is =
 few-step : (p q r : Bool) (m n : ℕ) → m ≤ n → cond p (suc m) (cond q (cond r m (suc m)) m) ≤ suc n
 few-step p q r m n few = grind arith
 
-lines-few : (bs : List ℕ) → line_endings bs ≤ length bs
+-- bytes have at most as many line endings as there are
+pub lines-few : (bs : List ℕ) → line_endings bs ≤ length bs
 lines-few [] = omega arith
 lines-few (b ∷ bs) = few-step (b == 10) (b == 13) (begins_with_lf bs) (line_endings bs) (length bs) (lines-few bs)
 
--- bytes have at most as many line endings as there are
 pub endings-few : (bs : List ℕ) → endings bs ≤ length bs
 endings-few bs = omega (arith, endings-are-counted bs, lines-few bs)
 

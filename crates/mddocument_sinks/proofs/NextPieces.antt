@@ -8,10 +8,10 @@ use Rattle.mddocument.specs.Documents.{document}
 use Rattle.mddocument_parts.specs.BothDocuments.{events_by}
 use Rattle.mddocument_parts.specs.Moved.{moved_event}
 use Rattle.mddocument_editing.proofs.CutLines.{endings-are-counted}
-use Rattle.mddocument_editing.proofs.SectionPlaces.{endings-few}
+use Rattle.mddocument_editing.proofs.SectionPlaces.{endings-few, lines-few}
 use Rattle.mddocument_editing.specs.PositionParts.{endings}
 use Rattle.mddocument_sinks.proofs.PieceEvents.{moved_piece, took-front, took-more}
-use Rattle.mddocument_sinks.proofs.Seams.{few-lines, lines-on, long, piece}
+use Rattle.mddocument_sinks.proofs.Seams.{lines-on, long, piece}
 use Rattle.mddocument_sinks.specs.Reached.{IsReached}
 use Rattle.mddocument_sinks.specs.Seams.{IsSeam}
 use Rattle.mddocument_sinks.specs.Taken.{TookFront}
@@ -31,7 +31,7 @@ module _ (options : ParseOptions) (bytes : List ℕ) (reached : Reached) (at : I
   -- there are no more of them than bytes
   pub lines-fit : reached.lines + endings this ≤ to
   lines-fit =
-      let front = few-lines (take reached.bytes bytes) in
+      let front = lines-few (take reached.bytes bytes) in
       let size = length-take reached.bytes bytes in
       let few = endings-few this in
       let longest = long options bytes reached.bytes to (omega (arith, order)) end.within in

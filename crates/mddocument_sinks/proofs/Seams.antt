@@ -12,9 +12,7 @@ use Rattle.mddocument_parts.proofs.LineFronts.{line-ahead, line-behind}
 use Rattle.mddocument_parts.specs.BothDocuments.{is_rest}
 use Rattle.mddocument_parts.specs.Moved.{begins_line, line_endings}
 use Rattle.mddocument_editing.proofs.Below.{first-tells, labels-both, labels-none, rest-begins}
-use Rattle.mddocument_editing.proofs.CutLines.{endings-are-counted, parts-start-lines}
-use Rattle.mddocument_editing.proofs.PartsMove.{endings-add}
-use Rattle.mddocument_editing.proofs.SectionPlaces.{endings-few}
+use Rattle.mddocument_editing.proofs.SectionLines.{line-endings-add}
 use Rattle.mddocument_editing.specs.FirstRest.{IsFirstRest}
 use Rattle.mddocument_editing.specs.PositionParts.{endings}
 use Rattle.mddocument_sinks.specs.Seams.{IsSeam}
@@ -24,16 +22,6 @@ rest-front : (options : ParseOptions) (a c d : List ℕ) → is_rest options a (
 rest-front options a c d rest some line =
     let begins : begins_line c a ≡ true = sym (line-ahead a c d some) ∙ rest-begins options a (c ++ d) rest in
     sym (first-tells options.constructs options.tab_size a c d some line begins) ∙ rest
-
--- bytes have at most as many line endings as there are
-pub few-lines : (bytes : List ℕ) → line_endings bytes ≤ length bytes
-few-lines bytes = omega (arith, endings-are-counted bytes, endings-few bytes)
-
--- those of bytes and of a line behind them
-lines-both : (a c : List ℕ) → begins_line c a ≡ true → line_endings (a ++ c) ≡ line_endings a + line_endings c
-lines-both a c line =
-    let both = endings-add a c (parts-start-lines a c line) in
-    omega (arith, both, endings-are-counted (a ++ c), endings-are-counted a, endings-are-counted c)
 
 module _ (options : ParseOptions) (bytes : List ℕ) where
   abbrev on : Constructs
@@ -137,4 +125,4 @@ module _ (options : ParseOptions) (bytes : List ℕ) where
       let a = take (suc n) bytes in
       let c = piece options bytes (suc n) to in
       sym (ap line_endings (joined options bytes (suc n) to (omega (arith, order))))
-      ∙ lines-both a c (rest-begins options a c (piece-rest options bytes (suc n) to start end order (omega arith)))
+      ∙ line-endings-add a c (rest-begins options a c (piece-rest options bytes (suc n) to start end order (omega arith)))
