@@ -1,13 +1,11 @@
 -- What was read between a `[` and a `]`: the bytes that it stands for agree with those behind the `[`, up to the `]` or to a line ending.
-use Rattle.mddocument_editing.proofs.Prelude.{◌≡◌, ◌⊎◌, ℕ, zero, suc, ◌+◌, ◌-◌, ◌<◌, ◌≤◌, ◌&&◌, Bool, true, false, cond, List, [], ◌∷◌, ◌++◌, drop, take, inl, inr, map, refl, sym, ap, ◌∙◌, subst, arith, append_assoc, or_parts, false≢true, ltb-false, drop-drop, drop-take, take-take, AllByRecursion, between, flat_map, slice_index, every-back, every-front, Event, Point, follows_cr, shown, stands_before, Seat, begins_with_lf, end_after, in_tab, line_feed, other_byte, tab_width, virtual_from, IsWritten, dark-shown, is_dark, LinedFor, Course, course-on, course-place, course-upto, AcrossGap, bytes_before, spanned_bytes, is_line_ending, OneLine, is_in_brackets, may_stand, nat_lt}
+use Rattle.mddocument_editing.proofs.Prelude.{◌≡◌, ◌⊎◌, ℕ, zero, suc, ◌+◌, ◌-◌, ◌<◌, ◌≤◌, ◌&&◌, Bool, true, false, cond, List, [], ◌∷◌, ◌++◌, drop, take, inl, inr, map, refl, sym, ap, ◌∙◌, subst, arith, append_assoc, false≢true, drop-drop, drop-take, take-take, AllByRecursion, between, flat_map, slice_index, every-back, every-front, Event, Point, follows_cr, shown, Seat, begins_with_lf, end_after, in_tab, line_feed, other_byte, tab_width, virtual_from, IsWritten, dark-shown, is_dark, LinedFor, Course, course-on, course-place, course-upto, AcrossGap, bytes_before, spanned_bytes, is_line_ending, OneLine, is_in_brackets, may_stand}
 use Rattle.std.proofs.Common.{◌==◌, ◌||◌, get_or-drop}
 use Rattle.std.proofs.lemmas.Slice.{between_is}
+use Rattle.markdown_tokenizer.proofs.Inside.Known.{not-before-index}
 use Rattle.mdconstructs_machines.specs.Innermost.{span_over, stretch_bytes}
 use Rattle.mddocument_editing.specs.InBrackets.{ends_line}
 use Rattle.mddocument_editing.proofs.MayStand.{brackets-at, drop-index, may-behind, may-over}
-
-pub not-before : (p q : Point) → stands_before q p ≡ false → p.index ≤ q.index
-not-before p q h = ltb-false q.index p.index (or_parts (nat_lt q.index p.index) _ h).0
 
 -- ---- line endings
 
@@ -91,13 +89,13 @@ module _ (t : ℕ) (bytes : List ℕ) where
   line-ends p s [] l one fed course = by (is_line_ending s) refl
     where
       by : (x : Bool) → is_line_ending s ≡ x → FirstShown s.end l ⊎ EndsAt bytes p.index s.end.index
-      by true e = inr (shown-ends bytes s p.index fed.0 e (not-before p (shown bytes s.point) course.1.later))
+      by true e = inr (shown-ends bytes s p.index fed.0 e (not-before-index (shown bytes s.point).index (shown bytes s.point).vs p.index p.vs course.1.later))
       by false e = inl (next-shown p s l e course)
   line-ends p s (r ∷ rs) l one fed course = elim (line-ends s.end r rs l one.1 fed.1 course.2) [
     | inl next ↦ inl next
     | inr ends ↦ inr (
-        let here = not-before p (shown bytes s.point) course.1.later in
-        let onward = not-before (shown bytes s.point) s.end course.1.seat.onward in
+        let here = not-before-index (shown bytes s.point).index (shown bytes s.point).vs p.index p.vs course.1.later in
+        let onward = not-before-index s.end.index s.end.vs (shown bytes s.point).index (shown bytes s.point).vs course.1.seat.onward in
         record { at = ends.at; order = omega (arith, here, onward, ends.order); within = ends.within; ends = ends.ends })
   ]
 
@@ -125,10 +123,10 @@ module _ (t : ℕ) (bytes : List ℕ) where
       let here = every-front (IsFed bytes) (s ∷ ss) others fed in
       let rests = every-back (IsFed bytes) (s ∷ ss) others fed in
       let onward : Follows q behind = course-on AcrossGap t bytes p (s ∷ ss) behind apart in
-      let up = not-before p q (course-upto AcrossGap t bytes p (s ∷ ss) behind apart) in
+      let up = not-before-index q.index q.vs p.index p.vs (course-upto AcrossGap t bytes p (s ∷ ss) behind apart) in
       let last = course-on AcrossGap t bytes q others (c ∷ rest) onward in
-      let one = not-before q (end_after q others) (course-upto AcrossGap t bytes q others (c ∷ rest) onward) in
-      let two = not-before (end_after q others) (shown bytes c.point) last.1.later in
+      let one = not-before-index (end_after q others).index (end_after q others).vs q.index q.vs (course-upto AcrossGap t bytes q others (c ∷ rest) onward) in
+      let two = not-before-index (shown bytes c.point).index (shown bytes c.point).vs (end_after q others).index (end_after q others).vs last.1.later in
       let label = flat_map (between_places k) (map (span_over bytes) more) in
       let from : (shown bytes s.point).index ≡ p.index = ap (λ (x : Point). x.index) first in
       let to : (shown bytes q).index ≡ q.index = ap (λ (x : Point). x.index) (course-place AcrossGap t bytes q behind onward).is_shown in
