@@ -13,7 +13,7 @@ ghost use Rattle.mdblock_definitions.specs.Sections.{text_in};
 use crate::texts::{begins_with_bracket, hold};
 use markdown_base::configuration::TabSize;
 use mdblock_containers::spans::RowAt;
-use mdblock_containers::texts::read_text;
+use mdblock_containers::texts::text_at;
 use mdblock_lines::bytes::{behind, front};
 use mdconstructs_loop_counts::Turns;
 use std::alloc::AllocError;
@@ -39,8 +39,8 @@ pub fn hold_lines<L: Ledger>(
     let mut goes_on = false;
     for at in rows {
         turns.add_one();
-        read_text(line, bytes, tab, at.span.start, turns)?;
-        let rest = behind(line.as_slice(), at.row.columns);
+        let read = text_at(line, bytes, tab, at.span.start, turns)?;
+        let rest = behind(read.bytes, at.row.columns);
         hold(text, goes_on, rest)?;
         goes_on = true;
     }
@@ -99,7 +99,7 @@ pub(crate) fn has_bracket<L: Ledger>(
         let plain = behind(rest, columns);
         return Ok(begins_with_bracket(plain, turns));
     }
-    read_text(line, bytes, tab, at.span.start, turns)?;
-    let text = behind(line.as_slice(), columns);
+    let read = text_at(line, bytes, tab, at.span.start, turns)?;
+    let text = behind(read.bytes, columns);
     Ok(begins_with_bracket(text, turns))
 }

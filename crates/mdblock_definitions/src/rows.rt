@@ -1,11 +1,12 @@
 //! The lines of a document with their containers, where paragraphs may begin with definitions.
 
 ghost use Rattle.std.specs.Prelude.{◌≡◌, ◌≤◌, ◌<◌, ◌+◌, ◌*◌, ◌&&◌, true, cond, ℕ, IfOk, [], is_some, length, drop, map};
+ghost use Rattle.std.specs.List.{prefix_len};
 ghost use Rattle.markdown_base.specs.Virtual.{virtual};
 ghost use Rattle.mdconstructs_machines.specs.LineEvents.{lines_in};
 ghost use Rattle.mdblock_leaf_blocks.specs.LeafBlocks.{Line, text_of};
 ghost use Rattle.mdblock_leaf_blocks.specs.LineKinds.{underline_rank};
-ghost use Rattle.mdblock_lines.specs.Lines.{line_at, line_length, line_bytes};
+ghost use Rattle.mdblock_lines.specs.Lines.{is_in_line, line_at, line_length, line_bytes};
 ghost use Rattle.mdblock_containers.specs.Ahead.{AreRows};
 ghost use Rattle.mdblock_containers.specs.Costs.{HaveSizes};
 ghost use Rattle.mdblock_containers.specs.Over.{AreBefore, AreOver};
@@ -20,7 +21,7 @@ use markdown_base::configuration::{Constructs, TabSize};
 use mdblock_containers::leaves::{Leaf, is_paragraph};
 use mdblock_containers::rows::{Before, Row};
 use mdblock_containers::spans::{RowAt, Span};
-use mdblock_containers::texts::read_text;
+use mdblock_containers::texts::{LineText, read_text, text_at};
 use mdblock_lines::bytes::behind;
 use mdblock_lines::places::behind_ending;
 use mdconstructs_loop_counts::Turns;
@@ -52,6 +53,7 @@ impl Known {
     }
 
     /// A line with its containers, by its number and its virtual bytes. What is known before it becomes what is known behind it.
+    #[inline(always)]
     fn next<L: Ledger>(
         &mut self,
         alloc: Global,
@@ -132,6 +134,51 @@ fn hold_row<L: Ledger>(
     hold_defining(text, goes_on, behind(t, row.columns), turns)
 }
 
+/// The line that has this text, with its containers. What is known before it becomes what is known behind it.
+#[inline(always)]
+fn row_of_text<L: Ledger>(
+    alloc: Global,
+    bytes: &[u8],
+    tab: TabSize,
+    on: &Constructs,
+    known: &mut Known,
+    text: LineText<'_>,
+    number: usize,
+    start: usize,
+    turns: &mut Turns<L>,
+) -> Result<RowAt, AllocError>
+    requires inside { start < length bytes.now }
+    requires seats { text.bytes.now ≡ line_bytes tab number 1 start (drop start bytes.now) }
+    requires end { text.end ≡ start + prefix_len is_in_line (drop start bytes.now) }
+    requires depth { known.old.before.depth ≤ length known.old.before.stack.items }
+    requires over { AreOver number known.old.before.over known.old.before.depth known.old.before.stack.items }
+    requires began { AreBefore number known.old.before.stack.items }
+    requires sizes { HaveSizes (map open_of known.old.before.stack.items) }
+    ensures number { IfOk result (λ at. at.span.number ≡ number) }
+    ensures placed { IfOk result (λ at. IsPlaced tab bytes.now number start at) }
+    ensures row { IfOk result (λ at. (seen : KnownOf) → IsKnown known.old seen → IsRow number at.row (row_of on.now seen number (line_at tab number start (drop start bytes.now)))) }
+    ensures known { IfOk result (λ _. (seen : KnownOf) → IsKnown known.old seen → IsKnown known.new (known_after on.now seen (row_of on.now seen number (line_at tab number start (drop start bytes.now))))) }
+    ensures next { IfOk result (λ at. at.span.next ≡ start + line_length (drop start bytes.now)) }
+    ensures more { IfOk result (λ at. start < at.span.next) }
+    ensures within { IfOk result (λ at. at.span.next ≤ length bytes.now) }
+    ensures depth { IfOk result (λ _. known.new.before.depth ≤ length known.new.before.stack.items) }
+    ensures over { IfOk result (λ _. AreOver (number + 1) known.new.before.over known.new.before.depth known.new.before.stack.items) }
+    ensures kept { IfOk result (λ at. (budget : ℕ) → IsKept (turns.old + known.old.before.over) budget known.old.text.items → IsKept (turns.new + known.new.before.over) (budget + 183 * at.span.size + 1703) known.new.text.items) }
+    ensures turns { turns.new ≤ turns.old + known.old.before.over + 147 * length text.entry.bytes.now + 1670 + 16 * length known.old.text.items }
+{
+    let end = text.end;
+    let next = behind_ending(bytes, end);
+    let row = known.next(alloc, on, number, text.bytes, turns)?;
+    let span = Span {
+        number,
+        start,
+        end,
+        next,
+        size: text.bytes.len(),
+    };
+    Ok(RowAt { span, row })
+}
+
 /// The line with this number and this beginning, with its containers. What is known before it becomes what is known behind it. `line` becomes its
 /// virtual bytes, without its line ending.
 pub fn next_row<L: Ledger>(
@@ -164,16 +211,12 @@ pub fn next_row<L: Ledger>(
     ensures turns { turns.new ≤ turns.old + known.old.before.over + 151 * length (line_bytes tab number 1 start (drop start bytes.now)) + 1672 + 16 * length known.old.text.items }
 {
     let end = read_text(line, bytes, tab, start, turns)?;
-    let next = behind_ending(bytes, end);
-    let row = known.next(alloc, on, number, line.as_slice(), turns)?;
-    let span = Span {
-        number,
-        start,
+    let text = LineText {
+        bytes: line.as_slice(),
         end,
-        next,
-        size: line.len(),
     };
-    Ok(RowAt { span, row })
+    let at = row_of_text(alloc, bytes, tab, on, known, text, number, start, turns)?;
+    Ok(at)
 }
 
 /// The lines of a document, with their containers. Fails only for want of memory.
@@ -200,8 +243,9 @@ pub fn rows_with_definitions<L: Ledger>(
     while start < bytes.len() {
         turns.add_one();
         let number = found.len() + 1;
-        let at = next_row(
-            alloc, bytes, tab, on, &mut known, &mut line, number, start, turns,
+        let text = text_at(&mut line, bytes, tab, start, turns)?;
+        let at = row_of_text(
+            alloc, bytes, tab, on, &mut known, text, number, start, turns,
         )?;
         start = at.span.next;
         found.push(at)?;

@@ -40,7 +40,7 @@ use mdblock_containers::prefixes::At;
 use mdblock_containers::skeleton::{end_of_part, push_letter};
 use mdblock_containers::spans::{RowAt, start_of};
 use mdblock_containers::stretches::{prefixes_of, stretch};
-use mdblock_containers::texts::read_text;
+use mdblock_containers::texts::text_at;
 use mdblock_containers::writing::white;
 use mdblock_lines::bytes::{behind, indent};
 use mdblock_lines::places::moved;
@@ -106,8 +106,8 @@ fn text_columns<L: Ledger>(
     ensures within { let s = at.now.span in IfOk result (λ n. n ≤ length (line_bytes tab s.number 1 s.start (drop s.start bytes.now))) }
     ensures turns { turns.new ≤ turns.old + 5 * bytes_of tab bytes.now at.now }
 {
-    read_text(line, bytes, tab, at.span.start, turns)?;
-    let rest = behind(line.as_slice(), at.row.columns);
+    let read = text_at(line, bytes, tab, at.span.start, turns)?;
+    let rest = behind(read.bytes, at.row.columns);
     Ok(at.row.columns + indent(rest, turns))
 }
 

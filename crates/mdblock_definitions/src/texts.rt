@@ -171,6 +171,9 @@ pub(crate) fn lines_before(text: &[u8], end: usize) -> usize
     requires { end ≤ length text.now }
     ensures { result ≡ lines_of text.now - lines_of (drop end text.now) }
 {
+    if end == 0 {
+        return 0;
+    }
     let behind = lines_of(&text[end..]);
     lines_of(text) - behind
 }

@@ -34,13 +34,13 @@ returns-then-is_plain_front-clause-value g c =
 
 pub behind-text-requires : goal.behind-text-requires
 behind-text-requires g c =
-    let size = ap (λ (l : List ℕ). length l) (c.as_slice.ensures.value ∙ c.in_ok-read_text.ensures.seats c.args.at.now.span.number) in
+    let size = ap (λ (l : List ℕ). length l) (c.in_ok-read.ensures.seats c.args.at.now.span.number) in
     omega (arith, size, c.requires.within)
 
 pub returns-clause-value : goal.returns-clause-value
 returns-clause-value g c =
     let n = c.args.at.now.row.columns in
-    c.begins_with_bracket-2.ensures.value ∙ ap begins_with_bracket (c.behind-text.ensures.value ∙ ap (λ l. drop n l) (c.as_slice.ensures.value ∙ c.in_ok-read_text.ensures.seats c.args.at.now.span.number))
+    c.begins_with_bracket-2.ensures.value ∙ ap begins_with_bracket (c.behind-text.ensures.value ∙ ap (λ l. drop n l) (c.in_ok-read.ensures.seats c.args.at.now.span.number))
 
 pub returns-then-is_plain_front-clause-turns : goal.returns-then-is_plain_front-clause-turns
 returns-then-is_plain_front-clause-turns g c =
@@ -59,10 +59,10 @@ returns-then-is_plain_front-clause-turns g c =
     let line : length (line_bytes t s.number 1 s.start rest) ≡ length (line_bytes t s.number 1 s.start (drop s.start bytes)) = ap (λ l. length (line_bytes t s.number 1 s.start l)) c.behind-rest.ensures.value in
     omega (arith, costs, line, c.is_plain_front.ensures.turns, c.begins_with_bracket.ensures.turns, ap indent c.behind-plain.ensures.value)
 
-pub returns-in_err-read_text-clause-turns : goal.returns-in_err-read_text-clause-turns
-returns-in_err-read_text-clause-turns g c = omega (arith, c.is_plain_front.ensures.turns, c.read_text.ensures.turns c.args.at.now.span.number, c.requires.within)
+pub returns-in_err-read-clause-turns : goal.returns-in_err-read-clause-turns
+returns-in_err-read-clause-turns g c = omega (arith, c.is_plain_front.ensures.turns, c.text_at.ensures.turns c.args.at.now.span.number, c.requires.within)
 
 pub returns-clause-turns : goal.returns-clause-turns
 returns-clause-turns g c =
-    let size = ap (λ (l : List ℕ). length l) (c.as_slice.ensures.value ∙ c.in_ok-read_text.ensures.seats c.args.at.now.span.number) in
-    omega (arith, c.is_plain_front.ensures.turns, c.read_text.ensures.turns c.args.at.now.span.number, c.requires.within, c.begins_with_bracket-2.ensures.turns, c.begins_with_bracket-2.ensures.within, c.behind-text.ensures.len, size)
+    let size = ap (λ (l : List ℕ). length l) (c.in_ok-read.ensures.seats c.args.at.now.span.number) in
+    omega (arith, c.is_plain_front.ensures.turns, c.text_at.ensures.turns c.args.at.now.span.number, c.requires.within, c.begins_with_bracket-2.ensures.turns, c.begins_with_bracket-2.ensures.within, c.behind-text.ensures.len, size)

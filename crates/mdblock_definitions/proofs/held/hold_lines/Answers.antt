@@ -13,8 +13,8 @@ use Rattle.mdblock_definitions.proofs.held.hold_lines.Goals as goal
 pub loop-at-init : goal.loop-at-init
 loop-at-init g c = record { left = c.requires.1; text = c.clear.ensures.items; goes_on = refl; turns = omega arith }
 
-pub read_text-requires : goal.read_text-requires
-read_text-requires g c =
+pub text_at-requires : goal.text_at-requires
+text_at-requires g c =
     let i = c.loop-at.at-index in
     let rows = c.args.rows.now in
     let x = c.at-item.result in
@@ -29,7 +29,7 @@ behind-rest-requires g c =
     let x = c.at-item.result in
     let split : drop i rows ≡ x ∷ drop (i + 1) rows = drop_more rows i x c.loop-at-test.true ∙ ap (λ (y : RowAt). y ∷ drop (i + 1) rows) (sym c.at-item.is) in
     let next = next-text c.args.tab c.args.bytes.now x (drop (i + 1) rows) i g.all (subst (λ (l : List RowAt). HaveTexts c.args.tab c.args.bytes.now l (drop i g.all)) split c.loop-at.invariant.left) in
-    omega (arith, next.has.columns, next.has.within, ap length next.has.text, ap length (c.in_ok-read_text.ensures.seats x.span.number))
+    omega (arith, next.has.columns, next.has.within, ap length next.has.text, ap length (c.in_ok-read.ensures.seats x.span.number))
 
 pub loop-at-preserved : goal.loop-at-preserved
 loop-at-preserved g c =
@@ -40,9 +40,9 @@ loop-at-preserved g c =
     let x = c.at-item.result in
     let split : drop i rows ≡ x ∷ drop (i + 1) rows = drop_more rows i x c.loop-at-test.true ∙ ap (λ (y : RowAt). y ∷ drop (i + 1) rows) (sym c.at-item.is) in
     let next = next-text t bytes x (drop (i + 1) rows) i g.all (subst (λ (l : List RowAt). HaveTexts t bytes l (drop i g.all)) split c.loop-at.invariant.left) in
-    let line : c.read_text.new.line.items ≡ text_of next.row.line = c.in_ok-read_text.ensures.seats x.span.number ∙ sym next.has.text in
+    let line : c.in_ok-read.read.bytes.now ≡ text_of next.row.line = c.in_ok-read.ensures.seats x.span.number ∙ sym next.has.text in
     let rest : c.behind-rest.result.now ≡ rest_of next.row =
-    c.behind-rest.ensures.value ∙ ap (λ l. drop x.row.columns l) (c.as_slice.ensures.value ∙ line) ∙ ap (λ n. drop n (text_of next.row.line)) next.has.columns in
+    c.behind-rest.ensures.value ∙ ap (λ l. drop x.row.columns l) line ∙ ap (λ n. drop n (text_of next.row.line)) next.has.columns in
     record {
       left = next.left;
       text =
@@ -53,7 +53,7 @@ loop-at-preserved g c =
           ∙ sym (text-more (take i g.all) next.row)
           ∙ ap text_in (sym next.taken);
       goes_on = goes-on-then i g.all next.row next.taken;
-      turns = omega (arith, c.loop-at.invariant.turns, c.add_one.ensures, c.read_text.ensures.turns x.span.number, (bytes-first t bytes rows i x c.loop-at-test.true c.at-item.is).1);
+      turns = omega (arith, c.loop-at.invariant.turns, c.add_one.ensures, c.text_at.ensures.turns x.span.number, (bytes-first t bytes rows i x c.loop-at-test.true c.at-item.is).1);
     }
 
 pub returns : goal.returns
@@ -62,16 +62,16 @@ returns g c =
     let none : drop i c.args.rows.now ≡ [] = drop_all i c.args.rows.now (omega arith) in
     record { turns = omega (arith, c.loop-at.invariant.turns, bytes-cut c.args.tab c.args.bytes.now i c.args.rows.now); text = c.loop-at.invariant.text ∙ ap text_in (none-left c.args.tab c.args.bytes.now g.all i (subst (λ (l : List RowAt). HaveTexts c.args.tab c.args.bytes.now l (drop i g.all)) none c.loop-at.invariant.left)) }
 
-pub returns-in_err-read_text-clause-turns : goal.returns-in_err-read_text-clause-turns
-returns-in_err-read_text-clause-turns g c =
+pub returns-in_err-read-clause-turns : goal.returns-in_err-read-clause-turns
+returns-in_err-read-clause-turns g c =
     let i = c.loop-at.at-index in
     let rows = c.args.rows.now in
     let x = c.at-item.result in
-    omega (arith, c.loop-at.invariant.turns, c.add_one.ensures, c.read_text.ensures.turns x.span.number, (bytes-first c.args.tab c.args.bytes.now rows i x c.loop-at-test.true c.at-item.is).1, bytes-cut c.args.tab c.args.bytes.now (i + 1) rows)
+    omega (arith, c.loop-at.invariant.turns, c.add_one.ensures, c.text_at.ensures.turns x.span.number, (bytes-first c.args.tab c.args.bytes.now rows i x c.loop-at-test.true c.at-item.is).1, bytes-cut c.args.tab c.args.bytes.now (i + 1) rows)
 
 pub returns-in_err-hold-clause-turns : goal.returns-in_err-hold-clause-turns
 returns-in_err-hold-clause-turns g c =
     let i = c.loop-at.at-index in
     let rows = c.args.rows.now in
     let x = c.at-item.result in
-    omega (arith, c.loop-at.invariant.turns, c.add_one.ensures, c.read_text.ensures.turns x.span.number, (bytes-first c.args.tab c.args.bytes.now rows i x c.loop-at-test.true c.at-item.is).1, bytes-cut c.args.tab c.args.bytes.now (i + 1) rows)
+    omega (arith, c.loop-at.invariant.turns, c.add_one.ensures, c.text_at.ensures.turns x.span.number, (bytes-first c.args.tab c.args.bytes.now rows i x c.loop-at-test.true c.at-item.is).1, bytes-cut c.args.tab c.args.bytes.now (i + 1) rows)

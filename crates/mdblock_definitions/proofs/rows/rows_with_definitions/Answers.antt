@@ -4,7 +4,7 @@ use Rattle.std.proofs.lemmas.List.{drop_all, length_push}
 use Rattle.std.specs.List.{AllByRecursion}
 use Rattle.markdown_base.specs.Virtual.{virtual}
 use Rattle.mdconstructs_machines.specs.LineEvents.{lines_in}
-use Rattle.mdblock_lines.specs.Lines.{line_at}
+use Rattle.mdblock_lines.specs.Lines.{line_at, line_bytes}
 use Rattle.mdblock_containers.specs.declared.going.Open.{Open}
 use Rattle.mdblock_containers.specs.declared.spans.RowAt.{RowAt}
 use Rattle.mdblock_containers.specs.Costs.{columns_in}
@@ -20,7 +20,7 @@ use Rattle.mdblock_containers.proofs.RowFacts.{BeganBefore}
 use Rattle.mdblock_containers.proofs.RowReads.{old_behind}
 use Rattle.mdblock_definitions.specs.Rows.{Known, known_after, row_of, rows}
 use Rattle.mdblock_definitions.proofs.KnownReads.{known-reads}
-use Rattle.mdblock_definitions.proofs.KnownLemmas.{kept-more, kept-turns, known-all, known-init, known-more, known_left}
+use Rattle.mdblock_definitions.proofs.KnownLemmas.{kept-more, kept-read, kept-turns, known-all, known-init, known-more, known_left}
 use Rattle.mdblock_definitions.proofs.rows.rows_with_definitions.Goals as goal
 
 pub loop-start-init : goal.loop-start-init
@@ -63,8 +63,8 @@ loop-start-preserved g c =
     record {
       within = c.in_ok-at.ensures.within;
       depth = c.in_ok-at.ensures.depth;
-      over = subst (λ (n : ℕ). AreOver n c.next_row.new.known.before.over c.next_row.new.known.before.depth c.next_row.new.known.before.stack.items) (sym (further ∙ later)) c.in_ok-at.ensures.over;
-      began = subst (λ (n : ℕ). AllByRecursion (BeganBefore n) (before_of c.next_row.new.known.before).stack) (sym further)
+      over = subst (λ (n : ℕ). AreOver n c.row_of_text.new.known.before.over c.row_of_text.new.known.before.depth c.row_of_text.new.known.before.stack.items) (sym (further ∙ later)) c.in_ok-at.ensures.over;
+      began = subst (λ (n : ℕ). AllByRecursion (BeganBefore n) (before_of c.row_of_text.new.known.before).stack) (sym further)
           (subst (λ (b : Before). AllByRecursion (BeganBefore (suc (c.len-number.result + 1))) b.stack) (sym is.before)
           (old_behind c.args.on.now (known-reads c.args.on.now) k (c.len-number.result + 1) line (subst (λ (n : ℕ). AllByRecursion (BeganBefore n) k.before.stack) number began)));
       placed = placed_push c.args.tab c.args.bytes.now 1 0 xs c.push.new.self.items c.in_ok-at.at c.loop-start.start c.in_ok-push.ensures.items i.placed
@@ -73,8 +73,11 @@ loop-start-preserved g c =
           let more = columns_push xs c.push.new.self.items c.in_ok-at.at c.in_ok-push.ensures.items in
           let before = c.loop-start.turns + c.loop-start.known.before.over in
           let turned = kept-more before (c.add_one.new.self + c.loop-start.known.before.over) (c.args.turns.now + 1706 * columns_in xs) (c.args.turns.now + 1706 * columns_in xs + 1) c.loop-start.known.text.items (omega (arith, c.add_one.ensures)) i.kept in
-          kept-more (c.next_row.new.turns + c.next_row.new.known.before.over) (c.next_row.new.turns + c.next_row.new.known.before.over) (c.args.turns.now + 1706 * columns_in xs + 1 + 187 * c.in_ok-at.at.span.size + 1705) (c.args.turns.now + 1706 * columns_in c.push.new.self.items) c.next_row.new.known.text.items (omega (arith, more))
-          (c.in_ok-at.ensures.kept (c.args.turns.now + 1706 * columns_in xs + 1) turned);
+          let placed = c.in_ok-at.ensures.placed in
+          let size : c.in_ok-at.at.span.size ≡ length (line_bytes c.args.tab (c.len-number.result + 1) 1 c.loop-start.start (drop c.loop-start.start c.args.bytes.now)) = placed.size_is in
+          let read = kept-read (c.add_one.new.self + c.loop-start.known.before.over) (c.text_at.new.turns + c.loop-start.known.before.over) (c.row_of_text.new.turns + c.row_of_text.new.known.before.over) (c.args.turns.now + 1706 * columns_in xs + 1) c.in_ok-at.at.span.size c.in_ok-at.at.span.size
+          c.loop-start.known.text.items c.row_of_text.new.known.text.items (omega (arith, c.text_at.ensures.turns (c.len-number.result + 1), size)) refl turned (λ budget kept. c.in_ok-at.ensures.kept budget kept) in
+          kept-more (c.row_of_text.new.turns + c.row_of_text.new.known.before.over) (c.row_of_text.new.turns + c.row_of_text.new.known.before.over) (c.args.turns.now + 1706 * columns_in xs + 1 + 187 * c.in_ok-at.at.span.size + 1705) (c.args.turns.now + 1706 * columns_in c.push.new.self.items) c.row_of_text.new.known.text.items (omega (arith, more)) read;
       read = record {
         known = next;
         is = is;
@@ -98,18 +101,29 @@ returns g c =
           omega (arith, kept, few);
     }
 
-pub next_row-requires-clause-over : goal.next_row-requires-clause-over
-next_row-requires-clause-over g c =
+pub row_of_text-requires-clause-over : goal.row_of_text-requires-clause-over
+row_of_text-requires-clause-over g c =
     let number : length c.loop-start.found.items + 1 ≡ c.len-number.result + 1 = omega (arith, c.len-number.ensures, c.loop-start.found.ok) in
     subst (λ (n : ℕ). AreOver n c.loop-start.known.before.over c.loop-start.known.before.depth c.loop-start.known.before.stack.items) number c.loop-start.invariant.over
 
-pub next_row-requires-clause-began : goal.next_row-requires-clause-began
-next_row-requires-clause-began g c =
+pub row_of_text-requires-clause-began : goal.row_of_text-requires-clause-began
+row_of_text-requires-clause-began g c =
     let number : length c.loop-start.found.items + 1 ≡ c.len-number.result + 1 = omega (arith, c.len-number.ensures, c.loop-start.found.ok) in
     subst (λ (n : ℕ). AreBefore n c.loop-start.known.before.stack.items) number (began_before (length c.loop-start.found.items + 1) c.loop-start.known.before.stack.items c.loop-start.invariant.began)
 
-pub next_row-requires-clause-sizes : goal.next_row-requires-clause-sizes
-next_row-requires-clause-sizes g c = began_sizes (length c.loop-start.found.items + 1) (map open_of c.loop-start.known.before.stack.items) c.loop-start.invariant.began
+pub row_of_text-requires-clause-sizes : goal.row_of_text-requires-clause-sizes
+row_of_text-requires-clause-sizes g c = began_sizes (length c.loop-start.found.items + 1) (map open_of c.loop-start.known.before.stack.items) c.loop-start.invariant.began
+
+pub row_of_text-requires-clause-seats : goal.row_of_text-requires-clause-seats
+row_of_text-requires-clause-seats g c = c.in_ok-text.ensures.seats (c.len-number.result + 1)
+
+pub returns-in_err-text-clause-turns : goal.returns-in_err-text-clause-turns
+returns-in_err-text-clause-turns g c =
+    let some : 0 < c.args.tab = omega (arith, c.get-tab_size.ensures.least, c.get-tab_size.ensures.columns) in
+    let number : c.len-number.result + 1 ≡ 1 + length c.loop-start.found.items = omega (arith, c.len-number.ensures, c.loop-start.found.ok) in
+    let few = next_columns c.args.tab c.args.bytes.now some c.loop-start.found.items (c.len-number.result + 1) c.loop-start.start c.loop-start.invariant.placed (omega arith) number in
+    let kept = kept-turns (c.loop-start.turns + c.loop-start.known.before.over) (c.args.turns.now + 1706 * columns_in c.loop-start.found.items) c.loop-start.known.text.items c.loop-start.invariant.kept in
+    omega (arith, kept, c.add_one.ensures, c.text_at.ensures.turns (c.len-number.result + 1), few)
 
 pub returns-in_err-at-clause-turns : goal.returns-in_err-at-clause-turns
 returns-in_err-at-clause-turns g c =
@@ -117,7 +131,8 @@ returns-in_err-at-clause-turns g c =
     let number : c.len-number.result + 1 ≡ 1 + length c.loop-start.found.items = omega (arith, c.len-number.ensures, c.loop-start.found.ok) in
     let few = next_columns c.args.tab c.args.bytes.now some c.loop-start.found.items (c.len-number.result + 1) c.loop-start.start c.loop-start.invariant.placed (omega arith) number in
     let kept = kept-turns (c.loop-start.turns + c.loop-start.known.before.over) (c.args.turns.now + 1706 * columns_in c.loop-start.found.items) c.loop-start.known.text.items c.loop-start.invariant.kept in
-    omega (arith, kept, c.add_one.ensures, c.next_row.ensures.turns, few)
+    let long = ap (λ (l : List ℕ). length l) (c.in_ok-text.ensures.seats (c.len-number.result + 1)) in
+    omega (arith, kept, c.add_one.ensures, c.text_at.ensures.turns (c.len-number.result + 1), c.row_of_text.ensures.turns, long, few)
 
 pub returns-in_err-push-clause-turns : goal.returns-in_err-push-clause-turns
 returns-in_err-push-clause-turns g c =
@@ -125,4 +140,5 @@ returns-in_err-push-clause-turns g c =
     let number : c.len-number.result + 1 ≡ 1 + length c.loop-start.found.items = omega (arith, c.len-number.ensures, c.loop-start.found.ok) in
     let few = next_columns c.args.tab c.args.bytes.now some c.loop-start.found.items (c.len-number.result + 1) c.loop-start.start c.loop-start.invariant.placed (omega arith) number in
     let kept = kept-turns (c.loop-start.turns + c.loop-start.known.before.over) (c.args.turns.now + 1706 * columns_in c.loop-start.found.items) c.loop-start.known.text.items c.loop-start.invariant.kept in
-    omega (arith, kept, c.add_one.ensures, c.next_row.ensures.turns, few)
+    let long = ap (λ (l : List ℕ). length l) (c.in_ok-text.ensures.seats (c.len-number.result + 1)) in
+    omega (arith, kept, c.add_one.ensures, c.text_at.ensures.turns (c.len-number.result + 1), c.row_of_text.ensures.turns, long, few)
