@@ -266,6 +266,7 @@ impl Before {
     }
 
     /// What is known behind a line.
+    #[inline(always)]
     pub fn go_behind<L: Ledger>(
         &mut self,
         number: usize,

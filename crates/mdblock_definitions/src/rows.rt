@@ -115,6 +115,7 @@ fn look_behind<L: Ledger>(
 
 /// What is held of the text of the open paragraph behind a line, by that before it and the leaf block that goes on before it. `t` are the line's
 /// virtual bytes.
+#[inline(always)]
 fn hold_row<L: Ledger>(
     text: &mut Vec<u8>,
     leaf: Leaf,
