@@ -198,6 +198,7 @@ pub use Rattle.mddocument_laws.proofs.HtmlStarts
 pub use Rattle.mddocument_laws.proofs.Inside
 pub use Rattle.mddocument_laws.proofs.ItemNames
 pub use Rattle.mddocument_laws.proofs.LineStarts
+pub use Rattle.mddocument_laws.proofs.LinesAlone
 pub use Rattle.mddocument_laws.proofs.LinkEvents
 pub use Rattle.mddocument_laws.proofs.LinkNames
 pub use Rattle.mddocument_laws.proofs.LinkWalk

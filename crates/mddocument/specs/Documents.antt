@@ -16,7 +16,7 @@ use Rattle.mdconstructs_machines.specs.LineEvents.{line_events, data_events, bac
 use Rattle.mdconstructs_machines.specs.ParagraphEvents.{paragraph_events}
 use Rattle.mdinline_text_machine.specs.ParagraphTexts.{paragraph_texts}
 use Rattle.mdinline_text_machine.specs.TextEvents.{seat_events}
-use Rattle.mdblock_definitions.specs.Blocks.{document_blocks}
+use Rattle.mdblock_text_lines.specs.DocumentBlocks.{document_blocks}
 use Rattle.mddocument.specs.DocumentEvents.{document_events}
 use Rattle.mddocument.specs.FlowTexts.{flow_inlines}
 use Rattle.mddocument.specs.declared.choice.Choice.{Choice}

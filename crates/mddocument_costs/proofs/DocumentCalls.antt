@@ -3,9 +3,10 @@ use Rattle.mddocument_costs.proofs.Prelude.{Some, None, [], ap, arith, false, in
 use Rattle.markdown_base.specs.declared.event.Content.TheVariants as content
 use Rattle.mdblock_containers.proofs.LetterPlaces.{virtual_kept}
 use Rattle.mdblock_containers.specs.Letters.{lettered_seat, with_letters}
-use Rattle.mdblock_definitions.specs.Blocks.{document_blocks, document_skeleton, shown_as_text}
+use Rattle.mdblock_definitions.specs.Blocks.{document_skeleton, shown_as_text}
 use Rattle.mdblock_definitions.specs.Skeleton.{letters}
 use Rattle.mdblock_definitions.specs.SkeletonLaws.{SkeletonsAccount}
+use Rattle.mdblock_text_lines.specs.DocumentBlocks.{document_blocks}
 use Rattle.mddocument.proofs.InContainers.Blocks.{blocks-are, shown-is, shown-ready}
 use Rattle.mddocument.proofs.InContainers.BlocksFormed.{blocks-well}
 use Rattle.mddocument.proofs.InContainers.Skeletons.{skeleton-laws}

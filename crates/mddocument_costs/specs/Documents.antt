@@ -7,8 +7,9 @@ use Rattle.markdown_tokenizer.specs.declared.subtokenize.Subresult.{Subresult}
 use Rattle.markdown_tokenizer.specs.Text.{Given, IsDocument}
 use Rattle.mdblock_leaf_rows.specs.FlowKnows.{flow_rules}
 use Rattle.mdinline_machine.specs.InlineRules.{inlines_rules}
-use Rattle.mdblock_definitions.specs.Blocks.{document_blocks, document_skeleton, shown_as_text}
+use Rattle.mdblock_definitions.specs.Blocks.{document_skeleton, shown_as_text}
 use Rattle.mdinline_link_strings.specs.Strings.{with_strings}
+use Rattle.mdblock_text_lines.specs.DocumentBlocks.{document_blocks}
 use Rattle.mddocument.specs.DocumentEvents.{document_events_by}
 use Rattle.mddocument_costs.specs.Chains.{calls_in}
 

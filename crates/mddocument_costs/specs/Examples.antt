@@ -3,7 +3,8 @@ use Rattle.std.specs.Prelude.{ℕ, List, [], ◌∷◌, None}
 use Rattle.markdown_base.specs.Presets.{default_parse_options}
 use Rattle.markdown_tokenizer.specs.Engine.{given_by}
 use Rattle.markdown_tokenizer.specs.Text.{Given}
-use Rattle.mdblock_definitions.specs.Blocks.{document_blocks, document_skeleton, shown_as_text}
+use Rattle.mdblock_definitions.specs.Blocks.{document_skeleton, shown_as_text}
+use Rattle.mdblock_text_lines.specs.DocumentBlocks.{document_blocks}
 use Rattle.mddocument_costs.specs.Chains.{chain_bytes, chain_count}
 
 -- `> a`, LF, `> b`, LF, `- c`

@@ -1,5 +1,5 @@
 -- Documents have names of the constructs that are on: so do their containers and definitions, and what is put in place of chunks and strings.
-use Rattle.mddocument_laws.proofs.Prelude.{chain_text, flow_events, document_blocks, document_skeleton, shown_as_text, rows, Inside, Section, defined, lines, text_in, all_rows, labels_in, labels_of_section, sections_in_seats, skeleton, inline_events, with_inlines, string_events, lines_in}
+use Rattle.mddocument_laws.proofs.Prelude.{chain_text, document_blocks, document_skeleton, rows, Inside, Section, defined, lines, text_in, all_rows, labels_in, labels_of_section, sections_in_seats, skeleton, inline_events, with_inlines, string_events, lines_in}
 use Rattle.std.proofs.Common.{◌≡◌, ℕ, List, [], ◌∷◌, ◌++◌, Bool, true, false, Some, inl, inr, sym, ◌∙◌, subst}
 use Rattle.std.proofs.lemmas.Bool.{cond_both, false_from_ne_true, false≢true, or_cases, or_left, or_right}
 use Rattle.std.proofs.lemmas.List.Elements.{All-contains, All-contains_itself, All-from_recursion, All-weaker, recursion_from_All}
@@ -22,12 +22,14 @@ use Rattle.markdown_children.specs.Ready.{place_at}
 use Rattle.mdinline_labels.specs.Defined.{is_same}
 use Rattle.mdblock_definitions.specs.Labelled.{is_one_of}
 use Rattle.mdinline_link_strings.specs.StringItems.{string_seat_events}
+use Rattle.mdblock_text_lines.specs.DocumentBlocks.{has_number, text_lines}
+use Rattle.mdblock_text_lines.specs.TextLines as told
 use Rattle.mddocument.proofs.FlowTexts.InlineSteps.{Steps, steps-virtual}
 use Rattle.mddocument.specs.DocumentEvents.{document_events, document_texts, is_defined_in}
 use Rattle.mddocument_laws.specs.Names.{may_be_named}
 use Rattle.mddocument_laws.specs.NamesOff.{AreDefinedIfOn, AreOfDocument, DocumentsAreNamed, InlinesAreNamed, LeafBlocksAreNamed, OffIsLeftOut, SkeletonsAreNamed, StringsAreNamed}
 use Rattle.mddocument_laws.proofs.ChildNames.{children-named, with-strings-named}
-use Rattle.mddocument_laws.proofs.FlowNames.{flow-named}
+use Rattle.mddocument_laws.proofs.FlowNames.{flow-named, told-named-by}
 use Rattle.mddocument_laws.proofs.ItemNames.{read-outer, read-runs, strings-named}
 use Rattle.mddocument_laws.proofs.LinkNames.{links-named}
 use Rattle.mddocument_laws.proofs.Inside.{StandsAround, StandsInside, around-inside, inside-may}
@@ -132,8 +134,9 @@ module _ (g : Given) where
 blocks-named : (g : Given) → Named (May g.options.constructs) (document_blocks g)
 blocks-named g =
     let on = g.options.constructs in
-    children-named (May on) (Some Content) (document_skeleton g) (λ c. flow_events on (shown_as_text g).bytes (text_from (shown_as_text g) (document_skeleton g) c).seats) (bare-named on g.bytes (virtual g.tab g.bytes))
-    (λ c. flow-named on (shown_as_text g).bytes (text_from (shown_as_text g) (document_skeleton g) c).seats)
+    let is_text = has_number (text_lines on (virtual g.tab g.bytes)) in
+    children-named (May on) (Some Content) (document_skeleton g) (λ c. told.flow_events on is_text g.bytes (text_from g (document_skeleton g) c).seats) (bare-named on g.bytes (virtual g.tab g.bytes))
+    (λ c. told-named-by on on (λ block h. h) is_text g.bytes (text_from g (document_skeleton g) c).seats)
 
 texts-named : (g : Given) → Named (May g.options.constructs) (document_texts g)
 texts-named g =

@@ -1,5 +1,5 @@
 -- The events of documents tell the ranks of their headings: what is around leaf blocks and in their texts has no event that tells of them.
-use Rattle.mddocument_laws.proofs.Prelude.{◌≡◌, ℕ, ◌≤◌, ◌⊎◌, List, [], ◌∷◌, ◌++◌, Bool, true, false, cond, Option, Some, map, arith, refl, sym, ap, ◌∙◌, subst, and_parts, flat_map-append, map-append, All-from_recursion, none-some, AllByRecursion, flat_map, ◌&&◌, IsSomeAnd, slice_get, every-append, every-map, Constructs, Event, IsVoidTight, is_enter, same_name, virtual, same_name-true, Given, IsDocument, Text, fitting_starts, text_from, all-begin, is-text, chain_text, lines_in, LeafBlock, atx_heading, leaf_blocks, setext_heading, flow_events, document_blocks, document_skeleton, shown_as_text, letters, inline_events, with_inlines, string_events, in_string_after, is_data, line_as_string, seats_between, with_strings_from, inlines-hold-text, skeleton-laws, content-ready as text-ready, strings-ready, events-tight, document_events, document_texts, is_defined_in, EachHeadingTellsItsRank, HasRank, HeadingsHaveRanks, HeadingsTellTheirRanks, enters_heading, leaf_blocks_of, rank_at, rank_of, ranks_in, not}
+use Rattle.mddocument_laws.proofs.Prelude.{◌≡◌, ℕ, ◌≤◌, ◌⊎◌, List, [], ◌∷◌, ◌++◌, Bool, true, false, cond, Option, Some, map, arith, refl, sym, ap, ◌∙◌, subst, and_parts, flat_map-append, map-append, All-from_recursion, none-some, AllByRecursion, flat_map, ◌&&◌, IsSomeAnd, slice_get, every-append, every-map, Constructs, Event, IsVoidTight, is_enter, same_name, virtual, same_name-true, Given, IsDocument, Text, fitting_starts, text_from, all-begin, is-text, chain_text, lines_in, LeafBlock, atx_heading, leaf_blocks, setext_heading, flow_events, blocks-are-those, document_blocks, document_skeleton, shown_as_text, letters, inline_events, with_inlines, string_events, in_string_after, is_data, line_as_string, seats_between, with_strings_from, inlines-hold-text, skeleton-laws, content-ready as text-ready, strings-ready, events-tight, document_events, document_texts, is_defined_in, EachHeadingTellsItsRank, HasRank, HeadingsHaveRanks, HeadingsTellTheirRanks, enters_heading, leaf_blocks_of, rank_at, rank_of, ranks_in, not}
 use Rattle.markdown_base.specs.declared.event.Content.TheVariants as content
 use Rattle.markdown_base.specs.declared.event.Name.TheVariants as name
 use Rattle.markdown_children.specs.Chains.{begins}
@@ -86,13 +86,15 @@ module _ (g : Given) (is : IsDocument g) where
   all-linked es h = every-map (λ (e : Event). is_of_heading e.name ≡ false) IsOtherIfLinked other-linked es h
 
   blocks-plain : AllByRecursion IsOtherIfLinked blocks
-  blocks-plain = children-are IsOtherIfLinked other-moved (Some content.Content) sk flow (all-linked sk sk-other) (λ c. flow-plain on s.bytes (text c).seats)
+  blocks-plain =
+      subst (AllByRecursion IsOtherIfLinked) (sym (blocks-are-those g is))
+      (children-are IsOtherIfLinked other-moved (Some content.Content) sk flow (all-linked sk sk-other) (λ c. flow-plain on s.bytes (text c).seats))
 
   inlines-plain : AllByRecursion IsOtherIfLinked inlines
   inlines-plain = children-are IsOtherIfLinked other-moved (Some content.Text) blocks (λ c. inline_events (is_defined_in g) g (chain_text g blocks c)) blocks-plain (λ c. all-linked _ (inline-other c))
 
   blocks-heads : heads blocks ≡ flat_map (λ c. heads (flow c)) starts
-  blocks-heads = chosen-of-children is_of_heading g.tab s.bytes (Some content.Content) sk (content-ready skeleton-laws g is) flow sk-other
+  blocks-heads = ap heads (blocks-are-those g is) ∙ chosen-of-children is_of_heading g.tab s.bytes (Some content.Content) sk (content-ready skeleton-laws g is) flow sk-other
 
   inlines-heads : heads inlines ≡ heads blocks
   inlines-heads = heads-kept g.tab g.bytes (Some content.Text) blocks (text-ready skeleton-laws g is content.Text) (λ c. inline_events (is_defined_in g) g (chain_text g blocks c)) blocks-plain inline-other

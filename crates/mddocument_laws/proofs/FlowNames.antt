@@ -1,8 +1,10 @@
 -- The events of leaf blocks have names of the constructs that are on.
-use Rattle.mddocument_laws.proofs.Prelude.{◌≡◌, ℕ, zero, suc, List, [], ◌∷◌, true, false, cond, not, Some, None, Option, refl, length, and_parts, cond_both, or_left, or_right, none-some, AllByRecursion, ◌&&◌, ◌||◌, Constructs, Name, Seat, lines_in, block_lines, HtmlKind, html_kind, Line, LeafBlock, atx_heading, blank_line, block_of_kind, blocks_in, break_line, content_at, fenced_code, html_block, indented_code, leaf_blocks, paragraph, setext_heading, text_of, underlined, Mark, flow_events, leaf_block_marks, LineKind, blank, fence, heading, html, indent, indented, is_atx_heading, is_blank_line, is_far, is_fence_of, is_thematic_break, is_underline_of_marks, kind_of_rest, line_kind, run, text, thematic_break, underline_rank, unindented, may_be_named}
+use Rattle.mddocument_laws.proofs.Prelude.{◌≡◌, ℕ, zero, suc, Bool, List, [], ◌∷◌, true, false, cond, not, Some, None, Option, refl, subst, length, and_parts, cond_both, or_left, or_right, none-some, AllByRecursion, ◌&&◌, ◌||◌, Constructs, Name, Seat, lines_in, block_lines, HtmlKind, html_kind, Line, LeafBlock, atx_heading, blank_line, break_line, fenced_code, html_block, indented_code, paragraph, setext_heading, text_of, Mark, flow_events, leaf_block_marks, leaf_blocks_marks, linked_from, LineKind, blank, fence, heading, html, indent, indented, is_atx_heading, is_blank_line, is_far, is_fence_of, is_thematic_break, is_underline_of_marks, kind_of_rest, line_kind, run, text, thematic_break, underline_rank, unindented, may_be_named}
 use Rattle.markdown_base.specs.declared.event.Name.TheVariants as name
+use Rattle.mdblock_text_lines.specs.TextLines as told
 use Rattle.mddocument.proofs.Walks.BlockWalk.{MayBlock, block-are}
 use Rattle.mddocument.proofs.Walks.InnerTexts.{AnySeat, any-each, any-lines}
+use Rattle.mddocument_laws.proofs.LinesAlone.{blocks-alone, is_text_nowhere}
 use Rattle.mddocument_laws.proofs.Named.{Marked, Named, around, linked-named, marked-flat-by, names-walk, none}
 
 -- ---- a block's construct is on
@@ -52,27 +54,38 @@ module _ (on : Constructs) where
     | false ↦ λ e. (let far : (is_far on t || true) ≡ true = or_right (is_far on t) true refl in absurd (none-some rank (rw far at e)))
   ] h
 
-  underlined-is-on : (lines behind : List Line) → IsOn (underlined on lines behind).0
-  underlined-is-on lines [] = tt
-  underlined-is-on lines (next ∷ behind) = go (underline_rank on (text_of next)) refl where
-    go : (found : Option ℕ) → underline_rank on (text_of next) ≡ found
-        → IsOn (let p : LeafBlock × ℕ = elim found [ None ↦ (paragraph lines, length lines) | Some rank ↦ (setext_heading rank lines next, suc (length lines)) ] in p.0)
-    go None h = tt
-    go (Some rank) h = rank-is-on (text_of next) rank h
+  -- whichever lines are text
+  module _ (is_text : Line → Bool) where
+    kind-at-is-on : (line : Line) → KindIsOn (told.kind_at on is_text line)
+    kind-at-is-on line = cond_both (is_text line) text (line_kind on (text_of line)) KindIsOn (λ e. tt) (λ e. kind-is-on (text_of line))
 
-  content-is-on : (lines : List Line) → IsOn (content_at on lines).0
-  content-is-on [] = tt
-  content-is-on (line ∷ lines) = underlined-is-on _ _
+    rank-at-is-on : (line : Line) (rank : ℕ) → told.rank_at on is_text line ≡ Some rank → on.heading_setext ≡ true
+    rank-at-is-on line rank h = elim (is_text line) as (λ b. cond b None (underline_rank on (text_of line)) ≡ Some rank → on.heading_setext ≡ true) [
+      | true ↦ λ e. absurd (none-some rank e)
+      | false ↦ λ e. rank-is-on (text_of line) rank e
+    ] h
 
-  block-is-on : (kind : LineKind) (line : Line) (lines : List Line) → KindIsOn kind → IsOn (block_of_kind on kind line lines).0
-  block-is-on blank line lines h = tt
-  block-is-on text line lines h = content-is-on (line ∷ lines)
-  block-is-on kind line lines h = h
+    underlined-is-on : (lines behind : List Line) → IsOn (told.underlined on is_text lines behind).0
+    underlined-is-on lines [] = tt
+    underlined-is-on lines (next ∷ behind) = go (told.rank_at on is_text next) refl where
+      go : (found : Option ℕ) → told.rank_at on is_text next ≡ found
+          → IsOn (let p : LeafBlock × ℕ = elim found [ None ↦ (paragraph lines, length lines) | Some rank ↦ (setext_heading rank lines next, suc (length lines)) ] in p.0)
+      go None h = tt
+      go (Some rank) h = rank-at-is-on next rank h
 
-  pub blocks-are-on : (bound : ℕ) (lines : List Line) → AllByRecursion IsOn (blocks_in on bound lines)
-  blocks-are-on zero lines = tt
-  blocks-are-on (suc bound) [] = tt
-  blocks-are-on (suc bound) (line ∷ lines) = (block-is-on (line_kind on (text_of line)) line lines (kind-is-on (text_of line)), blocks-are-on bound _)
+    content-is-on : (lines : List Line) → IsOn (told.content_at on is_text lines).0
+    content-is-on [] = tt
+    content-is-on (line ∷ lines) = underlined-is-on _ _
+
+    block-is-on : (kind : LineKind) (line : Line) (lines : List Line) → KindIsOn kind → IsOn (told.block_of_kind on is_text kind line lines).0
+    block-is-on blank line lines h = tt
+    block-is-on text line lines h = content-is-on (line ∷ lines)
+    block-is-on kind line lines h = h
+
+    pub blocks-are-on : (bound : ℕ) (lines : List Line) → AllByRecursion IsOn (told.blocks_in on is_text bound lines)
+    blocks-are-on zero lines = tt
+    blocks-are-on (suc bound) [] = tt
+    blocks-are-on (suc bound) (line ∷ lines) = (block-is-on (told.kind_at on is_text line) line lines (kind-at-is-on line), blocks-are-on bound _)
 
 -- ---- the marks of a block
 module _ (on : Constructs) (bytes : List ℕ) where
@@ -95,9 +108,14 @@ module _ (on : Constructs) (bytes : List ℕ) where
   block-names block h = block-are bytes Are May AnySeat AnySeat (names-walk May refl refl refl bytes) (λ c seats q i. around bytes (Some c) name.Data seats refl none) block (may-block block h) (any-each (block_lines block)) (any-lines (block_lines block))
 
 -- The leaf blocks of a text have names of the constructs that are on, also if others than leaf blocks' are not
+pub told-named-by : (on other : Constructs) → ((block : LeafBlock) → IsOn on block → IsOn other block) → (is_text : Line → Bool) (bytes : List ℕ) (seats : List Seat)
+    → Named (λ n. may_be_named other n ≡ true) (told.flow_events on is_text bytes seats)
+told-named-by on other still is_text bytes seats =
+    linked-named 0 _ (marked-flat-by (IsOn on) (leaf_block_marks bytes) (told.leaf_blocks on is_text (lines_in seats)) (λ block h. block-names other bytes block (still block h)) (blocks-are-on on is_text _ _))
+
 pub flow-named-by : (on other : Constructs) → ((block : LeafBlock) → IsOn on block → IsOn other block) → (bytes : List ℕ) (seats : List Seat) → Named (λ n. may_be_named other n ≡ true) (flow_events on bytes seats)
 flow-named-by on other still bytes seats =
-    linked-named 0 _ (marked-flat-by (IsOn on) (leaf_block_marks bytes) (leaf_blocks on (lines_in seats)) (λ block h. block-names other bytes block (still block h)) (blocks-are-on on _ _))
+    subst (λ blocks. Named (λ n. may_be_named other n ≡ true) (linked_from 0 (leaf_blocks_marks bytes blocks))) (blocks-alone on (lines_in seats)) (told-named-by on other still is_text_nowhere bytes seats)
 
 pub flow-named : (on : Constructs) (bytes : List ℕ) (seats : List Seat) → Named (λ n. may_be_named on n ≡ true) (flow_events on bytes seats)
 flow-named on bytes seats = flow-named-by on on (λ block h. h) bytes seats

@@ -6,6 +6,7 @@ pub mod DocumentNames
 pub mod FlowNames
 pub mod Inside
 pub mod ItemNames
+pub mod LinesAlone
 pub mod LinkNames
 pub mod Named
 pub mod PlainNames

@@ -86,10 +86,12 @@ pub use Rattle.mdblock_lines.specs.Containers.{Container, Item, Prefix, digits, 
 pub use Rattle.mdblock_containers.specs.Prefixes.{beginning, columns_of, containers_of, going_on, in_place_of, with_list}
 pub use Rattle.mdblock_containers.specs.Rows.{Before, Row, has_none, is_paragraph, is_raw, nothing_known, rest_of}
 pub use Rattle.mdblock_containers.specs.Skeleton.{Frame, Part, Piece, begin_of, begun_all, begun_marks, chained_from, chunks_of, end_of, ending_marks, enters_of, exits, frames_at, frames_of, further, going_marks, going_on_at, inside_of, is_held, joined_pieces, last_line, left_in, list_at, list_begun, list_name, parts_in, pieces_of, prefixes_marks, shared, standing}
-pub use Rattle.mdblock_definitions.specs.Blocks.{document_blocks, document_skeleton, shown_as_text}
+pub use Rattle.mdblock_definitions.specs.Blocks.{document_skeleton, shown_as_text}
 pub use Rattle.mdblock_definitions.specs.Rows.{Known, known_after, row_of, rows, rows_from}
 pub use Rattle.mdblock_definitions.specs.Sections.{Inside, Section, before_defined, begins_text, defined, defined_in, defining, in_same, lines, lines_defined, paragraph_of, sections, sections_in, sections_of, text_in, undefined}
 pub use Rattle.mdblock_definitions.specs.Skeleton.{all_rows, behind_definitions, behind_marks, inside_marks, labels_in, labels_of_section, letters, section_marks, sections_in_seats, sections_marks, skeleton}
+pub use Rattle.mdblock_text_lines.proofs.BlocksAreThose.{blocks-are-those}
+pub use Rattle.mdblock_text_lines.specs.DocumentBlocks.{document_blocks}
 pub use Rattle.mddocument.proofs.InContainers.InlineHolds.{inlines-hold-text}
 pub use Rattle.mddocument.proofs.InContainers.Skeletons.{skeleton-laws}
 pub use Rattle.mddocument.proofs.InContainers.TextsFormed.{content-ready, strings-ready, texts-orderly}

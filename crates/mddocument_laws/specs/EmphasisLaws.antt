@@ -9,11 +9,11 @@ use Rattle.markdown_children.specs.Chains.{fitting_starts}
 use Rattle.mdinline_emphasis.specs.declared.pairs.Marker.TheVariants.{Tilde}
 use Rattle.mdinline_emphasis.specs.Emphasis.{Pair, Run, markers_of, outer_name, pairs}
 use Rattle.mdinline_emphasis.specs.Runs.{runs_in}
-use Rattle.mdblock_definitions.specs.Blocks.{document_blocks}
 use Rattle.mdinline_machine.specs.InlineEvents.{inline_events, read_events}
 use Rattle.mdinline_links.specs.Laid.{AreAscending}
 use Rattle.mdinline_links.specs.Linked.{with_links}
 use Rattle.mdinline_text_machine.specs.ChainTexts.{chain_text}
+use Rattle.mdblock_text_lines.specs.DocumentBlocks.{document_blocks}
 use Rattle.mddocument.specs.DocumentEvents.{document_events, is_defined_in}
 use Rattle.mddocument_laws.specs.EmphasisSpans.{emphasis_spans, is_emphasis, markers_given}
 use Rattle.mddocument_laws.specs.PairedApart.{runs_apart, spans_of_text}

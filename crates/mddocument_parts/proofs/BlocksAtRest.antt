@@ -22,7 +22,7 @@ use Rattle.mdblock_leaf_blocks.specs.LeafBlocks.{leaf_blocks}
 use Rattle.mdblock_leaf_blocks.specs.LeafEvents.{Mark, flow_events, leaf_blocks_marks, linked_from}
 use Rattle.mdblock_containers.specs.Letters.{lettered_seat, with_letters}
 use Rattle.mdblock_definitions.proofs.PlainLetters.{letters-are-plain}
-use Rattle.mdblock_definitions.specs.Blocks.{document_skeleton, shown_as_text}
+use Rattle.mdblock_definitions.specs.Blocks.{document_blocks, document_skeleton, shown_as_text}
 use Rattle.mdblock_definitions.specs.Skeleton.{letters}
 use Rattle.mddocument.proofs.FlowTexts.Segments.{HasByte}
 use Rattle.mddocument.proofs.InContainers.Blocks.{content-ready, shown-is}
@@ -41,7 +41,7 @@ use Rattle.mddocument_parts.proofs.Shown.{within}
 use Rattle.mddocument_parts.proofs.WithoutContainers.CutOff.{IsPlain}
 use Rattle.mddocument_parts.proofs.WithoutContainers.OneChild.{IsFresh}
 use Rattle.mddocument_parts.proofs.WithoutContainers.Whole.{chained-plain, fresh-kept, none-read}
-use Rattle.mddocument_parts.specs.BothDocuments.{blocks_of, is_rest}
+use Rattle.mddocument_parts.specs.BothDocuments.{is_rest}
 use Rattle.mddocument_parts.specs.Moved.{line_endings, moved_event, moved_index, moved_link, moved_seat}
 
 -- ==== The leaf blocks of the chains of a document's skeleton, where the skeleton is those of its parts: they are those of the parts.
@@ -52,6 +52,10 @@ every-chunk P g events (k ∷ ks) h = every-append P (chunk_seats g events k) (f
 
 pub every-text : (P : Seat → Type 0) (g : Given) (events : List Event) (c : ℕ) → AllByRecursion P (virtual g.tab g.bytes) → AllByRecursion P (text_from g events c).seats
 every-text P g events c h = subst (AllByRecursion P) (sym (seats-of g events (chain_of events c))) (every-chunk P g events (chain_of events c) h)
+
+-- the blocks of bytes that are a document, as they are read of it with letters
+abbrev pub lettered_blocks : ParseOptions → (bytes : List ℕ) → List Event
+lettered_blocks options bytes = document_blocks (document options bytes)
 
 module _ (options : ParseOptions) (a b : List ℕ) (is : IsDocument (document options (a ++ b))) (rest : is_rest options a b ≡ true) where
   abbrev on : Constructs
@@ -123,9 +127,9 @@ module _ (options : ParseOptions) (a b : List ℕ) (is : IsDocument (document op
   end-first = let tab = is.tab.0 in subst (λ (n : ℕ). EndUpTo wanted n skeleton_first) size (ready-up-to t shown_first wanted skeleton_first ready-first (omega (arith, tab)))
 
   -- The leaf blocks of both skeletons, one behind the other, are the blocks of both
-  pub blocks-apart : let blocks = blocks_of options a in
+  pub blocks-apart : let blocks = lettered_blocks options a in
       with_chains_read wanted whole (flow_events on whole.bytes) (skeleton_first ++ map (moved_event (line_endings a) (length a) (length skeleton_first)) skeleton_second)
-      ≡ blocks ++ map (moved_event (line_endings a) (length a) (length blocks)) (blocks_of options b)
+      ≡ blocks ++ map (moved_event (line_endings a) (length a) (length blocks)) (lettered_blocks options b)
   blocks-apart =
       chains-read-both wanted (line_endings a) (length a) whole first second skeleton_first skeleton_second (flow_events on whole.bytes) (flow_events on first.bytes) (flow_events on second.bytes) of-both
       (ready-forward t shown_first wanted skeleton_first ready-first) (ready-forward t shown_second wanted skeleton_second ready-second) (ends-inside t shown_first wanted skeleton_first ready-first) end-first

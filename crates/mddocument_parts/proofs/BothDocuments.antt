@@ -25,13 +25,14 @@ use Rattle.mdblock_definitions.proofs.SectionsReady.{document-goes}
 use Rattle.mdblock_definitions.specs.Rows.{rows}
 use Rattle.mdblock_definitions.specs.Sections.{Section, lines, sections}
 use Rattle.mdblock_definitions.specs.Skeleton.{letters, letters_of_section, sections_marks, text_begin}
+use Rattle.mdblock_text_lines.proofs.BlocksAreThose.{blocks-are-those}
 use Rattle.mddocument.specs.DocumentEvents.{is_defined_in}
 use Rattle.mddocument.specs.Documents.{document}
-use Rattle.mddocument_parts.proofs.BlocksAtRest.{blocks-apart, whole, joined-leaves, leaves, marks_of_seats, with_letter}
+use Rattle.mddocument_parts.proofs.BlocksAtRest.{blocks-apart, whole, joined-leaves, leaves, lettered_blocks, marks_of_seats, with_letter}
 use Rattle.mddocument_parts.proofs.BlocksJoin.{AreWhole, apart, chunk-whole, lone_chunk, whole-both}
 use Rattle.mddocument_parts.proofs.BothTexts.{events-both}
 use Rattle.mddocument_parts.proofs.DocumentBytes.{document-first-line-tells}
-use Rattle.mddocument_parts.proofs.DocumentParts.{behind-document}
+use Rattle.mddocument_parts.proofs.DocumentParts.{behind-document, front-document}
 use Rattle.mddocument_parts.proofs.JoinedChunks.{at-rest, first-plain, first-read, goes-behind, marks-apart, seam_chunk, seam_row, seam_rows, sections-join, DocumentPlace}
 use Rattle.mddocument_parts.proofs.JoinedDocument.{IsRead}
 use Rattle.mddocument_parts.proofs.JoinedMarks.{lines_of, white_columns}
@@ -45,10 +46,10 @@ use Rattle.mddocument_parts.proofs.Sections.{give}
 use Rattle.mddocument_parts.proofs.SkeletonOfBoth.{all-behind, chained-of-both, skeleton-of-both}
 use Rattle.mddocument_parts.proofs.NoUnderlines.{EndsBefore}
 use Rattle.mddocument_parts.proofs.WithoutContainers.Leaves.{HasText, last_line}
-use Rattle.mddocument_parts.specs.BothDocuments.{DocumentBlocksOfBoth, DocumentEventsOfBoth, DocumentSectionsGiveEvents, IsOfBoth, blocks_of, events_by, is_rest}
+use Rattle.mddocument_parts.specs.BothDocuments.{DocumentBlocksOfBoth, DocumentEventsOfBoth, DocumentSectionsGiveEvents, IsOfBoth, events_by, is_rest}
 use Rattle.mddocument_parts.specs.DocumentRests.{document_rows, first_at_document_rest, goes_on_behind}
 use Rattle.mddocument_parts.specs.JoinedStretches.{ChunkSeam, SectionSeam, SectionsJoin, at_top, firsts, joined_part, marks_between, section_seam, sections_apart}
-use Rattle.mddocument_parts.specs.Moved.{begins_line, line_endings}
+use Rattle.mddocument_parts.specs.Moved.{begins_line, line_endings, moved_event}
 use Rattle.mddocument_parts.specs.MovedSections.{moved_section}
 use Rattle.mddocument_parts.specs.Sections.{document_of}
 
@@ -91,7 +92,7 @@ module _ (options : ParseOptions) (a b : List ℕ) (is : IsDocument (document op
   marks_of_both = sections_marks bytes (sections on (document_rows on t bytes))
 
   -- it is enough to see to the marks
-  pub from-marks : leaf_blocks_of marks_of_both ≡ leaf_blocks_of (marks_before ++ marks_behind) → IsOfBoth (blocks_of options) a b
+  pub from-marks : leaf_blocks_of marks_of_both ≡ leaf_blocks_of (marks_before ++ marks_behind) → IsOfBoth (lettered_blocks options) a b
   from-marks e =
       let g = whole options a b is rest in
       e ∙ ap (λ ms. leaf_blocks_of (marks_before ++ ms)) (all-behind a b torn on t)
@@ -269,7 +270,7 @@ module _ (options : ParseOptions) (a b : List ℕ) (is : IsDocument (document op
             ∙ joined-leaves options bytes is before s ss middle u us after between whole (between-plain bytes (q.line ∷ more) blanks) split c.front c.back first_whole second_whole
             ∙ (λ i. leaf_blocks_of (sym firsts i ++ sym seconds i))
 
-        pub blocks-at-seam : IsOfBoth (blocks_of options) a b
+        pub blocks-at-seam : IsOfBoth (lettered_blocks options) a b
         blocks-at-seam = from-marks (by one refl two refl)
           where
             by : (xs : List Seat) → one ≡ xs → (ys : List Seat) → two ≡ ys → leaf_blocks_of marks_of_both ≡ leaf_blocks_of (marks_before ++ marks_behind)
@@ -285,7 +286,7 @@ module _ (options : ParseOptions) (a b : List ℕ) (is : IsDocument (document op
 
 -- At a rest at which a stretch of lines goes on, the blocks of a document are those of its parts
 pub blocks-with-stretch : (options : ParseOptions) (a b : List ℕ) → IsDocument (document options (a ++ b)) → is_rest options a b ≡ true
-    → goes_on_behind options.constructs (lines_in (virtual options.tab_size a)) (lines_in (virtual options.tab_size b)) ≡ true → IsOfBoth (blocks_of options) a b
+    → goes_on_behind options.constructs (lines_in (virtual options.tab_size a)) (lines_in (virtual options.tab_size b)) ≡ true → IsOfBoth (lettered_blocks options) a b
 blocks-with-stretch options a b is rest goes = by (lines_in (virtual options.tab_size b)) refl
   where
     on : Constructs
@@ -296,7 +297,7 @@ blocks-with-stretch options a b is rest goes = by (lines_in (virtual options.tab
 
     joined : (line : Line) (behind : List Line) (e : lines_in (virtual t b) ≡ line ∷ behind) → let r = seam_row on t a b rest line behind e goes in let rs = seam_rows on t a b rest line behind e goes in
         SectionsJoin (DocumentPlace on t a) (at_top r) (document_rows on t a) r rs (sections on (document_rows on t (a ++ b))) (sections on (document_rows on t a)) (map (moved_section (line_endings a) (length a)) (sections on (document_rows on t b)))
-        → IsOfBoth (blocks_of options) a b
+        → IsOfBoth (lettered_blocks options) a b
     joined line behind e (sections_apart k) = from-marks options a b is rest (ap (leaf_blocks_of options a b is rest) (marks-apart on t a b rest line behind e goes k))
     joined line behind e (section_seam h) =
         let one = lines_in (virtual t a) in
@@ -313,7 +314,7 @@ blocks-with-stretch options a b is rest goes = by (lines_in (virtual options.tab
         (seam-text on n (length a) one line behind there on_behind Place whole first second (ap (λ l. map (moved_section n (length a)) (sections on (rows on l))) e) h)
         (seam-not-lazy on n (length a) one line behind there on_behind Place whole first second h)
 
-    by : (two : List Line) → lines_in (virtual t b) ≡ two → IsOfBoth (blocks_of options) a b
+    by : (two : List Line) → lines_in (virtual t b) ≡ two → IsOfBoth (lettered_blocks options) a b
     by [] e = let none = sym goes ∙ ap (goes_on_behind on (lines_in (virtual t a))) e in absurd (cc)
     by (line ∷ behind) e = joined line behind e (sections-join on t a b rest line behind e goes)
 
@@ -330,15 +331,20 @@ abbrev GoesOn : ParseOptions → (a b : List ℕ) → Bool → Type 0
 GoesOn options a b goes = goes_on_behind options.constructs (lines_in (virtual options.tab_size a)) (lines_in (virtual options.tab_size b)) ≡ goes
 
 -- where none does, the skeletons are those of the parts
-blocks-without-stretch : (options : ParseOptions) (a b : List ℕ) → IsDocument (document options (a ++ b)) → is_rest options a b ≡ true → GoesOn options a b false → IsOfBoth (blocks_of options) a b
+blocks-without-stretch : (options : ParseOptions) (a b : List ℕ) → IsDocument (document options (a ++ b)) → is_rest options a b ≡ true → GoesOn options a b false → IsOfBoth (lettered_blocks options) a b
 blocks-without-stretch options a b is rest off =
     let g = whole options a b is rest in
     ap (with_chains_read (Some content.Content) g (flow_events options.constructs g.bytes)) (skeleton-of-both options.constructs options.tab_size a b rest off) ∙ blocks-apart options a b is rest
 
 pub document-blocks-of-both : DocumentBlocksOfBoth
-document-blocks-of-both options a b is rest = by (goes_on_behind options.constructs (lines_in (virtual options.tab_size a)) (lines_in (virtual options.tab_size b))) refl
+document-blocks-of-both options a b is rest =
+    let first = sym (blocks-are-those (document options a) (front-document options a b is)) in
+    let second = sym (blocks-are-those (document options b) (behind-document options a b is)) in
+    blocks-are-those (document options (a ++ b)) is
+    ∙ by (goes_on_behind options.constructs (lines_in (virtual options.tab_size a)) (lines_in (virtual options.tab_size b))) refl
+    ∙ (λ i. first i ++ map (moved_event (line_endings a) (length a) (length (first i))) (second i))
   where
-    by : (c : Bool) → GoesOn options a b c → IsOfBoth (blocks_of options) a b
+    by : (c : Bool) → GoesOn options a b c → IsOfBoth (lettered_blocks options) a b
     by true e = blocks-with-stretch options a b is rest e
     by false e = blocks-without-stretch options a b is rest e
 

@@ -39,7 +39,8 @@ use Rattle.mdblock_leaf_blocks.proofs.Marks.Courses.{Course, course-every, text-
 use Rattle.mdblock_leaf_blocks.specs.ChunksJoin.{AcrossGap}
 use Rattle.mdblock_leaf_blocks.specs.LeafBlocks.{Line}
 use Rattle.mdblock_containers.specs.Letters.{ArePlainFrom, is_plain, letter, lettered_from}
-use Rattle.mdblock_definitions.specs.Blocks.{document_blocks}
+use Rattle.mdblock_text_lines.proofs.BlocksAreThose.{blocks-are-those}
+use Rattle.mdblock_text_lines.specs.DocumentBlocks.{document_blocks}
 use Rattle.mdblock_definitions.specs.Skeleton.{sections_in_seats, sections_marks}
 use Rattle.mddocument.proofs.FlowTexts.InlineSteps.{Steps, steps-virtual}
 use Rattle.mddocument.proofs.InContainers.Blocks.{at, bare, blocks_at, content-ready, shown as lettered, shown-is}
@@ -274,8 +275,9 @@ module _ (laws : SkeletonLaws) (g : Given) (is : IsDocument g) (b : List ℕ) (e
 
   blocks-stand : Each (StandsAt At) (document_blocks g)
   blocks-stand =
-      all-left g.tab s.bytes of_content sk sk-ready leaves (StandsAt At) (stands-moved At) skeleton-left
-      (each-leaf sk_starts (all-begin s sk (shown-is laws g is) content.Content sk-ready))
+      subst (Each (StandsAt At)) (sym (blocks-are-those g is))
+      (all-left g.tab s.bytes of_content sk sk-ready leaves (StandsAt At) (stands-moved At) skeleton-left
+      (each-leaf sk_starts (all-begin s sk (shown-is laws g is) content.Content sk-ready)))
 
   -- ---- their texts and strings
 

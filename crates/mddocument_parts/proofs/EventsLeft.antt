@@ -54,7 +54,7 @@ use Rattle.mdblock_containers.specs.Rows.{Row}
 use Rattle.mdblock_containers.specs.Skeleton.{Frame, Part, chained_from, list_name}
 use Rattle.mdblock_definitions.proofs.Covered.{rows_of}
 use Rattle.mdblock_definitions.proofs.SectionTurns.{AreCut, all-of-sections, document-cut}
-use Rattle.mdblock_definitions.specs.Blocks.{document_blocks}
+use Rattle.mdblock_text_lines.specs.DocumentBlocks.{document_blocks}
 use Rattle.mdblock_definitions.specs.Rows.{rows}
 use Rattle.mdblock_definitions.specs.Sections.{Inside, Section, defined, lines as lines_inside, sections}
 use Rattle.mdblock_definitions.specs.Skeleton.{all_rows, sections_marks}

@@ -7,7 +7,7 @@ use Rattle.markdown_base.specs.declared.event.Event.{Event}
 use Rattle.markdown_tokenizer.specs.Text.{IsDocument}
 use Rattle.markdown_children.specs.Chains.{fitting_starts}
 use Rattle.mdinline_text_machine.specs.ReadChains.{chain_text}
-use Rattle.mdblock_definitions.specs.Blocks.{document_blocks}
+use Rattle.mdblock_text_lines.specs.DocumentBlocks.{document_blocks}
 use Rattle.mddocument.specs.DocumentEvents.{is_defined_in}
 use Rattle.mddocument.specs.Documents.{AreDocumentEvents, document}
 use Rattle.mdinline_machine.specs.InlineChains.{with_inlines, with_strings as with_string_chunks}

@@ -4,8 +4,8 @@ use Rattle.std.specs.List.{list_all}
 use Rattle.markdown_base.specs.declared.configuration.ParseOptions.{ParseOptions}
 use Rattle.markdown_tokenizer.specs.Text.{IsDocument}
 use Rattle.mdblock_containers.specs.Rows.{has_none, rest_of, rows}
-use Rattle.mdblock_definitions.specs.Blocks.{document_blocks}
 use Rattle.mdblock_definitions.specs.Laws.{begins_with_bracket}
+use Rattle.mdblock_text_lines.specs.DocumentBlocks.{document_blocks}
 use Rattle.mddocument.specs.DocumentEvents.{document_events}
 use Rattle.mddocument.specs.Documents.{AreFlowEvents, document, virtual_bytes}
 use Rattle.mddocument.specs.FlowTexts.{flow_inlines}

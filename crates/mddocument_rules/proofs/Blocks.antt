@@ -1,5 +1,5 @@
 -- The blocks of a document stand where they may: leaf blocks take the place of chunks, which stand where blocks may.
-use Rattle.mddocument_rules.proofs.Prelude.{◌≡◌, ◌∙◌, ℕ, ◌+◌, List, [], ◌∷◌, true, false, Option, Some, None, map, sym, ap, subst, false_from_ne_true, false≢true, AllByRecursion, between, option_and_then, option_map, Constructs, Event, Name, IsBalanced, relinked, with_ends, Seat, virtual, content_at, content_of, next_of, is_wanted, Given, IsDocument, Fits, chunk, some_content, begins, fitting_starts, IsReady, lines_in, flow_events, list_names, document_blocks, document_skeleton, rows, sections, holds_blocks, BlocksStand}
+use Rattle.mddocument_rules.proofs.Prelude.{◌≡◌, ◌∙◌, ℕ, ◌+◌, List, [], ◌∷◌, true, false, Option, Some, None, map, sym, ap, subst, false_from_ne_true, false≢true, AllByRecursion, between, option_and_then, option_map, Constructs, Event, Name, IsBalanced, relinked, with_ends, Seat, virtual, content_at, content_of, next_of, is_wanted, Given, IsDocument, Fits, chunk, some_content, begins, fitting_starts, IsReady, lines_in, flow_events, list_names, blocks-are-those, document_blocks, document_skeleton, rows, sections, holds_blocks, BlocksStand}
 use Rattle.markdown_base.specs.declared.event.Content.TheVariants as content
 use Rattle.markdown_base.specs.declared.event.Link.{Link}
 use Rattle.mdinline_text_machine.proofs.Paragraphs.ChainEvents.{all-begin, is-text}
@@ -86,8 +86,9 @@ module _ (g : Given) (is : IsDocument g) where
   pub blocks-walk : Walks Stands [] (document_blocks g)
   blocks-walk =
       let cs = fitting_starts (Some content.Content) bare in
-      children-walk Stands stands-relinked Roomy NotInList g.tab g.bytes (Some content.Content) bare bare-ready chunk-fits gap (map (blocks_at skeleton-laws g is) cs)
-      (leaf-blocks cs (all-begin (shown skeleton-laws g is) bare (shown-is skeleton-laws g is) content.Content (content-ready skeleton-laws g is))) (skeleton-walks g)
+      subst (Walks Stands []) (sym (blocks-are-those g is))
+      (children-walk Stands stands-relinked Roomy NotInList g.tab g.bytes (Some content.Content) bare bare-ready chunk-fits gap (map (blocks_at skeleton-laws g is) cs)
+      (leaf-blocks cs (all-begin (shown skeleton-laws g is) bare (shown-is skeleton-laws g is) content.Content (content-ready skeleton-laws g is))) (skeleton-walks g))
 
 pub blocks-stand : BlocksStand
 blocks-stand g is = walks-stand [] (document_blocks g) (blocks-walk g is)

@@ -1,13 +1,15 @@
 -- The blocks of a document have no spans of inline text: no container, no definition and no leaf block is one. So they have no links.
-use Rattle.mddocument_rules.proofs.Prelude.{◌≡◌, ◌∙◌, ℕ, true, false, List, Some, refl, subst, sym, false_from_ne_true, false≢true, AllByRecursion, Constructs, Event, Name, Seat, is_wanted, inline_names, virtual, flow_events, Given, document_blocks, document_skeleton}
+use Rattle.mddocument_rules.proofs.Prelude.{◌≡◌, ◌∙◌, ℕ, true, false, List, Some, refl, subst, sym, false_from_ne_true, false≢true, AllByRecursion, Constructs, Event, Name, Seat, is_wanted, inline_names, virtual, Given, document_blocks, document_skeleton, Bool}
 use Rattle.markdown_base.specs.declared.event.Content.TheVariants.{Content}
 use Rattle.markdown_base.specs.declared.event.Name.TheVariants as name
 use Rattle.markdown_children.specs.Reads.{text_from}
-use Rattle.mdblock_definitions.specs.Blocks.{shown_as_text}
 use Rattle.mdblock_definitions.specs.Skeleton.{skeleton}
+use Rattle.mdblock_leaf_blocks.specs.LeafBlocks.{Line}
+use Rattle.mdblock_text_lines.specs.DocumentBlocks.{has_number, text_lines}
+use Rattle.mdblock_text_lines.specs.TextLines.{flow_events}
 use Rattle.mddocument_laws.proofs.ChildNames.{children-named}
 use Rattle.mddocument_laws.proofs.Chosen.{AreOther}
-use Rattle.mddocument_laws.proofs.FlowNames.{flow-named-by}
+use Rattle.mddocument_laws.proofs.FlowNames.{told-named-by}
 use Rattle.mddocument_laws.proofs.Named.{Named, weaker}
 use Rattle.mddocument_laws.proofs.PlainNames.{bare-plain, plain-may}
 use Rattle.mddocument_laws.proofs.RowNames.{AreStillOn}
@@ -36,15 +38,15 @@ module _ (on : Constructs) where
       let still : AreStillOn on without = record { quotes = λ h. h; items = λ h. h; definitions = λ h. h } in
       weaker (λ n h. other-name n (plain-may without n (bare-plain without n h))) (skeleton on bytes seats) (skeleton-named-by without bytes on still seats)
 
-  flow-other : (bytes : List ℕ) (seats : List Seat) → Named IsOther (flow_events on bytes seats)
-  flow-other bytes seats = weaker other-name (flow_events on bytes seats) (flow-named-by on without (λ block h. h) bytes seats)
+  flow-other : (is_text : Line → Bool) (bytes : List ℕ) (seats : List Seat) → Named IsOther (flow_events on is_text bytes seats)
+  flow-other is_text bytes seats = weaker other-name (flow_events on is_text bytes seats) (told-named-by on without (λ block h. h) is_text bytes seats)
 
 blocks-named : (g : Given) → Named IsOther (document_blocks g)
 blocks-named g =
     let on = g.options.constructs in
-    let shown = shown_as_text g in
+    let is_text = has_number (text_lines on (virtual g.tab g.bytes)) in
     let bare = document_skeleton g in
-    children-named IsOther (Some Content) bare (λ c. flow_events on shown.bytes (text_from shown bare c).seats) (skeleton-other on g.bytes (virtual g.tab g.bytes)) (λ c. flow-other on shown.bytes (text_from shown bare c).seats)
+    children-named IsOther (Some Content) bare (λ c. flow_events on is_text g.bytes (text_from g bare c).seats) (skeleton-other on g.bytes (virtual g.tab g.bytes)) (λ c. flow-other on is_text g.bytes (text_from g bare c).seats)
 
 pub blocks-not-inline : (g : Given) → AllByRecursion (λ (e : Event). is_wanted inline_names e.name ≡ false) (document_blocks g)
 blocks-not-inline g = (blocks-named g).all

@@ -1,6 +1,6 @@
 -- What is in the definitions of a document's texts is what is in those of its skeleton: no leaf block and no inline text has a definition, and in one
 -- is no chunk.
-use Rattle.mddocument_rules.proofs.Prelude.{◌≡◌, ◌∙◌, ℕ, List, [], ◌∷◌, Bool, true, false, Some, refl, sym, ap, subst, false_from_ne_true, false≢true, every-append, Constructs, Event, Name, IsBalanced, empty, same_name, same_name-true, span, Seat, Given, IsDocument, IsReady, is_wanted, block_names, document_blocks, document_skeleton, flow_events, may_stand}
+use Rattle.mddocument_rules.proofs.Prelude.{◌≡◌, ◌∙◌, ℕ, List, [], ◌∷◌, Bool, true, false, Some, refl, sym, ap, subst, false_from_ne_true, false≢true, every-append, Constructs, Event, Name, IsBalanced, empty, same_name, same_name-true, span, Seat, Given, IsDocument, IsReady, is_wanted, block_names, blocks-are-those, document_blocks, document_skeleton, flow_events, may_stand}
 use Rattle.markdown_base.specs.declared.event.Content.TheVariants.{Content, String, Text}
 use Rattle.markdown_base.specs.declared.event.Name.TheVariants as name
 use Rattle.markdown_base.specs.Events.{is_void}
@@ -85,7 +85,8 @@ module _ (g : Given) (is : IsDocument g) where
 
   blocks-held : AreAlone (held is_definition false bare_list) → held is_definition false blocks ≡ held is_definition false bare_list
   blocks-held alone =
-      held-stay is_definition g.tab shown.bytes (Some Content) bare_list (shown-ready skeleton-laws g is) (λ c. flow_events g.options.constructs shown.bytes (chain_text shown bare_list c).seats) void-other
+      ap (held is_definition false) (blocks-are-those g is)
+      ∙ held-stay is_definition g.tab shown.bytes (Some Content) bare_list (shown-ready skeleton-laws g is) (λ c. flow_events g.options.constructs shown.bytes (chain_text shown bare_list c).seats) void-other
       (λ c. flow-other g.options.constructs shown.bytes (chain_text shown bare_list c).seats) alone
 
   texts-ready : IsReady g.tab g.bytes (Some Text) blocks

@@ -5,7 +5,8 @@ use Rattle.markdown_base.specs.declared.event.Name.{Name}
 use Rattle.markdown_base.specs.Virtual.{Seat}
 use Rattle.markdown_tokenizer.specs.Text.{Given, IsDocument}
 use Rattle.mdblock_leaf_blocks.specs.LeafEvents.{flow_events}
-use Rattle.mdblock_definitions.specs.Blocks.{document_blocks, document_skeleton}
+use Rattle.mdblock_definitions.specs.Blocks.{document_skeleton}
+use Rattle.mdblock_text_lines.specs.DocumentBlocks.{document_blocks}
 use Rattle.mddocument.specs.DocumentEvents.{document_events}
 use Rattle.mddocument_rules.specs.Standing.{all_stand, holds_blocks, is_outside_links, may_stand}
 

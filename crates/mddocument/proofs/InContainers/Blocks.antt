@@ -9,7 +9,10 @@ use Rattle.markdown_edits.specs.Survivors.{KeepsLinks, StaysUnlessRemoved}
 use Rattle.markdown_edits.specs.Woven.{changed}
 use Rattle.markdown_children.specs.NextContent.{CanBeReadNext, IsReadyNext}
 use Rattle.mddocument.proofs.InContainers.Skeletons.{SkeletonLaws}
-use Rattle.mdblock_definitions.specs.Blocks.{document_blocks, document_skeleton, shown_as_text}
+use Rattle.mdblock_definitions.specs.Blocks.{document_skeleton, shown_as_text}
+use Rattle.mdblock_definitions.specs.Blocks as lettered
+use Rattle.mdblock_text_lines.proofs.BlocksAreThose.{blocks-are-those}
+use Rattle.mdblock_text_lines.specs.DocumentBlocks.{document_blocks}
 use Rattle.mdblock_containers.specs.Letters.{with_letters}
 use Rattle.mdblock_definitions.specs.Skeleton.{letters}
 use Rattle.mdinline_text_machine.proofs.Paragraphs.ChainEvents.{all-begin, is-text}
@@ -56,7 +59,7 @@ module _ (laws : SkeletonLaws) (g : Given) (is : IsDocument g) where
 
   -- the blocks are ready for whatever the skeleton is ready for
   pub blocks-ready : (next : Option Content) → IsReady g.tab g.bytes next bare → IsReady g.tab g.bytes next (document_blocks g)
-  blocks-ready next h = ready-back at g (laws.plain g is) next (document_blocks g) (blocks-next next h).ready
+  blocks-ready next h = subst (IsReady g.tab g.bytes next) (sym (blocks-are-those g is)) (ready-back at g (laws.plain g is) next (lettered.document_blocks g) (blocks-next next h).ready)
 
 -- if all chains are of a content, those that fit it are all
 module _ {R D : Type 0} (g : Given) (rules : Given → Rules R D) (old new : List Event) (sub : Subresult) (w : Content) (self : some_fits (Some w) (Some w) ≡ true) (only : (k : ℕ) (c : Content) → content_at old k ≡ Some c → c ≡ w) where
@@ -92,4 +95,4 @@ blocks-are laws options bytes is read same events new from h =
     let g = document options bytes in
     let k = subst (λ (es : List Event). HasChildren flow_rules options (shown laws g is).bytes None es new) from (subst (λ (bs : List ℕ). HasChildren flow_rules options bs None events new) same h) in
     let one = one-content (shown laws g is) flow_rules (bare laws g is) new k.1.0 content.Content refl (laws.of_content g is) k.1.1 in
-    chains-read-blocks (shown laws g is) (bare laws g is) new k.1.0 (shown-is laws g is) (content-ready laws g is) one
+    chains-read-blocks (shown laws g is) (bare laws g is) new k.1.0 (shown-is laws g is) (content-ready laws g is) one ∙ sym (blocks-are-those g is)

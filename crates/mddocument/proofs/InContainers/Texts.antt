@@ -9,7 +9,9 @@ use Rattle.markdown_children.proofs.Parts.Staying.{ts}
 use Rattle.markdown_children.specs.Children.{child_changes}
 use Rattle.markdown_edits.proofs.Edits.Survivors.{stays_unless_removed}
 use Rattle.markdown_edits.specs.Woven.{of_list, place_in}
-use Rattle.mdblock_definitions.specs.Blocks.{document_blocks}
+use Rattle.mdblock_definitions.specs.Blocks as lettered
+use Rattle.mdblock_text_lines.proofs.BlocksAreThose.{blocks-are-those}
+use Rattle.mdblock_text_lines.specs.DocumentBlocks.{document_blocks}
 use Rattle.mdinline_machine.specs.LawStatements.{with_inlines, with_strings as with_string_chunks}
 use Rattle.mddocument.specs.DocumentEvents.{document_texts_by}
 use Rattle.mddocument.specs.Documents.{AreDocumentBlocks}
@@ -56,14 +58,17 @@ module _ (laws : SkeletonLaws) (g : Given) (is : IsDocument g) where
       cc
 
   -- chunks of leaf blocks are of texts and of strings
-  pub blocks-textual : HasOnlyTexts blocks
-  blocks-textual p c at = elim (origin-of g.tab s.bytes of_content sk sk-ready (leaves laws g is) p c at) [
+  lettered-textual : HasOnlyTexts (lettered.document_blocks g)
+  lettered-textual p c at = elim (origin-of g.tab s.bytes of_content sk sk-ready (leaves laws g is) p c at) [
     | listed n place old ↦ absurd (none-left n p c old place)
     | of_kid d n own ↦
         (let none : HasOnlyTexts [] = λ k o e. absurd (none-some o e) in
         let textual = child-all HasOnlyTexts none (fitting_starts of_content sk) (leaves laws g is) (each-leaf laws g is HasOnlyTexts (λ text one. flow-textual s text) (fitting_starts of_content sk) (all-start laws g is)) d in
         textual n c own)
   ]
+
+  pub blocks-textual : HasOnlyTexts blocks
+  blocks-textual = subst HasOnlyTexts (sym (blocks-are-those g is)) lettered-textual
 
   -- ---- and are read as texts, and then as strings
   abbrev reads : (defined : List ℕ → Bool) → ℕ → List Event

@@ -10,7 +10,8 @@ use Rattle.markdown_children.proofs.Parts.Staying.{each-ready, stays-ready}
 use Rattle.markdown_children.specs.LawStatements.{IsWholeFrom}
 use Rattle.markdown_edits.proofs.Balanced.{balanced_from_open}
 use Rattle.mddocument.proofs.InContainers.Skeletons.{SkeletonLaws}
-use Rattle.mdblock_definitions.specs.Blocks.{document_blocks, document_skeleton}
+use Rattle.mdblock_definitions.specs.Blocks.{document_skeleton}
+use Rattle.mdblock_text_lines.specs.DocumentBlocks.{document_blocks}
 use Rattle.mdinline_machine.specs.LawStatements.{with_inlines, with_strings as with_string_chunks}
 use Rattle.mdinline_text_machine.proofs.Paragraphs.ChainEvents.{all-begin, is-text}
 use Rattle.mdinline_link_strings.proofs.Kept.{strings_keep}

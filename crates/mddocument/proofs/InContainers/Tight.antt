@@ -1,5 +1,5 @@
 -- Void spans of the events of a document are empty: there is text where something is between two chunks of a text, and strings are one chunk.
-use Rattle.mddocument.proofs.Prelude.{◌≡◌, ℕ, Bool, ◌<◌, List, [], ◌∷◌, Option, Some, true, map, inl, ap, ◌∙◌, arith, AllByRecursion, Content, StringContent, TextContent, Event, IsVoidTight, begins, content_at, some_fits, fitting_starts, IsReady, Given, IsDocument, IsText, Text, chain_text, flow_events, blocks-meet, inline_events, string_events, inline-alone, tight-at}
+use Rattle.mddocument.proofs.Prelude.{subst, sym, ◌≡◌, ℕ, Bool, ◌<◌, List, [], ◌∷◌, Option, Some, true, map, inl, ap, ◌∙◌, arith, AllByRecursion, Content, StringContent, TextContent, Event, IsVoidTight, begins, content_at, some_fits, fitting_starts, IsReady, Given, IsDocument, IsText, Text, chain_text, flow_events, blocks-meet, inline_events, string_events, inline-alone, tight-at}
 use Rattle.std.specs.List.{AllZip}
 use Rattle.markdown_base.specs.declared.event.Content.TheVariants as content
 use Rattle.markdown_children.proofs.Parts.InShape.{children_fit}
@@ -9,7 +9,9 @@ use Rattle.markdown_children.proofs.Parts.Untorn.{none-cut, none-torn}
 use Rattle.markdown_children.specs.LawStatements.{NoneTorn}
 use Rattle.markdown_children.specs.NextContent.{CanBeReadNext, HasTextInGaps, HoldsOnlyText}
 use Rattle.mddocument.proofs.InContainers.Skeletons.{SkeletonLaws}
-use Rattle.mdblock_definitions.specs.Blocks.{document_blocks}
+use Rattle.mdblock_definitions.specs.Blocks as lettered
+use Rattle.mdblock_text_lines.proofs.BlocksAreThose.{blocks-are-those}
+use Rattle.mdblock_text_lines.specs.DocumentBlocks.{document_blocks}
 use Rattle.mdinline_machine.specs.LawStatements.{with_inlines, with_strings as with_string_chunks}
 use Rattle.mdinline_text_machine.proofs.Paragraphs.ChainEvents.{all-begin, is-content, is-text}
 use Rattle.mdinline_link_strings.proofs.Kept.{strings_keep}
@@ -69,18 +71,24 @@ module _ (laws : SkeletonLaws) (g : Given) (is : IsDocument g) where
   skeleton-gaps : (next : Content) → HasTextInGaps (Some next) sk
   skeleton-gaps next k d fit e = laws.gaps g is k d (ap (some_fits of_content) (is-content next (content_at sk k) fit ∙ ap Some (of-skeleton k next fit))) e
 
-  pub blocks-gaps : (next : Content) → HasTextInGaps (Some next) (document_blocks g)
-  blocks-gaps next =
+  lettered-gaps : (next : Content) → HasTextInGaps (Some next) (lettered.document_blocks g)
+  lettered-gaps next =
       text-in-gaps g.tab s.bytes of_content sk sk-ready leaves (Some next) (shown-ready laws g is (Some next) (for-content next)) (leaves-ready next) (none-cut of_content sk leaves (leaves-torn next))
       (skeleton-gaps next) (each-leaf (HasTextInGaps (Some next)) (λ text one k d fit e. inl ((blocks-meet s text one).next k d e).is) (fitting_starts of_content sk) all-start)
+
+  pub blocks-gaps : (next : Content) → HasTextInGaps (Some next) (document_blocks g)
+  blocks-gaps next = subst (HasTextInGaps (Some next)) (sym (blocks-are-those g is)) (lettered-gaps next)
 
   skeleton-lone : HasLoneChunks (Some StringContent) sk
   skeleton-lone k d fit e = let same = of-skeleton k StringContent fit in absurd (cc)
 
-  pub blocks-lone : HasLoneChunks (Some StringContent) (document_blocks g)
-  blocks-lone =
+  lettered-lone : HasLoneChunks (Some StringContent) (lettered.document_blocks g)
+  lettered-lone =
       stay-lone g.tab s.bytes of_content sk sk-ready leaves (Some StringContent) (shown-ready laws g is (Some StringContent) (for-content StringContent)) (leaves-ready StringContent) (none-cut of_content sk leaves (leaves-torn StringContent))
       skeleton-lone (each-leaf (HasLoneChunks (Some StringContent)) (λ text one. flow-lone g.options.constructs s.bytes text.seats) (fitting_starts of_content sk) all-start)
+
+  pub blocks-lone : HasLoneChunks (Some StringContent) (document_blocks g)
+  blocks-lone = subst (HasLoneChunks (Some StringContent)) (sym (blocks-are-those g is)) lettered-lone
 
   -- ---- their texts
   abbrev blocks : List Event

@@ -1,7 +1,7 @@
 -- The events of a document account for it: its blocks do, and so do the texts and strings of these.
 use Rattle.mddocument.proofs.Prelude.{◌≡◌, ℕ, Bool, ◌<◌, List, [], ◌∷◌, Some, false, true, sym, subst, append-nil, arith, AllByRecursion, StringContent, TextContent, Event, shown, virtual, begins, fitting_starts, IsReady, Given, IsDocument, IsText, Text, AccountFor, AcrossGap, Course, course-every, text-course, chain_text, inline_events, string_events, document, AreEventsOf, TilesDocuments, Tile}
 use Rattle.markdown_children.specs.NextContent.{HasTextInGaps}
-use Rattle.mdblock_definitions.specs.Blocks.{document_blocks}
+use Rattle.mdblock_text_lines.specs.DocumentBlocks.{document_blocks}
 use Rattle.mdinline_machine.specs.LawStatements.{with_inlines, with_strings as with_string_chunks}
 use Rattle.mdinline_text_machine.proofs.Paragraphs.ChainEvents.{all-begin, is-text}
 use Rattle.mddocument.proofs.Emphasis.InlineAccounts.{inline-lined}

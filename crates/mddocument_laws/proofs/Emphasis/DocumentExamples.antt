@@ -10,7 +10,7 @@ use Rattle.markdown_base.specs.declared.event.Name.TheVariants.{Emphasis, GfmStr
 use Rattle.markdown_base.specs.Presets.{default_constructs, default_parse_options}
 use Rattle.markdown_tokenizer.specs.Text.{Given}
 use Rattle.mdinline_emphasis.specs.Unicode.{punctuation, white_space}
-use Rattle.mdblock_definitions.specs.Blocks.{document_blocks}
+use Rattle.mdblock_text_lines.specs.DocumentBlocks.{document_blocks}
 use Rattle.mdinline_machine.specs.InlineEvents.{read_events}
 use Rattle.mdinline_text_machine.specs.ChainTexts.{chain_text}
 use Rattle.mddocument.specs.DocumentEvents.{document_events, is_defined_in}

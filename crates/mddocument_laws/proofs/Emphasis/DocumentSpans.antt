@@ -1,5 +1,5 @@
 -- The spans of emphasis of a document are those of its texts, one behind another, and so those of the pairs of each.
-use Rattle.mddocument_laws.proofs.Prelude.{◌≡◌, ℕ, List, [], ◌∷◌, ◌++◌, Bool, true, false, cond, not, Some, refl, sym, ap, ◌∙◌, subst, inl, inr, and_parts, cases_Bool, recursion_from_All, IsPermutation-append_left, IsPermutation-append_right, IsPermutation-refl, IsPermutation-trans, flat_map, IsPermutation, ◌&&◌, Constructs, String, Event, Name, Data, is_enter, same_name, Seat, virtual, same_name-true, Given, IsDocument, Text as TextOf, text_from, IsReady, document_blocks, document_skeleton, shown_as_text, flow_events, inline_events, read_events, with_inlines, string_events, in_string_after, is_data, line_as_string, seats_between, with_strings_from, chain_text, skeleton-laws, content-ready, strings-ready, document_events, document_texts, is_defined_in, DocumentsHaveSpansOfPairs, DocumentsHaveSpansOfTexts, TextsHaveSpansOfPairs, text_starts, EmphasisSpan, emphasis_spans, is_emphasis, spans_of_text}
+use Rattle.mddocument_laws.proofs.Prelude.{◌≡◌, ℕ, List, [], ◌∷◌, ◌++◌, Bool, true, false, cond, not, Some, refl, sym, ap, ◌∙◌, subst, inl, inr, and_parts, cases_Bool, recursion_from_All, IsPermutation-append_left, IsPermutation-append_right, IsPermutation-refl, IsPermutation-trans, flat_map, IsPermutation, ◌&&◌, Constructs, String, Event, Name, Data, is_enter, same_name, Seat, virtual, same_name-true, Given, IsDocument, Text as TextOf, text_from, IsReady, blocks-are-those, document_blocks, document_skeleton, shown_as_text, flow_events, inline_events, read_events, with_inlines, string_events, in_string_after, is_data, line_as_string, seats_between, with_strings_from, chain_text, skeleton-laws, content-ready, strings-ready, document_events, document_texts, is_defined_in, DocumentsHaveSpansOfPairs, DocumentsHaveSpansOfTexts, TextsHaveSpansOfPairs, text_starts, EmphasisSpan, emphasis_spans, is_emphasis, spans_of_text}
 use Rattle.markdown_base.specs.declared.event.Content.TheVariants.{Content, Text}
 use Rattle.mdinline_link_strings.specs.StringItems.{string_seat_events}
 use Rattle.mddocument_laws.proofs.ChildNames.{children-named}
@@ -19,11 +19,12 @@ abbrev NonePlain : List Event → Type 0
 NonePlain es = AreOther is_emphasis es
 
 -- the blocks of a document
-blocks-plain : (g : Given) → NonePlain (document_blocks g)
-blocks-plain g =
+blocks-plain : (g : Given) → IsDocument g → NonePlain (document_blocks g)
+blocks-plain g is =
     let on = g.options.constructs in
     let shown = shown_as_text g in
     let bare_list = document_skeleton g in
+    subst NonePlain (sym (blocks-are-those g is))
     (children-named (λ n. is_emphasis n ≡ false) (Some Content) bare_list (λ c. flow_events on shown.bytes (text_from shown bare_list c).seats)
     (weaker (λ n h. plain-other on n (bare-plain on n h)) bare_list (skeleton-named on g.bytes (virtual g.tab g.bytes)))
     (λ c. flow-plain on shown.bytes (text_from shown bare_list c).seats)).all
@@ -95,7 +96,7 @@ module _ (g : Given) (is : IsDocument g) where
   events-are =
       strings-kept g.options.constructs g.tab g.bytes false (document_texts g)
       ∙ chosen-kept is_emphasis g.tab g.bytes (Some String) inlines all-ready (λ c. string_events g (chain_text g inlines c)) void-plain (λ c. string-plain g.options.constructs g.bytes (chain_text g inlines c).seats)
-      ∙ chosen-of-children is_emphasis g.tab g.bytes (Some Text) blocks texts-ready inline (blocks-plain g)
+      ∙ chosen-of-children is_emphasis g.tab g.bytes (Some Text) blocks texts-ready inline (blocks-plain g is)
 
   spans-are : emphasis_spans (document_events g) ≡ flat_map (λ c. emphasis_spans (inline c)) (text_starts g)
   spans-are = sym (emphasis-alone (document_events g)) ∙ ap emphasis_spans events-are ∙ spans-of-all inline (text_starts g) (λ c. (have c).closed)

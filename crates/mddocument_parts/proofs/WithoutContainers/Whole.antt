@@ -45,6 +45,8 @@ use Rattle.mdblock_containers.specs.Skeleton as skeletons
 use Rattle.mdblock_containers.specs.Skeleton.{chained_from, parts_in, parts_marks}
 use Rattle.mdblock_definitions.proofs.Without.{blocks-can-be-without, blocks-need-brackets, definitions-can-be-off, definitions-need-brackets}
 use Rattle.mdblock_definitions.specs.Blocks as defined
+use Rattle.mdblock_text_lines.proofs.BlocksAreThose.{blocks-are-those}
+use Rattle.mdblock_text_lines.specs.DocumentBlocks as told
 use Rattle.mdblock_definitions.specs.Labelled.{is_one_of}
 use Rattle.mdblock_definitions.specs.Laws.{HasNoBracket, NothingIsDefined, begins_with_bracket}
 use Rattle.mdblock_definitions.specs.Skeleton.{written_labels}
@@ -297,7 +299,7 @@ module _ (g : Given) (is : IsDocument g) where
         ∙ read-by cut.front cut.back cut.seats cut.before cut.behind cut.front_plain cut.back_plain (sym (lines-are-all (virtual g.tab g.bytes)) ∙ cut.whole) (ap (chained_from 0 None) (marks-are ∙ cut.skeleton))
         ∙ ap (linked_from 0) (sym cut.blocks)
 
-    module _ (same : defined.document_blocks g ≡ document_blocks g) (nothing : is_defined_in g ≡ no_labels) where
+    module _ (same : told.document_blocks g ≡ document_blocks g) (nothing : is_defined_in g ≡ no_labels) where
       texts-are : document_texts g ≡ flow_inlines on g.bytes (virtual g.tab g.bytes)
       texts-are =
           (λ i. with_string_chunks g (with_inlines (nothing i) g ((same ∙ blocks-are) i))) ∙ inlines-are-read g (whole_text g) (whole-is-text g is)
@@ -308,5 +310,5 @@ module _ (g : Given) (is : IsDocument g) where
 pub documents-without-containers : DocumentsWithoutContainers
 documents-without-containers options bytes is none nothing =
     let g = document options bytes in
-    let same = nothing-defined options bytes nothing in
+    let same = blocks-are-those g is ∙ nothing-defined options bytes nothing in
     (same ∙ blocks-are g is none, events-are g is none same (no-label-defined options bytes nothing))

@@ -2,7 +2,8 @@ use Rattle.mddocument.proofs.InContainers.Skeletons.{skeleton-laws}
 use Rattle.mddocument.proofs.Prelude.{◌≡◌, ◌∙◌, [], length, None, ap, arith, sym, subst, IfOk-weaker, virtual, IsReady, IsWellFormed, document}
 use Rattle.std.proofs.lemmas.List.{nil_from_length}
 use Rattle.mddocument.specs.Runs.{HasOnlyContent}
-use Rattle.mdblock_definitions.specs.Blocks.{document_blocks, document_skeleton}
+use Rattle.mdblock_definitions.specs.Blocks.{document_skeleton}
+use Rattle.mdblock_text_lines.specs.DocumentBlocks.{document_blocks}
 use Rattle.mdblock_containers.specs.Letters.{with_letters}
 use Rattle.mdblock_definitions.specs.Skeleton.{letters}
 use Rattle.mdblock_containers.proofs.LetterLemmas.{no_letters}
