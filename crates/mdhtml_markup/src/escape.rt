@@ -3,7 +3,7 @@
 //! Bytes that stand for themselves are added together.
 
 ghost use Rattle.std.specs.List.{flat_map, list_all, prefix_len};
-ghost use Rattle.std.specs.Prelude.{◌≡◌, ◌++◌, ◌+◌, ◌<◌, ◌≤◌, ◌∷◌, [], IfOk, MatchOption, OnOk, drop, length, not, take};
+ghost use Rattle.std.specs.Prelude.{◌≡◌, ◌++◌, ◌+◌, ◌<◌, ◌≤◌, ◌∷◌, [], IfOk, MatchOption, OnOk, cond, drop, length, not, take};
 ghost use Rattle.mdhtml_markup.specs.Escapes.{escaped, escaped_byte, kept, kept_byte};
 ghost use Rattle.mdhtml_markup.specs.SafeHtml.{is_mark};
 
@@ -32,16 +32,25 @@ fn is_plain(byte: u8) -> bool
     (byte != b'<') & (byte != b'>') & (byte != b'&') & (byte != b'"') & (byte != 0) & (byte != 27)
 }
 
-/// Whether all bytes stand for themselves. It looks at all of them: a loop that ends early is not made into comparisons of many bytes at once.
+/// A bit, which is set if a byte does not stand for itself.
+#[inline(always)]
+fn mark_bit(byte: u8) -> u8
+    ensures { result ≡ cond (not (is_mark byte)) 0 1 }
+{
+    if is_plain(byte) { 0 } else { 1 }
+}
+
+/// Whether all bytes stand for themselves. It looks at all of them: a loop that ends early is not made into comparisons of many bytes at once. The bits are
+/// gathered in a byte, and not in a truth value, for the same reason.
 #[inline(always)]
 fn are_plain(text: &[u8]) -> bool
     ensures { result ≡ list_all (λ b. not (is_mark b)) text.now }
 {
-    let mut all = true;
+    let mut marks = 0;
     for byte in text {
-        all &= is_plain(*byte);
+        marks |= mark_bit(*byte);
     }
-    all
+    marks == 0
 }
 
 /// How many bytes are in the first blocks of 16 whose bytes stand for themselves. The bytes of a block are compared at once.
