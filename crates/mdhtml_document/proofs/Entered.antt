@@ -1,7 +1,10 @@
 -- Spans that are entered: the lists of a document go with its events, and each event is one step of the walk.
-use Rattle.std.proofs.Common.{◌≡◌, ℕ, suc, ◌≤◌, List, [], ◌∷◌, ◌++◌, arith, drop, length, ap, sym, subst, refl, ◌∙◌, Option, None, Some}
-use Rattle.std.specs.Prelude.{⊤, ◌&&◌, Bool, zero, true, false, cond}
+use Rattle.std.proofs.Common.{◌≡◌, ℕ, suc, ◌≤◌, List, [], ◌∷◌, ◌++◌, arith, drop, length, ap, sym, subst, refl, ◌∙◌, length-drop, Option, None, Some}
+use Rattle.std.proofs.lemmas.Bool.{and_parts, or_parts}
+use Rattle.std.specs.List.{list_any}
+use Rattle.std.specs.Prelude.{⊤, ◌&&◌, ◌||◌, Bool, zero, true, false, cond}
 use denote.Enum.Bare.{same_true}
+use Rattle.markdown_base.proofs.Facts.Kinds.{exit-is}
 use Rattle.markdown_base.specs.contracts.event.Name.{the_type}
 use Rattle.markdown_base.specs.declared.configuration.CompileOptions.{CompileOptions}
 use Rattle.markdown_base.specs.declared.event.Event.{Event}
@@ -17,18 +20,22 @@ use Rattle.mdblock_containers.specs.ListShapes.{shape_of, shapes_from}
 use Rattle.mdhtml_document.specs.declared.links.Whole.{Whole}
 use Rattle.mdhtml_document.specs.declared.names.Block.{Block}
 use Rattle.mdhtml_document.specs.declared.names.Block.TheVariants as block
+use Rattle.mdhtml_document.specs.declared.names.Inline.TheVariants as inline
+use Rattle.mdhtml_document.specs.declared.shapes.End.TheVariants as end
 use Rattle.mdhtml_document.specs.declared.shapes.Frame.{Frame}
 use Rattle.mdhtml_document.specs.declared.shapes.Mode.{Mode}
 use Rattle.mdhtml_document.specs.declared.shapes.Mode.TheVariants as mode
-use Rattle.mdhtml_document.specs.Frames.{AreListsOf, Open, Opens, closed_by, closed_of, columns_at, events_past, is_list, is_over, left_by, list_at, lists_behind, lists_past, lookup_of, loose_of, mode_of, moved, past_by, start_of}
+use Rattle.mdhtml_document.specs.Frames.{AreListsOf, Open, Opens, closed_by, closed_of, columns_at, ends, events_past, from_list, is_list, is_over, left_by, list_at, lists_behind, lists_past, lookup_of, loose_of, mode_of, moved, past_by, start_of}
 use Rattle.mdhtml_document.specs.Written.{after}
-use Rattle.mdhtml_document.specs.Html.{Shape, block_shape, columns_behind, columns_in, is_in_cell, lacking, shape_by}
-use Rattle.mdhtml_document.specs.Names.{block_of, blocks_by_name, named}
-use Rattle.mdhtml_document.specs.Walks.{Entered, alt_from, said_at, shape_at, shape_in, walked_in}
+use Rattle.mdhtml_document.specs.Html.{Shape, block_shape, columns_behind, columns_in, inline_shape, is_in_cell, lacking, paragraph_shape, shape_by, told}
+use Rattle.mdhtml_document.specs.Names.{block_of, blocks_by_name, inline_of, named}
+use Rattle.mdhtml_document.specs.Walks.{Entered, alt_from, inner_bytes, is_bytes, is_inline, said_at, says_bytes, shape_at, shape_in, walked_in}
+use Rattle.mdhtml_document.proofs.SpanFacts.{said_bytes}
 use Rattle.mdhtml_document.proofs.Walked.{enter-walked, exit-walked, over-walked}
 use Rattle.mdhtml_document.proofs.Written.{after-append}
 use Rattle.mddocument_link_targets.specs.declared.targets.Parts.{Parts}
 use Rattle.mddocument_link_targets.specs.Spans.{inside}
+use Rattle.mdhtml_markup.specs.Escapes.{escaped}
 use Rattle.mdhtml_markup.specs.Pieces.{Piece}
 
 -- ---- the list that is entered
@@ -77,23 +84,78 @@ step-by false bytes at es rest = refl
 shapes-step : (bytes : List ℕ) (at : ℕ) (e : Event) (es : List Event) → shapes_from bytes at (e ∷ es) ≡ lists_by (is_list e) (shape_of bytes at es) (shapes_from bytes (suc at) es)
 shapes-step bytes at e es = step-by (is_list e) bytes at es (shapes_from bytes (suc at) es)
 
-pub lists-step : (bytes : List ℕ) (lists : List ListShape) (e : Event) (es : List Event) → AreListsOf bytes lists (e ∷ es) → AreListsOf bytes (lists_behind lists e) es
-lists-step bytes lists e es h =
+-- the first of some events enters a list
+abbrev first_is : List Event → Bool
+first_is [] = false
+first_is (e ∷ es) = is_list e
+
+-- an event in front of these lists
+front-step : (bytes : List ℕ) (lists : List ListShape) (at : ℕ) (e f : Event) (es fs rest : List Event) → list_any is_list (f ∷ fs) ≡ false → e ∷ es ≡ f ∷ (fs ++ rest)
+    → lists ≡ shapes_from bytes at rest → (is_list e ≡ false) × AreListsOf bytes (lists_behind lists e) es
+front-step bytes lists at e f es fs rest none whole are =
+    let parts = or_parts (is_list f) (list_any is_list fs) none in
+    let first : is_list e ≡ false = ap first_is whole ∙ parts.0 in (
+      first,
+      record {
+        front = fs;
+        none = parts.1;
+        rest = rest;
+        whole = ap (λ (x : List Event). drop 1 x) whole;
+        at = at;
+        are = behind-is lists e ∙ ap (λ c. behind_by c lists) first ∙ none-behind lists ∙ are;
+      },
+    )
+
+step-from : (bytes : List ℕ) (lists : List ListShape) (at : ℕ) (e : Event) (es front rest : List Event) → list_any is_list front ≡ false → e ∷ es ≡ front ++ rest
+    → lists ≡ shapes_from bytes at rest → AreListsOf bytes (lists_behind lists e) es
+step-from bytes lists at e es [] rest none whole are =
     record {
-      at = suc h.at;
-      are = behind-is lists e ∙ ap (behind_by (is_list e)) (h.are ∙ shapes-step bytes h.at e es) ∙ behind-of (is_list e) (shape_of bytes h.at es) (shapes_from bytes (suc h.at) es);
+      front = [];
+      none = refl;
+      rest = es;
+      whole = refl;
+      at = suc at;
+      are = behind-is lists e ∙ ap (behind_by (is_list e)) (are ∙ ap (shapes_from bytes at) (sym whole) ∙ shapes-step bytes at e es)
+          ∙ behind-of (is_list e) (shape_of bytes at es) (shapes_from bytes (suc at) es);
     }
+step-from bytes lists at e es (f ∷ fs) rest none whole are = (front-step bytes lists at e f es fs rest none whole are).1
+
+pub lists-step : (bytes : List ℕ) (lists : List ListShape) (e : Event) (es : List Event) → AreListsOf bytes lists (e ∷ es) → AreListsOf bytes (lists_behind lists e) es
+lists-step bytes lists e es h = step-from bytes lists h.at e es h.front h.rest h.none h.whole h.are
+
+at-from : (bytes : List ℕ) (lists : List ListShape) (at : ℕ) (e : Event) (es front rest : List Event) → list_any is_list front ≡ false → e ∷ es ≡ front ++ rest
+    → lists ≡ shapes_from bytes at rest → list_at lists e ≡ cond (is_list e) (Some (shape_of bytes at es)) None
+at-from bytes lists at e es [] rest none whole are =
+    at-is lists e ∙ ap (at_by (is_list e)) (are ∙ ap (shapes_from bytes at) (sym whole) ∙ shapes-step bytes at e es) ∙ at-of (is_list e) (shape_of bytes at es) (shapes_from bytes (suc at) es)
+at-from bytes lists at e es (f ∷ fs) rest none whole are =
+    let first = (front-step bytes lists at e f es fs rest none whole are).0 in
+    at-is lists e ∙ ap (λ c. at_by c lists) first ∙ none-at lists ∙ sym (ap (λ c. cond c (Some (shape_of bytes at es)) None) first)
 
 list-at : (bytes : List ℕ) (lists : List ListShape) (e : Event) (es : List Event) (h : AreListsOf bytes lists (e ∷ es)) → list_at lists e ≡ cond (is_list e) (Some (shape_of bytes h.at es)) None
-list-at bytes lists e es h =
-    at-is lists e ∙ ap (at_by (is_list e)) (h.are ∙ shapes-step bytes h.at e es) ∙ at-of (is_list e) (shape_of bytes h.at es) (shapes_from bytes (suc h.at) es)
+list-at bytes lists e es h = at-from bytes lists h.at e es h.front h.rest h.none h.whole h.are
 
 pub exit-lists : (bytes : List ℕ) (lists : List ListShape) (e : Event) (es : List Event) → e.kind ≡ Exit → AreListsOf bytes lists (e ∷ es) → AreListsOf bytes lists es
 exit-lists bytes lists e es exits h =
+    subst (λ (x : List ListShape). AreListsOf bytes x es)
+    (behind-is lists e ∙ ap (λ k. behind_by (is_enter k && is_wanted list_names e.name) lists) exits ∙ none-behind lists) (lists-step bytes lists e es h)
+
+-- the lists from the first on are those of all
+front-lists : (bytes : List ℕ) (e : Event) (es : List Event) (c : Bool) → is_list e ≡ c → AreListsOf bytes (shapes_from bytes 0 (from_list es)) es
+    → AreListsOf bytes (shapes_from bytes 0 (cond c (e ∷ es) (from_list es))) (e ∷ es)
+front-lists bytes e es true is h = record { front = []; none = refl; rest = e ∷ es; whole = refl; at = 0; are = refl }
+front-lists bytes e es false is h =
     record {
-      at = suc h.at;
-      are = h.are ∙ shapes-step bytes h.at e es ∙ ap (λ k. lists_by (is_enter k && is_wanted list_names e.name) (shape_of bytes h.at es) (shapes_from bytes (suc h.at) es)) exits;
+      front = e ∷ h.front;
+      none = ap (λ b. b || list_any is_list h.front) is ∙ h.none;
+      rest = h.rest;
+      whole = ap (λ (x : List Event). e ∷ x) h.whole;
+      at = h.at;
+      are = h.are;
     }
+
+pub lists-from : (bytes : List ℕ) (es : List Event) → AreListsOf bytes (shapes_from bytes 0 (from_list es)) es
+lists-from bytes [] = record { front = []; none = refl; rest = []; whole = refl; at = 0; are = refl }
+lists-from bytes (e ∷ es) = front-lists bytes e es (is_list e) refl (lists-from bytes es)
 
 -- behind a span
 past-step : (k : Kind) (bytes : List ℕ) (e : Event) (es : List Event) → e.kind ≡ k
@@ -248,3 +310,90 @@ exit-step w os next e es old new exits written rest =
     ap (λ (out : List ℕ). after out (walked_in w next es)) written ∙ ap (λ (o : List Open). after (after (after old behind) (closed_of os)) (walked_in w o es)) rest
     ∙ sym (after-append old behind (closed_of os ++ walked_in w (drop 1 os) es) ∙ after-append (after old behind) (closed_of os) (walked_in w (drop 1 os) es))
     ∙ ap (after old) (sym (exit-walked w.options.now w.bytes.now (lookup_of w) w.tab os e es exits))
+
+-- ---- a span that says its bytes
+
+says-by : (P : Name → Type 0) (n : Name) (b c : Bool) → P name.Data → P name.CharacterEscapeValue → same_name n name.Data ≡ b → same_name n name.CharacterEscapeValue ≡ c → b || c ≡ true → P n
+says-by P n true c own value is escaped h = subst P (sym (same_true the_type tt n name.Data is)) own
+says-by P n false true own value is escaped h = subst P (sym (same_true the_type tt n name.CharacterEscapeValue escaped)) value
+says-by P n false false own value is escaped h = cc
+
+says-each : (P : Name → Type 0) (n : Name) → P name.Data → P name.CharacterEscapeValue → says_bytes n ≡ true → P n
+says-each P n own value h = says-by P n (same_name n name.Data) (same_name n name.CharacterEscapeValue) own value refl refl h
+
+-- behind it is what is behind its exit
+pub behind-exit : (es : List Event) → ends es ≡ true → drop 1 es ≡ events_past 0 es
+behind-exit [] h = cc
+behind-exit (f ∷ fs) h = sym (ap (λ k. past_by k 0 fs (λ d. events_past d fs)) (exit-is f.kind h))
+
+lists-behind-exit : (lists : List ListShape) (es : List Event) → ends es ≡ true → lists_past 0 lists es ≡ lists
+lists-behind-exit lists [] h = cc
+lists-behind-exit lists (f ∷ fs) h = ap (λ k. left_by k 0 f lists (λ n l. lists_past n l fs)) (exit-is f.kind h)
+
+-- it is no list
+unlisted-bytes : (lists : List ListShape) (e : Event) → e.kind ≡ Enter → says_bytes e.name ≡ true → lists_behind lists e ≡ lists
+unlisted-bytes lists e enters h =
+    behind-is lists e
+    ∙ ap (λ c. behind_by c lists) (ap (λ k. is_enter k && is_wanted list_names e.name) enters ∙ says-each (λ n. is_wanted list_names n ≡ false) e.name refl refl h)
+    ∙ none-behind lists
+
+abbrev IsBytes : Mode → Event → List Event → Type 0
+IsBytes m e es = (is_inline m ≡ true) × (says_bytes e.name ≡ true) × (ends es ≡ true)
+
+is-bytes : (m : Mode) (e : Event) (es : List Event) → is_bytes m e es ≡ true → IsBytes m e es
+is-bytes m e es h =
+    let first = and_parts (is_inline m) (says_bytes e.name && ends es) h in
+    let others = and_parts (says_bytes e.name) (ends es) first.1 in
+    (first.0, others.0, others.1)
+
+pub bytes-lists : (bytes : List ℕ) (lists : List ListShape) (m : Mode) (e : Event) (es rest : List Event) → e.kind ≡ Enter → is_bytes m e es ≡ true → AreListsOf bytes lists (e ∷ es)
+    → rest ≡ drop 1 es → AreListsOf bytes lists rest
+bytes-lists bytes lists m e es rest enters is h left =
+    let parts = is-bytes m e es is in
+    over-lists bytes lists lists lists e es rest h (sym (unlisted-bytes lists e enters parts.1)) (sym (lists-behind-exit lists es parts.2)) (left ∙ behind-exit es parts.2)
+
+pub bytes-short : (es rest : List Event) → rest ≡ drop 1 es → length rest ≤ length es
+bytes-short es rest left =
+    let less = length-drop 1 es in
+    let same = ap (λ (x : List Event). length x) left in
+    omega (arith, less, same)
+
+-- no cell is left behind it
+unmoved-columns : (columns : List Event) → columns_behind block.Other columns ≡ columns
+unmoved-columns [] = refl
+unmoved-columns (e ∷ es) = refl
+
+unmoved-other : (os : List Open) → moved block.Other os ≡ os
+unmoved-other [] = refl
+unmoved-other (o ∷ os) = ap (λ (x : List Event). record o { columns = x } ∷ os) (unmoved-columns o.columns)
+
+-- it is told
+told-in : (w : Whole) (m : Mode) (columns : List Event) (list : Option ListShape) (e : Event) (es : List Event) → is_inline m ≡ true → inline_of e.name ≡ inline.Other
+    → shape_in w m columns list e es ≡ told (said_at w.bytes.now e es)
+told-in w mode.Text columns list e es h other =
+    ap (λ i. inline_shape w.options.now w.bytes.now (lookup_of w) w.tab (is_in_cell columns) i (inside es) (said_at w.bytes.now e es) (alt_from w.bytes.now 0 (inside es))) other
+told-in w mode.Paragraph columns list e es h other =
+    ap (λ i. paragraph_shape w.options.now w.bytes.now (lookup_of w) w.tab (is_in_cell columns) i (inside es) (said_at w.bytes.now e es) (alt_from w.bytes.now 0 (inside es))) other
+told-in w mode.Flow columns list e es h other = cc
+told-in w mode.Tight columns list e es h other = cc
+told-in w mode.LooseItems columns list e es h other = cc
+told-in w mode.TightItems columns list e es h other = cc
+told-in w mode.Heading columns list e es h other = cc
+told-in w mode.Table columns list e es h other = cc
+told-in w (mode.Rows is_head) columns list e es h other = cc
+told-in w (mode.Cells is_head) columns list e es h other = cc
+told-in w mode.Nothing columns list e es h other = cc
+
+pub bytes-step : (w : Whole) (os : List Open) (lists : List ListShape) (m : Mode) (e : Event) (es rest : List Event) (old new : List ℕ) → e.kind ≡ Enter
+    → AreListsOf w.bytes.now lists (e ∷ es) → m ≡ mode_of os → is_bytes m e es ≡ true → rest ≡ drop 1 es → new ≡ old ++ escaped (inner_bytes w.bytes.now e es)
+    → after new (walked_in w os rest) ≡ after old (walked_in w os (e ∷ es))
+bytes-step w os lists m e es rest old new enters h here is left added =
+    let parts = is-bytes (mode_of os) e es (sym (ap (λ x. is_bytes x e es) here) ∙ is) in
+    let f : Frame = record { mode = mode.Text; end = end.Nothing } in
+    let begun : Opens (shape_in w (mode_of os) (columns_at os) (list_at lists e) e es) old new f =
+    subst (λ (s : Shape). Opens s old new f)
+    (sym (told-in w (mode_of os) (columns_at os) (list_at lists e) e es parts.0 (says-each (λ n. inline_of n ≡ inline.Other) e.name refl refl parts.1)))
+    (record { written = added ∙ ap (λ (t : List ℕ). old ++ escaped t) (said_bytes w.bytes.now e es parts.1); mode = refl; closed = refl })
+    in
+    over-step w os os lists (list_at lists e) e es rest f old new enters h refl begun
+    (sym (ap (λ b. moved b os) (says-each (λ n. block_of n ≡ block.Other) e.name refl refl parts.1) ∙ unmoved-other os)) parts.2 (left ∙ behind-exit es parts.2)

@@ -28,6 +28,7 @@ pub mod SpanFacts
 -- HTML
 pub mod Steps
 -- links
+pub mod Undefined
 pub mod Unreferred
 -- the walk
 pub mod Walked

@@ -1,6 +1,7 @@
 -- What the code knows of open spans, and what of a document.
+use Rattle.std.specs.List.{list_any}
 use Rattle.std.specs.Option.{option_map_or}
-use Rattle.std.specs.Prelude.{◌≡◌, ℕ, zero, suc, ◌&&◌, Bool, true, false, cond, List, [], ◌∷◌, drop, map, not, reverse, Option, None, Some, option_and_then}
+use Rattle.std.specs.Prelude.{◌≡◌, ℕ, zero, suc, ◌&&◌, Bool, true, false, cond, List, [], ◌∷◌, ◌++◌, drop, map, not, reverse, Option, None, Some, option_and_then}
 use Rattle.markdown_base.specs.declared.event.Event.{Event}
 use Rattle.markdown_base.specs.declared.event.Kind.{Kind}
 use Rattle.markdown_base.specs.declared.event.Kind.TheVariants.{Enter, Exit}
@@ -91,14 +92,23 @@ loose_of list = option_map_or (λ l. l.is_loose) list false
 abbrev pub start_of : Option ListShape → Option ℕ
 start_of list = option_and_then (λ l. l.start) list
 
--- these are the lists among events
-pub record AreListsOf (bytes : List ℕ) (lists : List ListShape) (events : List Event) : Type 0 where
-  pub at : ℕ
-  pub are : lists ≡ shapes_from bytes at events
-
 -- an event enters a list
 abbrev pub is_list : Event → Bool
 is_list e = is_enter e.kind && is_wanted list_names e.name
+
+-- the events from the first list on
+abbrev pub from_list : List Event → List Event
+from_list [] = []
+from_list (e ∷ es) = cond (is_list e) (e ∷ es) (from_list es)
+
+-- These are the lists among events: those among events behind some that enter none
+pub record AreListsOf (bytes : List ℕ) (lists : List ListShape) (events : List Event) : Type 0 where
+  pub front : List Event
+  pub none : list_any is_list front ≡ false
+  pub rest : List Event
+  pub whole : events ≡ front ++ rest
+  pub at : ℕ
+  pub are : lists ≡ shapes_from bytes at rest
 
 -- the list that it enters, by the lists from there on, and those behind it
 abbrev pub list_at : List ListShape → Event → Option ListShape

@@ -11,8 +11,9 @@ use Rattle.mdblock_containers.specs.Lists.{is_loose, list_start}
 use Rattle.mdhtml_document.specs.declared.names.Inline.{Inline}
 use Rattle.mdhtml_document.specs.declared.names.Inline.TheVariants as inline
 use Rattle.mdhtml_document.specs.declared.shapes.Mode.{Mode}
+use Rattle.mdhtml_document.specs.declared.shapes.Mode.TheVariants as mode
 use Rattle.mdhtml_document.specs.declared.links.Whole.{Whole}
-use Rattle.mdhtml_document.specs.Frames.{Open, closed_of, columns_at, lookup_of, loose_of, mode_of, moved, start_of}
+use Rattle.mdhtml_document.specs.Frames.{Open, closed_of, columns_at, ends, lookup_of, loose_of, mode_of, moved, start_of}
 use Rattle.mdhtml_document.specs.Written.{after}
 use Rattle.mdhtml_document.specs.Html.{Shape, columns_in, lacking, referred, shape_by}
 use Rattle.mdhtml_document.specs.Names.{block_of, inline_of}
@@ -33,6 +34,16 @@ inner_bytes bytes e (f ∷ fs) = cond (is_enter e.kind && not (is_enter f.kind))
 
 abbrev pub says_bytes : Name → Bool
 says_bytes n = same_name n Data || same_name n CharacterEscapeValue
+
+-- what is written of spans is that of inline text
+abbrev pub is_inline : Mode → Bool
+is_inline mode.Text = true
+is_inline mode.Paragraph = true
+is_inline _ = false
+
+-- Its bytes are all that is written of a span, by what is written of spans there, the event that enters it and those behind that
+abbrev pub is_bytes : Mode → Event → (behind : List Event) → Bool
+is_bytes m e es = is_inline m && (says_bytes e.name && ends es)
 
 -- ---- descriptions of images
 

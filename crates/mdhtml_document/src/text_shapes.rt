@@ -70,14 +70,14 @@ fn html(
 }
 
 /// Whether innermost spans of a name say their bytes as they are.
-fn says_bytes(name: Name) -> bool
+pub(crate) fn says_bytes(name: Name) -> bool
     ensures { result ≡ says_bytes name }
 {
     Name::Data == name || Name::CharacterEscapeValue == name
 }
 
 /// The bytes of the span that an event enters, if it is an innermost one, by the events behind that.
-fn inner_bytes<'a>(bytes: &'a [u8], event: &Event, behind: &[Event]) -> &'a [u8]
+pub(crate) fn inner_bytes<'a>(bytes: &'a [u8], event: &Event, behind: &[Event]) -> &'a [u8]
     ensures { result.now ≡ inner_bytes bytes.now event.now behind.now }
 {
     match behind {

@@ -2,22 +2,24 @@
 
 ghost use Rattle.std.specs.Prelude.{◌≡◌, ◌≤◌, [], ◌∷◌, IfOk, OnOk, drop, length};
 ghost use Rattle.markdown_base.specs.declared.event.Kind.TheVariants.{Enter};
-ghost use Rattle.mdhtml_document.specs.Frames.{AreListsOf, Opens, closed_by, closed_of, columns_at, ends, events_past, is_list, is_over, is_silent, list_at, lists_behind, lists_past, mode_of, moved, opens};
+ghost use Rattle.mdhtml_document.specs.Frames.{AreListsOf, Opens, closed_by, closed_of, columns_at, ends, events_past, from_list, is_list, is_over, is_silent, list_at, lists_behind, lists_past, mode_of, moved, opens};
 ghost use Rattle.mdhtml_document.specs.Html.{lacking};
 ghost use Rattle.mdhtml_document.specs.Names.{block_of};
 ghost use Rattle.mdhtml_document.specs.Written.{after};
-ghost use Rattle.mdhtml_document.specs.Walks.{shape_in, walked_in};
+ghost use Rattle.mdhtml_document.specs.Walks.{is_bytes, is_inline, shape_in, walked_in};
 
 use crate::block_shapes::{open_block, open_in_heading, open_item};
 use crate::links::Whole;
 use crate::names::{Block, block_of, inline_of};
 use crate::shapes::{DONE, End, Frame, Level, Mode, push_end};
+use crate::spans::behind_first;
 use crate::tables::{
     columns_behind, columns_in, is_in_cell, open_in_row, open_in_table, open_row, push_lacking,
 };
-use crate::text_shapes::{open_in_paragraph, open_inline};
+use crate::text_shapes::{inner_bytes, open_in_paragraph, open_inline, says_bytes};
 use markdown_base::event::{Event, Kind, Name};
 use mdblock_containers::list_shapes::ListShape;
+use mdhtml_markup::escape::push_escaped;
 use std::alloc::{AllocError, Global};
 
 /// Begins a span, by what is written of those that it stands among, the columns that it stands in, the event that enters it and those behind that.
@@ -108,6 +110,20 @@ fn is_list(event: &Event) -> bool
 {
     event.kind == Kind::Enter
         && (Name::ListOrdered == event.name || Name::ListUnordered == event.name)
+}
+
+/// The events from the first on that enters a list.
+pub(crate) fn from_list(events: &[Event]) -> &[Event]
+    ensures { result.now ≡ from_list events.now }
+{
+    let mut rest = events;
+    'events: while let [event, behind @ ..] = rest {
+        if is_list(event) {
+            return rest;
+        }
+        rest = behind;
+    }
+    rest
 }
 
 /// The list that an event enters, if it does, and the lists behind it.
@@ -224,6 +240,20 @@ fn push_level<'a>(
     Ok(())
 }
 
+/// Whether what is written of spans is that of inline text.
+fn is_inline(mode: Mode) -> bool
+    ensures { result ≡ is_inline mode }
+{
+    matches!(mode, Mode::Text | Mode::Paragraph)
+}
+
+/// Whether its bytes are all that is written of a span, by what is written of spans there, the event that enters it and those behind that.
+fn is_bytes(mode: Mode, event: &Event, behind: &[Event]) -> bool
+    ensures { result ≡ is_bytes mode event.now behind.now }
+{
+    is_inline(mode) && (says_bytes(event.name) && ends(behind))
+}
+
 /// Begins the span that an event enters. Returns the lists and the events that are left: those behind its exit, if nothing more is written of it.
 fn enter<'a, 'b>(
     alloc: Global,
@@ -240,6 +270,10 @@ fn enter<'a, 'b>(
     ensures written { IfOk result (λ left. after out.new.items (walked_in whole.now (opens levels.new.items) left.1.now) ≡ after out.old.items (walked_in whole.now (opens levels.old.items) (event.now ∷ behind.now))) }
     ensures within { IfOk result (λ left. length left.1.now ≤ length behind.now) }
 {
+    if is_bytes(mode_of(levels.as_slice()), event, behind) {
+        push_escaped(out, inner_bytes(whole.bytes, event, behind))?;
+        return Ok((lists, behind_first(behind, 1)));
+    }
     let (list, others) = split_list(lists, event);
     let columns = columns_at(levels.as_slice());
     let frame = begin(alloc, out, levels, whole, list, event, behind)?;
