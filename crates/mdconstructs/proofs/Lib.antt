@@ -300,6 +300,7 @@ pub use Rattle.mddocument_editing.proofs.LabelBytes
 pub use Rattle.mddocument_editing.proofs.LinesBack
 pub use Rattle.mddocument_editing.proofs.ListSums
 pub use Rattle.mddocument_editing.proofs.MayStand
+pub use Rattle.mddocument_editing.proofs.NearCuts
 pub use Rattle.mddocument_editing.proofs.NewLabels
 pub use Rattle.mddocument_editing.proofs.NothingNamed
 pub use Rattle.mddocument_editing.proofs.PackedParts

@@ -1,5 +1,5 @@
 -- Sections joined and cut: what holds of sections holds of those in front and of those behind; where one bytes are a rest, so are others that begin alike.
-use Rattle.mddocument_editing.proofs.Prelude.{◌≡◌, ℕ, ◌<◌, ◌≤◌, Bool, true, false, List, [], ◌∷◌, ◌++◌, length, take, drop, refl, sym, ap, ◌∙◌, subst, arith, inl, inr, and_from, and_parts, cases_Bool, leb-true, le-leb, append-nil, length-append, take-append-drop, line-ahead, begins_line, are_sections_by, document_of}
+use Rattle.mddocument_editing.proofs.Prelude.{◌≡◌, ℕ, ◌+◌, ◌<◌, ◌≤◌, Bool, true, false, List, [], ◌∷◌, ◌++◌, length, take, drop, get_or, refl, sym, ap, ◌∙◌, subst, arith, inl, inr, and_from, and_parts, cases_Bool, leb-true, le-leb, append-nil, drop_more, length-append, take-append-drop, line-ahead, begins_line, are_sections_by, document_of}
 use Rattle.std.proofs.lemmas.List.{append_assoc}
 
 -- ---- bytes
@@ -56,6 +56,10 @@ module _ (rest : (a b : List ℕ) → Bool) where
 
   pub sections-drop : (n : ℕ) (xs : List (List ℕ)) → are_sections_by rest xs ≡ true → are_sections_by rest (drop n xs) ≡ true
   sections-drop n xs h = sections-back (take n xs) (drop n xs) (subst (λ ys. are_sections_by rest ys ≡ true) (sym (take-append-drop n xs)) h)
+
+  -- each has bytes
+  pub section-some : (xs : List (List ℕ)) (i : ℕ) → are_sections_by rest xs ≡ true → i < length xs → 0 < length (get_or xs i [])
+  section-some xs i h lt = (sections-tail (get_or xs i []) (drop (i + 1) xs) (subst (λ ys. are_sections_by rest ys ≡ true) (drop_more xs i [] lt) (sections-drop i xs h))).0
 
   -- sections that are some have bytes
   pub sections-some : (xs : List (List ℕ)) → are_sections_by rest xs ≡ true → length xs ≤ length (document_of xs)

@@ -19,6 +19,7 @@ pub mod ListSums
 -- seams
 pub mod Apart
 pub mod Joined
+pub mod NearCuts
 pub mod SettledBytes
 pub mod Unique
 -- trims

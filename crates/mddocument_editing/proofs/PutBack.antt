@@ -1,8 +1,8 @@
 -- Sections that are cut again are put in the place of others.
-use Rattle.mddocument_editing.proofs.Prelude.{◌≡◌, ℕ, ◌+◌, ◌-◌, ◌<◌, ◌≤◌, true, List, [], ◌∷◌, ◌++◌, length, take, drop, refl, sym, ap, ◌∙◌, subst, arith, inl, inr, drop-append-add, take-append-add, append-nil, drop-append-le, drop-drop, drop-take, drop_all, length-drop, length-take, take-append-drop, take-append-le, take-take, take_all, AllByRecursion, every-append, every-drop, every-take, ParseOptions, is_rest, are_sections_by, document_of, AreSectionsOf, IsWhole, IsSeam, is_settled, ◌⊎◌}
+use Rattle.mddocument_editing.proofs.Prelude.{◌≡◌, ℕ, ◌+◌, ◌-◌, ◌<◌, ◌≤◌, true, List, [], ◌∷◌, ◌++◌, length, take, drop, refl, sym, ap, ◌∙◌, subst, arith, inl, inr, drop-append-add, take-append-add, append-nil, drop-append-le, drop-drop, drop-take, drop_all, length-drop, length-take, take-append-drop, take-append-le, take-take, take_all, drop_more, get_or, AllByRecursion, every-append, every-drop, every-take, ParseOptions, is_rest, are_sections_by, document_of, AreSectionsOf, IsWhole, IsSeam, is_settled, ◌⊎◌}
 use Rattle.std.proofs.lemmas.List.{append_assoc}
 use Rattle.mddocument_editing.proofs.Below.{first-tells, rest-begins}
-use Rattle.mddocument_editing.proofs.Joined.{document-append, document-cut, gathers, joins, meets, puts-back, sections-drop, sections-one, sections-take}
+use Rattle.mddocument_editing.proofs.Joined.{document-append, document-cut, gathers, joins, meets, puts-back, section-some, sections-drop, sections-one, sections-take}
 use Rattle.mddocument_editing.proofs.SectionSizes.{bytes-front, bytes-left}
 use Rattle.mddocument_editing.proofs.SettledBytes.{settled-some, settled-tells}
 
@@ -27,6 +27,18 @@ module _ (options : ParseOptions) (old : List (List ℕ)) (from behind : ℕ) (t
     };
     bytes = document-append (take from old) ys ∙ ap (λ bs. document_of (take from old) ++ bs) same;
   }
+
+  -- the text is cut, and the section behind it begins at a rest as before
+  pub back-near : (parts : List (List ℕ)) → AreSectionsOf options text parts → IsSeam options parts (get_or old behind []) → behind < length old → AreBack (take from old ++ (parts ++ drop behind old))
+  back-near parts are near lt =
+      let rest = is_rest options in
+      let section = get_or old behind [] in
+      let left : drop behind old ≡ section ∷ drop (behind + 1) old = drop_more old behind [] lt in
+      let theirs : are_sections_by rest (section ∷ drop (behind + 1) old) ≡ true = subst (λ ys. are_sections_by rest ys ≡ true) left (sections-drop rest behind old is.cut) in
+      let cut : are_sections_by rest (parts ++ drop behind old) ≡ true =
+      subst (λ ys. are_sections_by rest (parts ++ ys) ≡ true) (sym left) (joins rest parts (drop (behind + 1) old) section section (near (section-some rest old behind is.cut lt)) (λ a r. r) theirs) in
+      back (parts ++ drop behind old) cut (every-append (IsWhole options) parts (drop behind old) are.whole (every-drop (IsWhole options) behind old is.whole))
+      (document-append parts (drop behind old) ∙ ap (λ bs. bs ++ document_of (drop behind old)) are.document)
 
   module _ (count : ℕ) (parts : List (List ℕ)) (are : AreSectionsOf options (text ++ document_of (take count (drop behind old))) parts) where
     -- all that are behind are cut again

@@ -1,8 +1,8 @@
 -- What is kept, cut again: the sections' bytes, and parts in their place.
-use Rattle.mddocument_editing.proofs.Prelude.{◌≡◌, ℕ, ◌+◌, ◌^◌, ◌-◌, ◌<◌, ◌≤◌, true, List, ◌++◌, length, take, drop, sym, ap, ◌∙◌, subst, arith, mul-le-mul_right, drop-drop, drop-map, length-append, length-drop, length-map, length-take, take-map, IsWithinLimit, is_rest, are_sections_by, document_of, Edit, Kept, Section, IsDivided, edited, AreSectionsOf, IsKept, IsRecut, bytes_of_sections, divided_of, recut_sections, IsSeam, is_settled, ◌⊎◌}
+use Rattle.mddocument_editing.proofs.Prelude.{◌≡◌, ℕ, ◌+◌, ◌^◌, ◌-◌, ◌<◌, ◌≤◌, true, List, [], ◌++◌, length, take, drop, get_or, sym, ap, ◌∙◌, subst, arith, mul-le-mul_right, drop-drop, drop-map, length-append, length-drop, length-map, length-take, take-map, IsWithinLimit, is_rest, are_sections_by, document_of, Edit, Kept, Section, IsDivided, edited, AreSectionsOf, IsKept, IsRecut, bytes_of_sections, divided_of, recut_sections, IsSeam, is_settled, ◌⊎◌}
 use Rattle.std.proofs.lemmas.List.{append_assoc}
 use Rattle.mddocument_editing.proofs.Joined.{document-append}
-use Rattle.mddocument_editing.proofs.PutBack.{AreBack, back-all, back-met, edited-bytes, edited-seam, take-both}
+use Rattle.mddocument_editing.proofs.PutBack.{AreBack, back-all, back-met, back-near, edited-bytes, edited-seam, take-both}
 
 -- the bytes of what is kept are few
 pub short-kept : (k : Kept) {ss : List Section} {columns : ℕ} → ss ≡ k.sections.items → columns ≡ k.options.tab_size → 1 ≤ columns → IsKept k → length (document_of (bytes_of_sections ss)) < 2 ^ 64
@@ -70,6 +70,13 @@ module _ (k : Kept) (from behind : ℕ) (text : List ℕ) (is : IsDivided (divid
     };
     bytes = b.bytes;
   }
+
+  -- parts of the text, in front of a section that begins at a rest as before
+  pub put-near : {parts : List (List ℕ)} → AreSectionsOf k.options text parts → IsSeam k.options parts (get_or (bytes_of_sections k.sections.items) behind []) → behind < length k.sections.items → ArePut behind parts
+  put-near {parts} are near lt =
+      let old = bytes_of_sections k.sections.items in
+      let few : behind < length old = omega (arith, lt, length-map k.sections.items (λ (section : Section). section.part.bytes.items)) in
+      put behind parts order (omega (arith, lt)) (back-near k.options old from behind text is.sections seam parts are near few)
 
   module _ {ss : List Section} {end : ℕ} {next bytes : List ℕ} {parts : List (List ℕ)} (looked : AreLooked k ss behind end text next) (is_next : bytes ≡ next) (cut : AreSectionsOf k.options bytes parts) where
     are : AreSectionsOf k.options (text ++ document_of (take (end - behind) (drop behind (bytes_of_sections k.sections.items)))) parts

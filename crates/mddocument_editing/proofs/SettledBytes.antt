@@ -1,5 +1,5 @@
 -- Bytes in which a line ends: whatever comes behind them, they are a rest or they are none.
-use Rattle.mddocument_editing.proofs.Prelude.{◌≡◌, ℕ, ◌<◌, ◌≤◌, Bool, true, List, [], ◌∷◌, ◌++◌, length, refl, sym, ap, ◌∙◌, arith, inl, inr, and_from, and_parts, cases_Bool, le-leb, leb-true, not_from_false, or_cases, or_left, or_right, length-append, ◌==◌, ◌||◌, not, begins_with_lf, begins_line, is_settled, ◌&&◌, nat_le}
+use Rattle.mddocument_editing.proofs.Prelude.{◌≡◌, ℕ, ◌<◌, ◌≤◌, Bool, true, List, [], ◌∷◌, ◌++◌, length, refl, sym, ap, ◌∙◌, arith, inl, inr, and_from, and_parts, cases_Bool, le-leb, leb-true, not_from_false, or_cases, or_left, or_right, length-append, ◌==◌, ◌||◌, not, begins_with_lf, begins_line, has_ending, is_settled, ◌&&◌, nat_le}
 use Rattle.std.proofs.lemmas.List.{append_assoc}
 use Rattle.mddocument_editing.proofs.Joined.{tells-all}
 
@@ -16,6 +16,16 @@ settled-more (b ∷ front) more h =
     at-cr b front more h =
         let p = and_parts (b == 13) (nat_le 1 (length front)) h in
         and_from (b == 13) (nat_le 1 (length (front ++ more))) p.0 (le-leb 1 (length (front ++ more)) (omega (arith, length-append front more, leb-true 1 (length front) p.1)))
+
+-- so does one that has a line feed or a carriage return, if there are some behind
+pub ending-settled : (front more : List ℕ) → has_ending front ≡ true → 0 < length more → is_settled (front ++ more) ≡ true
+ending-settled [] more h some = absurd (cc)
+ending-settled (b ∷ front) more h some =
+    by (b == 10) (b == 13) (has_ending front) (nat_le 1 (length (front ++ more))) (is_settled (front ++ more)) (le-leb 1 (length (front ++ more)) (omega (arith, length-append front more, some)))
+    (λ ends. ending-settled front more ends some) h
+  where
+    by : (lf cr ends many settled : Bool) → many ≡ true → (ends ≡ true → settled ≡ true) → ((lf || cr) || ends) ≡ true → (lf || ((cr && many) || settled)) ≡ true
+    by lf cr ends many settled more next h = grind arith
 
 -- there are some
 pub settled-some : (front : List ℕ) → is_settled front ≡ true → 0 < length front

@@ -1,15 +1,17 @@
 //! Sections that are cut again where a document is edited.
 
-ghost use Rattle.std.specs.Prelude.{◌≡◌, ◌⊎◌, ◌≤◌, ◌<◌, ◌+◌, ◌-◌, ◌^◌, ◌++◌, IfNone, IfOk, IfSome, OnOk, List, ℕ, drop, length, map, take, true};
+ghost use Rattle.std.specs.Prelude.{◌≡◌, ◌⊎◌, ◌≤◌, ◌<◌, ◌+◌, ◌-◌, ◌^◌, ◌++◌, [], IfNone, IfOk, IfSome, OnOk, List, ℕ, drop, length, map, take, true};
+ghost use Rattle.std.specs.List.{slice_index_or};
 ghost use Rattle.markdown_base.specs.Virtual.{IsWithinLimit};
+ghost use Rattle.mddocument_parts.specs.Moved.{begins_line};
 ghost use Rattle.mddocument_parts.specs.Sections.{document_of};
 ghost use Rattle.mddocument_editing.specs.Divided.{bytes_of};
 ghost use Rattle.mddocument_editing.specs.Edits.{IsInside, edited};
-ghost use Rattle.mddocument_editing.specs.FirstRest.{items_of};
+ghost use Rattle.mddocument_editing.specs.FirstRest.{AreSectionsOf, items_of};
 ghost use Rattle.mddocument_editing.specs.Kept.{IsKept, IsRecut, bytes_of_sections, divided_of, recut_sections};
 ghost use Rattle.mddocument_editing.specs.Lookups.{IsSectionAt, start_of};
 ghost use Rattle.mddocument_editing.specs.Seams.{IsSeam};
-ghost use Rattle.mddocument_editing.specs.Settled.{is_settled};
+ghost use Rattle.mddocument_editing.specs.Settled.{has_ending, is_settled};
 ghost use Rattle.mddocument_editing.specs.Trims.{AreTrimmed};
 
 use crate::cut::cut;
@@ -18,6 +20,8 @@ use crate::kept::Kept;
 use crate::lookup::section_and_left;
 use crate::section::Section;
 use crate::trim::{Recut, trim};
+use markdown_base::configuration::ParseOptions;
+use markdown_base::util::place::ends_line;
 use std::alloc::{AllocError, Global};
 
 /// Whether a line ends in bytes, whatever comes behind them.
@@ -33,6 +37,24 @@ fn is_settled(bytes: &[u8]) -> bool
         }
     }
     false
+}
+
+/// Whether a line ends in bytes, if there is one more behind them.
+fn has_ending(bytes: &[u8]) -> bool
+    ensures { result ≡ has_ending bytes.now }
+{
+    bytes.iter().any(|byte| *byte == b'\n' || *byte == b'\r')
+}
+
+/// Whether a line ends in the bytes of a section, whatever comes behind them; or if there are some behind them that stay, whatever comes behind these.
+fn is_settled_by(bytes: &[u8], some_stay: bool) -> bool
+    ensures { result ≡ true → (more : List ℕ) → (some_stay ≡ true → 0 < length more) → is_settled (bytes.now ++ more) ≡ true }
+{
+    if some_stay {
+        has_ending(bytes)
+    } else {
+        is_settled(bytes)
+    }
 }
 
 /// The first section to be cut again, and where it starts, if the document is edited from a byte on: the last one of which a line ends in front of the
@@ -55,10 +77,11 @@ fn first_touched(sections: &[Section], byte: usize, found: (usize, usize)) -> (u
         return (index, start);
     }
     while index > 0 {
+        let end = start;
         index -= 1;
         let bytes = sections[index].part.bytes.as_slice();
         start -= bytes.len();
-        if is_settled(bytes) {
+        if is_settled_by(bytes, end < byte) {
             return (index, start);
         }
     }
@@ -148,10 +171,84 @@ fn meeting(parts: &[Vec<u8>], size: usize, sections: &[Section]) -> Option<(usiz
     None
 }
 
-/// Cuts the document from a section on again, with a text in the place of the sections up to another, until one of the sections from that one on begins at a
-/// rest again, or to the end. The text, with what is behind those sections, begins at a rest of the section in front. Each time as many more sections are
-/// looked at as before, so it is cut again only as often as their number doubles.
-fn cut_from(
+/// Where the first line of bytes ends, behind its line ending.
+fn first_line_end(bytes: &[u8]) -> usize
+    requires { 0 < length bytes.now }
+    ensures some { 0 < result }
+    ensures within { result ≤ length bytes.now }
+    ensures line { result < length bytes.now → begins_line (drop result bytes.now) (take result bytes.now) ≡ true }
+{
+    for index in 0..bytes.len() {
+        if ends_line(bytes, index) {
+            return index + 1;
+        }
+    }
+    bytes.len()
+}
+
+/// How many of the first parts have this many bytes together. `None` if no first ones have, but for all of them.
+fn parts_with(parts: &[Vec<u8>], size: usize) -> Option<usize>
+    ensures { IfSome result (λ some. length (document_of (take some (items_of parts.now))) ≡ size) }
+{
+    let mut left = size;
+    for count in 0..parts.len() {
+        if left == 0 {
+            return Some(count);
+        }
+        let len = parts[count].len();
+        if len > left {
+            return None;
+        }
+        left -= len;
+    }
+    None
+}
+
+/// Bytes, cut at each rest: the parts in front of an index. `None` if they are not cut there.
+fn parts_in_front(
+    alloc: Global,
+    options: &ParseOptions,
+    bytes: &[u8],
+    index: usize,
+) -> Result<Option<Vec<Vec<u8>>>, AllocError>
+    ensures { IfOk result (λ found. IfSome found (λ parts. (more : List (List ℕ)) × (AreSectionsOf options.now bytes.now (items_of parts.items ++ more) × (length (document_of (items_of parts.items)) ≡ index)))) }
+{
+    let mut parts = cut(alloc, bytes, options)?;
+    if let Some(some) = parts_with(parts.as_slice(), index) {
+        parts.truncate(some);
+        return Ok(Some(parts));
+    }
+    Ok(None)
+}
+
+/// The parts of a text in front of a section, cut at each rest. `None` if the section does not begin at one, or there is none. Of the section only the first
+/// line is looked at, which tells.
+fn cut_near(
+    alloc: Global,
+    kept: &Kept,
+    behind: usize,
+    text: &mut Vec<u8>,
+) -> Result<Option<Vec<Vec<u8>>>, AllocError>
+    requires { IsKept kept.now }
+    ensures text { OnOk result (text.new.items ≡ text.old.items) }
+    ensures within { IfOk result (λ found. IfSome found (λ parts. behind < length kept.now.sections.items)) }
+    ensures parts { IfOk result (λ found. IfSome found (λ parts. AreSectionsOf kept.now.options text.old.items (items_of parts.items))) }
+    ensures seam { IfOk result (λ found. IfSome found (λ parts. IsSeam kept.now.options (items_of parts.items) (slice_index_or (bytes_of_sections kept.now.sections.items) behind []))) }
+{
+    if behind >= kept.sections.len() {
+        return Ok(None);
+    }
+    let section = kept.sections.one(behind).part.bytes.as_slice();
+    let size = text.len();
+    text.extend_from_slice(&section[..first_line_end(section)])?;
+    let found = parts_in_front(alloc, &kept.options, text.as_slice(), size)?;
+    text.truncate(size);
+    Ok(found)
+}
+
+/// As [`cut_from`], with at least one section behind the text. Each time as many more sections are looked at as before, so it is cut again only as often as
+/// their number doubles.
+fn cut_further(
     alloc: Global,
     kept: &Kept,
     from: usize,
@@ -186,6 +283,34 @@ fn cut_from(
             return Ok(Recut { from, end, parts });
         }
     }
+}
+
+/// Cuts the document from a section on again, with a text in the place of the sections up to another, until one of the sections from that one on begins at a
+/// rest again, or to the end. The text, with what is behind those sections, begins at a rest of the section in front. Mostly the section behind the text
+/// begins at a rest as before, which its first line tells, however long it is.
+fn cut_from(
+    alloc: Global,
+    kept: &Kept,
+    from: usize,
+    behind: usize,
+    mut text: Vec<u8>,
+) -> Result<Recut, AllocError>
+    requires kept { IsKept kept.now }
+    requires order { from ≤ behind }
+    requires within { behind ≤ length kept.now.sections.items }
+    requires limit { let sections = bytes_of_sections kept.now.sections.items in IsWithinLimit kept.now.options.tab_size (document_of (take from sections) ++ (text.items ++ document_of (drop behind sections))) }
+    requires seam { IsSeam kept.now.options (take from (bytes_of_sections kept.now.sections.items)) (text.items ++ document_of (drop behind (bytes_of_sections kept.now.sections.items))) }
+    ensures recut { IfOk result (λ r. IsRecut kept.now r.from r.end (items_of r.parts.items)) }
+    ensures bytes { let sections = bytes_of_sections kept.now.sections.items in IfOk result (λ r. document_of (recut_sections kept.now r.from r.end (items_of r.parts.items)) ≡ document_of (take from sections) ++ (text.items ++ document_of (drop behind sections))) }
+{
+    if let Some(parts) = cut_near(alloc, kept, behind, &mut text)? {
+        return Ok(Recut {
+            from,
+            end: behind,
+            parts,
+        });
+    }
+    cut_further(alloc, kept, from, behind, text)
 }
 
 /// Cuts a document again where it is edited. Of what is cut again, as much stays at both ends as can.

@@ -1,7 +1,6 @@
-use Rattle.mddocument_editing.proofs.Prelude.{◌≡◌, ◌-◌, ◌≤◌, length, take, get_or, true, sym, ap, ◌∙◌, arith, inr, length-take, document_of, Section, bytes_of_sections, is_settled}
+use Rattle.mddocument_editing.proofs.Prelude.{◌≡◌, ◌+◌, ◌-◌, ◌≤◌, ◌<◌, ◌++◌, length, take, drop, get_or, true, sym, ap, ◌∙◌, arith, inr, length-take, ltb-true, nat_lt, document_of, Section, bytes_of_sections, is_settled}
 use Rattle.mddocument_editing.proofs.SectionPlaces.{count-bytes, start-front, start-next}
-use Rattle.mddocument_editing.proofs.SectionSizes.{bytes-inside, bytes-outside}
-use Rattle.mddocument_editing.proofs.SettledBytes.{settled-more}
+use Rattle.mddocument_editing.proofs.SectionSizes.{bytes-inside, bytes-outside, size-front}
 use Rattle.mddocument_editing.proofs.recut.first_touched.Goals as goal
 
 pub slice_bounds-is_settled-length : goal.slice_bounds-is_settled-length
@@ -36,26 +35,32 @@ overflow_sub-start-in-loop-index c =
     let less = start-front c.args.sections.now c.loop-index-test.true c.loop-index.invariant.within c.index-sections-index-in-loop-index.is c.as_slice-bytes.ensures.value in
     omega (arith, less, c.loop-index.invariant.start)
 
-pub returns-then-is_settled-2-clause-start : goal.returns-then-is_settled-2-clause-start
-returns-then-is_settled-2-clause-start c =
+pub returns-then-is_settled_by-clause-start : goal.returns-then-is_settled_by-clause-start
+returns-then-is_settled_by-clause-start c =
     let less = start-front c.args.sections.now c.loop-index-test.true c.loop-index.invariant.within c.index-sections-index-in-loop-index.is c.as_slice-bytes.ensures.value in
     omega (arith, less, c.loop-index.invariant.start)
 
-pub returns-then-is_settled-2-clause-settled : goal.returns-then-is_settled-2-clause-settled
-returns-then-is_settled-2-clause-settled c =
+pub returns-then-is_settled_by-clause-settled : goal.returns-then-is_settled_by-clause-settled
+returns-then-is_settled_by-clause-settled c =
     let less = start-front c.args.sections.now c.loop-index-test.true c.loop-index.invariant.within c.index-sections-index-in-loop-index.is c.as_slice-bytes.ensures.value in
     let ss = c.args.sections.now in
-    let i = c.loop-index.index in
-    let s = get_or ss (i - 1) c.index-sections-index-in-loop-index.result in
+    let i = c.loop-index.index - 1 in
+    let s = get_or ss i c.index-sections-index-in-loop-index.result in
     let value = c.as_slice-bytes.ensures.value in
     let start = c.loop-index.start - length c.as_slice-bytes.result.now in
-    let at : start ≡ length (document_of (take (i - 1) (bytes_of_sections ss))) = omega (arith, less, c.loop-index.invariant.start) in
+    let at : start ≡ length (document_of (take i (bytes_of_sections ss))) = omega (arith, less, c.loop-index.invariant.start) in
     let n = c.args.byte - start in
     let many : length s.part.bytes.items ≤ n = omega (arith, less, c.loop-index.invariant.start, c.loop-index.invariant.before, ap length value) in
-    let told : is_settled s.part.bytes.items ≡ true = ap is_settled (sym value) ∙ sym c.is_settled-in-loop-index.ensures ∙ c.if-is_settled-2.true in
+    let e : i + 1 ≡ c.loop-index.index = omega (arith, c.loop-index-test.true) in
+    let left = document_of (drop (i + 1) (bytes_of_sections ss)) in
+    let more = take (n - length s.part.bytes.items) left in
+    let some : nat_lt c.loop-index.start c.args.byte ≡ true → 0 < length more = λ stay.
+    omega (arith, ltb-true c.loop-index.start c.args.byte stay, length-take (n - length s.part.bytes.items) left, size-front (i + 1) (bytes_of_sections ss), ap (λ k. length (document_of (take k (bytes_of_sections ss)))) e, less, c.loop-index.invariant.start, c.requires.inside, ap length value)
+    in
     inr (
-    ap is_settled (bytes-outside (λ (section : Section). section.part.bytes.items) ss (i - 1) start s at (omega (arith, c.loop-index.invariant.within, c.loop-index-test.true)) (ap (get_or ss (i - 1)) c.index-sections-index-in-loop-index.is) n many)
-    ∙ settled-more s.part.bytes.items _ told
+    ap is_settled (bytes-outside (λ (section : Section). section.part.bytes.items) ss i start s at (omega (arith, c.loop-index.invariant.within, c.loop-index-test.true)) (ap (get_or ss i) c.index-sections-index-in-loop-index.is) n many)
+    ∙ ap (λ bs. is_settled (bs ++ more)) (sym value)
+    ∙ c.is_settled_by.ensures c.if-is_settled_by.true more some
     )
 
 pub loop-index-preserved : goal.loop-index-preserved

@@ -1,5 +1,5 @@
 use Rattle.mddocument_editing.proofs.Prelude.{◌≡◌, ◌++◌, ◌≤◌, ◌-◌, length, take, drop, document_of, bytes_of_sections}
-use Rattle.mddocument_editing.proofs.recut.cut_from.Given as goal
+use Rattle.mddocument_editing.proofs.recut.cut_further.Given as goal
 
 abbrev pub invariant-loop-text : goal.invariant-loop-text
 invariant-loop-text l = record {
