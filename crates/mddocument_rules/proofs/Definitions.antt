@@ -19,7 +19,7 @@ kept none both over = record { none = none; both = both; over = λ n seats insid
 abbrev AnyContainer : Container → Type 0
 AnyContainer c = Unit {0}
 
-free-prefix : (c : Container) → AnyContainer c → MayPrefix FreeName c
+pub free-prefix : (c : Container) → AnyContainer c → MayPrefix FreeName c
 free-prefix (quote line) a = (refl, refl)
 free-prefix (item i) a = (refl, refl, refl)
 
@@ -49,7 +49,7 @@ module _ {bytes : List ℕ} {Are : List Mark → Type 0} (w : IsKept bytes Are) 
   pub prefixes-are : (ps : List Prefix) (seats : List Seat) → Are (prefixes_marks bytes ps seats)
   prefixes-are ps seats = prefixes w AnyContainer free-prefix ps seats (any-prefixes ps)
 
-  data-is : (seats : List Seat) → AllByRecursion AnySeat seats → Are (leaf_marks bytes name.Data seats)
+  pub data-is : (seats : List Seat) → AllByRecursion AnySeat seats → Are (leaf_marks bytes name.Data seats)
   data-is seats at = leafs w name.Data seats refl at
 
   -- ---- places, with prefixes between their lines
