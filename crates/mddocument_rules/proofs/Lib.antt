@@ -29,6 +29,15 @@ pub mod HeldSections
 pub mod SpokenDefinitions
 pub mod DefinitionEvents
 pub mod LabelStrings
+-- labels: as they are written among events they are those of lines
+pub mod AlikeTexts
+pub mod WrittenSpans
+pub mod VirtualBytes
+pub mod WrittenPrefixes
+pub mod WrittenStrings
+pub mod WrittenPlaces
+pub mod LaidRows
+pub mod LabelTexts
 -- links: none is in a link
 pub mod DocumentLinks
 pub mod FlatLinks

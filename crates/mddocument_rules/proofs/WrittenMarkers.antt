@@ -75,7 +75,7 @@ module _ (bytes : List ℕ) where
 
 -- ---- a list marker in a line
 
-indent-take : (k : ℕ) (t : List ℕ) → indent t < k → indent (take k t) ≡ indent t
+pub indent-take : (k : ℕ) (t : List ℕ) → indent t < k → indent (take k t) ≡ indent t
 indent-take zero t h = absurd (omega (arith, h))
 indent-take (suc k) [] h = refl
 indent-take (suc k) (b ∷ t) h = by (is_white b) (indent-take k t) h

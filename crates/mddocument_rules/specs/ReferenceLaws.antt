@@ -1,5 +1,5 @@
 -- What is promised of the link reference definitions of documents, by events (CommonMark 0.31, 4.7).
-use Rattle.std.specs.Prelude.{◌≡◌, ℕ, ◌+◌, ◌-◌, true, cond, List, [], ◌∷◌, drop, length, map, take, Some}
+use Rattle.std.specs.Prelude.{◌≡◌, ℕ, ◌+◌, ◌-◌, true, cond, List, [], ◌∷◌, drop, is_some, length, map, take, Some}
 use Rattle.std.specs.List.{flat_map}
 use Rattle.markdown_base.specs.declared.event.Event.{Event}
 use Rattle.markdown_base.specs.declared.event.Name.TheVariants as name
@@ -11,9 +11,11 @@ use Rattle.mdblock_definitions.specs.Definitions.{Place, line_marks, parts_marks
 use Rattle.mdblock_definitions.specs.Sections.{Section, defined, lines}
 use Rattle.mdblock_definitions.specs.Skeleton.{all_rows, sections_in_seats}
 use Rattle.mdinline_labels.specs.declared.definitions.Definition.{Definition}
+use Rattle.mdinline_labels.specs.Labels.{normalised}
 use Rattle.mdinline_link_strings.specs.Strings.{with_strings, with_strings_from}
-use Rattle.mddocument.specs.DocumentEvents.{document_events}
+use Rattle.mddocument.specs.DocumentEvents.{document_events, is_defined_in}
 use Rattle.mddocument_link_targets.specs.Spans.{enters, first_in, inside}
+use Rattle.mddocument_link_targets.specs.Targets.{defined_label, definition_of}
 
 -- what is in the definitions among events, one after another
 abbrev pub definitions_in : List Event → List (List Event)
@@ -59,3 +61,11 @@ LabelsAreOfSections =
 -- So a document has one definition for each label that its sections define
 abbrev pub DefinitionsHaveLabels : Type 0
 DefinitionsHaveLabels = (g : Given) → IsDocument g → length (definitions_in (document_events g)) ≡ length (labels_of g)
+
+-- The label of each of them, as it is written among the events, is the one that its lines define
+abbrev pub LabelsAreWritten : Type 0
+LabelsAreWritten = (g : Given) → IsDocument g → map (defined_label g.bytes) (definitions_in (document_events g)) ≡ labels_of g
+
+-- So a label is defined in a document exactly if a definition among its events has it: then `definition_of` is the first of these
+abbrev pub DefinedIsDefined : Type 0
+DefinedIsDefined = (g : Given) (label : List ℕ) → IsDocument g → is_defined_in g label ≡ is_some (definition_of g.bytes (document_events g) (normalised label))

@@ -3,7 +3,7 @@
 ghost use Rattle.mddocument_rules.specs.DefinitionLaws.{DefinitionsOfDocumentsAreLinear, NoDefinitionInADefinition};
 ghost use Rattle.mddocument_rules.specs.ListLaws.{ItemsHaveTheMarker, ListsHaveOneMarker, NeighboursDiffer, QuotesAreApart};
 ghost use Rattle.mddocument_rules.specs.MarkerLaws.{ListsAreNamedByMarkers, ListsAreOfOneType};
-ghost use Rattle.mddocument_rules.specs.ReferenceLaws.{DefinitionsAreOfSections, DefinitionsHaveLabels, LabelsAreOfSections};
+ghost use Rattle.mddocument_rules.specs.ReferenceLaws.{DefinedIsDefined, DefinitionsAreOfSections, DefinitionsHaveLabels, LabelsAreOfSections, LabelsAreWritten};
 ghost use Rattle.mddocument_rules.specs.StandingLaws.{BlocksStand, LeafBlocksStand, NoLinkInALink, SkeletonsStand, SpansStand};
 ghost use Rattle.mddocument_rules.specs.TextLaws.{EmphasisStands, InlineTextStands, LinksStand, NoLinkInALinkOfText};
 
@@ -77,4 +77,12 @@ pub fn definitions_are_those_of_sections()
     ensures sections { DefinitionsAreOfSections }
     ensures strings { LabelsAreOfSections }
     ensures labels { DefinitionsHaveLabels }
+{}
+
+/// A label is defined in a document exactly if a definition among its events has it, and the first of these is what `definition_of` gives. The label of each,
+/// as it is written among the events, is the one that its lines define, in the form by which labels are compared: so escapes and references stay as they
+/// stand, and the prefixes of further lines are no part of it.
+pub fn labels_are_those_of_definitions()
+    ensures labels { LabelsAreWritten }
+    ensures defined { DefinedIsDefined }
 {}
