@@ -316,6 +316,7 @@ pub use Rattle.mddocument_editing.proofs.RestBytes
 pub use Rattle.mddocument_editing.proofs.RestLines
 pub use Rattle.mddocument_editing.proofs.SaidFirst
 pub use Rattle.mddocument_editing.proofs.SaidSides
+pub use Rattle.mddocument_editing.proofs.SameTargets
 pub use Rattle.mddocument_editing.proofs.SectionBytes
 pub use Rattle.mddocument_editing.proofs.SectionEvents
 pub use Rattle.mddocument_editing.proofs.SectionFronts
@@ -329,5 +330,6 @@ pub use Rattle.mddocument_editing.proofs.StartsUpTo
 pub use Rattle.mddocument_editing.proofs.Stays
 pub use Rattle.mddocument_editing.proofs.TextChars
 pub use Rattle.mddocument_editing.proofs.ToldOthers
+pub use Rattle.mddocument_editing.proofs.Touched
 pub use Rattle.mddocument_editing.proofs.Trims
 pub use Rattle.mddocument_editing.proofs.Unique

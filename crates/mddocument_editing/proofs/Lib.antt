@@ -46,6 +46,8 @@ pub mod PutOthers
 pub mod PutSections
 pub mod Rereads
 pub mod ToldOthers
+pub mod Touched
+pub mod SameTargets
 -- moved events
 pub mod PartsMove
 -- undefined

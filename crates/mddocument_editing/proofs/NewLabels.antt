@@ -1,5 +1,5 @@
 -- The labels of a document with parts in the place of some of its sections.
-use Rattle.mddocument_editing.proofs.Prelude.{◌≡◌, ℕ, ◌+◌, ◌-◌, ◌≤◌, Bool, false, List, [], ◌∷◌, ◌++◌, length, take, drop, map, refl, sym, ap, ◌∙◌, subst, arith, drop-drop, drop-map, map-append, take-append-drop, take-map, take_rest, list_any-append, AllByRecursion, flat_map, ◌||◌, every-map, ParseOptions, is_one_of, defines, is_same, is_label_of, IsKept, IsLabelled, IsRead, IsRecut, bytes_of_parts, bytes_of_sections, labels_written, recut_document, Kept, Section}
+use Rattle.mddocument_editing.proofs.Prelude.{◌≡◌, ℕ, ◌+◌, ◌-◌, ◌≤◌, Bool, true, false, List, ◌++◌, length, take, drop, refl, sym, ap, ◌∙◌, subst, arith, drop-drop, drop-map, map-append, take-append-drop, take-map, take_rest, list_any-append, or-false, AllByRecursion, divided_of, flat_map, ◌||◌, every-map, ParseOptions, is_one_of, defines, is_same, is_label_of, IsKept, IsLabelled, IsRead, IsRecut, bytes_of_parts, bytes_of_sections, labels_written, recut_document, Kept, Section}
 use Rattle.std.proofs.lemmas.Grind.{flat_map-append}
 use Rattle.mddocument_editing.specs.declared.section.Part.{Part}
 use Rattle.mddocument_editing.proofs.SectionLabels.{labels-divided}
@@ -27,15 +27,6 @@ module _ (options : ParseOptions) where
   written-three front parts behind label =
       written-append front (parts ++ behind) label ∙ ap (λ b. is_written options front label || b) (written-append parts behind label)
 
-  -- what defines nothing writes no label
-  pub none-written : {A : Type 0} (part : A → Part) (xs : List A) → AllByRecursion (λ (x : A). IsLabelled options (part x)) xs
-      → AllByRecursion (λ (x : A). (label : List ℕ) → defines (part x).labels label ≡ false) xs → (label : List ℕ) → is_written options (map (λ (x : A). (part x).bytes.items) xs) label ≡ false
-  none-written part [] is none label = refl
-  none-written {A = A} part (x ∷ xs) is none label =
-      let bytes : A → List ℕ = λ y. (part y).bytes.items in
-      list_any-append (λ one. is_same label one) (labels_written options (bytes x)) (flat_map (labels_written options) (map bytes xs))
-      ∙ ap (λ b. b || is_written options (map bytes xs) label) (sym (is.0 label) ∙ none.0 label) ∙ none-written part xs is.1 none.1 label
-
   module _ (items : List Section) (from end : ℕ) (parts : List Part) where
     -- the labels of the document with the parts
     abbrev pub recut_written : List ℕ → Bool
@@ -59,10 +50,10 @@ module _ (options : ParseOptions) where
         is-last ∙ ap (λ ss. is_written options (bytes_of_sections ss) label || more) (take_rest items end)
         ∙ ap (λ x. b || x) (is-more ∙ ap (λ x. p || x) (is-first ∙ ap (λ x. f || x) is-none)) ∙ turned f p b ∙ sym (recut-three label)
 
-    -- where the sections that go and the parts define nothing
-    pub none-changed : from ≤ end → (label : List ℕ) → is_written options (bytes_of_sections (take (end - from) (drop from items))) label ≡ false → is_written options (bytes_of_parts parts) label ≡ false
+    -- where the sections that go and the parts define a label, or neither do
+    pub none-changed : from ≤ end → (label : List ℕ) → is_written options (bytes_of_sections (take (end - from) (drop from items))) label ≡ is_written options (bytes_of_parts parts) label
         → is_written options (bytes_of_sections items) label ≡ recut_written label
-    none-changed order label gone come =
+    none-changed order label same =
         let between = bytes_of_sections (take (end - from) (drop from items)) in
         let f = is_written options (bytes_of_sections (take from items)) label in
         let b = is_written options (bytes_of_sections (drop end items)) label in
@@ -71,7 +62,22 @@ module _ (options : ParseOptions) where
         (map-append (λ section. section.part.bytes.items) (take from items) (take (end - from) (drop from items) ++ drop end items)
         ∙ ap (λ ss. bytes_of_sections (take from items) ++ ss) (map-append (λ section. section.part.bytes.items) (take (end - from) (drop from items)) (drop end items)))
         ∙ written-three (bytes_of_sections (take from items)) between (bytes_of_sections (drop end items)) label
-        ∙ ap (λ x. f || (x || b)) (gone ∙ sym come) ∙ sym (recut-three label)
+        ∙ ap (λ x. f || (x || b)) same ∙ sym (recut-three label)
+
+-- what is known of a label behind nothing
+alone : (b none : Bool) → none ≡ false → (b || none) ≡ b
+alone b none is = ap (λ x. b || x) is ∙ or-false b
+
+-- where labels are defined alike, they are written alike
+pub alike : (gone come written_gone written_come none_gone none_come : Bool) → gone ≡ (written_gone || none_gone) → none_gone ≡ false → come ≡ (written_come || none_come) → none_come ≡ false
+    → come ≡ gone → written_gone ≡ written_come
+alike gone come written_gone written_come none_gone none_come is_gone empty_gone is_come empty_come same =
+    sym (alone written_gone none_gone empty_gone) ∙ sym is_gone ∙ sym same ∙ is_come ∙ alone written_come none_come empty_come
+
+-- neither of two
+pub neither-of : (a b : Bool) → (a || b) ≡ false → (a ≡ false) × (b ≡ false)
+neither-of false b is = (refl, is)
+neither-of true b is = absurd (cc is)
 
 -- ---- what is kept, with parts in the place of some of its sections
 module _ (k : Kept) {xs : List Section} (same : xs ≡ k.sections.items) where
@@ -85,6 +91,13 @@ module _ (k : Kept) {xs : List Section} (same : xs ≡ k.sections.items) where
     -- what is written there is a label of the document
     pub written-recut : recut_written k.options xs from end parts label ≡ is_label_of (recut_document k from end (bytes_of_parts parts)) label
     written-recut = ap (λ ys. recut_written k.options ys from end parts label) same ∙ labels-divided (recut_document k from end (bytes_of_parts parts)) recut.divided label
+
+    -- so is a label of the document as it was, if the sections that go and the parts define it alike
+    pub kept-recut : IsKept k → is_written k.options (bytes_of_sections (take (end - from) (drop from xs))) label ≡ is_written k.options (bytes_of_parts parts) label
+        → defines k.machine.labels label ≡ is_label_of (recut_document k from end (bytes_of_parts parts)) label
+    kept-recut kept alike =
+        kept.labels label ∙ sym (labels-divided (divided_of k) kept.divided label) ∙ ap (λ ys. is_written k.options (bytes_of_sections ys) label) (sym same)
+        ∙ none-changed k.options xs from end parts recut.order label alike ∙ written-recut
 
     -- so is what all others and the parts define
     pub defined-recut : {last more first none : Bool} → last ≡ (is_written k.options (bytes_of_sections (take (length xs - end) (drop end xs))) label || more)

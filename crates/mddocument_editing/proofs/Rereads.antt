@@ -1,26 +1,33 @@
 -- Sections that are read again, and their events put in.
-use Rattle.mddocument_editing.proofs.Prelude.{◌≡◌, ℕ, zero, suc, ◌+◌, ◌<◌, Bool, List, [], ◌∷◌, ◌++◌, length, Option, Some, None, get_or, take, set, map, refl, sym, ap, ◌∙◌, subst, arith, append_assoc, inl, inr, length-append, length-take-le, take_more, Contains-append_right, AllByRecursion, every-map, Contains, IfNone, IfSome, ParseOptions, Event, events_by, ascend_from, IsRead, bytes_of_sections, AreReread, HasEvents, put_all, put_at, with_events, Reread, Section}
+use Rattle.mddocument_editing.proofs.Prelude.{◌≡◌, ℕ, zero, suc, ◌+◌, ◌<◌, Bool, List, [], ◌∷◌, ◌++◌, length, Option, Some, None, get_or, take, set, refl, sym, ap, ◌∙◌, subst, arith, append_assoc, inl, inr, length-append, length-take-le, take_more, AllByRecursion, every-map, IfNone, IfSome, ParseOptions, Event, events_by, IsRead, bytes_of_sections, AreReread, HasEvents, HasSaids, put_all, put_at, read_again, read_as, Reread, Section}
+use Rattle.mddocument_editing.specs.Said.{saids}
+use Rattle.mddocument_editing.specs.declared.said.Said.{Said}
+use Rattle.mddocument_editing.specs.declared.section.Read.{Read}
 use Rattle.std.proofs.Common.{append-nil}
 
 -- what is put at the number of a section that was read there
-pub put-at-set : (xs : List Section) (i : ℕ) (x : Section) (events : List Event) → x ≡ get_or xs i x → set xs i (with_events events x) ≡ put_at i events xs
-put-at-set [] i x events is = refl
-put-at-set (y ∷ ys) zero x events is = ap (λ z. with_events events z ∷ ys) is
-put-at-set (y ∷ ys) (suc i) x events is = ap (λ zs. y ∷ zs) (put-at-set ys i x events is)
+pub put-at-set : (xs : List Section) (i : ℕ) (x : Section) (r : Reread) → x ≡ get_or xs i x → set xs i (read_as r x) ≡ put_at i r xs
+put-at-set [] i x r is = refl
+put-at-set (y ∷ ys) zero x r is = ap (λ z. read_as r z ∷ ys) is
+put-at-set (y ∷ ys) (suc i) x r is = ap (λ zs. y ∷ zs) (put-at-set ys i x r is)
 
-pub length-put-at : (i : ℕ) (events : List Event) (xs : List Section) → length (put_at i events xs) ≡ length xs
-length-put-at i events [] = refl
-length-put-at zero events (x ∷ xs) = refl
-length-put-at (suc i) events (x ∷ xs) = ap suc (length-put-at i events xs)
+pub length-put-at : (i : ℕ) (r : Reread) (xs : List Section) → length (put_at i r xs) ≡ length xs
+length-put-at i r [] = refl
+length-put-at zero r (x ∷ xs) = refl
+length-put-at (suc i) r (x ∷ xs) = ap suc (length-put-at i r xs)
 
 pub length-put-all : (others : List Reread) (xs : List Section) → length (put_all xs others) ≡ length xs
 length-put-all [] xs = refl
-length-put-all (o ∷ os) xs = length-put-all os (put_at o.section o.events xs) ∙ length-put-at o.section o.events xs
+length-put-all (o ∷ os) xs = length-put-all os (put_at o.section o xs) ∙ length-put-at o.section o xs
 
--- events are put at the first section behind others
-put-behind : (xs : List Section) (s : Section) (ys : List Section) (events : List Event) → put_at (length xs) events (xs ++ s ∷ ys) ≡ xs ++ with_events events s ∷ ys
-put-behind [] s ys events = refl
-put-behind (x ∷ xs) s ys events = ap (λ zs. x ∷ zs) (put-behind xs s ys events)
+-- the first section behind others is read again
+put-behind : (xs : List Section) (s : Section) (ys : List Section) (r : Reread) → put_at (length xs) r (xs ++ s ∷ ys) ≡ xs ++ read_as r s ∷ ys
+put-behind [] s ys r = refl
+put-behind (x ∷ xs) s ys r = ap (λ zs. x ∷ zs) (put-behind xs s ys r)
+
+-- what was read, by its number
+abbrev reread : ℕ → List Event → List Said → Reread
+reread number events all = record { section = number; events = events; saids = all }
 
 module _ (read : List ℕ → List Event) where
   -- one list of sections behind another
@@ -36,7 +43,7 @@ module _ (read : List ℕ → List Event) where
       inr (is.0 ++ ps, (ap (λ zs. zs ++ ps) is.1.0, (is.1.1.0, rereads-append (n + 1) xs ys is.0 ps is.1.1.1 (subst (λ k. AreReread read k ys ps) e more))))
 
   -- of sections with their events none is read again
-  pub rereads-none : (n : ℕ) (xs : List Section) → AllByRecursion (HasEvents read) xs → AreReread read n xs []
+  pub rereads-none : (n : ℕ) (xs : List Section) → AllByRecursion (λ (s : Section). HasEvents read s × HasSaids s) xs → AreReread read n xs []
   rereads-none n [] all = refl
   rereads-none n (x ∷ xs) all = inl (all.0, rereads-none (n + 1) xs all.1)
 
@@ -48,21 +55,23 @@ module _ (read : List ℕ → List Event) where
         subst (λ ys. AreReread read n ys (os ++ ps)) (sym (take_more xs i s lt ∙ ap (λ z. take i xs ++ z ∷ []) (sym is)))
         (rereads-append n (take i xs) (s ∷ []) os ps before (subst (λ k. AreReread read (n + k) (s ∷ []) ps) (sym long) one))
 
-    pub rereads-stay : HasEvents read s → AreReread read n (take (i + 1) xs) os
-    rereads-stay has = subst (AreReread read n (take (i + 1) xs)) (append-nil os) (one-more [] (inl (has, refl)))
+    pub rereads-stay : HasEvents read s → HasSaids s → AreReread read n (take (i + 1) xs) os
+    rereads-stay has knows = subst (AreReread read n (take (i + 1) xs)) (append-nil os) (one-more [] (inl ((has, knows), refl)))
 
-    pub rereads-differ : (events : List Event) → events ≡ read s.part.bytes.items → ¬ HasEvents read s → AreReread read n (take (i + 1) xs) (os ++ record { section = n + i; events = events } ∷ [])
-    rereads-differ events new differs =
-        let r : Reread = record { section = n + i; events = events } in
-        one-more (r ∷ []) (inr ([], (ap (λ (es : List Event). record { section = n + i; events = es } ∷ []) new, (differs, refl))))
+    pub rereads-differ : (r : Reread) → r ≡ read_again read (n + i) s → ¬ HasEvents read s → AreReread read n (take (i + 1) xs) (os ++ r ∷ [])
+    rereads-differ r new differs = one-more (r ∷ []) (inr ([], (ap (λ (q : Reread). q ∷ []) new, (differs, refl))))
 
   -- what was found of one more section
-  pub rereads-found : (n i : ℕ) (xs : List Section) (s : Section) (found : Option (List Event)) (before after : List Reread) → i < length xs → s ≡ get_or xs i s → AreReread read n (take i xs) before
-      → IfNone found (HasEvents read s) → IfSome found (λ events. (events ≡ read s.part.bytes.items) × ¬ HasEvents read s)
-      → IfNone found (after ≡ before) → IfSome found (λ events. after ≡ before ++ record { section = n + i; events = events } ∷ []) → AreReread read n (take (i + 1) xs) after
-  rereads-found n i xs s None before after lt is so_far has new stays more = subst (AreReread read n (take (i + 1) xs)) (sym stays) (rereads-stay n i xs s before lt is so_far has)
-  rereads-found n i xs s (Some events) before after lt is so_far has new stays more =
-      subst (AreReread read n (take (i + 1) xs)) (sym more) (rereads-differ n i xs s before lt is so_far events new.0 new.1)
+  pub rereads-found : (n i : ℕ) (xs : List Section) (s : Section) (found : Option Read) (before after : List Reread) → i < length xs → s ≡ get_or xs i s → HasSaids s → AreReread read n (take i xs) before
+      → IfNone found (HasEvents read s) → IfSome found (λ r. ((r.events ≡ read s.part.bytes.items) × (r.saids ≡ saids s.part.bytes.items r.events)) × ¬ HasEvents read s)
+      → IfNone found (after ≡ before) → IfSome found (λ r. after ≡ before ++ record { section = n + i; events = r.events; saids = r.saids } ∷ []) → AreReread read n (take (i + 1) xs) after
+  rereads-found n i xs s None before after lt is knows so_far has new stays more =
+      subst (AreReread read n (take (i + 1) xs)) (sym stays) (rereads-stay n i xs s before lt is so_far has knows)
+  rereads-found n i xs s (Some r) before after lt is knows so_far has new stays more =
+      let p : r.events ≡ read s.part.bytes.items = new.0.0 in
+      let q : r.saids ≡ saids s.part.bytes.items (read s.part.bytes.items) = new.0.1 ∙ ap (saids s.part.bytes.items) p in
+      let same : reread (n + i) r.events r.saids ≡ read_again read (n + i) s = λ j. reread (n + i) (p j) (q j) in
+      subst (AreReread read n (take (i + 1) xs)) (sym more) (rereads-differ n i xs s before lt is so_far (reread (n + i) r.events r.saids) same new.1)
 
   -- what holds of each section with other events holds of all that are read again
   pub rereads-each : (Q : ℕ → Type 0) (n : ℕ) (ss : List Section) (os : List Reread) → AreReread read n ss os
@@ -79,7 +88,7 @@ module _ (read : List ℕ → List Event) where
       )
 
   -- sections with their events between two lists of others
-  pub rereads-three : (front between behind : List Section) (from new_to : ℕ) (os ps : List Reread) → length front ≡ from → new_to ≡ from + length between → AllByRecursion (HasEvents read) between
+  pub rereads-three : (front between behind : List Section) (from new_to : ℕ) (os ps : List Reread) → length front ≡ from → new_to ≡ from + length between → AllByRecursion (λ (s : Section). HasEvents read s × HasSaids s) between
       → AreReread read 0 front os → AreReread read new_to behind ps → AreReread read 0 (front ++ (between ++ behind)) (os ++ ps)
   rereads-three front between behind from new_to os ps long ends has first last =
       let e : new_to ≡ 0 + length front + length between = omega (arith, long, ends) in
@@ -92,7 +101,7 @@ IsReadBySome options s = (defined : List ℕ → Bool) × IsRead options defined
 
 -- by other labels it has been read, if it has the events that they give
 pub read-as : (options : ParseOptions) (defined : List ℕ → Bool) (s : Section) → IsReadBySome options s → HasEvents (events_by options defined) s → IsRead options defined s
-read-as options defined s is has = record { limit = is.1.limit; labels = is.1.labels; lines = is.1.lines; asks = is.1.asks; events = sym has }
+read-as options defined s is has = record { limit = is.1.limit; labels = is.1.labels; lines = is.1.lines; asks = is.1.asks; events = sym has; saids = is.1.saids }
 
 -- sections, read again where they have other events: the events are put in
 pub put-again : (options : ParseOptions) (defined : List ℕ → Bool) (xs ss : List Section) (n : ℕ) (os : List Reread) → length xs ≡ n → AreReread (events_by options defined) n ss os
@@ -104,26 +113,26 @@ put-again options defined xs (s ∷ ss) n os len (inl is) all =
       s ∷ next.0,
       (
         ap (λ zs. put_all zs os) (sym (append_assoc xs (s ∷ []) ss)) ∙ next.1.0 ∙ append_assoc xs (s ∷ []) next.0,
-        (ap (λ bs. s.part.bytes.items ∷ bs) next.1.1.0, (read-as options defined s all.0 is.0, next.1.1.1)),
+        (ap (λ bs. s.part.bytes.items ∷ bs) next.1.1.0, (read-as options defined s all.0 is.0.0, next.1.1.1)),
       ),
     )
 put-again options defined xs (s ∷ ss) n os len (inr is) all =
-    let events = events_by options defined s.part.bytes.items in
-    let t = with_events events s in
+    let r = read_again (events_by options defined) n s in
+    let t = read_as r s in
     let rest = is.0 in
     let next = put-again options defined (xs ++ t ∷ []) ss (n + 1) rest (length-append xs (t ∷ []) ∙ ap (λ k. k + 1) len) is.1.1.1 all.1 in
-    let here : put_at n events (xs ++ s ∷ ss) ≡ (xs ++ t ∷ []) ++ ss = ap (λ k. put_at k events (xs ++ s ∷ ss)) (sym len) ∙ put-behind xs s ss events ∙ sym (append_assoc xs (t ∷ []) ss) in
+    let here : put_at n r (xs ++ s ∷ ss) ≡ (xs ++ t ∷ []) ++ ss = ap (λ k. put_at k r (xs ++ s ∷ ss)) (sym len) ∙ put-behind xs s ss r ∙ sym (append_assoc xs (t ∷ []) ss) in
     let is_read = all.0.1 in (
       t ∷ next.0,
       (
         ap (put_all (xs ++ s ∷ ss)) is.1.0 ∙ ap (λ zs. put_all zs rest) here ∙ next.1.0 ∙ append_assoc xs (t ∷ []) next.0,
         (
           ap (λ bs. s.part.bytes.items ∷ bs) next.1.1.0,
-          (record { limit = is_read.limit; labels = is_read.labels; lines = is_read.lines; asks = is_read.asks; events = refl }, next.1.1.1),
+          (record { limit = is_read.limit; labels = is_read.labels; lines = is_read.lines; asks = is_read.asks; events = refl; saids = refl }, next.1.1.1),
         ),
       ),
     )
 
 -- sections that were read so are not read again
 pub none-again : (options : ParseOptions) (defined : List ℕ → Bool) (n : ℕ) (ss : List Section) → AllByRecursion (IsRead options defined) ss → AreReread (events_by options defined) n ss []
-none-again options defined n ss are = rereads-none (events_by options defined) n ss (every-map (IsRead options defined) (HasEvents (events_by options defined)) (λ s is. sym is.events) ss are)
+none-again options defined n ss are = rereads-none (events_by options defined) n ss (every-map (IsRead options defined) (λ (s : Section). HasEvents (events_by options defined) s × HasSaids s) (λ s is. (sym is.events, is.saids)) ss are)

@@ -14,7 +14,7 @@ reread-none read first xs ys rs zero same none are =
 -- each of sections has its events, if none was read again
 pub all-have : (read : List ℕ → List Event) (n : ℕ) (ss : List Section) (rs : List Reread) → rs ≡ [] → AreReread read n ss rs → AllByRecursion (HasEvents read) ss
 all-have read n [] rs none are = tt
-all-have read n (s ∷ ss) rs none (inl is) = (is.0, all-have read (n + 1) ss rs none is.1)
+all-have read n (s ∷ ss) rs none (inl is) = (is.0.0, all-have read (n + 1) ss rs none is.1)
 all-have read n (s ∷ ss) rs none (inr is) = absurd (cc (none, is.1.0))
 
 -- what three sections in a row define

@@ -1,6 +1,5 @@
 -- Sections of which something is new: which are told, in order and each once.
-use Rattle.mddocument_editing.proofs.Prelude.{◌≡◌, ◌⊎◌, ℕ, zero, suc, ◌+◌, ◌<◌, ◌≤◌, ◌==◌, Bool, true, false, List, [], ◌∷◌, ◌++◌, length, Option, Some, None, cond, get_or, take, drop, map, refl, sym, ap, ◌∙◌, subst, arith, append_assoc, inl, inr, append-nil, drop-drop, drop_more, length-append, length-drop, length-take-le, map-append, take_more, eq-eqb, ne_eqb, false≢true, is_some, AllByRecursion, IfNone, IfSome, Contains, Contains-append_left, Contains-append_right, Event, ascend_from, bytes_of_sections, AreReread, HasEvents, Reread, Section}
-use Rattle.std.specs.Option.{unwrap_or}
+use Rattle.mddocument_editing.proofs.Prelude.{◌≡◌, ℕ, zero, suc, ◌+◌, ◌<◌, ◌≤◌, ◌==◌, Bool, true, false, List, [], ◌∷◌, ◌++◌, length, Option, Some, None, cond, get_or, take, drop, refl, sym, ap, ◌∙◌, subst, arith, inl, inr, append-nil, drop-drop, drop_more, length-drop, length-take-le, map-append, take_more, eq-eqb, ne_eqb, false≢true, is_some, AllByRecursion, IfNone, IfSome, Contains, Contains-append_left, Contains-append_right, Event, ascend_from, bytes_of_sections, AreReread, HasEvents, HasSaids, read_again, Reread, Section}
 use Rattle.std.specs.Prelude.{option_map, option_to_list}
 use Rattle.mddocument_link_targets.specs.declared.targets.Parts.{Parts}
 use Rattle.mddocument_editing.specs.declared.edit.Other.{Other}
@@ -9,7 +8,7 @@ use Rattle.mddocument_editing.specs.declared.edit.Why.TheVariants as why
 use Rattle.mddocument_editing.specs.Edits.{numbers_of}
 use Rattle.mddocument_editing.specs.Leading.{targets_in}
 use Rattle.mddocument_editing.specs.Said.{saids}
-use Rattle.mddocument_editing.specs.Told.{AreTold, HasTargets, IsNew, IsToldAs, all_saids, read_next}
+use Rattle.mddocument_editing.specs.Told.{AreTold, HasTargets, IsNew, IsToldAs, all_saids, read_next, saids_now}
 
 -- ---- which section was read again next
 
@@ -33,44 +32,44 @@ module _ (read : List ℕ → List Event) where
 
   -- The first of sections was read again, and then so were those of the others; or it was not
   pub data IsNext (n : ℕ) (s : Section) (ss : List Section) (rs : List Reread) : Type 0 where
-    was_read : (rest : List Reread) → read_next n rs ≡ Some (read s.part.bytes.items) → drop 1 rs ≡ rest → ¬ HasEvents read s → AreReread read (n + 1) ss rest → IsNext n s ss rs
-    was_not : read_next n rs ≡ None → HasEvents read s → AreReread read (n + 1) ss rs → IsNext n s ss rs
+    was_read : (rest : List Reread) → read_next n rs ≡ Some (read_again read n s) → drop 1 rs ≡ rest → ¬ HasEvents read s → AreReread read (n + 1) ss rest → IsNext n s ss rs
+    was_not : read_next n rs ≡ None → HasEvents read s → HasSaids s → AreReread read (n + 1) ss rs → IsNext n s ss rs
 
   next-is : (n : ℕ) (s : Section) (ss : List Section) (rs : List Reread) → AreReread read n (s ∷ ss) rs → IsNext n s ss rs
-  next-is n s ss [] (inl is) = was_not refl is.0 is.1
+  next-is n s ss [] (inl is) = was_not refl is.0.0 is.0.1 is.1
   next-is n s ss (r ∷ rs) (inl is) =
       let more = least (n + 1) ss r rs is.1 in
-      was_not (ap (λ b. cond b (Some r.events) None) (ne_eqb r.section n (λ e. omega (arith, more, e)))) is.0 is.1
+      was_not (ap (λ b. cond b (Some r) None) (ne_eqb r.section n (λ e. omega (arith, more, e)))) is.0.0 is.0.1 is.1
   next-is n s ss rs (inr is) =
-      let events = read s.part.bytes.items in
-      was_read is.0 (ap (read_next n) is.1.0 ∙ ap (λ b. cond b (Some events) None) (eq-eqb n n refl)) (ap (drop 1) is.1.0) is.1.1.0 is.1.1.1
+      let r = read_again read n s in
+      was_read is.0 (ap (read_next n) is.1.0 ∙ ap (λ b. cond b (Some r) None) (eq-eqb n n refl)) (ap (drop 1) is.1.0) is.1.1.0 is.1.1.1
 
   module _ {n : ℕ} {s : Section} {ss : List Section} {rs : List Reread} where
-    -- the events that the section has now
-    pub read-now : IsNext n s ss rs → unwrap_or (read_next n rs) s.events ≡ read s.part.bytes.items
-    read-now (was_read rest is_found left differs more) = ap (λ f. unwrap_or f s.events) is_found
-    read-now (was_not is_found has more) = ap (λ f. unwrap_or f s.events) is_found ∙ sym has
+    -- the definitions that the section has now
+    pub read-now : IsNext n s ss rs → saids_now s (read_next n rs) ≡ saids s.part.bytes.items (read s.part.bytes.items)
+    read-now (was_read rest is_found left differs more) = ap (saids_now s) is_found
+    read-now (was_not is_found has knows more) = ap (saids_now s) is_found ∙ knows ∙ ap (saids s.part.bytes.items) (sym has)
 
     pub read-ahead : IsNext n s ss rs → AreReread read (n + 1) ss (drop (count_of (is_some (read_next n rs))) rs)
     read-ahead (was_read rest is_found left differs more) =
         subst (AreReread read (n + 1) ss) (sym (ap (λ f. drop (count_of (is_some f)) rs) is_found ∙ left)) more
-    read-ahead (was_not is_found has more) = subst (λ f. AreReread read (n + 1) ss (drop (count_of (is_some f)) rs)) (sym is_found) more
+    read-ahead (was_not is_found has knows more) = subst (λ f. AreReread read (n + 1) ss (drop (count_of (is_some f)) rs)) (sym is_found) more
 
 -- so many more of those that were read again
-room : (b : Bool) (events : List Event) (next count : ℕ) → next < count → next + count_of (is_some (cond b (Some events) None)) ≤ count
-room true events next count few = omega arith
-room false events next count few = omega arith
+room : (b : Bool) (r : Reread) (next count : ℕ) → next < count → next + count_of (is_some (cond b (Some r) None)) ≤ count
+room true r next count few = omega arith
+room false r next count few = omega arith
 
 pub read-room : (n next : ℕ) (rs : List Reread) → next ≤ length rs → next + count_of (is_some (read_next n (drop next rs))) ≤ length rs
 read-room n next rs few = by (drop next rs) refl
   where
     by : (left : List Reread) → left ≡ drop next rs → next + count_of (is_some (read_next n left)) ≤ length rs
     by [] is = omega (arith, few)
-    by (r ∷ more) is = room (r.section == n) r.events next (length rs) (omega (arith, ap length is, length-drop next rs))
+    by (r ∷ more) is = room (r.section == n) r next (length rs) (omega (arith, ap length is, length-drop next rs))
 
 -- ---- one section more
 module _ (read : List ℕ → List Event) (first i next : ℕ) (xs : List Section) (s : Section) (rs : List Reread) (lt : i < length xs) (is : s ≡ get_or xs i s) (ahead : AreReread read (first + i) (drop i xs) (drop next rs)) where
-  abbrev pub found : Option (List Event)
+  abbrev pub found : Option Reread
   found = read_next (first + i) (drop next rs)
 
   split : drop i xs ≡ s ∷ drop (i + 1) xs
@@ -85,9 +84,9 @@ module _ (read : List ℕ → List Event) (first i next : ℕ) (xs : List Sectio
       subst (λ k. AreReread read k (drop (i + 1) xs) (drop (next + count_of (is_some found)) rs)) e
       (subst (AreReread read (first + i + 1) (drop (i + 1) xs)) (drop-drop (count_of (is_some found)) next rs) (read-ahead read next-one))
 
-  pub saids-one : saids s.part.bytes.items (unwrap_or found s.events) ++ all_saids read (bytes_of_sections (drop (i + 1) xs)) ≡ all_saids read (bytes_of_sections (drop i xs))
+  pub saids-one : saids_now s found ++ all_saids read (bytes_of_sections (drop (i + 1) xs)) ≡ all_saids read (bytes_of_sections (drop i xs))
   saids-one =
-      ap (λ es. saids s.part.bytes.items es ++ all_saids read (bytes_of_sections (drop (i + 1) xs))) (read-now read next-one)
+      ap (λ ds. ds ++ all_saids read (bytes_of_sections (drop (i + 1) xs))) (read-now read next-one)
       ∙ sym (ap (λ ss. all_saids read (bytes_of_sections ss)) split)
 
 -- what is told of it is appended
@@ -125,9 +124,9 @@ module _ (read : List ℕ → List Event) (old new : List ℕ → Option Parts) 
   told-one n s ss rs (was_read rest is_found left differs more) None is = absurd (false≢true (sym is.0 ∙ ap is_some is_found))
   told-one n s ss rs (was_read rest is_found left differs more) (Some why.Events) is = inr (why.Events, ([], (refl, (differs, refl))))
   told-one n s ss rs (was_read rest is_found left differs more) (Some why.Targets) is = absurd (false≢true (sym is.0 ∙ ap is_some is_found))
-  told-one n s ss rs (was_not is_found has more) None is = inl ((has, is.1), refl)
-  told-one n s ss rs (was_not is_found has more) (Some why.Events) is = absurd (false≢true (sym (ap is_some is_found) ∙ is))
-  told-one n s ss rs (was_not is_found has more) (Some why.Targets) is = inr (why.Targets, ([], (refl, ((has, is.1), refl))))
+  told-one n s ss rs (was_not is_found has knows more) None is = inl ((has, is.1), refl)
+  told-one n s ss rs (was_not is_found has knows more) (Some why.Events) is = absurd (false≢true (sym (ap is_some is_found) ∙ is))
+  told-one n s ss rs (was_not is_found has knows more) (Some why.Targets) is = inr (why.Targets, ([], (refl, ((has, is.1), refl))))
 
   -- one section more
   pub told-more : (n i : ℕ) (xs : List Section) (s : Section) (os ps : List Other) → i < length xs → s ≡ get_or xs i s → Told n (take i xs) os → Told (n + i) (s ∷ []) ps → Told n (take (i + 1) xs) (os ++ ps)

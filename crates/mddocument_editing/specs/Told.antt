@@ -1,5 +1,6 @@
 -- Inner: sections of which something is new, for private functions.
-use Rattle.std.specs.Prelude.{◌≡◌, ◌⊎◌, ℕ, ◌+◌, ◌==◌, Bool, true, false, cond, List, [], ◌∷◌, ◌++◌, Option, None, Some, unwrap_or}
+use Rattle.std.specs.Option.{option_or}
+use Rattle.std.specs.Prelude.{◌≡◌, ◌⊎◌, ℕ, ◌+◌, ◌==◌, Bool, true, false, cond, is_some, List, [], ◌∷◌, ◌++◌, Option, None, Some}
 use Rattle.std.specs.List.{flat_map}
 use Rattle.markdown_base.specs.declared.event.Event.{Event}
 use Rattle.mddocument_link_targets.specs.declared.targets.Parts.{Parts}
@@ -9,18 +10,48 @@ use Rattle.mddocument_editing.specs.declared.edit.Why.TheVariants as why
 use Rattle.mddocument_editing.specs.declared.reread.Reread.{Reread}
 use Rattle.mddocument_editing.specs.declared.said.Said.{Said}
 use Rattle.mddocument_editing.specs.declared.section.Section.{Section}
+use Rattle.mddocument_editing.specs.declared.told.Saids.{Saids}
+use Rattle.mddocument_editing.specs.Kept.{bytes_of_sections}
 use Rattle.mddocument_editing.specs.Leading.{targets_in}
 use Rattle.mddocument_editing.specs.Put.{HasEvents}
-use Rattle.mddocument_editing.specs.Said.{saids}
+use Rattle.mddocument_editing.specs.Said.{said_of, saids}
 
 -- the definitions of sections, by how they are read
 abbrev pub all_saids : (read : List ℕ → List Event) → List (List ℕ) → List Said
 all_saids read sections = flat_map (λ section. saids section (read section)) sections
 
--- the events of the section with a number, if the first of those that were read again is that one
-abbrev pub read_next : (number : ℕ) → List Reread → Option (List Event)
+-- the definitions of sections, as they have them
+abbrev pub own_saids : List Section → List Said
+own_saids sections = flat_map (λ section. section.saids) sections
+
+-- a section that has other events defined a label neither by those that it had nor by these
+abbrev pub IsUntouched : (read : List ℕ → List Event) → (label : List ℕ) → Section → Type 0
+IsUntouched read label s = ¬ HasEvents read s → (said_of s.saids label ≡ None) × (said_of (saids s.part.bytes.items (read s.part.bytes.items)) label ≡ None)
+
+-- the definitions of a section, its own or those of what was found when it was read again
+abbrev pub saids_now : Section → (found : Option Reread) → List Said
+saids_now s None = s.saids
+saids_now s (Some r) = r.saids
+
+module _ (touched : List ℕ → Option Parts) where
+  -- What a section defined and what it defines, by the events that were found, is appended; or none were found, and it defines no touched label
+  abbrev pub ArePushed : Section → (found : Option Reread) → (before after : Saids) → Type 0
+  ArePushed s found before after =
+      (((after.olds.items ≡ before.olds.items) × (after.news.items ≡ before.news.items))
+      × ((found ≡ None) × ((label : List ℕ) → is_some (touched label) ≡ true → said_of s.saids label ≡ None)))
+      ⊎ ((after.olds.items ≡ before.olds.items ++ s.saids) × (after.news.items ≡ before.news.items ++ saids_now s found))
+
+  -- The definitions of sections are appended, as far as touched labels ask for them: as they were, and as they are. Others are the same in both
+  pub record AreNear (read : List ℕ → List Event) (sections : List Section) (before after : Saids) : Type 0 where
+    pub old : (label : List ℕ) → is_some (touched label) ≡ true → said_of after.olds.items label ≡ option_or (said_of before.olds.items label) (said_of (own_saids sections) label)
+    pub new : (label : List ℕ) → is_some (touched label) ≡ true
+        → said_of after.news.items label ≡ option_or (said_of before.news.items label) (said_of (all_saids read (bytes_of_sections sections)) label)
+    pub same : (label : List ℕ) → touched label ≡ None → said_of before.news.items label ≡ said_of before.olds.items label → said_of after.news.items label ≡ said_of after.olds.items label
+
+-- what the section with a number is read as, if the first of those that were read again is that one
+abbrev pub read_next : (number : ℕ) → List Reread → Option Reread
 read_next number [] = None
-read_next number (r ∷ rs) = cond (r.section == number) (Some r.events) None
+read_next number (r ∷ rs) = cond (r.section == number) (Some r) None
 
 module _ (read : List ℕ → List Event) (old new : List ℕ → Option Parts) where
   -- the links of a section lead where they led

@@ -1,20 +1,39 @@
 //! Which bytes may look up a label that comes or goes.
 
-ghost use Rattle.std.specs.Prelude.{◌≡◌, [], IfOk};
+ghost use Rattle.std.specs.Prelude.{◌≡◌, [], IfOk, List, ℕ, false};
+ghost use Rattle.mdinline_labels.specs.Defined.{defines};
 ghost use Rattle.mddocument_editing.specs.InBrackets.{changes, label_ends, may_ask};
 
 use mdinline_labels::labels::Labels;
 use std::alloc::{AllocError, Global};
 
-/// Whether a label is defined in one of two sets, and not in the other.
-fn is_changed(alloc: Global, old: &Labels, new: &Labels, label: &[u8]) -> Result<bool, AllocError>
+/// Whether a label is defined in one of two sets, and not in the other. All such labels are near.
+fn is_changed(
+    alloc: Global,
+    old: &Labels,
+    new: &Labels,
+    near: &Labels,
+    label: &[u8],
+) -> Result<bool, AllocError>
+    requires { (label : List ℕ) → defines near.now label ≡ false → defines old.now label ≡ defines new.now label }
     ensures { IfOk result (λ is. is ≡ changes old.now new.now label.now) }
 {
+    let is_near = near.contains(alloc, label)?;
+    if !is_near {
+        return Ok(false);
+    }
     Ok(old.contains(alloc, label)? != new.contains(alloc, label)?)
 }
 
 /// Behind a `[`: whether a label that changes ends at the next bracket, which is a `]`. It may, if a line ends or a backslash stands before that.
-fn label_ends(alloc: Global, old: &Labels, new: &Labels, bytes: &[u8]) -> Result<bool, AllocError>
+fn label_ends(
+    alloc: Global,
+    old: &Labels,
+    new: &Labels,
+    near: &Labels,
+    bytes: &[u8],
+) -> Result<bool, AllocError>
+    requires { (label : List ℕ) → defines near.now label ≡ false → defines old.now label ≡ defines new.now label }
     ensures { IfOk result (λ ends. ends ≡ label_ends (changes old.now new.now) [] bytes.now) }
 {
     let mut index = 0;
@@ -24,7 +43,7 @@ fn label_ends(alloc: Global, old: &Labels, new: &Labels, bytes: &[u8]) -> Result
             return Ok(true);
         }
         if byte == b']' {
-            return is_changed(alloc, old, new, &bytes[..index]);
+            return is_changed(alloc, old, new, near, &bytes[..index]);
         }
         if byte == b'[' {
             return Ok(false);
@@ -39,13 +58,15 @@ pub(crate) fn may_ask(
     alloc: Global,
     old: &Labels,
     new: &Labels,
+    near: &Labels,
     bytes: &[u8],
 ) -> Result<bool, AllocError>
+    requires { (label : List ℕ) → defines near.now label ≡ false → defines old.now label ≡ defines new.now label }
     ensures { IfOk result (λ may. may ≡ may_ask (changes old.now new.now) bytes.now) }
 {
     let mut index = 0;
     while index < bytes.len() {
-        if bytes[index] == b'[' && label_ends(alloc, old, new, &bytes[index + 1..])? {
+        if bytes[index] == b'[' && label_ends(alloc, old, new, near, &bytes[index + 1..])? {
             return Ok(true);
         }
         index += 1;

@@ -1,17 +1,15 @@
 //! What labels lead to, and which sections have links that lead elsewhere.
 
 ghost use Rattle.std.specs.Option.{option_copied};
-ghost use Rattle.std.specs.Prelude.{◌≡◌, ◌↔◌, ◌<◌, IfOk, IfSome, List, Some, ℕ, bytes_eq, length, option_map, slice_get, true};
-ghost use Rattle.std.specs.List.{list_any};
+ghost use Rattle.std.specs.Prelude.{◌≡◌, ◌↔◌, ◌<◌, IfOk, IfSome, List, None, Some, ℕ, bytes_eq, false, is_some, length, option_map, slice_get, true};
 ghost use Rattle.std.specs.Map.{lookup};
-ghost use Rattle.mddocument_link_targets.specs.Targets.{enters_link, target_of};
+ghost use Rattle.mddocument_link_targets.specs.Targets.{target_of};
 ghost use Rattle.mddocument_editing.specs.Leading.{resolved, targets_in};
 ghost use Rattle.mddocument_editing.specs.Said.{said_by, said_of};
 
 use crate::packed::Packed;
 use crate::said::{Said, same_parts, unpack_all};
-use markdown_base::event::{Event, Name};
-use mddocument_link_targets::spans::enters;
+use markdown_base::event::Event;
 use mddocument_link_targets::targets::{Parts, Target, target_of};
 use std::alloc::{AllocError, Global};
 use std::collections::BTreeMap;
@@ -26,7 +24,7 @@ pub(crate) struct Leads {
 }
 
 /// A copy of the label of a definition.
-fn label_at(alloc: Global, all: &[Said], at: usize) -> Result<Vec<u8>, AllocError>
+fn copied_label(alloc: Global, all: &[Said], at: usize) -> Result<Vec<u8>, AllocError>
     requires { at < length all.now }
     ensures { IfOk result (λ label. option_map (λ said. said.label) (slice_get all.now at) ≡ Some label.items) }
 {
@@ -44,7 +42,7 @@ impl Leads {
         let mut at = all.len();
         while at > 0 {
             at -= 1;
-            let label = label_at(alloc, all.as_slice(), at)?;
+            let label = copied_label(alloc, all.as_slice(), at)?;
             indices.insert(label, at)?;
         }
         Ok(Leads { all, indices })
@@ -74,6 +72,26 @@ impl Leads {
             Some(index) => self.parts_at(index),
         }
     }
+
+    /// Whether a label is defined.
+    fn has(&self, label: &[u8]) -> bool
+        ensures { result ≡ is_some (said_by self.now label.now) }
+    {
+        self.get(label).is_some()
+    }
+}
+
+/// Whether one of definitions has a label that these have.
+pub(crate) fn touch(leads: &Leads, saids: &[Said]) -> bool
+    ensures { result ≡ false → (label : List ℕ) → is_some (said_by leads.now label) ≡ true → said_of saids.now label ≡ None }
+{
+    for index in 0..saids.len() {
+        let touches = leads.has(saids[index].label.as_slice());
+        if touches {
+            return true;
+        }
+    }
+    false
 }
 
 /// Whether these say the same.
@@ -133,27 +151,6 @@ fn all_stay(
     Ok(true)
 }
 
-/// Whether an event enters a link or an image.
-fn enters_link(event: &Event) -> bool
-    ensures { result ≡ enters_link event.now }
-{
-    enters(event, Name::Link) || enters(event, Name::Image)
-}
-
-/// Whether a link or an image is among events.
-fn link(events: &Packed) -> bool
-    ensures { result ≡ list_any enters_link events.now }
-{
-    for index in 0..events.len() {
-        let event = events.event(index);
-        let is_link = enters_link(&event);
-        if is_link {
-            return true;
-        }
-    }
-    false
-}
-
 /// Whether all links and images of a section lead where they led.
 pub(crate) fn lead_as_before(
     alloc: Global,
@@ -164,7 +161,7 @@ pub(crate) fn lead_as_before(
 ) -> Result<bool, AllocError>
     ensures { IfOk result (λ stay. (stay ≡ true) ↔ (targets_in (said_by new.now) bytes.now events.now ≡ targets_in (said_by old.now) bytes.now events.now)) }
 {
-    if !link(events) {
+    if !events.has_link() {
         return Ok(true);
     }
     let events = unpack_all(alloc, events)?;

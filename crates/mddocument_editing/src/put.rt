@@ -12,6 +12,7 @@ ghost use Rattle.mddocument_editing.specs.Edits.{IsChange};
 ghost use Rattle.mddocument_editing.specs.FirstRest.{items_of};
 ghost use Rattle.mddocument_editing.specs.Kept.{ArePackable, IsKept, IsLabelled, IsPackable, IsRecut, IsRead, bytes_of_parts, bytes_of_sections, divided_of, recut_document};
 ghost use Rattle.mddocument_editing.specs.Leading.{first_said};
+ghost use Rattle.mddocument_editing.specs.Said.{saids};
 ghost use Rattle.mddocument_editing.specs.Put.{AreReread, HasEvents, IsReadDocument, looks_up};
 ghost use Rattle.mddocument_editing.specs.Told.{AreToldAround};
 ghost use Rattle.mddocument_editing.specs.Trims.{AreTrimmed};
@@ -21,7 +22,7 @@ use crate::edit::{Change, Other, Refused};
 use crate::kept::{Kept, define_parts, define_sections};
 use crate::packed::{PackError, Packed};
 use crate::reread::Reread;
-use crate::section::{Part, Section, events_of, parts_of, sections_of};
+use crate::section::{Part, Read, Section, parts_of, read_of, sections_of};
 use crate::told::{Around, Side, tell};
 use crate::trim::Recut;
 use markdown_base::configuration::ParseOptions;
@@ -38,48 +39,46 @@ struct Rereads {
     behind: Vec<Reread>,
 }
 
-/// Whether sections define nothing.
-fn define_nothing(sections: &[Section]) -> bool
-    ensures { result ≡ true → AllByRecursion (λ section. (label : List ℕ) → defines section.part.labels label ≡ false) sections.now }
-{
-    sections
-        .iter()
-        .all(|section| section.part.labels.is_empty())
+/// The labels that a document defines, and some among which all are that came or went.
+#[derive(Drop)]
+struct NewLabels {
+    labels: Labels,
+    near: Labels,
 }
 
-/// Whether parts define nothing.
-fn parts_define_nothing(parts: &[Part]) -> bool
-    ensures { result ≡ true → AllByRecursion (λ part. (label : List ℕ) → defines part.labels label ≡ false) parts.now }
-{
-    parts.iter().all(|part| part.labels.is_empty())
-}
-
-/// The labels that a document defines with parts in the place of some of its sections. `None` if they are the same as before.
+/// The labels that a document defines with parts in the place of some of its sections. `None` if they are the same as before. Only those come or go that these
+/// sections or the parts define.
 fn new_labels(
     alloc: Global,
     kept: &Kept,
     from: usize,
     end: usize,
     parts: &[Part],
-) -> Result<Option<Labels>, AllocError>
+) -> Result<Option<NewLabels>, AllocError>
     requires kept { IsKept kept.now }
     requires recut { IsRecut kept.now from end (bytes_of_parts parts.now) }
     requires labels { AllByRecursion (IsLabelled kept.now.options) parts.now }
     ensures none { IfOk result (λ found. IfNone found ((label : List ℕ) → defines kept.now.machine.labels label ≡ is_label_of (recut_document kept.now from end (bytes_of_parts parts.now)) label)) }
-    ensures some { IfOk result (λ found. IfSome found (λ labels. (label : List ℕ) → defines labels label ≡ is_label_of (recut_document kept.now from end (bytes_of_parts parts.now)) label)) }
+    ensures some { IfOk result (λ found. IfSome found (λ new. (label : List ℕ) → defines new.labels label ≡ is_label_of (recut_document kept.now from end (bytes_of_parts parts.now)) label)) }
+    ensures near { IfOk result (λ found. IfSome found (λ new. (label : List ℕ) → defines new.near label ≡ false → defines kept.now.machine.labels label ≡ defines new.labels label)) }
 {
     let sections = kept.sections.as_slice();
-    if define_nothing(&sections[from..end]) && parts_define_nothing(parts) {
+    let mut gone = Labels::new(alloc);
+    define_sections(alloc, &mut gone, &kept.options, &sections[from..end])?;
+    let mut come = Labels::new(alloc);
+    define_parts(alloc, &mut come, &kept.options, parts)?;
+    if come.is_same(&gone) {
         return Ok(None);
     }
     let mut labels = Labels::new(alloc);
     define_sections(alloc, &mut labels, &kept.options, &sections[..from])?;
-    define_parts(alloc, &mut labels, &kept.options, parts)?;
+    labels.define_all(alloc, &come)?;
     define_sections(alloc, &mut labels, &kept.options, &sections[end..])?;
     if labels.is_same(&kept.machine.labels) {
         return Ok(None);
     }
-    Ok(Some(labels))
+    gone.define_all(alloc, &come)?;
+    Ok(Some(NewLabels { labels, near: gone }))
 }
 
 /// Whether a section may look up a label that comes or goes.
@@ -87,11 +86,13 @@ fn looks_up(
     alloc: Global,
     old: &Labels,
     new: &Labels,
+    near: &Labels,
     section: &Section,
 ) -> Result<bool, AllocError>
+    requires { (label : List ℕ) → defines near.now label ≡ false → defines old.now label ≡ defines new.now label }
     ensures { IfOk result (λ looks. looks ≡ looks_up old.now new.now section.now) }
 {
-    Ok(section.asks && may_ask(alloc, old, new, section.part.bytes.as_slice())?)
+    Ok(section.asks && may_ask(alloc, old, new, near, section.part.bytes.as_slice())?)
 }
 
 /// Whether this is the same event.
@@ -125,37 +126,43 @@ fn new_events(
     alloc: Global,
     options: &ParseOptions,
     old: &Labels,
+    near: &Labels,
     machine: &Inlines,
     section: &Section,
-) -> Result<Option<Packed>, PackError>
-    requires { IsReadDocument options.now (defines old.now) section.now }
+) -> Result<Option<Read>, PackError>
+    requires read { IsReadDocument options.now (defines old.now) section.now }
+    requires near { (label : List ℕ) → defines near.now label ≡ false → defines old.now label ≡ defines machine.now.labels label }
     ensures none { IfOk result (λ found. IfNone found (HasEvents (events_by options.now (defines machine.now.labels)) section.now)) }
-    ensures some { IfOk result (λ found. IfSome found (λ events. (events ≡ events_by options.now (defines machine.now.labels) section.now.part.bytes.items) × ¬ HasEvents (events_by options.now (defines machine.now.labels)) section.now)) }
+    ensures some { IfOk result (λ found. IfSome found (λ read. ((read.events ≡ events_by options.now (defines machine.now.labels) section.now.part.bytes.items) × (read.saids ≡ saids section.now.part.bytes.items read.events)) × ¬ HasEvents (events_by options.now (defines machine.now.labels)) section.now)) }
     ensures fits { IsPackable options.now (defines machine.now.labels) section.now.part.bytes.items → ¬ IsErrOf result PackError.TooLong }
 {
-    let asks = looks_up(alloc, old, &machine.labels, section)?;
+    let asks = looks_up(alloc, old, &machine.labels, near, section)?;
     if !asks {
         return Ok(None);
     }
-    let events = events_of(alloc, options, machine, section.part.bytes.as_slice())?;
-    let same = are_same(&events, &section.events);
+    let read = read_of(alloc, options, machine, section.part.bytes.as_slice())?;
+    let same = are_same(&read.events, &section.events);
     if same {
         return Ok(None);
     }
-    Ok(Some(events))
+    Ok(Some(read))
 }
 
 /// Appends the events of a section that was read again, with its number, if there are some.
 fn push_found(
     others: &mut Vec<Reread>,
     section: usize,
-    found: Option<Packed>,
+    found: Option<Read>,
 ) -> Result<(), AllocError>
     ensures none { OnOk result (IfNone found (others.new.items ≡ others.old.items)) }
-    ensures some { OnOk result (IfSome found (λ events. others.new.items ≡ others.old.items ++ record { section = section; events = events } ∷ [])) }
+    ensures some { OnOk result (IfSome found (λ read. others.new.items ≡ others.old.items ++ record { section = section; events = read.events; saids = read.saids } ∷ [])) }
 {
-    if let Some(events) = found {
-        others.push(Reread { section, events })?;
+    if let Some(Read { events, saids }) = found {
+        others.push(Reread {
+            section,
+            events,
+            saids,
+        })?;
     }
     Ok(())
 }
@@ -165,18 +172,20 @@ fn read_again(
     alloc: Global,
     options: &ParseOptions,
     old: &Labels,
+    near: &Labels,
     machine: &Inlines,
     sections: &[Section],
     first: usize,
 ) -> Result<Vec<Reread>, PackError>
     requires read { AllByRecursion (IsReadDocument options.now (defines old.now)) sections.now }
+    requires near { (label : List ℕ) → defines near.now label ≡ false → defines old.now label ≡ defines machine.now.labels label }
     requires numbers { first + length sections.now < 2 ^ 64 }
     ensures others { IfOk result (λ others. AreReread (events_by options.now (defines machine.now.labels)) first sections.now others.items) }
     ensures fits { AllByRecursion (λ section. IsPackable options.now (defines machine.now.labels) section.part.bytes.items) sections.now → ¬ IsErrOf result PackError.TooLong }
 {
     let mut others = Vec::new(alloc);
     for index in 0..sections.len() {
-        let found = new_events(alloc, options, old, machine, &sections[index])?;
+        let found = new_events(alloc, options, old, near, machine, &sections[index])?;
         push_found(&mut others, first + index, found)?;
     }
     Ok(others)
@@ -199,7 +208,9 @@ pub(crate) fn put(alloc: Global, kept: &mut Kept, recut: Recut) -> Result<Change
     let parts = parts_of(alloc, &kept.options, parts)?;
     match new_labels(alloc, kept, from, end, parts.as_slice())? {
         None => put_same(alloc, kept, from, end, parts),
-        Some(labels) => put_other(alloc, kept, from, end, parts, Inlines { labels }),
+        Some(NewLabels { labels, near }) => {
+            put_other(alloc, kept, from, end, parts, Inlines { labels }, &near)
+        }
     }
 }
 
@@ -244,6 +255,7 @@ fn put_other(
     end: usize,
     parts: Vec<Part>,
     machine: Inlines,
+    near: &Labels,
 ) -> Result<Change, Refused>
     requires kept { IsKept kept.old }
     requires possible { IsDocument (document kept.old.options (bytes_of (divided_of kept.old))) }
@@ -251,6 +263,7 @@ fn put_other(
     requires trimmed { AreTrimmed (bytes_of_sections kept.old.sections.items) from end (bytes_of_parts parts.items) }
     requires labelled { AllByRecursion (IsLabelled kept.old.options) parts.items }
     requires labels { (label : List ℕ) → defines machine.labels label ≡ is_label_of (recut_document kept.old from end (bytes_of_parts parts.items)) label }
+    requires near { (label : List ℕ) → defines near.now label ≡ false → defines kept.old.machine.labels label ≡ defines machine.labels label }
     ensures kept { IsKept kept.new }
     ensures document { IfOk result (λ _. divided_of kept.new ≡ recut_document kept.old from end (bytes_of_parts parts.items)) }
     ensures change { IfOk result (IsChange (divided_of kept.old) (divided_of kept.new)) }
@@ -261,7 +274,7 @@ fn put_other(
     let read = read_parts(alloc, &kept.options, &machine, parts)?;
     kept.sections.are_few();
     let new_to = from + read.len();
-    let rereads = read_others(alloc, kept, &machine, from, end, read.as_slice())?;
+    let rereads = read_others(alloc, kept, &machine, near, from, end, read.as_slice())?;
     let others = tell_other(alloc, kept, &machine, from, end, read.as_slice(), &rereads)?;
     let rereads = joined(rereads)?;
     kept.sections.splice(from, end, read)?;
@@ -300,10 +313,12 @@ fn read_side(
     alloc: Global,
     kept: &Kept,
     machine: &Inlines,
+    near: &Labels,
     sections: &[Section],
     first: usize,
 ) -> Result<Vec<Reread>, Refused>
     requires read { AllByRecursion (IsReadDocument kept.now.options (defines kept.now.machine.labels)) sections.now }
+    requires near { (label : List ℕ) → defines near.now label ≡ false → defines kept.now.machine.labels label ≡ defines machine.now.labels label }
     requires numbers { first + length sections.now < 2 ^ 64 }
     ensures others { IfOk result (λ others. AreReread (events_by kept.now.options (defines machine.now.labels)) first sections.now others.items) }
     ensures range { ¬ IsErrOf result Refused.Range }
@@ -313,6 +328,7 @@ fn read_side(
         alloc,
         &kept.options,
         &kept.machine.labels,
+        near,
         machine,
         sections,
         first,
@@ -328,11 +344,13 @@ fn read_others(
     alloc: Global,
     kept: &Kept,
     machine: &Inlines,
+    near: &Labels,
     from: usize,
     end: usize,
     read: &[Section],
 ) -> Result<Rereads, Refused>
     requires kept { AllByRecursion (IsReadDocument kept.now.options (defines kept.now.machine.labels)) kept.now.sections.items }
+    requires near { (label : List ℕ) → defines near.now label ≡ false → defines kept.now.machine.labels label ≡ defines machine.now.labels label }
     requires order { from ≤ end }
     requires within { end ≤ length kept.now.sections.items }
     requires numbers { from + length read.now + length (drop end kept.now.sections.items) < 2 ^ 64 }
@@ -342,9 +360,9 @@ fn read_others(
     ensures fits { let are_packable = AllByRecursion (λ section. IsPackable kept.now.options (defines machine.now.labels) section.part.bytes.items) in are_packable (take from kept.now.sections.items) → are_packable (drop end kept.now.sections.items) → ¬ IsErrOf result Refused.TooLong }
 {
     let sections = kept.sections.as_slice();
-    let front = read_side(alloc, kept, machine, &sections[..from], 0)?;
+    let front = read_side(alloc, kept, machine, near, &sections[..from], 0)?;
     let new_to = from + read.len();
-    let behind = read_side(alloc, kept, machine, &sections[end..], new_to)?;
+    let behind = read_side(alloc, kept, machine, near, &sections[end..], new_to)?;
     Ok(Rereads { front, behind })
 }
 

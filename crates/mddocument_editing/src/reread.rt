@@ -5,13 +5,16 @@ ghost use Rattle.std.specs.List.{AllByRecursion};
 ghost use Rattle.mddocument_editing.specs.Put.{put_all};
 
 use crate::packed::Packed;
+use crate::said::Said;
 use crate::section::Section;
+use markdown_base::owned::Items;
 
-/// The events of a section that is read again, by its number.
+/// What a section is read as that is read again, by its number.
 #[derive(Drop)]
 pub(crate) struct Reread {
     pub(crate) section: usize,
     pub(crate) events: Packed,
+    pub(crate) saids: Items<Said>,
 }
 
 /// Puts the events of sections that were read again in the place of those that they had.
@@ -20,6 +23,13 @@ pub(crate) fn put_events(sections: &mut Vec<Section>, others: Vec<Reread>)
     ensures { sections.new.items ≡ put_all sections.old.items others.items }
 {
     for other in others {
-        sections[other.section].events = other.events;
+        let Reread {
+            section,
+            events,
+            saids,
+        } = other;
+        let section = &mut sections[section];
+        section.events = events;
+        section.saids = saids;
     }
 }

@@ -76,34 +76,79 @@ fn push_all(
     Ok(())
 }
 
-/// Whether a definition is among events.
-fn define(events: &Packed) -> bool
-    ensures { result ≡ list_any (enters name.Definition) events.now }
+/// Whether an event enters a definition.
+fn enters_definition(event: &Event) -> bool
+    ensures { result ≡ enters name.Definition event.now }
 {
-    for index in 0..events.len() {
-        let event = events.event(index);
-        let defines = enters(&event, Name::Definition);
-        if defines {
-            return true;
-        }
-    }
-    false
+    enters(event, Name::Definition)
 }
 
-/// Appends the definitions among the events of a section.
+/// Whether a definition is among events.
+fn define(events: &[Event]) -> bool
+    ensures { result ≡ list_any (enters name.Definition) events.now }
+{
+    events.iter().any(enters_definition)
+}
+
+/// The definitions among the events of a section.
+pub(crate) fn saids_of(
+    alloc: Global,
+    bytes: &[u8],
+    events: &[Event],
+) -> Result<Items<Said>, AllocError>
+    ensures { IfOk result (λ all. all ≡ saids bytes.now events.now) }
+{
+    if !define(events) {
+        return Ok(Items::new(alloc));
+    }
+    let mut all = Vec::new(alloc);
+    push_all(&mut all, alloc, bytes, events)?;
+    Ok(Items::from_vec(all))
+}
+
+/// A copy of bytes.
+fn copied(alloc: Global, bytes: &Items<u8>) -> Result<Items<u8>, AllocError>
+    ensures { IfOk result (λ copy. copy ≡ bytes.now) }
+{
+    Ok(Items::from_vec(bytes.as_slice().to_vec(alloc)?))
+}
+
+/// A copy of a title, if there is one.
+fn copied_title(alloc: Global, title: &Option<Items<u8>>) -> Result<Option<Items<u8>>, AllocError>
+    ensures { IfOk result (λ copy. copy ≡ title.now) }
+{
+    match title {
+        None => Ok(None),
+        Some(title) => Ok(Some(copied(alloc, title)?)),
+    }
+}
+
+/// A copy of a definition.
+fn copied_said(alloc: Global, said: &Said) -> Result<Said, AllocError>
+    ensures { IfOk result (λ copy. copy ≡ said.now) }
+{
+    let label = copied(alloc, &said.label)?;
+    let destination = copied(alloc, &said.parts.destination)?;
+    let title = copied_title(alloc, &said.parts.title)?;
+    Ok(Said {
+        label,
+        parts: Parts { destination, title },
+    })
+}
+
+/// Appends copies of definitions.
 pub(crate) fn push_saids(
     all: &mut Vec<Said>,
     alloc: Global,
-    bytes: &[u8],
-    events: &Packed,
+    saids: &[Said],
 ) -> Result<(), AllocError>
-    ensures { OnOk result (all.new.items ≡ all.old.items ++ saids bytes.now events.now) }
+    ensures { OnOk result (all.new.items ≡ all.old.items ++ saids.now) }
 {
-    if !define(events) {
-        return Ok(());
+    for index in 0..saids.len() {
+        let copy = copied_said(alloc, &saids[index])?;
+        all.push(copy)?;
     }
-    let events = unpack_all(alloc, events)?;
-    push_all(all, alloc, bytes, events.as_slice())
+    Ok(())
 }
 
 /// Whether these are the same bytes.

@@ -7,11 +7,14 @@ ghost use Rattle.mdblock_definitions.specs.Labelled.{AreDefined};
 ghost use Rattle.mdinline_labels.specs.Defined.{defines};
 ghost use Rattle.mddocument_parts.specs.BothDocuments.{events_by};
 ghost use Rattle.mddocument_editing.specs.FirstRest.{items_of};
+ghost use Rattle.mddocument_editing.specs.Said.{saids};
 ghost use Rattle.mddocument_editing.specs.Kept.{IsLabelled, IsPackable, IsRead, bytes_of_parts, bytes_of_sections, has_end, labels_written};
 
 use crate::packed::{PackError, Packed};
 use crate::positions::line_endings;
+use crate::said::{Said, saids_of};
 use markdown_base::configuration::ParseOptions;
+use markdown_base::owned::Items;
 use mdblock_definitions::parts::skeleton_with_definitions;
 use mddocument::documents::read_document_by;
 use mdinline_labels::labels::Labels;
@@ -38,6 +41,17 @@ pub(crate) struct Section {
     pub(crate) asks: bool,
     /// Its events, as those of a document of its own, by the labels of the whole document.
     pub(crate) events: Packed,
+    /// The definitions among them.
+    pub(crate) saids: Items<Said>,
+}
+
+/// What a part is read as.
+#[derive(Drop)]
+pub(crate) struct Read {
+    /// Its events.
+    pub(crate) events: Packed,
+    /// The definitions among them.
+    pub(crate) saids: Items<Said>,
 }
 
 /// The labels that a part defines.
@@ -67,18 +81,23 @@ pub(crate) fn parts_of(
     Ok(parts)
 }
 
-/// The events of a part.
-pub(crate) fn events_of(
+/// What a part is read as.
+pub(crate) fn read_of(
     alloc: Global,
     options: &ParseOptions,
     machine: &Inlines,
     bytes: &[u8],
-) -> Result<Packed, PackError>
+) -> Result<Read, PackError>
     requires { IsWithinLimit options.now.tab_size bytes.now }
-    ensures { MatchResult result (λ events. events ≡ events_by options.now (defines machine.now.labels) bytes.now) (λ error. error ≡ PackError.TooLong → ¬ IsPackable options.now (defines machine.now.labels) bytes.now) }
+    ensures events { MatchResult result (λ read. read.events ≡ events_by options.now (defines machine.now.labels) bytes.now) (λ error. error ≡ PackError.TooLong → ¬ IsPackable options.now (defines machine.now.labels) bytes.now) }
+    ensures saids { IfOk result (λ read. read.saids ≡ saids bytes.now read.events) }
 {
     let events = read_document_by(alloc, bytes, options, machine)?;
-    Packed::of(alloc, events.as_slice())
+    let saids = saids_of(alloc, bytes, events.as_slice())?;
+    match Packed::of(alloc, events.as_slice()) {
+        Ok(events) => Ok(Read { events, saids }),
+        Err(error) => Err(error),
+    }
 }
 
 /// Whether there is a `]` in bytes.
@@ -102,14 +121,15 @@ fn section_of(
     ensures fits { IsPackable options.now (defines machine.now.labels) part.bytes.items → ¬ IsErrOf result PackError.TooLong }
 {
     let bytes = part.bytes.as_slice();
-    let events = events_of(alloc, options, machine, bytes)?;
+    let read = read_of(alloc, options, machine, bytes)?;
     let lines = line_endings(bytes);
     let asks = has_end(bytes);
     Ok(Section {
         part,
         lines,
         asks,
-        events,
+        events: read.events,
+        saids: read.saids,
     })
 }
 

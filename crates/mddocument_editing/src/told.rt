@@ -1,20 +1,19 @@
 //! Of which sections something is new, beside those that are replaced.
 
 ghost use Rattle.std.specs.Option.{option_copied};
-ghost use Rattle.std.specs.Prelude.{◌≡◌, ◌≤◌, ◌<◌, ◌+◌, ◌++◌, ◌∷◌, [], ◌^◌, IfNone, IfOk, IfSome, List, OnOk, cond, drop, is_some, length, take, unwrap_or, ℕ, true};
+ghost use Rattle.std.specs.Prelude.{◌≡◌, ◌↔◌, ◌≤◌, ◌<◌, ◌+◌, ◌++◌, ◌∷◌, [], ◌^◌, IfNone, IfOk, IfSome, List, None, OnOk, cond, drop, is_some, length, take, ℕ, true};
 ghost use Rattle.std.specs.List.{AllByRecursion};
 ghost use Rattle.mdinline_labels.specs.Defined.{defines};
 ghost use Rattle.mddocument_parts.specs.BothDocuments.{events_by};
 ghost use Rattle.mddocument_editing.specs.Kept.{IsKept, IsRead, bytes_of_sections};
 ghost use Rattle.mddocument_editing.specs.Leading.{first_said};
 ghost use Rattle.mddocument_editing.specs.Put.{AreReread};
-ghost use Rattle.mddocument_editing.specs.Said.{said_by, saids};
-ghost use Rattle.mddocument_editing.specs.Told.{AreTold, AreToldAround, IsToldAs, all_saids, read_next};
+ghost use Rattle.mddocument_editing.specs.Said.{said_by, said_of};
+ghost use Rattle.mddocument_editing.specs.Told.{AreNear, ArePushed, AreTold, AreToldAround, IsToldAs, IsUntouched, all_saids, read_next, saids_now};
 
 use crate::edit::{Other, Why};
 use crate::kept::Kept;
-use crate::leads::{Leads, lead_as_before};
-use crate::packed::Packed;
+use crate::leads::{Leads, lead_as_before, touch};
 use crate::reread::Reread;
 use crate::said::{Said, push_saids, same_saids};
 use crate::section::Section;
@@ -33,27 +32,27 @@ pub(crate) struct Side<'a> {
     pub(crate) rereads: &'a [Reread],
 }
 
-/// What labels led to, and what they lead to.
+/// What labels led to, and what they lead to: those that may lead elsewhere.
 #[derive(Drop)]
 struct Leading {
     old: Leads,
     new: Leads,
 }
 
-/// The events of the section with a number, if it is the next one that was read again.
-fn read_next(rereads: &[Reread], next: usize, number: usize) -> Option<&Packed>
+/// What the section with a number is read as, if it is the next one that was read again.
+fn read_next(rereads: &[Reread], next: usize, number: usize) -> Option<&Reread>
     ensures { option_copied result ≡ read_next number (drop next rereads.now) }
 {
     let reread = rereads.get(next)?;
     if reread.section == number {
-        Some(&reread.events)
+        Some(reread)
     } else {
         None
     }
 }
 
 /// How many of those that were read again a section is.
-fn count_of(found: Option<&Packed>) -> usize
+fn count_of(found: Option<&Reread>) -> usize
     ensures { result ≡ cond (is_some (option_copied found.entry)) 1 0 }
 {
     match found {
@@ -62,19 +61,18 @@ fn count_of(found: Option<&Packed>) -> usize
     }
 }
 
-/// Appends the definitions of a section, by its own events or by those that it has now.
+/// Appends the definitions of a section, its own or those that it has now.
 fn push_now(
     all: &mut Vec<Said>,
     alloc: Global,
     section: &Section,
-    found: Option<&Packed>,
+    found: Option<&Reread>,
 ) -> Result<(), AllocError>
-    ensures { OnOk result (all.new.items ≡ all.old.items ++ saids section.now.part.bytes.items (unwrap_or (option_copied found.entry) section.now.events)) }
+    ensures { OnOk result (all.new.items ≡ all.old.items ++ saids_now section.now (option_copied found.entry)) }
 {
-    let bytes = section.part.bytes.as_slice();
     match found {
-        Some(events) => push_saids(all, alloc, bytes, events),
-        None => push_saids(all, alloc, bytes, &section.events),
+        Some(reread) => push_saids(all, alloc, reread.saids.as_slice()),
+        None => push_saids(all, alloc, section.saids.as_slice()),
     }
 }
 
@@ -109,7 +107,7 @@ fn what_is_new(
     alloc: Global,
     leading: &Leading,
     section: &Section,
-    found: Option<&Packed>,
+    found: Option<&Reread>,
 ) -> Result<Option<Why>, AllocError>
     ensures { IfOk result (IsToldAs (said_by leading.now.old) (said_by leading.now.new) section.now (is_some (option_copied found.entry))) }
 {
@@ -191,58 +189,176 @@ fn as_they_are(sections: &[Section]) -> Side<'_>
     }
 }
 
-/// What labels led to before.
-fn leads_before(
+/// Appends what a section defined and what it defines now, if it was read again.
+fn push_again(
+    all: &mut Vec<Said>,
     alloc: Global,
-    options: &ParseOptions,
-    machine: &Inlines,
-    around: &Around,
-) -> Result<Leads, AllocError>
-    requires front { AreReread (events_by options.now (defines machine.now.labels)) 0 around.now.front.sections.now [] }
-    requires gone { AreReread (events_by options.now (defines machine.now.labels)) 0 around.now.gone.now [] }
-    requires behind { AreReread (events_by options.now (defines machine.now.labels)) 0 around.now.behind.sections.now [] }
-    ensures { IfOk result (λ leads. (label : List ℕ) → said_by leads label ≡ first_said (events_by options.now (defines machine.now.labels)) (bytes_of_sections around.now.front.sections.now ++ (bytes_of_sections around.now.gone.now ++ bytes_of_sections around.now.behind.sections.now)) label) }
+    section: &Section,
+    found: Option<&Reread>,
+) -> Result<(), AllocError>
+    ensures none { OnOk result (IfNone (option_copied found.entry) (all.new.items ≡ all.old.items)) }
+    ensures some { OnOk result (IfSome (option_copied found.entry) (λ reread. all.new.items ≡ (all.old.items ++ section.now.saids) ++ reread.saids)) }
 {
-    let mut all = Vec::new(alloc);
-    push_side(
-        &mut all,
-        alloc,
-        options,
-        machine,
-        as_they_are(around.front.sections),
-    )?;
-    push_side(&mut all, alloc, options, machine, as_they_are(around.gone))?;
-    push_side(
-        &mut all,
-        alloc,
-        options,
-        machine,
-        as_they_are(around.behind.sections),
-    )?;
-    let leads = Leads::of(alloc, all)?;
-    Ok(leads)
+    if let Some(reread) = found {
+        push_saids(all, alloc, section.saids.as_slice())?;
+        push_saids(all, alloc, reread.saids.as_slice())?;
+    }
+    Ok(())
 }
 
-/// What they lead to now.
-fn leads_now(
+/// Appends what those of sections that were read again defined, and what they define now.
+fn push_rereads(
+    all: &mut Vec<Said>,
     alloc: Global,
     options: &ParseOptions,
     machine: &Inlines,
+    side: Side,
+) -> Result<(), AllocError>
+    requires rereads { AreReread (events_by options.now (defines machine.now.labels)) side.first side.sections.now side.rereads.now }
+    requires numbers { side.first + length side.sections.now < 2 ^ 64 }
+    ensures { OnOk result ((label : List ℕ) → said_of all.new.items label ≡ None → (said_of all.old.items label ≡ None) × AllByRecursion (IsUntouched (events_by options.now (defines machine.now.labels)) label) side.entry.sections.now) }
+{
+    let Side {
+        sections,
+        first,
+        rereads,
+    } = side;
+    let mut next = 0;
+    for index in 0..sections.len() {
+        let found = read_next(rereads, next, first + index);
+        push_again(all, alloc, &sections[index], found)?;
+        next += count_of(found);
+    }
+    Ok(())
+}
+
+/// The definitions whose labels may lead elsewhere: those of sections that are replaced, that come in their place or that were read again.
+fn touched(
+    alloc: Global,
+    options: &ParseOptions,
+    old: &Inlines,
+    new: &Inlines,
     around: &Around,
 ) -> Result<Leads, AllocError>
-    requires front { AreReread (events_by options.now (defines machine.now.labels)) around.now.front.first around.now.front.sections.now around.now.front.rereads.now }
-    requires read { AreReread (events_by options.now (defines machine.now.labels)) 0 around.now.read.now [] }
-    requires behind { AreReread (events_by options.now (defines machine.now.labels)) around.now.behind.first around.now.behind.sections.now around.now.behind.rereads.now }
+    requires gone { AreReread (events_by options.now (defines old.now.labels)) 0 around.now.gone.now [] }
+    requires front { AreReread (events_by options.now (defines new.now.labels)) around.now.front.first around.now.front.sections.now around.now.front.rereads.now }
+    requires read { AreReread (events_by options.now (defines new.now.labels)) 0 around.now.read.now [] }
+    requires behind { AreReread (events_by options.now (defines new.now.labels)) around.now.behind.first around.now.behind.sections.now around.now.behind.rereads.now }
     requires few { around.now.front.first + length around.now.front.sections.now < 2 ^ 64 }
     requires numbers { around.now.behind.first + length around.now.behind.sections.now < 2 ^ 64 }
-    ensures { IfOk result (λ leads. (label : List ℕ) → said_by leads label ≡ first_said (events_by options.now (defines machine.now.labels)) (bytes_of_sections around.now.front.sections.now ++ (bytes_of_sections around.now.read.now ++ bytes_of_sections around.now.behind.sections.now)) label) }
+    ensures gone { IfOk result (λ touched. (label : List ℕ) → said_by touched label ≡ None → said_of (all_saids (events_by options.now (defines old.now.labels)) (bytes_of_sections around.now.gone.now)) label ≡ None) }
+    ensures read { IfOk result (λ touched. (label : List ℕ) → said_by touched label ≡ None → said_of (all_saids (events_by options.now (defines new.now.labels)) (bytes_of_sections around.now.read.now)) label ≡ None) }
+    ensures front { IfOk result (λ touched. (label : List ℕ) → said_by touched label ≡ None → AllByRecursion (IsUntouched (events_by options.now (defines new.now.labels)) label) around.now.front.sections.now) }
+    ensures behind { IfOk result (λ touched. (label : List ℕ) → said_by touched label ≡ None → AllByRecursion (IsUntouched (events_by options.now (defines new.now.labels)) label) around.now.behind.sections.now) }
 {
     let mut all = Vec::new(alloc);
-    push_side(&mut all, alloc, options, machine, around.front)?;
-    push_side(&mut all, alloc, options, machine, as_they_are(around.read))?;
-    push_side(&mut all, alloc, options, machine, around.behind)?;
-    let leads = Leads::of(alloc, all)?;
-    Ok(leads)
+    push_side(&mut all, alloc, options, old, as_they_are(around.gone))?;
+    push_side(&mut all, alloc, options, new, as_they_are(around.read))?;
+    push_rereads(&mut all, alloc, options, new, around.front)?;
+    push_rereads(&mut all, alloc, options, new, around.behind)?;
+    let touched = Leads::of(alloc, all)?;
+    Ok(touched)
+}
+
+/// What was defined, and what is defined now.
+#[derive(Drop)]
+pub(crate) struct Saids {
+    pub(crate) olds: Vec<Said>,
+    pub(crate) news: Vec<Said>,
+}
+
+/// Appends what a section defined and what it defines now, if it was read again or defines a touched label.
+fn push_near(
+    near: &mut Saids,
+    alloc: Global,
+    touched: &Leads,
+    section: &Section,
+    found: Option<&Reread>,
+) -> Result<(), AllocError>
+    ensures { OnOk result (ArePushed (said_by touched.now) section.now (option_copied found.entry) near.old near.new) }
+{
+    if found.is_some() || touch(touched, section.saids.as_slice()) {
+        push_saids(&mut near.olds, alloc, section.saids.as_slice())?;
+        push_now(&mut near.news, alloc, section, found)?;
+    }
+    Ok(())
+}
+
+/// Appends what those of sections defined and what they define now that were read again or define a touched label.
+fn push_nears(
+    near: &mut Saids,
+    alloc: Global,
+    options: &ParseOptions,
+    machine: &Inlines,
+    touched: &Leads,
+    side: Side,
+) -> Result<(), AllocError>
+    requires rereads { AreReread (events_by options.now (defines machine.now.labels)) side.first side.sections.now side.rereads.now }
+    requires numbers { side.first + length side.sections.now < 2 ^ 64 }
+    requires untouched { (label : List ℕ) → said_by touched.now label ≡ None → AllByRecursion (IsUntouched (events_by options.now (defines machine.now.labels)) label) side.sections.now }
+    ensures { OnOk result (AreNear (said_by touched.now) (events_by options.now (defines machine.now.labels)) side.entry.sections.now near.old near.new) }
+{
+    let Side {
+        sections,
+        first,
+        rereads,
+    } = side;
+    let mut next = 0;
+    for index in 0..sections.len() {
+        let found = read_next(rereads, next, first + index);
+        push_near(near, alloc, touched, &sections[index], found)?;
+        next += count_of(found);
+    }
+    Ok(())
+}
+
+/// What labels led to, and what they lead to; of a label that is touched by no section, neither.
+fn near_leads(
+    alloc: Global,
+    options: &ParseOptions,
+    old: &Inlines,
+    new: &Inlines,
+    around: &Around,
+) -> Result<Leading, AllocError>
+    requires old_front { AreReread (events_by options.now (defines old.now.labels)) 0 around.now.front.sections.now [] }
+    requires gone { AreReread (events_by options.now (defines old.now.labels)) 0 around.now.gone.now [] }
+    requires old_behind { AreReread (events_by options.now (defines old.now.labels)) 0 around.now.behind.sections.now [] }
+    requires front { AreReread (events_by options.now (defines new.now.labels)) around.now.front.first around.now.front.sections.now around.now.front.rereads.now }
+    requires read { AreReread (events_by options.now (defines new.now.labels)) 0 around.now.read.now [] }
+    requires behind { AreReread (events_by options.now (defines new.now.labels)) around.now.behind.first around.now.behind.sections.now around.now.behind.rereads.now }
+    requires few { around.now.front.first + length around.now.front.sections.now < 2 ^ 64 }
+    requires numbers { around.now.behind.first + length around.now.behind.sections.now < 2 ^ 64 }
+    ensures { let front = bytes_of_sections around.now.front.sections.now in let behind = bytes_of_sections around.now.behind.sections.now in
+        let before = first_said (events_by options.now (defines old.now.labels)) (front ++ (bytes_of_sections around.now.gone.now ++ behind)) in
+        let now = first_said (events_by options.now (defines new.now.labels)) (front ++ (bytes_of_sections around.now.read.now ++ behind)) in
+        IfOk result (λ leading. (label : List ℕ) → (said_by leading.new label ≡ said_by leading.old label) ↔ (now label ≡ before label)) }
+{
+    let touched = touched(alloc, options, old, new, around)?;
+    let olds = Vec::new(alloc);
+    let news = Vec::new(alloc);
+    let mut near = Saids { olds, news };
+    push_nears(&mut near, alloc, options, new, &touched, around.front)?;
+    push_side(
+        &mut near.olds,
+        alloc,
+        options,
+        old,
+        as_they_are(around.gone),
+    )?;
+    push_side(
+        &mut near.news,
+        alloc,
+        options,
+        new,
+        as_they_are(around.read),
+    )?;
+    push_nears(&mut near, alloc, options, new, &touched, around.behind)?;
+    let before = Leads::of(alloc, near.olds)?;
+    let now = Leads::of(alloc, near.news)?;
+    Ok(Leading {
+        old: before,
+        new: now,
+    })
 }
 
 /// Whether the sections that are replaced define what those in their place define.
@@ -308,12 +424,7 @@ fn tell_sides(
         (first_said (events_by options.now (defines new.now.labels)) (front ++ (bytes_of_sections around.entry.read.now ++ behind)))
         around.entry.behind.first around.entry.front.sections.now around.entry.behind.sections.now told.items) }
 {
-    let before = leads_before(alloc, options, old, &around)?;
-    let now = leads_now(alloc, options, new, &around)?;
-    let leading = Leading {
-        old: before,
-        new: now,
-    };
+    let leading = near_leads(alloc, options, old, new, &around)?;
     let mut told = tell_side(alloc, options, new, &leading, around.front)?;
     let mut more = tell_side(alloc, options, new, &leading, around.behind)?;
     told.append(&mut more)?;

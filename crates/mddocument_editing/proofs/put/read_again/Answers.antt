@@ -3,8 +3,8 @@ use Rattle.mddocument_editing.proofs.put.read_again.Goals as goal
 use Rattle.mddocument_editing.proofs.Rereads.{rereads-found}
 use Rattle.mddocument_editing.proofs.SectionBytes.{every-at}
 
-pub new_events-requires : goal.new_events-requires
-new_events-requires c =
+pub new_events-requires-clause-read : goal.new_events-requires-clause-read
+new_events-requires-clause-read c =
     let xs = c.args.sections.now in
     let i = c.loop-index.index in
     let s = c.index-sections-index.result in
@@ -17,8 +17,11 @@ loop-index-preserved c =
     let xs = c.args.sections.now in
     let i = c.loop-index.index in
     let lt : i < length xs = omega arith in
+    let s = c.index-sections-index.result in
+    let P = IsReadDocument c.args.options.now (defines c.args.old.now) in
+    let is : P s = subst P (sym c.index-sections-index.is) (every-at P xs i s c.requires.read lt) in
     rereads-found (events_by c.args.options.now (defines c.args.machine.now.labels)) c.args.first i xs c.index-sections-index.result c.in_ok-found.found c.loop-index.others.items c.push_found.new.others.items lt
-    c.index-sections-index.is c.loop-index.invariant c.in_ok-found.ensures.none c.in_ok-found.ensures.some c.in_ok-push_found.ensures.none c.in_ok-push_found.ensures.some
+    c.index-sections-index.is is.read.saids c.loop-index.invariant c.in_ok-found.ensures.none c.in_ok-found.ensures.some c.in_ok-push_found.ensures.none c.in_ok-push_found.ensures.some
 
 pub returns-in_err-found-clause-fits : goal.returns-in_err-found-clause-fits
 returns-in_err-found-clause-fits c fits long =

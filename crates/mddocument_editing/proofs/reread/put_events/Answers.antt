@@ -3,8 +3,8 @@ use Rattle.std.proofs.lemmas.Iterator.Consumers.{YieldsList-end, YieldsList-turn
 use Rattle.mddocument_editing.proofs.reread.put_events.Goals as goal
 use Rattle.mddocument_editing.proofs.Rereads.{length-put-all, put-at-set}
 
-pub index_mut-requires : goal.index_mut-requires
-index_mut-requires c =
+pub index_mut-section-requires : goal.index_mut-section-requires
+index_mut-section-requires c =
     let others = c.args.others.items in
     let o = c.in-Some.other in
     let n = length c.args.sections.now.items in
@@ -17,12 +17,12 @@ index_mut-requires c =
 
 pub loop-other-preserved : goal.loop-other-preserved
 loop-other-preserved c =
-    let x = c.index_mut.result.now in
+    let x = c.index_mut-section.result.now in
     let o = c.in-Some.other in
     let old = c.loop-other.sections.items in
-    put-at-set old o.section x o.events c.index_mut.ensures.value
-    ∙ ap (λ xs. put_at o.section o.events xs) c.loop-other.invariant
-    ∙ sym (fold_push (λ sections other. put_at other.section other.events sections) c.args.sections.now.items c.loop-other.yielded o)
+    put-at-set old o.section x o c.index_mut-section.ensures.value
+    ∙ ap (λ xs. put_at o.section o xs) c.loop-other.invariant
+    ∙ sym (fold_push (λ sections other. put_at other.section other sections) c.args.sections.now.items c.loop-other.yielded o)
 
 pub returns : goal.returns
 returns c =

@@ -1,7 +1,5 @@
 use Rattle.mddocument_editing.proofs.Prelude.{◌≡◌, ◌+◌, ◌≤◌, ◌++◌, length, drop, refl, subst, sym, ap, ◌∙◌, arith, append_assoc, append-nil, drop_all, is_some, defines, events_by, bytes_of_sections, AreReread}
-use Rattle.std.specs.Option.{unwrap_or}
-use Rattle.mddocument_editing.specs.Said.{saids}
-use Rattle.mddocument_editing.specs.Told.{all_saids, read_next}
+use Rattle.mddocument_editing.specs.Told.{all_saids, read_next, saids_now}
 use Rattle.mddocument_editing.proofs.ToldOthers.{ahead-one, count_of, read-room, saids-one}
 use Rattle.mddocument_editing.proofs.told.push_side.Goals as goal
 
@@ -38,8 +36,8 @@ loop-index-preserved c =
     record {
       ahead = subst (λ k. AreReread read (side.first + (i + 1)) (drop (i + 1) xs) (drop (next + k) rs)) (sym count) (ahead-one read side.first i next xs s rs lt c.index-sections-index.is c.loop-index.invariant.ahead);
       saids = ap (λ ys. ys ++ more) c.in_ok-push_now.ensures
-          ∙ ap (λ f. (all ++ saids s.part.bytes.items (unwrap_or f s.events)) ++ more) is
-          ∙ append_assoc all (saids s.part.bytes.items (unwrap_or (read_next (side.first + i) (drop next rs)) s.events)) more
+          ∙ ap (λ f. (all ++ saids_now s f) ++ more) is
+          ∙ append_assoc all (saids_now s (read_next (side.first + i) (drop next rs))) more
           ∙ ap (λ ys. all ++ ys) (saids-one read side.first i next xs s rs lt c.index-sections-index.is c.loop-index.invariant.ahead)
           ∙ c.loop-index.invariant.saids;
       room = subst (λ k. next + k ≤ length rs) (sym count) (read-room (side.first + i) next rs c.loop-index.invariant.room);
