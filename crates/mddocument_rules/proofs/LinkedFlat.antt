@@ -15,6 +15,7 @@ use Rattle.mddocument_laws.proofs.Chosen.{chosen-behind}
 use Rattle.mddocument_laws.proofs.EmphasisEvents.{IsOfStyle, as-data-are, closings-are, data-are, openings-are}
 use Rattle.mddocument_laws.proofs.LinkEvents.{AnyRun}
 use Rattle.mddocument_laws.proofs.LinkWalk.{AreParts, IsPart, before-is, behind-is, every-part}
+use Rattle.mddocument_rules.specs.BracketLaws.{folded, kinds_folded}
 use Rattle.mddocument_rules.proofs.FlatLinks.{InTurn, IsFlat, IsLinkless, flat-both, flat-linkless, is_link, linkless-both, linkless-none}
 
 -- ---- what has no link
@@ -167,9 +168,10 @@ pub record IsStep (bs : List Bracket) (span : List Event) (next : List Bracket) 
   pub fails : is_named LabelEnd span ≡ false → is_bracket span ≡ false → is_named LabelMarker span ≡ true → next ≡ drop 1 bs
   pub stays : is_named LabelEnd span ≡ false → is_bracket span ≡ false → is_named LabelMarker span ≡ false → next ≡ bs
 
-abbrev pub AreRead : List Bracket → List (List Event) → Type 0
-AreRead bs [] = Unit {0}
-AreRead bs (span ∷ spans) = (next : List Bracket) × IsStep bs span next × AreRead next spans
+-- these brackets wait before spans, and those behind them
+abbrev pub AreRead : List Bracket → List (List Event) → List Bracket → Type 0
+AreRead bs [] last = bs ≡ last
+AreRead bs (span ∷ spans) last = (next : List Bracket) × IsStep bs span next × AreRead next spans last
 
 -- ---- the fold
 record Holds (bs : List Bracket) (z : SoFar) : Type 0 where
@@ -259,25 +261,35 @@ tail-stays bs next span t s = elim (or_cases (is_named Resource span) (is_named 
   | inr r ↦ s.stays (named-is Reference span r LabelEnd refl) (λ i. named-is Reference span r LabelLink refl i || named-is Reference span r LabelImage refl i) (named-is Reference span r LabelMarker refl)
 ]
 
-abbrev HoldsSome : SoFar → Type 0
-HoldsSome z = (bs : List Bracket) × Holds bs z
+linked : (spans : List (List Event)) (bs last : List Bracket) (z : SoFar) → AllByRecursion IsLinkless spans → AreRead bs spans last → Holds bs z → Holds last (linked_from z spans)
+linked [] bs last z l r h = subst (λ b. Holds b z) r h
+linked (span ∷ []) bs last z l r h =
+    subst (λ b. Holds b (linked_from z (span ∷ []))) r.2
+    (cond_both (is_named LabelEnd span) (ended span [] z.waiting z) (taken span z) (Holds r.0) (λ e. holds-ended bs r.0 span [] z.waiting z (r.1.ends e) l.0 linkless-none h.waits h) (λ e. holds-taken bs r.0 span z r.1 e l.0 h))
+linked (span ∷ next ∷ spans) bs last z l r h =
+    cond_both (is_named LabelEnd span) (cond (is_tail next) (linked_from (ended span next z.waiting z) spans) (linked_from (ended span [] z.waiting z) (next ∷ spans))) (linked_from (taken span z) (next ∷ spans)) (Holds last)
+    (λ e. cond_both (is_tail next) (linked_from (ended span next z.waiting z) spans) (linked_from (ended span [] z.waiting z) (next ∷ spans)) (Holds last)
+    (λ t. linked spans r.0 last (ended span next z.waiting z) l.1.1 (subst (λ n. AreRead n spans last) (tail-stays r.0 r.2.0 next t r.2.1) r.2.2) (holds-ended bs r.0 span next z.waiting z (r.1.ends e) l.0 l.1.0 h.waits h))
+    (λ t. linked (next ∷ spans) r.0 last (ended span [] z.waiting z) l.1 r.2 (holds-ended bs r.0 span [] z.waiting z (r.1.ends e) l.0 linkless-none h.waits h)))
+    (λ e. linked (next ∷ spans) r.0 last (taken span z) l.1 r.2 (holds-taken bs r.0 span z r.1 e l.0 h))
 
-linked : (spans : List (List Event)) (bs : List Bracket) (z : SoFar) → AllByRecursion IsLinkless spans → AreRead bs spans → Holds bs z → HoldsSome (linked_from z spans)
-linked [] bs z l r h = (bs, h)
-linked (span ∷ []) bs z l r h =
-    cond_both (is_named LabelEnd span) (ended span [] z.waiting z) (taken span z) HoldsSome (λ e. (r.0, holds-ended bs r.0 span [] z.waiting z (r.1.ends e) l.0 linkless-none h.waits h))
-    (λ e. (r.0, holds-taken bs r.0 span z r.1 e l.0 h))
-linked (span ∷ next ∷ spans) bs z l r h =
-    cond_both (is_named LabelEnd span) (cond (is_tail next) (linked_from (ended span next z.waiting z) spans) (linked_from (ended span [] z.waiting z) (next ∷ spans))) (linked_from (taken span z) (next ∷ spans)) HoldsSome
-    (λ e. cond_both (is_tail next) (linked_from (ended span next z.waiting z) spans) (linked_from (ended span [] z.waiting z) (next ∷ spans)) HoldsSome
-    (λ t. linked spans r.0 (ended span next z.waiting z) l.1.1 (subst (λ n. AreRead n spans) (tail-stays r.0 r.2.0 next t r.2.1) r.2.2) (holds-ended bs r.0 span next z.waiting z (r.1.ends e) l.0 l.1.0 h.waits h))
-    (λ t. linked (next ∷ spans) r.0 (ended span [] z.waiting z) l.1 r.2 (holds-ended bs r.0 span [] z.waiting z (r.1.ends e) l.0 linkless-none h.waits h)))
-    (λ e. linked (next ∷ spans) r.0 (taken span z) l.1 r.2 (holds-taken bs r.0 span z r.1 e l.0 h))
+-- So behind spans the brackets that wait are those that the fold has
+agreed : (bs : List Bracket) (ws : List Waiting) (P : Type 0) → Agree bs ws P → map (λ (b : Bracket). b.image) bs ≡ map (λ (w : Waiting). is_named LabelImage w.opener) ws
+agreed [] [] P h = refl
+agreed [] (w ∷ ws) P h = absurd h
+agreed (b ∷ bs) [] P h = absurd h
+agreed (b ∷ bs) (w ∷ ws) P h = (λ i. sym h.0.image i ∷ agreed bs ws (P × AreLinkless w.before) h.1 i)
+
+pub fold-agrees : (runs : List Run) (spans : List (List Event)) (last : List Bracket) → AllByRecursion IsLinkless spans → AreRead [] spans last → map (λ (b : Bracket). b.image) last ≡ kinds_folded (folded runs spans)
+fold-agrees runs spans last l r =
+    let start : SoFar = record { waiting = []; behind = []; runs = runs } in
+    let h = linked spans [] last start l r (record { waits = tt; behind = tt }) in
+    agreed last (folded runs spans).waiting (AreLinkless (folded runs spans).behind) h.waits
 
 -- Links come in turn, if spans are read so
-pub links-flat : (bytes : List ℕ) (es : List Event) → AllByRecursion IsLinkless (outermost_spans es) → AreRead [] (outermost_spans es) → IsFlat (with_links bytes es)
-links-flat bytes es l r =
+pub links-flat : (bytes : List ℕ) (es : List Event) (last : List Bracket) → AllByRecursion IsLinkless (outermost_spans es) → AreRead [] (outermost_spans es) last → IsFlat (with_links bytes es)
+links-flat bytes es last l r =
     let start : SoFar = record { waiting = []; behind = []; runs = runs_in bytes es } in
     let z = linked_from start (outermost_spans es) in
-    let (bs, h) = linked (outermost_spans es) [] start l r (record { waits = tt; behind = tt }) in
-    parts-hold IsFlat flat-both flat-linkless (linked_parts (runs_in bytes es) es) (every-part (IsPart IsFlat AnyRun) (λ (w : Waiting). AreFlat w.before) (λ w b. b) data-flat z.waiting z.behind (all-before bs z.waiting (AreLinkless z.behind) h.waits) h.behind)
+    let h = linked (outermost_spans es) [] last start l r (record { waits = tt; behind = tt }) in
+    parts-hold IsFlat flat-both flat-linkless (linked_parts (runs_in bytes es) es) (every-part (IsPart IsFlat AnyRun) (λ (w : Waiting). AreFlat w.before) (λ w b. b) data-flat z.waiting z.behind (all-before last z.waiting (AreLinkless z.behind) h.waits) h.behind)

@@ -1,6 +1,9 @@
 -- Inline text: each end of a label makes something of a bracket behind which no link was made, if that is of a link. So no link is in a link.
-use Rattle.mddocument_rules.proofs.Prelude.{◌≡◌, ◌∙◌, ℕ, zero, suc, ◌+◌, Bool, true, false, cond, List, [], ◌∷◌, ◌++◌, Option, Some, None, drop, length, refl, subst, sym, take, append_assoc, arith, false≢true, option_map, flat_map, every-back, every-front, ◌||◌, Constructs, Event, Name, Seat, same_name}
+use Rattle.mddocument_rules.proofs.Prelude.{◌≡◌, ◌∙◌, ℕ, zero, suc, ◌+◌, Bool, true, false, cond, List, [], ◌∷◌, ◌++◌, Option, Some, None, drop, length, refl, subst, sym, take, ap, append-nil, append_assoc, arith, false≢true, map, option_map, flat_map, every-back, every-front, AllByRecursion, ◌||◌, Constructs, Event, Exit, Name, Seat, end_after, event, same_name}
+use Rattle.std.proofs.lemmas.Grind.{flat_map-append}
+use Rattle.std.proofs.lemmas.List.{length-append}
 use Rattle.std.specs.List.{prefix_len}
+use Rattle.std.specs.Prelude.{◌≤◌}
 use Rattle.markdown_base.proofs.Common.{every-map}
 use Rattle.markdown_base.specs.declared.event.Name.TheVariants.{AttentionSequence, Data, LabelEnd, LabelImage, LabelImageMarker, LabelLink, LabelMarker, LineEnding, Link, Reference, ReferenceMarker, SpaceOrTab}
 use Rattle.mdconstructs_machines.specs.Spans.{leaf, span}
@@ -26,7 +29,7 @@ use Rattle.mdinline_link_tails.proofs.Resources.Built.{resource-built}
 use Rattle.mdinline_full_references.proofs.FullReferences.Built.{full-reference-built}
 use Rattle.mdinline_links.proofs.Leaves.{links-balanced}
 use Rattle.mdinline_links.proofs.Spans.{spans-have}
-use Rattle.mdinline_links.specs.Linked.{spans_in}
+use Rattle.mdinline_links.specs.Linked.{Waiting, is_named, outermost_spans, spans_in}
 use Rattle.mdinline_machine.proofs.BracketBytes.{tail-holds}
 use Rattle.mdinline_machine.specs.Brackets.{Bracket, Memory, after_item, begins_end, begins_link, end_at, end_of_last, image_bracket, is_image_bracket, is_wanted_at, label_end, link_bracket, lone_end, nothing_read, tail_of, waiting_behind}
 use Rattle.mdinline_machine.specs.InlineEvents.{bracket_or_part, data_length, data_run, delimiter_run, inline_grammars, inline_item_at, inline_items, line_break, run_length, run_or_part}
@@ -36,28 +39,34 @@ use Rattle.mddocument.specs.FlowTexts.{inline_seat_events}
 use Rattle.mddocument_laws.proofs.Named.{and, leafed}
 use Rattle.mddocument_laws.proofs.WholeSpans.{IsWhole, around-whole, both-whole, first-span, none-whole}
 use Rattle.mddocument_rules.proofs.FlatLinks.{IsFlat, IsLinkless, flat-stands, linkless-both, linkless-none}
-use Rattle.mddocument_rules.proofs.LinkedFlat.{AreRead, IsStep, links-flat}
+use Rattle.mddocument_rules.proofs.LinkedFlat.{AreRead, IsStep, fold-agrees, links-flat}
 use Rattle.mddocument_rules.proofs.QuietItems.{AreQuiet, IsPlain, IsPlainAndQuiet, IsQuiet, constructs-quiet, quiet-other, tail-quiet}
+use Rattle.mddocument_rules.specs.BracketLaws.{EndsHaveBrackets, WalksAreOne, folded, remembered}
 use Rattle.mddocument_rules.specs.TextLaws.{NoLinkInALinkOfText}
 
--- ---- spans that are read, by the brackets that wait
-abbrev Goes : List Bracket → List Event → Type 0
-Goes bs es = (bound : ℕ) → AreRead bs (spans_in bound es)
+-- ---- spans that are read, by the brackets that wait before them and behind them
+abbrev Goes : List Bracket → List Event → List Bracket → Type 0
+Goes bs es last = (bound : ℕ) → length es ≤ bound → AreRead bs (spans_in bound es) last
 
 abbrev Passes : List Bracket → List Event → List Bracket → Type 0
-Passes bs es next = (rest : List Event) → Goes next rest → Goes bs (es ++ rest)
+Passes bs es next = (rest : List Event) (last : List Bracket) → Goes next rest last → Goes bs (es ++ rest) last
 
-goes-none : (bs : List Bracket) → Goes bs []
-goes-none bs zero = tt
-goes-none bs (suc bound) = tt
+goes-none : (bs : List Bracket) → Goes bs [] bs
+goes-none bs zero fits = refl
+goes-none bs (suc bound) fits = refl
 
 passes-both : (bs mid next : List Bracket) (xs ys : List Event) → Passes bs xs mid → Passes mid ys next → Passes bs (xs ++ ys) next
-passes-both bs mid next xs ys h k rest g = subst (Goes bs) (sym (append_assoc xs ys rest)) (h (ys ++ rest) (k rest g))
+passes-both bs mid next xs ys h k rest last g = subst (λ es. Goes bs es last) (sym (append_assoc xs ys rest)) (h (ys ++ rest) last (k rest last g))
 
 passes-span : (bytes : List ℕ) (n : Name) (s : Seat) (ss : List Seat) (inside : List Event) → IsWhole inside → (bs next : List Bracket) → IsStep bs (span bytes n (s ∷ ss) inside) next → Passes bs (span bytes n (s ∷ ss) inside) next
-passes-span bytes n s ss inside w bs next step rest g zero = tt
-passes-span bytes n s ss inside w bs next step rest g (suc bound) =
-    subst (λ (p : List Event × List Event). AreRead bs (p.0 ∷ spans_in bound p.1)) (sym (first-span bytes n s ss inside w rest)) (next, step, g bound)
+passes-span bytes n s ss inside w bs next step rest last g zero fits = absurd (no-less fits)
+  where
+    no-less : {k : ℕ} → suc k ≤ 0 → ⊥
+    no-less h = omega (arith, h)
+passes-span bytes n s ss inside w bs next step rest last g (suc bound) fits =
+    let front = inside ++ event bytes Exit n (end_after s.end ss) ∷ [] in
+    let more = length-append front rest in
+    subst (λ (p : List Event × List Event). AreRead bs (p.0 ∷ spans_in bound p.1) last) (sym (first-span bytes n s ss inside w rest)) (next, step, g bound (omega (arith, fits, more)))
 
 -- ---- whole spans that leave the brackets, if they have other names
 record IsCalm (es : List Event) : Type 0 where
@@ -89,7 +98,7 @@ span-calm bytes n (s ∷ ss) inside h = record {
 }
 
 none-calm : IsCalm []
-none-calm = record { whole = none-whole; passes = λ q bs rest g. g }
+none-calm = record { whole = none-whole; passes = λ q bs rest last g. g }
 
 leaf-calm : (bytes : List ℕ) (n : Name) (seats : List Seat) → IsCalm (leaf bytes n seats)
 leaf-calm bytes n seats = span-calm bytes n seats [] none-calm
@@ -291,22 +300,29 @@ module _ (bytes : List ℕ) where
         (bracket-item s ss m text)
 
     -- ---- all items
-    abbrev cut_from : ℕ → Memory → List Seat → List Event
-    cut_from bound m seats = flat_map (item_events bytes) (cut_remembering (after_item bytes) (inline_item_at on defined bytes) item_length bound m seats)
+    abbrev cut_from : ℕ → Memory → List Seat → List (Found × List Seat)
+    cut_from bound m seats = cut_remembering (after_item bytes) (inline_item_at on defined bytes) item_length bound m seats
 
-    items-read : (bound : ℕ) (m : Memory) (seats : List Seat) → Goes m.waiting (cut_from bound m seats)
-    items-read zero m seats = goes-none m.waiting
-    items-read (suc bound) m [] = goes-none m.waiting
-    items-read (suc bound) m (s ∷ ss) =
+    -- the brackets that wait behind some of them are those that are remembered
+    fronts-read : (bound : ℕ) (m : Memory) (seats : List Seat) (front rest : List (Found × List Seat)) → cut_from bound m seats ≡ front ++ rest → Goes m.waiting (flat_map (item_events bytes) front) (remembered bytes m front).waiting
+    fronts-read bound m seats [] rest e = goes-none m.waiting
+    fronts-read zero m seats (i ∷ front) rest e = absurd (cc)
+    fronts-read (suc bound) m [] (i ∷ front) rest e = absurd (cc)
+    fronts-read (suc bound) m (s ∷ ss) (i ∷ front) rest e =
         let f = inline_item_at on defined bytes m (bytes_of (s ∷ ss)) in
-        (inline-item s ss m (bytes_of (s ∷ ss))).reads (length (m.events ++ f.events bytes (take f.size m.ahead))) (cut_from bound (after_item bytes m f) (drop f.size (s ∷ ss))) (items-read bound (after_item bytes m f) (drop f.size (s ∷ ss)))
+        let first : (f, take f.size (s ∷ ss)) ≡ i = cc in
+        let more : cut_from bound (after_item bytes m f) (drop f.size (s ∷ ss)) ≡ front ++ rest = cc in
+        subst (λ (j : Found × List Seat). Goes m.waiting (item_events bytes j ++ flat_map (item_events bytes) front) (remembered bytes (after_item bytes m j.0) front).waiting) first
+        ((inline-item s ss m (bytes_of (s ∷ ss))).reads (length (m.events ++ f.events bytes (take f.size m.ahead))) (flat_map (item_events bytes) front) (remembered bytes (after_item bytes m f) front).waiting
+        (fronts-read bound (after_item bytes m f) (drop f.size (s ∷ ss)) front rest more))
 
-    items-linkless : (bound : ℕ) (m : Memory) (seats : List Seat) → IsLinkless (cut_from bound m seats)
+    items-linkless : (bound : ℕ) (m : Memory) (seats : List Seat) → IsLinkless (flat_map (item_events bytes) (cut_from bound m seats))
     items-linkless zero m seats = linkless-none
     items-linkless (suc bound) m [] = linkless-none
     items-linkless (suc bound) m (s ∷ ss) =
         let f = inline_item_at on defined bytes m (bytes_of (s ∷ ss)) in
-        linkless-both (f.events bytes (take f.size (s ∷ ss))) (cut_from bound (after_item bytes m f) (drop f.size (s ∷ ss))) (inline-item s ss m (bytes_of (s ∷ ss))).linkless (items-linkless bound (after_item bytes m f) (drop f.size (s ∷ ss)))
+        linkless-both (f.events bytes (take f.size (s ∷ ss))) (flat_map (item_events bytes) (cut_from bound (after_item bytes m f) (drop f.size (s ∷ ss)))) (inline-item s ss m (bytes_of (s ∷ ss))).linkless
+        (items-linkless bound (after_item bytes m f) (drop f.size (s ∷ ss)))
 
     module _ (seats : List Seat) where
       abbrev first_white : ℕ
@@ -318,24 +334,77 @@ module _ (bytes : List ℕ) where
       abbrev first_memory : Memory
       first_memory = after_item bytes (nothing_read seats) (white_space first_white)
 
-      abbrev read : List Event
-      read = flat_map (item_events bytes) (inline_items on defined bytes seats)
+      abbrev pub all_items : List (Found × List Seat)
+      all_items = inline_items on defined bytes seats
+
+      abbrev pub read : List Event
+      read = flat_map (item_events bytes) all_items
 
       white-quiet : AreQuiet white
       white-quiet = leafed bytes SpaceOrTab (take first_white seats) refl
 
-      all-read : Goes [] read
-      all-read = (leaf-calm bytes SpaceOrTab (take first_white seats)).passes white-quiet [] (cut_from (length seats) first_memory (drop first_white seats)) (items-read (length seats) first_memory (drop first_white seats))
-
       all-linkless : IsLinkless read
-      all-linkless = linkless-both white (cut_from (length seats) first_memory (drop first_white seats)) (quiet-linkless white white-quiet) (items-linkless (length seats) first_memory (drop first_white seats))
+      all-linkless =
+          linkless-both white (flat_map (item_events bytes) (cut_from (length seats) first_memory (drop first_white seats))) (quiet-linkless white white-quiet) (items-linkless (length seats) first_memory (drop first_white seats))
 
       parts : (xs ys : List Event) → IsLinkless (xs ++ ys) → IsLinkless xs × IsLinkless ys
       parts xs ys h = (record { none = every-front (λ (e : Event). same_name e.name Link ≡ false) xs ys h.none }, record { none = every-back (λ (e : Event). same_name e.name Link ≡ false) xs ys h.none })
 
+      -- the events of some items from the front
+      module _ (front rest : List (Found × List Seat)) (e : all_items ≡ front ++ rest) where
+        abbrev pub front_events : List Event
+        front_events = flat_map (item_events bytes) front
+
+        abbrev pub last_brackets : List Bracket
+        last_brackets = (remembered bytes (nothing_read seats) front).waiting
+
+        front-goes : (items : List (Found × List Seat)) → all_items ≡ items ++ rest → Goes [] (flat_map (item_events bytes) items) (remembered bytes (nothing_read seats) items).waiting
+        front-goes [] is = goes-none []
+        front-goes (i ∷ items) is =
+            let first : (white_space first_white, take first_white seats) ≡ i = cc in
+            let more : cut_from (length seats) first_memory (drop first_white seats) ≡ items ++ rest = cc in
+            subst (λ (j : Found × List Seat). Goes [] (item_events bytes j ++ flat_map (item_events bytes) items) (remembered bytes (after_item bytes (nothing_read seats) j.0) items).waiting) first
+            ((leaf-calm bytes SpaceOrTab (take first_white seats)).passes white-quiet [] (flat_map (item_events bytes) items) (remembered bytes first_memory items).waiting
+            (fronts-read (length seats) first_memory (drop first_white seats) items rest more))
+
+        pub front-read : AreRead [] (outermost_spans front_events) last_brackets
+        front-read = front-goes front e (length front_events) (omega arith)
+
+        pub front-linkless : AllByRecursion IsLinkless (outermost_spans front_events)
+        front-linkless =
+            let whole : read ≡ front_events ++ flat_map (item_events bytes) rest = ap (flat_map (item_events bytes)) e ∙ flat_map-append (item_events bytes) front rest in
+            spans-have IsLinkless parts (length front_events) front_events (parts front_events (flat_map (item_events bytes) rest) (subst IsLinkless whole all-linkless)).0
+
       -- The events of links of inline text come in turn
       pub inline-flat : IsFlat (inline_seat_events defined on bytes seats)
-      inline-flat = links-flat bytes read (spans-have IsLinkless parts (length read) read all-linkless) (all-read (length read))
+      inline-flat =
+          let all : all_items ≡ all_items ++ [] = sym (append-nil all_items) in
+          links-flat bytes read (last_brackets all_items [] all) (front-linkless all_items [] all) (front-read all_items [] all)
 
 pub links-apart-in-texts : NoLinkInALinkOfText
 links-apart-in-texts defined on bytes seats = flat-stands (inline_seat_events defined on bytes seats) (links-balanced bytes (read bytes on defined seats) (balanced-of 4 bytes defined on seats)) (inline-flat bytes on defined seats)
+
+-- ---- both walks over brackets
+pub walks-are-one : WalksAreOne
+walks-are-one defined on bytes seats runs front rest e =
+    fold-agrees runs (outermost_spans (front_events bytes on defined seats front rest e)) (last_brackets bytes on defined seats front rest e) (front-linkless bytes on defined seats front rest e) (front-read bytes on defined seats front rest e)
+
+-- an end comes where a bracket waits
+end-waits : (bs : List Bracket) (front : List (List Event)) (span : List Event) (rest : List (List Event)) (last : List Bracket) → is_named LabelEnd span ≡ true → AreRead bs (front ++ span ∷ rest) last
+    → (b : Bracket) × (more : List Bracket) × AreRead bs front (b ∷ more)
+end-waits [] [] span rest last ends r = absurd (r.1.ends ends)
+end-waits (b ∷ bs) [] span rest last ends r = (b, bs, refl)
+end-waits bs (first ∷ front) span rest last ends r = let (b, more, there) = end-waits r.0 front span rest last ends r.2 in (b, more, (r.0, r.1, there))
+
+some-waits : (b : Bracket) (bs : List Bracket) (ws : List Waiting) → map (λ (c : Bracket). c.image) (b ∷ bs) ≡ map (λ (w : Waiting). is_named LabelImage w.opener) ws → (w : Waiting) × (more : List Waiting) × (ws ≡ w ∷ more)
+some-waits b bs [] e = absurd (cc)
+some-waits b bs (w ∷ ws) e = (w, ws, refl)
+
+pub ends-have-brackets : EndsHaveBrackets
+ends-have-brackets defined on bytes seats runs front span rest e ends =
+    let items = all_items bytes on defined seats in
+    let all : items ≡ items ++ [] = sym (append-nil items) in
+    let linkless = every-front IsLinkless front (span ∷ rest) (subst (AllByRecursion IsLinkless) e (front-linkless bytes on defined seats items [] all)) in
+    let last = last_brackets bytes on defined seats items [] all in
+    let (b, more, there) = end-waits [] front span rest last ends (subst (λ spans. AreRead [] spans last) e (front-read bytes on defined seats items [] all)) in
+    some-waits b more (folded runs front).waiting (fold-agrees runs front (b ∷ more) linkless there)

@@ -1,0 +1,8 @@
+use Rattle.mddocument_rules.proofs.LinksApart.{ends-have-brackets, walks-are-one}
+use Rattle.mddocument_rules.proofs.laws.both_walks_over_brackets_are_one.Goals as goal
+
+pub returns-clause-walks : goal.returns-clause-walks
+returns-clause-walks c = walks-are-one
+
+pub returns-clause-ends : goal.returns-clause-ends
+returns-clause-ends c = ends-have-brackets

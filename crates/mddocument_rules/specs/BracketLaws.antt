@@ -1,0 +1,42 @@
+-- What is promised of brackets: the walk over the items of a text remembers which wait (`Memory`), and so does the fold that makes links (`linked_from`).
+use Rattle.std.specs.Prelude.{◌≡◌, ℕ, Bool, true, List, [], ◌∷◌, ◌++◌, map}
+use Rattle.std.specs.List.{flat_map}
+use Rattle.markdown_base.specs.declared.configuration.Constructs.{Constructs}
+use Rattle.markdown_base.specs.declared.event.Event.{Event}
+use Rattle.markdown_base.specs.declared.event.Name.TheVariants.{LabelEnd, LabelImage}
+use Rattle.markdown_base.specs.Virtual.{Seat}
+use Rattle.mdinline_emphasis.specs.Emphasis.{Run}
+use Rattle.mdinline_links.specs.Linked.{SoFar, Waiting, is_named, linked_from, outermost_spans}
+use Rattle.mdinline_text_machine.specs.Construct.{Found}
+use Rattle.mdinline_text_machine.specs.TextEvents.{item_events}
+use Rattle.mdinline_machine.specs.Brackets.{Bracket, Memory, after_item, nothing_read}
+use Rattle.mdinline_machine.specs.InlineEvents.{inline_items}
+
+-- what is remembered behind items
+abbrev pub remembered : (bytes : List ℕ) → Memory → List (Found × List Seat) → Memory
+remembered bytes m [] = m
+remembered bytes m (i ∷ items) = remembered bytes (after_item bytes m i.0) items
+
+-- what the fold has behind outermost spans, in a text of these runs
+abbrev pub folded : List Run → List (List Event) → SoFar
+folded runs spans = linked_from (record { waiting = []; behind = []; runs = runs }) spans
+
+-- for each bracket that waits, the last one first, whether it is of an image: by the memory, and by the fold
+abbrev pub kinds_remembered : Memory → List Bool
+kinds_remembered m = map (λ (b : Bracket). b.image) m.waiting
+
+abbrev pub kinds_folded : SoFar → List Bool
+kinds_folded z = map (λ (w : Waiting). is_named LabelImage w.opener) z.waiting
+
+-- Behind each item of a text the same brackets wait in both walks
+abbrev pub WalksAreOne : Type 0
+WalksAreOne =
+    (defined : List ℕ → Bool) (on : Constructs) (bytes : List ℕ) (seats : List Seat) (runs : List Run) (front rest : List (Found × List Seat)) → inline_items on defined bytes seats ≡ front ++ rest
+    → kinds_remembered (remembered bytes (nothing_read seats) front) ≡ kinds_folded (folded runs (outermost_spans (flat_map (item_events bytes) front)))
+
+-- So each end that makes a link or an image makes it of a bracket that waits
+abbrev pub EndsHaveBrackets : Type 0
+EndsHaveBrackets =
+    (defined : List ℕ → Bool) (on : Constructs) (bytes : List ℕ) (seats : List Seat) (runs : List Run) (front : List (List Event)) (span : List Event) (rest : List (List Event))
+    → outermost_spans (flat_map (item_events bytes) (inline_items on defined bytes seats)) ≡ front ++ span ∷ rest → is_named LabelEnd span ≡ true
+    → (w : Waiting) × (ws : List Waiting) × ((folded runs front).waiting ≡ w ∷ ws)
