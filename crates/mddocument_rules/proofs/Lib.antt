@@ -39,6 +39,7 @@ pub mod WrittenPlaces
 pub mod LaidRows
 pub mod LabelTexts
 -- links: none is in a link
+pub mod BracketTexts
 pub mod DocumentLinks
 pub mod FlatLinks
 pub mod LinkedFlat

@@ -1,5 +1,5 @@
 -- Links, images and emphasis in place of brackets and runs: events of links come in turn, as a link is made only of a bracket behind which none was made.
-use Rattle.mddocument_rules.proofs.Prelude.{◌≡◌, ◌∙◌, ℕ, true, false, cond, not, List, [], ◌∷◌, ◌++◌, drop, map, refl, sym, ap, subst, inl, inr, cases_Bool, cond_both, false≢true, and_parts, or_cases, AllByRecursion, every-append, ◌&&◌, ◌||◌, Event, Exit, Name, Point, same_name-true, Run, closings, data_of, events_of_runs, later, markers_of_all, openings, paired, unlinked_event}
+use Rattle.mddocument_rules.proofs.Prelude.{◌≡◌, ◌∙◌, ℕ, true, false, cond, not, List, [], ◌∷◌, ◌++◌, ◌+◌, drop, length, map, refl, sym, ap, subst, inl, inr, cases_Bool, cond_both, false≢true, and_parts, or_cases, AllByRecursion, every-append, ◌&&◌, ◌||◌, Event, Exit, Name, Point, same_name-true, Run, closings, data_of, events_of_runs, later, markers_of_all, openings, paired, unlinked_event}
 use Rattle.std.proofs.lemmas.Bool.{or_parts}
 use Rattle.std.proofs.Math.Bool.{and-false}
 use Rattle.markdown_base.specs.declared.event.Kind.TheVariants.{Enter}
@@ -158,20 +158,21 @@ abbrev pub Ends : List Bracket → List Bracket → Type 0
 Ends [] next = ⊥
 Ends (b ∷ bs) next = (b.inactive ≡ false) × (next ≡ cond b.image bs (map before_link bs))
 
-abbrev pub Opens : List Bracket → List Event → List Bracket → Type 0
-Opens bs span next = (b : Bracket) × (next ≡ b ∷ bs) × (is_named LabelImage span ≡ b.image)
+abbrev pub Opens : (count : ℕ) → List Bracket → List Event → List Bracket → Type 0
+Opens count bs span next = (b : Bracket) × (next ≡ b ∷ bs) × (is_named LabelImage span ≡ b.image) × (b.count ≡ count)
 
--- an end is of the last bracket, which is active; a bracket waits; a `]` alone takes one away; and other spans leave them
-pub record IsStep (bs : List Bracket) (span : List Event) (next : List Bracket) : Type 0 where
+-- An end is of the last bracket, which is active; a bracket waits; a `]` alone takes one away; and other spans leave them. Up to behind the span so many
+-- events were read
+pub record IsStep (count : ℕ) (bs : List Bracket) (span : List Event) (next : List Bracket) : Type 0 where
   pub ends : is_named LabelEnd span ≡ true → Ends bs next
-  pub opens : is_named LabelEnd span ≡ false → is_bracket span ≡ true → Opens bs span next
+  pub opens : is_named LabelEnd span ≡ false → is_bracket span ≡ true → Opens count bs span next
   pub fails : is_named LabelEnd span ≡ false → is_bracket span ≡ false → is_named LabelMarker span ≡ true → next ≡ drop 1 bs
   pub stays : is_named LabelEnd span ≡ false → is_bracket span ≡ false → is_named LabelMarker span ≡ false → next ≡ bs
 
--- these brackets wait before spans, and those behind them
-abbrev pub AreRead : List Bracket → List (List Event) → List Bracket → Type 0
-AreRead bs [] last = bs ≡ last
-AreRead bs (span ∷ spans) last = (next : List Bracket) × IsStep bs span next × AreRead next spans last
+-- these brackets wait before spans, up to which so many events were read, and those behind them
+abbrev pub AreRead : (count : ℕ) → List Bracket → List (List Event) → List Bracket → Type 0
+AreRead count bs [] last = bs ≡ last
+AreRead count bs (span ∷ spans) last = (next : List Bracket) × IsStep (count + length span) bs span next × AreRead (count + length span) next spans last
 
 -- ---- the fold
 record Holds (bs : List Bracket) (z : SoFar) : Type 0 where
@@ -187,8 +188,8 @@ linkless-more ps qs h k = every-append (IsPart IsLinkless AnyRun) ps qs h k
 data-flat : (es : List Event) → IsFlat (as_data es)
 data-flat es = flat-linkless (as_data es) (data-linkless es)
 
-holds-opened : (bs next : List Bracket) (span : List Event) (z : SoFar) → Opens bs span next → IsLinkless span → Holds bs z → Holds next (opened span z)
-holds-opened bs next span z o l h =
+holds-opened : (count : ℕ) (bs next : List Bracket) (span : List Event) (z : SoFar) → Opens count bs span next → IsLinkless span → Holds bs z → Holds next (opened span z)
+holds-opened count bs next span z o l h =
     subst (λ n. Holds n (opened span z)) (sym o.1)
     (record { waits = (record { image = o.2; behind = λ i a. tt; opener = l; before = h.behind }, weaken bs z.waiting (λ p. (tt, p)) h.waits); behind = tt })
 
@@ -240,10 +241,10 @@ holds-added bs span z l h =
       behind = flat-more z.behind one h.behind (part-is IsFlat span z.runs (flat-linkless span l), tt);
     }
 
-holds-taken : (bs next : List Bracket) (span : List Event) (z : SoFar) → IsStep bs span next → is_named LabelEnd span ≡ false → IsLinkless span → Holds bs z → Holds next (taken span z)
-holds-taken bs next span z s e l h =
+holds-taken : (count : ℕ) (bs next : List Bracket) (span : List Event) (z : SoFar) → IsStep count bs span next → is_named LabelEnd span ≡ false → IsLinkless span → Holds bs z → Holds next (taken span z)
+holds-taken count bs next span z s e l h =
     cond_both (is_bracket span) (opened span z) (cond (is_named LabelMarker span) (failed span z.waiting z) (added span z)) (Holds next)
-    (λ b. holds-opened bs next span z (s.opens e b) l h)
+    (λ b. holds-opened count bs next span z (s.opens e b) l h)
     (λ b. cond_both (is_named LabelMarker span) (failed span z.waiting z) (added span z) (Holds next)
     (λ m. subst (λ n. Holds n (failed span z.waiting z)) (sym (s.fails e b m)) (holds-failed bs span z.waiting z h.waits h))
     (λ m. subst (λ n. Holds n (added span z)) (sym (s.stays e b m)) (holds-added bs span z l h)))
@@ -255,23 +256,24 @@ named-is n (x ∷ xs) e m other =
     let named = (and_parts (is_enter x.kind) (same_name x.name n) e).1 in
     ap (λ k. is_enter x.kind && same_name k m) (same_name-true x.name n named) ∙ ap (λ t. is_enter x.kind && t) other ∙ and-false (is_enter x.kind)
 
-tail-stays : (bs next : List Bracket) (span : List Event) → is_tail span ≡ true → IsStep bs span next → next ≡ bs
-tail-stays bs next span t s = elim (or_cases (is_named Resource span) (is_named Reference span) t) [
+pub tail-stays : (count : ℕ) (bs next : List Bracket) (span : List Event) → is_tail span ≡ true → IsStep count bs span next → next ≡ bs
+tail-stays count bs next span t s = elim (or_cases (is_named Resource span) (is_named Reference span) t) [
   | inl r ↦ s.stays (named-is Resource span r LabelEnd refl) (λ i. named-is Resource span r LabelLink refl i || named-is Resource span r LabelImage refl i) (named-is Resource span r LabelMarker refl)
   | inr r ↦ s.stays (named-is Reference span r LabelEnd refl) (λ i. named-is Reference span r LabelLink refl i || named-is Reference span r LabelImage refl i) (named-is Reference span r LabelMarker refl)
 ]
 
-linked : (spans : List (List Event)) (bs last : List Bracket) (z : SoFar) → AllByRecursion IsLinkless spans → AreRead bs spans last → Holds bs z → Holds last (linked_from z spans)
-linked [] bs last z l r h = subst (λ b. Holds b z) r h
-linked (span ∷ []) bs last z l r h =
+linked : (spans : List (List Event)) (count : ℕ) (bs last : List Bracket) (z : SoFar) → AllByRecursion IsLinkless spans → AreRead count bs spans last → Holds bs z → Holds last (linked_from z spans)
+linked [] count bs last z l r h = subst (λ b. Holds b z) r h
+linked (span ∷ []) count bs last z l r h =
     subst (λ b. Holds b (linked_from z (span ∷ []))) r.2
-    (cond_both (is_named LabelEnd span) (ended span [] z.waiting z) (taken span z) (Holds r.0) (λ e. holds-ended bs r.0 span [] z.waiting z (r.1.ends e) l.0 linkless-none h.waits h) (λ e. holds-taken bs r.0 span z r.1 e l.0 h))
-linked (span ∷ next ∷ spans) bs last z l r h =
+    (cond_both (is_named LabelEnd span) (ended span [] z.waiting z) (taken span z) (Holds r.0) (λ e. holds-ended bs r.0 span [] z.waiting z (r.1.ends e) l.0 linkless-none h.waits h) (λ e. holds-taken (count + length span) bs r.0 span z r.1 e l.0 h))
+linked (span ∷ next ∷ spans) count bs last z l r h =
+    let more = count + length span in
     cond_both (is_named LabelEnd span) (cond (is_tail next) (linked_from (ended span next z.waiting z) spans) (linked_from (ended span [] z.waiting z) (next ∷ spans))) (linked_from (taken span z) (next ∷ spans)) (Holds last)
     (λ e. cond_both (is_tail next) (linked_from (ended span next z.waiting z) spans) (linked_from (ended span [] z.waiting z) (next ∷ spans)) (Holds last)
-    (λ t. linked spans r.0 last (ended span next z.waiting z) l.1.1 (subst (λ n. AreRead n spans last) (tail-stays r.0 r.2.0 next t r.2.1) r.2.2) (holds-ended bs r.0 span next z.waiting z (r.1.ends e) l.0 l.1.0 h.waits h))
-    (λ t. linked (next ∷ spans) r.0 last (ended span [] z.waiting z) l.1 r.2 (holds-ended bs r.0 span [] z.waiting z (r.1.ends e) l.0 linkless-none h.waits h)))
-    (λ e. linked (next ∷ spans) r.0 last (taken span z) l.1 r.2 (holds-taken bs r.0 span z r.1 e l.0 h))
+    (λ t. linked spans (more + length next) r.0 last (ended span next z.waiting z) l.1.1 (subst (λ n. AreRead (more + length next) n spans last) (tail-stays (more + length next) r.0 r.2.0 next t r.2.1) r.2.2) (holds-ended bs r.0 span next z.waiting z (r.1.ends e) l.0 l.1.0 h.waits h))
+    (λ t. linked (next ∷ spans) more r.0 last (ended span [] z.waiting z) l.1 r.2 (holds-ended bs r.0 span [] z.waiting z (r.1.ends e) l.0 linkless-none h.waits h)))
+    (λ e. linked (next ∷ spans) more r.0 last (taken span z) l.1 r.2 (holds-taken more bs r.0 span z r.1 e l.0 h))
 
 -- So behind spans the brackets that wait are those that the fold has
 agreed : (bs : List Bracket) (ws : List Waiting) (P : Type 0) → Agree bs ws P → map (λ (b : Bracket). b.image) bs ≡ map (λ (w : Waiting). is_named LabelImage w.opener) ws
@@ -280,16 +282,16 @@ agreed [] (w ∷ ws) P h = absurd h
 agreed (b ∷ bs) [] P h = absurd h
 agreed (b ∷ bs) (w ∷ ws) P h = (λ i. sym h.0.image i ∷ agreed bs ws (P × AreLinkless w.before) h.1 i)
 
-pub fold-agrees : (runs : List Run) (spans : List (List Event)) (last : List Bracket) → AllByRecursion IsLinkless spans → AreRead [] spans last → map (λ (b : Bracket). b.image) last ≡ kinds_folded (folded runs spans)
+pub fold-agrees : (runs : List Run) (spans : List (List Event)) (last : List Bracket) → AllByRecursion IsLinkless spans → AreRead 0 [] spans last → map (λ (b : Bracket). b.image) last ≡ kinds_folded (folded runs spans)
 fold-agrees runs spans last l r =
     let start : SoFar = record { waiting = []; behind = []; runs = runs } in
-    let h = linked spans [] last start l r (record { waits = tt; behind = tt }) in
+    let h = linked spans 0 [] last start l r (record { waits = tt; behind = tt }) in
     agreed last (folded runs spans).waiting (AreLinkless (folded runs spans).behind) h.waits
 
 -- Links come in turn, if spans are read so
-pub links-flat : (bytes : List ℕ) (es : List Event) (last : List Bracket) → AllByRecursion IsLinkless (outermost_spans es) → AreRead [] (outermost_spans es) last → IsFlat (with_links bytes es)
+pub links-flat : (bytes : List ℕ) (es : List Event) (last : List Bracket) → AllByRecursion IsLinkless (outermost_spans es) → AreRead 0 [] (outermost_spans es) last → IsFlat (with_links bytes es)
 links-flat bytes es last l r =
     let start : SoFar = record { waiting = []; behind = []; runs = runs_in bytes es } in
     let z = linked_from start (outermost_spans es) in
-    let h = linked (outermost_spans es) [] last start l r (record { waits = tt; behind = tt }) in
+    let h = linked (outermost_spans es) 0 [] last start l r (record { waits = tt; behind = tt }) in
     parts-hold IsFlat flat-both flat-linkless (linked_parts (runs_in bytes es) es) (every-part (IsPart IsFlat AnyRun) (λ (w : Waiting). AreFlat w.before) (λ w b. b) data-flat z.waiting z.behind (all-before last z.waiting (AreLinkless z.behind) h.waits) h.behind)

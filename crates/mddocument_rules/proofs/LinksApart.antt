@@ -31,7 +31,7 @@ use Rattle.mdinline_links.proofs.Leaves.{links-balanced}
 use Rattle.mdinline_links.proofs.Spans.{spans-have}
 use Rattle.mdinline_links.specs.Linked.{Waiting, is_named, outermost_spans, spans_in}
 use Rattle.mdinline_machine.proofs.BracketBytes.{tail-holds}
-use Rattle.mdinline_machine.specs.Brackets.{Bracket, Memory, after_item, begins_end, begins_link, end_at, end_of_last, image_bracket, is_image_bracket, is_wanted_at, label_end, link_bracket, lone_end, nothing_read, tail_of, waiting_behind}
+use Rattle.mdinline_machine.specs.Brackets.{Bracket, Memory, after_item, behind_events, begins_end, begins_link, end_at, end_of_last, image_bracket, is_image_bracket, is_wanted_at, label_end, link_bracket, lone_end, nothing_read, tail_of, waiting_behind}
 use Rattle.mdinline_machine.specs.InlineEvents.{bracket_or_part, data_length, data_run, delimiter_run, inline_grammars, inline_item_at, inline_items, line_break, run_length, run_or_part}
 use Rattle.mdinline_machine.specs.RunRows.{begins_run}
 use Rattle.mddocument.proofs.Emphasis.InlineReads.{balanced-of}
@@ -41,40 +41,44 @@ use Rattle.mddocument_laws.proofs.WholeSpans.{IsWhole, around-whole, both-whole,
 use Rattle.mddocument_rules.proofs.FlatLinks.{IsFlat, IsLinkless, flat-stands, linkless-both, linkless-none}
 use Rattle.mddocument_rules.proofs.LinkedFlat.{AreRead, IsStep, fold-agrees, links-flat}
 use Rattle.mddocument_rules.proofs.QuietItems.{AreQuiet, IsPlain, IsPlainAndQuiet, IsQuiet, constructs-quiet, quiet-other, tail-quiet}
-use Rattle.mddocument_rules.specs.BracketLaws.{EndsHaveBrackets, WalksAreOne, folded, remembered}
+use Rattle.mddocument_rules.proofs.BracketTexts.{fold-tied}
+use Rattle.mddocument_rules.specs.BracketLaws.{EndsHaveBrackets, LabelsAreOne, WalksAreOne, folded, remembered}
 use Rattle.mddocument_rules.specs.TextLaws.{NoLinkInALinkOfText}
 
--- ---- spans that are read, by the brackets that wait before them and behind them
-abbrev Goes : List Bracket → List Event → List Bracket → Type 0
-Goes bs es last = (bound : ℕ) → length es ≤ bound → AreRead bs (spans_in bound es) last
+-- ---- spans that are read, by the brackets that wait before them and behind them, and how many events were read before them
+abbrev Goes : (count : ℕ) → List Bracket → List Event → List Bracket → Type 0
+Goes count bs es last = (bound : ℕ) → length es ≤ bound → AreRead count bs (spans_in bound es) last
 
-abbrev Passes : List Bracket → List Event → List Bracket → Type 0
-Passes bs es next = (rest : List Event) (last : List Bracket) → Goes next rest last → Goes bs (es ++ rest) last
+abbrev Passes : (count : ℕ) → List Bracket → List Event → List Bracket → Type 0
+Passes count bs es next = (rest : List Event) (last : List Bracket) → Goes (count + length es) next rest last → Goes count bs (es ++ rest) last
 
-goes-none : (bs : List Bracket) → Goes bs [] bs
-goes-none bs zero fits = refl
-goes-none bs (suc bound) fits = refl
+goes-none : (count : ℕ) (bs : List Bracket) → Goes count bs [] bs
+goes-none count bs zero fits = refl
+goes-none count bs (suc bound) fits = refl
 
-passes-both : (bs mid next : List Bracket) (xs ys : List Event) → Passes bs xs mid → Passes mid ys next → Passes bs (xs ++ ys) next
-passes-both bs mid next xs ys h k rest last g = subst (λ es. Goes bs es last) (sym (append_assoc xs ys rest)) (h (ys ++ rest) last (k rest last g))
+passes-both : (count : ℕ) (bs mid next : List Bracket) (xs ys : List Event) → Passes count bs xs mid → Passes (count + length xs) mid ys next → Passes count bs (xs ++ ys) next
+passes-both count bs mid next xs ys h k rest last g =
+    let long = length-append xs ys in
+    let same : count + length (xs ++ ys) ≡ (count + length xs) + length ys = omega (arith, long) in
+    subst (λ es. Goes count bs es last) (sym (append_assoc xs ys rest)) (h (ys ++ rest) last (k rest last (subst (λ n. Goes n next rest last) same g)))
 
-passes-span : (bytes : List ℕ) (n : Name) (s : Seat) (ss : List Seat) (inside : List Event) → IsWhole inside → (bs next : List Bracket) → IsStep bs (span bytes n (s ∷ ss) inside) next → Passes bs (span bytes n (s ∷ ss) inside) next
-passes-span bytes n s ss inside w bs next step rest last g zero fits = absurd (no-less fits)
+passes-span : (bytes : List ℕ) (n : Name) (s : Seat) (ss : List Seat) (inside : List Event) → IsWhole inside → (count : ℕ) (bs next : List Bracket) → IsStep (count + length (span bytes n (s ∷ ss) inside)) bs (span bytes n (s ∷ ss) inside) next → Passes count bs (span bytes n (s ∷ ss) inside) next
+passes-span bytes n s ss inside w count bs next step rest last g zero fits = absurd (no-less fits)
   where
     no-less : {k : ℕ} → suc k ≤ 0 → ⊥
     no-less h = omega (arith, h)
-passes-span bytes n s ss inside w bs next step rest last g (suc bound) fits =
+passes-span bytes n s ss inside w count bs next step rest last g (suc bound) fits =
     let front = inside ++ event bytes Exit n (end_after s.end ss) ∷ [] in
     let more = length-append front rest in
-    subst (λ (p : List Event × List Event). AreRead bs (p.0 ∷ spans_in bound p.1) last) (sym (first-span bytes n s ss inside w rest)) (next, step, g bound (omega (arith, fits, more)))
+    subst (λ (p : List Event × List Event). AreRead count bs (p.0 ∷ spans_in bound p.1) last) (sym (first-span bytes n s ss inside w rest)) (next, step, g bound (omega (arith, fits, more)))
 
 -- ---- whole spans that leave the brackets, if they have other names
 record IsCalm (es : List Event) : Type 0 where
   whole : IsWhole es
-  passes : AreQuiet es → (bs : List Bracket) → Passes bs es bs
+  passes : AreQuiet es → (count : ℕ) (bs : List Bracket) → Passes count bs es bs
 
-quiet-step : (bytes : List ℕ) (n : Name) (s : Seat) (ss : List Seat) (inside : List Event) (bs : List Bracket) → IsQuiet n → IsStep bs (span bytes n (s ∷ ss) inside) bs
-quiet-step bytes n s ss inside bs q =
+quiet-step : (bytes : List ℕ) (n : Name) (s : Seat) (ss : List Seat) (inside : List Event) (count : ℕ) (bs : List Bracket) → IsQuiet n → IsStep count bs (span bytes n (s ∷ ss) inside) bs
+quiet-step bytes n s ss inside count bs q =
     let ends = quiet-other n LabelEnd q refl in
     let brackets : (same_name n LabelLink || same_name n LabelImage) ≡ false = (λ i. quiet-other n LabelLink q refl i || quiet-other n LabelImage q refl i) in
     record {
@@ -87,18 +91,18 @@ quiet-step bytes n s ss inside bs q =
 both-calm : (xs ys : List Event) → IsCalm xs → IsCalm ys → IsCalm (xs ++ ys)
 both-calm xs ys h k = record {
   whole = both-whole xs ys h.whole k.whole;
-  passes = λ q bs. passes-both bs bs bs xs ys (h.passes (record { all = every-front (λ (e : Event). IsQuiet e.name) xs ys q.all }) bs) (k.passes (record { all = every-back (λ (e : Event). IsQuiet e.name) xs ys q.all }) bs);
+  passes = λ q count bs. passes-both count bs bs bs xs ys (h.passes (record { all = every-front (λ (e : Event). IsQuiet e.name) xs ys q.all }) count bs) (k.passes (record { all = every-back (λ (e : Event). IsQuiet e.name) xs ys q.all }) (count + length xs) bs);
 }
 
 span-calm : (bytes : List ℕ) (n : Name) (seats : List Seat) (inside : List Event) → IsCalm inside → IsCalm (span bytes n seats inside)
 span-calm bytes n [] inside h = h
 span-calm bytes n (s ∷ ss) inside h = record {
   whole = around-whole bytes n s ss inside h.whole;
-  passes = λ q bs. passes-span bytes n s ss inside h.whole bs bs (quiet-step bytes n s ss inside bs q.all.0);
+  passes = λ q count bs. passes-span bytes n s ss inside h.whole count bs bs (quiet-step bytes n s ss inside (count + length (span bytes n (s ∷ ss) inside)) bs q.all.0);
 }
 
 none-calm : IsCalm []
-none-calm = record { whole = none-whole; passes = λ q bs rest last g. g }
+none-calm = record { whole = none-whole; passes = λ q count bs rest last g. subst (λ n. Goes n bs rest last) (let same : count + 0 ≡ count = omega arith in same) g }
 
 leaf-calm : (bytes : List ℕ) (n : Name) (seats : List Seat) → IsCalm (leaf bytes n seats)
 leaf-calm bytes n seats = span-calm bytes n seats [] none-calm
@@ -138,7 +142,7 @@ module _ (bytes : List ℕ) where
 
   -- what is found at the front of virtual bytes, where these brackets wait
   record IsItem (bs : List Bracket) (s : Seat) (ss : List Seat) (f : Found) : Type 0 where
-    reads : (count : ℕ) → Passes bs (f.events bytes (take f.size (s ∷ ss))) (waiting_behind f.mark count bs)
+    reads : (count : ℕ) → Passes count bs (f.events bytes (take f.size (s ∷ ss))) (waiting_behind f.mark (count + length (f.events bytes (take f.size (s ∷ ss)))) bs)
     linkless : IsLinkless (f.events bytes (take f.size (s ∷ ss)))
 
   quiet-linkless : (es : List Event) → AreQuiet es → IsLinkless es
@@ -149,7 +153,7 @@ module _ (bytes : List ℕ) where
     plain-item : (f : Found) → IsPlain f → IsCalm (f.events bytes (take f.size (s ∷ ss))) → AreQuiet (f.events bytes (take f.size (s ∷ ss))) → IsItem bs s ss f
     plain-item f mark calm quiet =
         let es = f.events bytes (take f.size (s ∷ ss)) in
-        record { reads = λ count. subst (λ m. Passes bs es (waiting_behind m count bs)) (sym mark) (calm.passes quiet bs); linkless = quiet-linkless es quiet }
+        record { reads = λ count. subst (λ m. Passes count bs es (waiting_behind m (count + length es) bs)) (sym mark) (calm.passes quiet count bs); linkless = quiet-linkless es quiet }
 
     abbrev There : Found → Type 0
     There f = IsItem bs s ss f
@@ -191,10 +195,10 @@ module _ (bytes : List ℕ) where
     link-item : There link_bracket
     link-item = record {
       reads = λ count.
-          passes-span bytes LabelLink s [] (leaf bytes LabelMarker (s ∷ [])) (leaf-whole bytes LabelMarker (s ∷ [])) bs (record { image = false; inactive = false; count = count } ∷ bs)
+          passes-span bytes LabelLink s [] (leaf bytes LabelMarker (s ∷ [])) (leaf-whole bytes LabelMarker (s ∷ [])) count bs (record { image = false; inactive = false; count = count + length (link_bracket.events bytes (s ∷ [])) } ∷ bs)
           (record {
             ends = λ e. absurd (false≢true e);
-            opens = λ e b. (record { image = false; inactive = false; count = count }, refl, refl);
+            opens = λ e b. (record { image = false; inactive = false; count = count + length (link_bracket.events bytes (s ∷ [])) }, refl, refl, refl);
             fails = λ e b m. absurd (false≢true (sym b));
             stays = λ e b m. absurd (false≢true (sym b));
           });
@@ -208,10 +212,10 @@ module _ (bytes : List ℕ) where
         let second = leaf bytes LabelMarker seats in
         record {
           reads = λ count.
-              passes-span bytes LabelImage s seats (first ++ second) (both-whole first second (leaf-whole bytes LabelImageMarker (s ∷ [])) (leaf-whole bytes LabelMarker seats)) bs (record { image = true; inactive = false; count = count } ∷ bs)
+              passes-span bytes LabelImage s seats (first ++ second) (both-whole first second (leaf-whole bytes LabelImageMarker (s ∷ [])) (leaf-whole bytes LabelMarker seats)) count bs (record { image = true; inactive = false; count = count + length (image_bracket.events bytes (s ∷ seats)) } ∷ bs)
               (record {
                 ends = λ e. absurd (false≢true e);
-                opens = λ e b. (record { image = true; inactive = false; count = count }, refl, refl);
+                opens = λ e b. (record { image = true; inactive = false; count = count + length (image_bracket.events bytes (s ∷ seats)) }, refl, refl, refl);
                 fails = λ e b m. absurd (false≢true (sym b));
                 stays = λ e b m. absurd (false≢true (sym b));
               });
@@ -225,7 +229,7 @@ module _ (bytes : List ℕ) where
     lone-item : There lone_end
     lone-item = record {
       reads = λ count.
-          passes-span bytes LabelMarker s [] [] none-whole bs (drop 1 bs)
+          passes-span bytes LabelMarker s [] [] none-whole count bs (drop 1 bs)
           (record {
             ends = λ e. absurd (false≢true e);
             opens = λ e b. absurd (false≢true b);
@@ -245,11 +249,11 @@ module _ (bytes : List ℕ) where
         let close = span bytes LabelEnd (s ∷ []) (leaf bytes LabelMarker (s ∷ [])) in
         record {
           reads = λ count.
-              subst (λ n. Passes (b ∷ bs) ((label_end tail).events bytes (take n (s ∷ ss))) (next count)) one
-              (passes-both (b ∷ bs) (next count) (next count) close (tail.events bytes seats)
-              (passes-span bytes LabelEnd s [] (leaf bytes LabelMarker (s ∷ [])) (leaf-whole bytes LabelMarker (s ∷ [])) (b ∷ bs) (next count)
+              subst (λ n. Passes count (b ∷ bs) ((label_end tail).events bytes (take n (s ∷ ss))) (next count)) one
+              (passes-both count (b ∷ bs) (next count) (next count) close (tail.events bytes seats)
+              (passes-span bytes LabelEnd s [] (leaf bytes LabelMarker (s ∷ [])) (leaf-whole bytes LabelMarker (s ∷ [])) count (b ∷ bs) (next count)
               (record { ends = λ e. (active, refl); opens = λ e. absurd (false≢true (sym e)); fails = λ e. absurd (false≢true (sym e)); stays = λ e. absurd (false≢true (sym e)) }))
-              ((calm seats).passes (quiet seats) (next count)));
+              ((calm seats).passes (quiet seats) (count + length close) (next count)));
           linkless =
               subst (λ n. IsLinkless ((label_end tail).events bytes (take n (s ∷ ss)))) one
               (linkless-both close (tail.events bytes seats) (record { none = (refl, (refl, (refl, (refl, tt)))) }) (quiet-linkless (tail.events bytes seats) (quiet seats)));
@@ -304,17 +308,26 @@ module _ (bytes : List ℕ) where
     cut_from bound m seats = cut_remembering (after_item bytes) (inline_item_at on defined bytes) item_length bound m seats
 
     -- the brackets that wait behind some of them are those that are remembered
-    fronts-read : (bound : ℕ) (m : Memory) (seats : List Seat) (front rest : List (Found × List Seat)) → cut_from bound m seats ≡ front ++ rest → Goes m.waiting (flat_map (item_events bytes) front) (remembered bytes m front).waiting
-    fronts-read bound m seats [] rest e = goes-none m.waiting
-    fronts-read zero m seats (i ∷ front) rest e = absurd (cc)
-    fronts-read (suc bound) m [] (i ∷ front) rest e = absurd (cc)
-    fronts-read (suc bound) m (s ∷ ss) (i ∷ front) rest e =
+    fronts-read : (bound : ℕ) (m : Memory) (seats : List Seat) (front rest : List (Found × List Seat)) → m.ahead ≡ seats → cut_from bound m seats ≡ front ++ rest
+        → Goes (length m.events) m.waiting (flat_map (item_events bytes) front) (remembered bytes m front).waiting
+    fronts-read bound m seats [] rest ahead e = goes-none (length m.events) m.waiting
+    fronts-read zero m seats (i ∷ front) rest ahead e = absurd (cc)
+    fronts-read (suc bound) m [] (i ∷ front) rest ahead e = absurd (cc)
+    fronts-read (suc bound) m (s ∷ ss) (i ∷ front) rest ahead e =
         let f = inline_item_at on defined bytes m (bytes_of (s ∷ ss)) in
         let first : (f, take f.size (s ∷ ss)) ≡ i = cc in
         let more : cut_from bound (after_item bytes m f) (drop f.size (s ∷ ss)) ≡ front ++ rest = cc in
-        subst (λ (j : Found × List Seat). Goes m.waiting (item_events bytes j ++ flat_map (item_events bytes) front) (remembered bytes (after_item bytes m j.0) front).waiting) first
-        ((inline-item s ss m (bytes_of (s ∷ ss))).reads (length (m.events ++ f.events bytes (take f.size m.ahead))) (flat_map (item_events bytes) front) (remembered bytes (after_item bytes m f) front).waiting
-        (fronts-read bound (after_item bytes m f) (drop f.size (s ∷ ss)) front rest more))
+        let here : Memory = behind_events m f (f.events bytes (take f.size (s ∷ ss))) in
+        let same : here ≡ after_item bytes m f = ap (λ l. behind_events m f (f.events bytes (take f.size l))) (sym ahead) in
+        let es = f.events bytes (take f.size (s ∷ ss)) in
+        let count : length m.events + length es ≡ length here.events = sym (length-append m.events es) in
+        let next = fronts-read bound (after_item bytes m f) (drop f.size (s ∷ ss)) front rest (ap (drop f.size) ahead) more in
+        let goes : Goes (length here.events) here.waiting (flat_map (item_events bytes) front) (remembered bytes (after_item bytes m f) front).waiting =
+        subst (λ (n : Memory). Goes (length n.events) n.waiting (flat_map (item_events bytes) front) (remembered bytes (after_item bytes m f) front).waiting) (sym same) next in
+        subst (λ (j : Found × List Seat). Goes (length m.events) m.waiting (item_events bytes j ++ flat_map (item_events bytes) front) (remembered bytes (after_item bytes m j.0) front).waiting) first
+        ((inline-item s ss m (bytes_of (s ∷ ss))).reads (length m.events) (flat_map (item_events bytes) front) (remembered bytes (after_item bytes m f) front).waiting
+        (λ bound fits. subst (λ n. AreRead (length m.events + length es) (waiting_behind f.mark n m.waiting) (spans_in bound (flat_map (item_events bytes) front)) (remembered bytes (after_item bytes m f) front).waiting) (sym count)
+        (subst (λ n. AreRead n here.waiting (spans_in bound (flat_map (item_events bytes) front)) (remembered bytes (after_item bytes m f) front).waiting) (sym count) (goes bound fits))))
 
     items-linkless : (bound : ℕ) (m : Memory) (seats : List Seat) → IsLinkless (flat_map (item_events bytes) (cut_from bound m seats))
     items-linkless zero m seats = linkless-none
@@ -358,16 +371,17 @@ module _ (bytes : List ℕ) where
         abbrev pub last_brackets : List Bracket
         last_brackets = (remembered bytes (nothing_read seats) front).waiting
 
-        front-goes : (items : List (Found × List Seat)) → all_items ≡ items ++ rest → Goes [] (flat_map (item_events bytes) items) (remembered bytes (nothing_read seats) items).waiting
-        front-goes [] is = goes-none []
+        front-goes : (items : List (Found × List Seat)) → all_items ≡ items ++ rest → Goes 0 [] (flat_map (item_events bytes) items) (remembered bytes (nothing_read seats) items).waiting
+        front-goes [] is = goes-none 0 []
         front-goes (i ∷ items) is =
             let first : (white_space first_white, take first_white seats) ≡ i = cc in
             let more : cut_from (length seats) first_memory (drop first_white seats) ≡ items ++ rest = cc in
-            subst (λ (j : Found × List Seat). Goes [] (item_events bytes j ++ flat_map (item_events bytes) items) (remembered bytes (after_item bytes (nothing_read seats) j.0) items).waiting) first
-            ((leaf-calm bytes SpaceOrTab (take first_white seats)).passes white-quiet [] (flat_map (item_events bytes) items) (remembered bytes first_memory items).waiting
-            (fronts-read (length seats) first_memory (drop first_white seats) items rest more))
+            let none : length first_memory.events ≡ 0 + length white = omega arith in
+            subst (λ (j : Found × List Seat). Goes 0 [] (item_events bytes j ++ flat_map (item_events bytes) items) (remembered bytes (after_item bytes (nothing_read seats) j.0) items).waiting) first
+            ((leaf-calm bytes SpaceOrTab (take first_white seats)).passes white-quiet 0 [] (flat_map (item_events bytes) items) (remembered bytes first_memory items).waiting
+            (subst (λ n. Goes n first_memory.waiting (flat_map (item_events bytes) items) (remembered bytes first_memory items).waiting) none (fronts-read (length seats) first_memory (drop first_white seats) items rest refl more)))
 
-        pub front-read : AreRead [] (outermost_spans front_events) last_brackets
+        pub front-read : AreRead 0 [] (outermost_spans front_events) last_brackets
         front-read = front-goes front e (length front_events) (omega arith)
 
         pub front-linkless : AllByRecursion IsLinkless (outermost_spans front_events)
@@ -390,11 +404,11 @@ walks-are-one defined on bytes seats runs front rest e =
     fold-agrees runs (outermost_spans (front_events bytes on defined seats front rest e)) (last_brackets bytes on defined seats front rest e) (front-linkless bytes on defined seats front rest e) (front-read bytes on defined seats front rest e)
 
 -- an end comes where a bracket waits
-end-waits : (bs : List Bracket) (front : List (List Event)) (span : List Event) (rest : List (List Event)) (last : List Bracket) → is_named LabelEnd span ≡ true → AreRead bs (front ++ span ∷ rest) last
-    → (b : Bracket) × (more : List Bracket) × AreRead bs front (b ∷ more)
-end-waits [] [] span rest last ends r = absurd (r.1.ends ends)
-end-waits (b ∷ bs) [] span rest last ends r = (b, bs, refl)
-end-waits bs (first ∷ front) span rest last ends r = let (b, more, there) = end-waits r.0 front span rest last ends r.2 in (b, more, (r.0, r.1, there))
+end-waits : (count : ℕ) (bs : List Bracket) (front : List (List Event)) (span : List Event) (rest : List (List Event)) (last : List Bracket) → is_named LabelEnd span ≡ true → AreRead count bs (front ++ span ∷ rest) last
+    → (b : Bracket) × (more : List Bracket) × AreRead count bs front (b ∷ more)
+end-waits count [] [] span rest last ends r = absurd (r.1.ends ends)
+end-waits count (b ∷ bs) [] span rest last ends r = (b, bs, refl)
+end-waits count bs (first ∷ front) span rest last ends r = let (b, more, there) = end-waits (count + length first) r.0 front span rest last ends r.2 in (b, more, (r.0, r.1, there))
 
 some-waits : (b : Bracket) (bs : List Bracket) (ws : List Waiting) → map (λ (c : Bracket). c.image) (b ∷ bs) ≡ map (λ (w : Waiting). is_named LabelImage w.opener) ws → (w : Waiting) × (more : List Waiting) × (ws ≡ w ∷ more)
 some-waits b bs [] e = absurd (cc)
@@ -406,5 +420,9 @@ ends-have-brackets defined on bytes seats runs front span rest e ends =
     let all : items ≡ items ++ [] = sym (append-nil items) in
     let linkless = every-front IsLinkless front (span ∷ rest) (subst (AllByRecursion IsLinkless) e (front-linkless bytes on defined seats items [] all)) in
     let last = last_brackets bytes on defined seats items [] all in
-    let (b, more, there) = end-waits [] front span rest last ends (subst (λ spans. AreRead [] spans last) e (front-read bytes on defined seats items [] all)) in
+    let (b, more, there) = end-waits 0 [] front span rest last ends (subst (λ spans. AreRead 0 [] spans last) e (front-read bytes on defined seats items [] all)) in
     some-waits b more (folded runs front).waiting (fold-agrees runs front (b ∷ more) linkless there)
+
+pub labels-are-one : LabelsAreOne
+labels-are-one defined on bytes seats runs front rest b bs e waits =
+    let spans = outermost_spans (front_events bytes on defined seats front rest e) in fold-tied runs spans b bs (subst (AreRead 0 [] spans) waits (front-read bytes on defined seats front rest e))

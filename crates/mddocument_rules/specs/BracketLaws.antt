@@ -1,12 +1,12 @@
 -- What is promised of brackets: the walk over the items of a text remembers which wait (`Memory`), and so does the fold that makes links (`linked_from`).
-use Rattle.std.specs.Prelude.{◌≡◌, ℕ, Bool, true, List, [], ◌∷◌, ◌++◌, map}
-use Rattle.std.specs.List.{flat_map}
+use Rattle.std.specs.Prelude.{◌≡◌, ℕ, Bool, true, false, List, [], ◌∷◌, ◌++◌, length, map}
+use Rattle.std.specs.List.{flat_map, list_any}
 use Rattle.markdown_base.specs.declared.configuration.Constructs.{Constructs}
 use Rattle.markdown_base.specs.declared.event.Event.{Event}
 use Rattle.markdown_base.specs.declared.event.Name.TheVariants.{LabelEnd, LabelImage}
 use Rattle.markdown_base.specs.Virtual.{Seat}
 use Rattle.mdinline_emphasis.specs.Emphasis.{Run}
-use Rattle.mdinline_links.specs.Linked.{SoFar, Waiting, is_named, linked_from, outermost_spans}
+use Rattle.mdinline_links.specs.Linked.{Part, SoFar, Waiting, is_bracket, is_named, linked_from, outermost_spans, part_of}
 use Rattle.mdinline_text_machine.specs.Construct.{Found}
 use Rattle.mdinline_text_machine.specs.TextEvents.{item_events}
 use Rattle.mdinline_machine.specs.Brackets.{Bracket, Memory, after_item, nothing_read}
@@ -40,3 +40,24 @@ EndsHaveBrackets =
     (defined : List ℕ → Bool) (on : Constructs) (bytes : List ℕ) (seats : List Seat) (runs : List Run) (front : List (List Event)) (span : List Event) (rest : List (List Event))
     → outermost_spans (flat_map (item_events bytes) (inline_items on defined bytes seats)) ≡ front ++ span ∷ rest → is_named LabelEnd span ≡ true
     → (w : Waiting) × (ws : List Waiting) × ((folded runs front).waiting ≡ w ∷ ws)
+
+-- The outermost spans of a text up to the end of a bracket, which remembers how many events those are, and the spans behind it
+pub record SpansAround (spans : List (List Event)) (b : Bracket) : Type 0 where
+  pub before : List (List Event)
+  pub behind : List (List Event)
+  pub are : spans ≡ before ++ behind
+  pub counted : length (flat_map (λ (span : List Event). span) before) ≡ b.count
+
+-- the parts that such spans are, by the runs that are left
+abbrev pub parts_of : List (List Event) → List Run → List Part
+parts_of [] rs = []
+parts_of (span ∷ spans) rs = (part_of span rs).0 ∷ parts_of spans (part_of span rs).1
+
+-- And behind the last bracket the fold has the spans that were read behind it, if none of them is a bracket. Of these is the label of a collapsed or a
+-- shortcut reference: the walk over items asks whether it is defined (`own_is_defined`), and the fold makes the text of the link
+abbrev pub LabelsAreOne : Type 0
+LabelsAreOne =
+    (defined : List ℕ → Bool) (on : Constructs) (bytes : List ℕ) (seats : List Seat) (runs : List Run) (front rest : List (Found × List Seat)) (b : Bracket) (bs : List Bracket)
+    → inline_items on defined bytes seats ≡ front ++ rest → (remembered bytes (nothing_read seats) front).waiting ≡ b ∷ bs
+    → let spans = outermost_spans (flat_map (item_events bytes) front) in
+    (at : SpansAround spans b) × (list_any is_bracket at.behind ≡ false → (left : List Run) × ((folded runs spans).behind ≡ parts_of at.behind left))
