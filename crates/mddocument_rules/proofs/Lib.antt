@@ -44,6 +44,7 @@ pub mod DocumentLinks
 pub mod FlatLinks
 pub mod LinkedFlat
 pub mod LinksApart
+pub mod OwnLabels
 pub mod QuietItems
 -- lists
 pub mod BegunPlaces

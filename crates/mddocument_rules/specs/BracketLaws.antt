@@ -9,7 +9,7 @@ use Rattle.mdinline_emphasis.specs.Emphasis.{Run}
 use Rattle.mdinline_links.specs.Linked.{Part, SoFar, Waiting, is_bracket, is_named, linked_from, outermost_spans, part_of}
 use Rattle.mdinline_text_machine.specs.Construct.{Found}
 use Rattle.mdinline_text_machine.specs.TextEvents.{item_events}
-use Rattle.mdinline_machine.specs.Brackets.{Bracket, Memory, after_item, nothing_read}
+use Rattle.mdinline_machine.specs.Brackets.{Bracket, Memory, after_item, bytes_before, is_defined_label, nothing_read, own_is_defined}
 use Rattle.mdinline_machine.specs.InlineEvents.{inline_items}
 
 -- what is remembered behind items
@@ -61,3 +61,12 @@ LabelsAreOne =
     → inline_items on defined bytes seats ≡ front ++ rest → (remembered bytes (nothing_read seats) front).waiting ≡ b ∷ bs
     → let spans = outermost_spans (flat_map (item_events bytes) front) in
     (at : SpansAround spans b) × (list_any is_bracket at.behind ≡ false → (left : List Run) × ((folded runs spans).behind ≡ parts_of at.behind left))
+
+-- So the own label of a bracket, which the walk over items asks for, is that of the spans behind the bracket of which the fold makes the text of a link
+abbrev pub OwnLabelsAreAsked : Type 0
+OwnLabelsAreAsked =
+    (defined : List ℕ → Bool) (on : Constructs) (bytes : List ℕ) (seats : List Seat) (runs : List Run) (front rest : List (Found × List Seat)) (b : Bracket) (bs : List Bracket)
+    → inline_items on defined bytes seats ≡ front ++ rest → let m = remembered bytes (nothing_read seats) front in
+    m.waiting ≡ b ∷ bs → own_is_defined defined bytes b m ≡ true
+    → (spans : List (List Event)) × (left : List Run) × ((folded runs (outermost_spans (flat_map (item_events bytes) front))).behind ≡ parts_of spans left)
+    × (is_defined_label defined (bytes_before bytes m.ahead) (flat_map (λ (span : List Event). span) spans) ≡ true)

@@ -1,6 +1,6 @@
 //! Laws of what documents are read as, in CommonMark's words. Each is a function that does nothing; its contract is the law.
 
-ghost use Rattle.mddocument_rules.specs.BracketLaws.{EndsHaveBrackets, LabelsAreOne, WalksAreOne};
+ghost use Rattle.mddocument_rules.specs.BracketLaws.{EndsHaveBrackets, LabelsAreOne, OwnLabelsAreAsked, WalksAreOne};
 ghost use Rattle.mddocument_rules.specs.DefinitionLaws.{DefinitionsOfDocumentsAreLinear, NoDefinitionInADefinition};
 ghost use Rattle.mddocument_rules.specs.ListLaws.{ItemsHaveTheMarker, ListsHaveOneMarker, NeighboursDiffer, QuotesAreApart};
 ghost use Rattle.mddocument_rules.specs.MarkerLaws.{ListsAreNamedByMarkers, ListsAreOfOneType};
@@ -90,9 +90,10 @@ pub fn labels_are_those_of_definitions()
 
 /// Brackets are walked over twice, and both walks are one. Items of a text are read by the brackets that wait; links and images are made of them in a fold
 /// over spans. Behind each item the same brackets wait in both, and each end that makes a link or an image has one that waits. Behind the last one both have
-/// the same spans, if none of them is a bracket: so both speak of one label.
+/// the same spans, if none of them is a bracket. So the label of a bracket that is asked for, and is defined, is that of the link's text.
 pub fn both_walks_over_brackets_are_one()
     ensures walks { WalksAreOne }
     ensures ends { EndsHaveBrackets }
     ensures labels { LabelsAreOne }
+    ensures asked { OwnLabelsAreAsked }
 {}
