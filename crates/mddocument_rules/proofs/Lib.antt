@@ -41,6 +41,7 @@ pub mod LabelTexts
 -- links: none is in a link
 pub mod BracketTexts
 pub mod DocumentLinks
+pub mod EndReasons
 pub mod FlatLinks
 pub mod LinkedFlat
 pub mod LinksApart

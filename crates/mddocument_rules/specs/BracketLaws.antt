@@ -1,15 +1,18 @@
 -- What is promised of brackets: the walk over the items of a text remembers which wait (`Memory`), and so does the fold that makes links (`linked_from`).
-use Rattle.std.specs.Prelude.{◌≡◌, ℕ, Bool, true, false, List, [], ◌∷◌, ◌++◌, length, map}
+use Rattle.std.specs.Prelude.{◌≡◌, ◌⊎◌, ℕ, Bool, true, false, List, [], ◌∷◌, ◌++◌, drop, length, map, Some}
 use Rattle.std.specs.List.{flat_map, list_any}
 use Rattle.markdown_base.specs.declared.configuration.Constructs.{Constructs}
 use Rattle.markdown_base.specs.declared.event.Event.{Event}
 use Rattle.markdown_base.specs.declared.event.Name.TheVariants.{LabelEnd, LabelImage}
 use Rattle.markdown_base.specs.Virtual.{Seat}
 use Rattle.mdinline_emphasis.specs.Emphasis.{Run}
+use Rattle.mdinline_full_references.specs.FullReference.{full_reference, label_length, label_text}
+use Rattle.mdinline_link_tails.specs.Resource.{resource_grammar}
 use Rattle.mdinline_links.specs.Linked.{Part, SoFar, Waiting, is_bracket, is_named, linked_from, outermost_spans, part_of}
-use Rattle.mdinline_text_machine.specs.Construct.{Found}
+use Rattle.mdinline_text_machine.specs.Construct.{Found, makes}
+use Rattle.mdinline_text_machine.specs.Parts.{bytes_of}
 use Rattle.mdinline_text_machine.specs.TextEvents.{item_events}
-use Rattle.mdinline_machine.specs.Brackets.{Bracket, Memory, after_item, bytes_before, is_defined_label, nothing_read, own_is_defined}
+use Rattle.mdinline_machine.specs.Brackets.{Bracket, Memory, after_item, bytes_before, is_defined_label, is_wanted_at, label_end, nothing_read, own_is_defined, own_tail}
 use Rattle.mdinline_machine.specs.InlineEvents.{inline_items}
 
 -- what is remembered behind items
@@ -70,3 +73,22 @@ OwnLabelsAreAsked =
     m.waiting ≡ b ∷ bs → own_is_defined defined bytes b m ≡ true
     → (spans : List (List Event)) × (left : List Run) × ((folded runs (outermost_spans (flat_map (item_events bytes) front))).behind ≡ parts_of spans left)
     × (is_defined_label defined (bytes_before bytes m.ahead) (flat_map (λ (span : List Event). span) spans) ≡ true)
+
+-- A tail that a bracket may have at an end, by what is remembered before the end and by the bytes behind it: a resource; or a full reference, whose label is
+-- defined; or that of a reference by the bracket's own label, which is defined
+abbrev pub IsTail : (defined : List ℕ → Bool) → (bytes : List ℕ) → Bracket → Memory → (behind : List ℕ) → (tail : Found) → Type 0
+IsTail defined bytes b m behind tail =
+    (resource_grammar.front behind ≡ Some tail)
+    ⊎ (((n : ℕ) × (label_length behind ≡ Some n) × (is_wanted_at defined bytes m.ahead (label_text n behind) ≡ true) × (tail ≡ full_reference n))
+    ⊎ ((own_is_defined defined bytes b m ≡ true) × (tail ≡ own_tail behind)))
+
+-- an item makes something of the last bracket that waits, with such a tail
+abbrev pub MakesOfBracket : (defined : List ℕ → Bool) → (bytes : List ℕ) → Memory → Found → Type 0
+MakesOfBracket defined bytes m item =
+    (b : Bracket) × (bs : List Bracket) × (tail : Found) × (m.waiting ≡ b ∷ bs) × (item ≡ label_end tail) × IsTail defined bytes b m (drop 1 (bytes_of m.ahead)) tail
+
+-- So does each end that makes a link or an image: the label of each reference in a text was asked for, and is defined
+abbrev pub EndsAreReferences : Type 0
+EndsAreReferences =
+    (defined : List ℕ → Bool) (on : Constructs) (bytes : List ℕ) (seats : List Seat) (front : List (Found × List Seat)) (i : Found × List Seat) (rest : List (Found × List Seat))
+    → inline_items on defined bytes seats ≡ front ++ i ∷ rest → i.0.mark ≡ makes → MakesOfBracket defined bytes (remembered bytes (nothing_read seats) front) i.0

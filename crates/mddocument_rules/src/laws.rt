@@ -1,6 +1,6 @@
 //! Laws of what documents are read as, in CommonMark's words. Each is a function that does nothing; its contract is the law.
 
-ghost use Rattle.mddocument_rules.specs.BracketLaws.{EndsHaveBrackets, LabelsAreOne, OwnLabelsAreAsked, WalksAreOne};
+ghost use Rattle.mddocument_rules.specs.BracketLaws.{EndsAreReferences, EndsHaveBrackets, LabelsAreOne, OwnLabelsAreAsked, WalksAreOne};
 ghost use Rattle.mddocument_rules.specs.DefinitionLaws.{DefinitionsOfDocumentsAreLinear, NoDefinitionInADefinition};
 ghost use Rattle.mddocument_rules.specs.ListLaws.{ItemsHaveTheMarker, ListsHaveOneMarker, NeighboursDiffer, QuotesAreApart};
 ghost use Rattle.mddocument_rules.specs.MarkerLaws.{ListsAreNamedByMarkers, ListsAreOfOneType};
@@ -96,4 +96,10 @@ pub fn both_walks_over_brackets_are_one()
     ensures ends { EndsHaveBrackets }
     ensures labels { LabelsAreOne }
     ensures asked { OwnLabelsAreAsked }
+{}
+
+/// Each end that makes a link or an image has a resource behind it; or a label behind it that is defined; or the own label of its bracket is defined. So in a
+/// text no link and no image is made by a label that is not.
+pub fn ends_of_references_have_defined_labels()
+    ensures { EndsAreReferences }
 {}
