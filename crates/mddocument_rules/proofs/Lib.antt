@@ -45,6 +45,7 @@ pub mod EndReasons
 pub mod FlatLinks
 pub mod LinkedFlat
 pub mod LinksApart
+pub mod MadeTexts
 pub mod OwnLabels
 pub mod QuietItems
 -- lists

@@ -3,6 +3,7 @@ pub mod Standing
 pub mod StandingLaws
 pub mod TextLaws
 pub mod BracketLaws
+pub mod LinkLaws
 pub mod DefinitionLaws
 pub mod ReferenceLaws
 -- lists: items of one list, and lists and quotes in a row

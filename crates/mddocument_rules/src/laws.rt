@@ -2,6 +2,7 @@
 
 ghost use Rattle.mddocument_rules.specs.BracketLaws.{EndsAreReferences, EndsHaveBrackets, LabelsAreOne, OwnLabelsAreAsked, WalksAreOne};
 ghost use Rattle.mddocument_rules.specs.DefinitionLaws.{DefinitionsOfDocumentsAreLinear, NoDefinitionInADefinition};
+ghost use Rattle.mddocument_rules.specs.LinkLaws.{MadeByLabels, MadeByTexts};
 ghost use Rattle.mddocument_rules.specs.ListLaws.{ItemsHaveTheMarker, ListsHaveOneMarker, NeighboursDiffer, QuotesAreApart};
 ghost use Rattle.mddocument_rules.specs.MarkerLaws.{ListsAreNamedByMarkers, ListsAreOfOneType};
 ghost use Rattle.mddocument_rules.specs.ReferenceLaws.{DefinedIsDefined, DefinitionsAreOfSections, DefinitionsHaveLabels, LabelsAreOfSections, LabelsAreWritten};
@@ -102,4 +103,11 @@ pub fn both_walks_over_brackets_are_one()
 /// text no link and no image is made by a label that is not.
 pub fn ends_of_references_have_defined_labels()
     ensures { EndsAreReferences }
+{}
+
+/// A link or an image that is made of a bracket, a text and an end leads to the label that its text is, as it is written, if neither a resource nor a label is
+/// behind it; and with a full reference behind it to the label that stands there.
+pub fn made_references_lead_to_their_texts()
+    ensures texts { MadeByTexts }
+    ensures labels { MadeByLabels }
 {}
