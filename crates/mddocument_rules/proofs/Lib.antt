@@ -46,6 +46,7 @@ pub mod FlatLinks
 pub mod LinkedFlat
 pub mod LinksApart
 pub mod MadeTexts
+pub mod WrittenRuns
 pub mod OwnLabels
 pub mod QuietItems
 -- lists

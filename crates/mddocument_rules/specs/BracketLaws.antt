@@ -51,7 +51,7 @@ pub record SpansAround (spans : List (List Event)) (b : Bracket) : Type 0 where
   pub are : spans ≡ before ++ behind
   pub counted : length (flat_map (λ (span : List Event). span) before) ≡ b.count
 
--- the parts that such spans are, by the runs that are left
+-- the parts that spans are, none of which is a bracket or an end, by the runs that are left
 abbrev pub parts_of : List (List Event) → List Run → List Part
 parts_of [] rs = []
 parts_of (span ∷ spans) rs = (part_of span rs).0 ∷ parts_of spans (part_of span rs).1

@@ -1,11 +1,15 @@
--- What is promised of links: where those lead that are made of a text.
-use Rattle.std.specs.Prelude.{◌≡◌, ◌<◌, ℕ, false, List, [], ◌∷◌, ◌++◌, length, None}
-use Rattle.std.specs.List.{AllByRecursion}
+-- What is promised of links as they are made: where they lead, and that emphasis in their texts keeps what is written.
+use Rattle.std.specs.Prelude.{◌≡◌, ◌<◌, ◌+◌, ℕ, false, List, [], ◌∷◌, ◌++◌, length, None}
+use Rattle.std.specs.List.{AllByRecursion, slice_range}
 use Rattle.markdown_base.specs.declared.event.Event.{Event}
+use Rattle.markdown_base.specs.declared.event.Kind.TheVariants.{Enter}
 use Rattle.markdown_base.specs.declared.event.Name.{Name}
 use Rattle.markdown_base.specs.declared.event.Name.TheVariants.{Label, LabelText, ReferenceString, Resource}
 use Rattle.markdown_base.specs.Events.{IsBalanced}
 use Rattle.markdown_base.specs.Virtual.{Seat}
+use Rattle.mdinline_emphasis.specs.Emphasis.{Run}
+use Rattle.mdinline_emphasis.specs.Places.{markers}
+use Rattle.mdinline_emphasis.specs.RunEdits.{in_place}
 use Rattle.mdinline_labels.specs.Labels.{normalised}
 use Rattle.mdinline_full_references.specs.FullReference.{full_reference}
 use Rattle.mdinline_link_tails.specs.Resource.{string_events, unmarked}
@@ -32,3 +36,14 @@ abbrev pub MadeByLabels : Type 0
 MadeByLabels =
     (bytes : List ℕ) (own : List Event) (n : ℕ) (s : Seat) (ss : List Seat) → 0 < length (unmarked bytes (s ∷ ss))
     → target_behind bytes own ((full_reference n).events bytes (s ∷ ss)) ≡ target.Label (normalised (as_written bytes (string_events bytes (unmarked bytes (s ∷ ss)))))
+
+-- events begin with an enter, or there are none
+abbrev pub BeginsWithEnter : List Event → Type 0
+BeginsWithEnter [] = Unit {0}
+BeginsWithEnter (e ∷ es) = e.kind ≡ Enter
+
+-- Emphasis keeps what is written: what it puts in the place of a delimiter run, before a span or at the end, gives the bytes of the run
+abbrev pub RunsAreWritten : Type 0
+RunsAreWritten =
+    (bytes : List ℕ) (r : Run) (es : List Event) → BeginsWithEnter es
+    → as_written bytes (in_place r ++ es) ≡ slice_range bytes r.start.index (r.start.index + markers r) ++ as_written bytes es

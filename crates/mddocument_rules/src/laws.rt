@@ -2,7 +2,7 @@
 
 ghost use Rattle.mddocument_rules.specs.BracketLaws.{EndsAreReferences, EndsHaveBrackets, LabelsAreOne, OwnLabelsAreAsked, WalksAreOne};
 ghost use Rattle.mddocument_rules.specs.DefinitionLaws.{DefinitionsOfDocumentsAreLinear, NoDefinitionInADefinition};
-ghost use Rattle.mddocument_rules.specs.LinkLaws.{MadeByLabels, MadeByTexts};
+ghost use Rattle.mddocument_rules.specs.LinkLaws.{MadeByLabels, MadeByTexts, RunsAreWritten};
 ghost use Rattle.mddocument_rules.specs.ListLaws.{ItemsHaveTheMarker, ListsHaveOneMarker, NeighboursDiffer, QuotesAreApart};
 ghost use Rattle.mddocument_rules.specs.MarkerLaws.{ListsAreNamedByMarkers, ListsAreOfOneType};
 ghost use Rattle.mddocument_rules.specs.ReferenceLaws.{DefinedIsDefined, DefinitionsAreOfSections, DefinitionsHaveLabels, LabelsAreOfSections, LabelsAreWritten};
@@ -91,7 +91,8 @@ pub fn labels_are_those_of_definitions()
 
 /// Brackets are walked over twice, and both walks are one. Items of a text are read by the brackets that wait; links and images are made of them in a fold
 /// over spans. Behind each item the same brackets wait in both, and each end that makes a link or an image has one that waits. Behind the last one both have
-/// the same spans, if none of them is a bracket. So the label of a bracket that is asked for, and is defined, is that of the link's text.
+/// the same spans, if none of them is a bracket. So where a bracket's own label is asked for and is defined, it is that of the spans of which the text of the
+/// link is made.
 pub fn both_walks_over_brackets_are_one()
     ensures walks { WalksAreOne }
     ensures ends { EndsHaveBrackets }
@@ -110,4 +111,9 @@ pub fn ends_of_references_have_defined_labels()
 pub fn made_references_lead_to_their_texts()
     ensures texts { MadeByTexts }
     ensures labels { MadeByLabels }
+{}
+
+/// Emphasis keeps what is written: what it puts in the place of a delimiter run gives the bytes of the run.
+pub fn emphasis_keeps_what_is_written()
+    ensures { RunsAreWritten }
 {}
