@@ -1,5 +1,5 @@
 -- What is in definitions among events is cut into these, one behind another; so it is where strings are read.
-use Rattle.mddocument_rules.proofs.Prelude.{◌≡◌, ◌∙◌, ℕ, zero, suc, ◌+◌, Bool, true, false, cond, not, List, [], ◌∷◌, ◌++◌, append_assoc, ap, arith, length, map, refl, subst, sym, AllByRecursion, and_parts, false_from_ne_true, false≢true, every-append, ◌&&◌, IsBalanced, Constructs, Event, Enter, Exit, Kind, Name, is_enter, same_name, same_name-true}
+use Rattle.mddocument_rules.proofs.Prelude.{◌≡◌, ◌∙◌, ℕ, zero, suc, Bool, true, false, cond, not, List, [], ◌∷◌, ◌++◌, append_assoc, ap, arith, length, map, refl, subst, sym, AllByRecursion, and_parts, false_from_ne_true, false≢true, every-append, ◌&&◌, IsBalanced, Constructs, Event, Enter, Exit, Kind, Name, is_enter, same_name, same_name-true}
 use Rattle.std.proofs.lemmas.List.{length-append}
 use Rattle.std.proofs.lemmas.Bool.{cond_both}
 use Rattle.std.specs.Prelude.{◌≤◌}

@@ -1,5 +1,5 @@
 -- What a link or an image leads to that is made of a bracket and an end, without a resource and a label behind it: to the label that its text is, as it is written.
-use Rattle.mddocument_rules.proofs.Prelude.{◌≡◌, ◌∙◌, ◌+◌, cond, List, [], ◌∷◌, ◌++◌, None, Some, append_assoc, ap, drop, refl, Event, Exit, Name, Point, IsBalanced, IsBalanced-append, unlinked_event, ℕ, Enter, Seat, end_after, event, every-append, empty, length, take, arith, false}
+use Rattle.mddocument_rules.proofs.Prelude.{◌≡◌, ◌∙◌, cond, List, [], ◌∷◌, ◌++◌, None, Some, append_assoc, ap, drop, refl, Event, Exit, Name, Point, IsBalanced, IsBalanced-append, unlinked_event, ℕ, Enter, Seat, end_after, event, every-append, empty, length, take, arith, false}
 use Rattle.std.specs.Option.{option_or}
 use Rattle.markdown_base.specs.declared.event.Name.TheVariants.{Label, LabelText, Reference, ReferenceMarker, ReferenceString, Resource}
 use Rattle.mdinline_labels.specs.Labels.{normalised}

@@ -1,5 +1,5 @@
 -- A bracket's own label, which the walk over items asks for, is that of the spans that the fold has behind the bracket.
-use Rattle.mddocument_rules.proofs.Prelude.{◌≡◌, ◌∙◌, ℕ, zero, suc, ◌+◌, Bool, true, false, List, [], ◌∷◌, ◌++◌, and_parts, ap, append-nil, append_assoc, arith, drop, false_from_ne_true, false≢true, flat_map, inl, inr, length, not, not-true, or_cases, or_left, or_right, refl, subst, sym, take, ◌||◌, Constructs, Event, Seat, is_enter, same_name}
+use Rattle.mddocument_rules.proofs.Prelude.{◌≡◌, ◌∙◌, ℕ, zero, suc, Bool, true, List, [], ◌∷◌, ◌++◌, and_parts, ap, append-nil, append_assoc, arith, drop, false_from_ne_true, false≢true, flat_map, inl, inr, length, not, not-true, or_cases, or_left, or_right, refl, subst, sym, take, ◌||◌, Constructs, Event, Seat, is_enter, same_name}
 use Rattle.std.proofs.lemmas.Grind.{flat_map-append}
 use Rattle.std.proofs.lemmas.List.{length-append}
 use Rattle.std.proofs.lemmas.List.Folds.{list_any-append}

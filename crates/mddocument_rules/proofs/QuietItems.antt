@@ -7,8 +7,7 @@ use Rattle.mdinline_labels.specs.declared.resources.Resource.{Resource as Parts}
 use Rattle.mdinline_labels.specs.Resources.{resource_at}
 use Rattle.mdinline_text_machine.proofs.Constructs.Apart.{EachThere, OfOption}
 use Rattle.mdinline_text_machine.specs.Construct.{Found, Grammar, plain}
-use Rattle.mdinline_text_machine.specs.Parts.{line_ending}
-use Rattle.mdinline_link_tails.specs.Resource.{destination_string, in_marks, resource, resource_grammar, unmarked}
+use Rattle.mdinline_link_tails.specs.Resource.{in_marks, resource, resource_grammar, unmarked}
 use Rattle.mdinline_full_references.specs.FullReference.{full_reference, full_reference_grammar, label_length, label_text}
 use Rattle.mdinline_machine.proofs.BracketBytes.{tail-holds}
 use Rattle.mdinline_machine.specs.Brackets.{Bracket, Memory, is_wanted_at, tail_of}
