@@ -14,6 +14,7 @@ use Rattle.mdblock_definitions.specs.Definitions.{Place, line_marks, places_in, 
 use Rattle.mdblock_definitions.specs.Sectioned.{AreSound, IsSound}
 use Rattle.mdblock_definitions.specs.Sections.{text_in}
 use Rattle.mdblock_definitions.specs.Skeleton.{labels_in, labels_of_section, written_labels}
+use Rattle.mdinline_labels.proofs.Known.{any-map}
 use Rattle.mdinline_labels.specs.Labels.{normalised}
 use Rattle.mdinline_labels.specs.Tails.{begins_with}
 use Rattle.mddocument.specs.DocumentEvents.{document_events}
@@ -93,10 +94,6 @@ labels-are-written g is =
     ∙ of-sections on t bytes is.tab.0 ss (document-sound on ls) rs ends
 
 -- ---- labels that are defined
-any-mapped : {A B : Type 0} (p : B → Bool) (f : A → B) (xs : List A) → list_any p (map f xs) ≡ list_any (λ x. p (f x)) xs
-any-mapped p f [] = refl
-any-mapped p f (x ∷ xs) = ap (λ b. p (f x) || b) (any-mapped p f xs)
-
 any-defined : (bytes label : List ℕ) (at : ℕ) (es : List Event) → is_some (definition_from bytes label at es) ≡ list_any (λ l. bytes_eq label l) (map (defined_label bytes) (definitions_in es))
 any-defined bytes label at [] = refl
 any-defined bytes label at (e ∷ es) = by (enters name.Definition e) (bytes_eq label (defined_label bytes (inside es))) refl (any-defined bytes label (suc at) es)
@@ -113,6 +110,6 @@ any-defined bytes label at (e ∷ es) = by (enters name.Definition e) (bytes_eq 
 pub defined-is-defined : DefinedIsDefined
 defined-is-defined g label is =
     let n = normalised label in
-    sym (any-mapped (λ l. bytes_eq n l) normalised (written_labels g.options.constructs (virtual g.tab g.bytes)))
+    sym (any-map (λ l. bytes_eq n l) normalised (written_labels g.options.constructs (virtual g.tab g.bytes)))
     ∙ ap (list_any (λ l. bytes_eq n l)) (sym (labels-are-written g is))
     ∙ sym (any-defined g.bytes n 0 (document_events g))

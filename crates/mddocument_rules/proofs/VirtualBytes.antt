@@ -5,10 +5,9 @@ use Rattle.std.proofs.lemmas.Bool.{eqb-true}
 use Rattle.std.proofs.lemmas.List.{drop_more}
 use Rattle.std.specs.List.{slice_range}
 use Rattle.std.specs.Prelude.{◌≤◌, ◌<◌, slice_index}
-use Rattle.markdown_base.proofs.Scans.{tab_width-least}
 use Rattle.markdown_base.specs.Places.{follows_cr, shown}
 use Rattle.markdown_base.specs.Virtual.{begins_with_lf, in_tab, line_feed, other_byte, tab_width, virtual_from}
-use Rattle.markdown_tokenizer.proofs.Positions.Seats.{drop-first, no-lf-there}
+use Rattle.markdown_tokenizer.proofs.Positions.Seats.{drop-first, no-lf-there, width-pos}
 use Rattle.mdinline_labels.specs.Labels.{is_label_white}
 use Rattle.mddocument_rules.proofs.AlikeTexts.{AreWhite, AreWhole}
 use Rattle.mddocument_rules.proofs.WrittenSpans.{AreInRow, slice-both, written}
@@ -80,9 +79,6 @@ module _ (bytes : List ℕ) where
   feed-anywhere i j (s ∷ ss) f (inr own) = absurd (false≢true (sym own.0.line ∙ ap (λ b. b == 10) f))
 
   -- ---- a document
-  width-some : (t c : ℕ) → 0 < t → 0 < tab_width t c
-  width-some t c some = let least = tab_width-least t c some in omega (arith, least)
-
   spelt-from : (t l c i : ℕ) (bs : List ℕ) → 0 < t → drop i bytes ≡ bs → AreSpelt false i (virtual_from t l c i bs)
   spelt-from t l c i [] some at = refl
   spelt-from t l c i (b ∷ bs) some at = by (b == 10) (b == 13) (begins_with_lf bs) (b == 9) refl refl refl refl (λ m d. spelt-from t m d (suc i) bs some (drop-first i bytes b bs at).2)
@@ -98,7 +94,7 @@ module _ (bytes : List ℕ) where
       by false true false tab f r p w more = inl (refl, refl, more (suc l) 1)
       by false false pair true f r p w more =
           let nine : b ≡ 9 = eqb-true b 9 w in
-          spelt-tab (tab_width t c) 9 l c i 0 bs (virtual_from t l (c + tab_width t c) (suc i) bs) false (at ∙ ap (λ x. x ∷ bs) nine) refl refl (more l (c + tab_width t c)) (width-some t c some)
+          spelt-tab (tab_width t c) 9 l c i 0 bs (virtual_from t l (c + tab_width t c) (suc i) bs) false (at ∙ ap (λ x. x ∷ bs) nine) refl refl (more l (c + tab_width t c)) (width-pos t c some)
       by false false pair false f r p w more =
           inr (record { line = f; from = no-feed l c i 0 b here f; to = no-pair l (suc c) i 0 b here r; few = omega arith }, refl, inl (refl, one-byte i b bs at, more l (suc c)))
 

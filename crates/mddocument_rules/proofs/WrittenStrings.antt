@@ -41,12 +41,12 @@ module _ (bytes : List ℕ) where
   leafs : (n : Name) (seats : List Seat) → same_name n name.BlockQuoteMarker ≡ false → AreNoMarkers (leaf bytes n seats)
   leafs n seats f = over n seats [] f tt
 
-  abbrev IsFree : Found → Type 0
-  IsFree f = (seats : List Seat) → AreNoMarkers (f.events bytes seats)
+  abbrev IsUnmarked : Found → Type 0
+  IsUnmarked f = (seats : List Seat) → AreNoMarkers (f.events bytes seats)
 
-  escape-free : (text : List ℕ) → OfOption IsFree (escape_at text)
+  escape-free : (text : List ℕ) → OfOption IsUnmarked (escape_at text)
   escape-free text =
-      when-there IsFree _ (Some escape) (λ seats.
+      when-there IsUnmarked _ (Some escape) (λ seats.
       over name.CharacterEscape seats (leaf bytes name.CharacterEscapeMarker (take 1 seats) ++ leaf bytes name.CharacterEscapeValue (drop 1 seats)) refl
       (both (leaf bytes name.CharacterEscapeMarker (take 1 seats)) (leaf bytes name.CharacterEscapeValue (drop 1 seats)) (leafs name.CharacterEscapeMarker (take 1 seats) refl) (leafs name.CharacterEscapeValue (drop 1 seats) refl)))
 
@@ -63,9 +63,9 @@ module _ (bytes : List ℕ) where
       both first (second ++ third) (leafs name.CharacterReferenceMarker (take 1 seats) refl)
       (both second third (leafs name.CharacterReferenceMarkerNumeric (between 1 2 seats) refl) (leafs name.CharacterReferenceMarkerHexadecimal (between 2 3 seats) refl))
 
-  reference-free : (text : List ℕ) → OfOption IsFree (reference_at text)
+  reference-free : (text : List ℕ) → OfOption IsUnmarked (reference_at text)
   reference-free text =
-      reference-holds IsFree
+      reference-holds IsUnmarked
       (λ kind n seats.
       let value = leaf bytes name.CharacterReferenceValue (between (marks kind) (marks kind + n) seats) in
       let last = leaf bytes name.CharacterReferenceMarkerSemi (drop (marks kind + n) seats) in
@@ -74,10 +74,10 @@ module _ (bytes : List ℕ) where
       (both value last (leafs name.CharacterReferenceValue (between (marks kind) (marks kind + n) seats) refl) (leafs name.CharacterReferenceMarkerSemi (drop (marks kind + n) seats) refl))))
       text
 
-  item-free : (on : Constructs) (text : List ℕ) → IsFree (string_item_at on text)
+  item-free : (on : Constructs) (text : List ℕ) → IsUnmarked (string_item_at on text)
   item-free on text =
-      there-holds IsFree string_grammars on text (string_part text) (escape-free text, (reference-free text, tt))
-      (elim (has_byte_at text 0 is_line_feed) as (λ t. IsFree (cond t (part line_ending) (string_data text))) [ true ↦ λ seats. leafs name.LineEnding seats refl | false ↦ λ seats. leafs name.Data seats refl ])
+      there-holds IsUnmarked string_grammars on text (string_part text) (escape-free text, (reference-free text, tt))
+      (elim (has_byte_at text 0 is_line_feed) as (λ t. IsUnmarked (cond t (part line_ending) (string_data text))) [ true ↦ λ seats. leafs name.LineEnding seats refl | false ↦ λ seats. leafs name.Data seats refl ])
 
   string-free : (on : Constructs) (seats : List Seat) → AreNoMarkers (string_seat_events on bytes seats)
   string-free on seats = each-item bytes AreNoMarkers tt both on (item-free on) _ seats
