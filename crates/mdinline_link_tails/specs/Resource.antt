@@ -1,6 +1,6 @@
 -- Resources (CommonMark 0.31, 6.3): what stands in parentheses behind the text of an inline link, with no states. Which bytes they have is the
 -- grammar of `mdinline_labels`; here is what events they have.
-use Rattle.std.specs.Prelude.{ℕ, ◌-◌, ◌==◌, not, Bool, cond, List, ◌++◌, take, drop, length, Option, Some, None, option_map}
+use Rattle.std.specs.Prelude.{ℕ, ◌-◌, ◌==◌, Bool, cond, List, ◌++◌, take, drop, length, Option, Some, None, option_map}
 use Rattle.std.specs.List.{between, flat_map, prefix_len}
 use Rattle.markdown_base.specs.declared.event.Event.{Event}
 use Rattle.markdown_base.specs.declared.event.Name.{Name as EventName}
@@ -11,26 +11,24 @@ use Rattle.mdinline_labels.specs.declared.resources.Resource.{Resource as Parts}
 use Rattle.mdinline_labels.specs.Definitions.{end}
 use Rattle.mdinline_labels.specs.Resources.{resource_at}
 use Rattle.mdinline_labels.specs.Tails.{begins_with, is_white}
-use Rattle.mdinline_text_machine.specs.Bytes.{has_byte_at, is_line_feed}
+use Rattle.mdinline_constructs.specs.HtmlText.{Piece, data_run, line_break, piece_at, piece_length}
 use Rattle.mdinline_text_machine.specs.Construct.{Found, Grammar, plain}
-use Rattle.mdinline_text_machine.specs.Parts.{Part, line_ending, plain_run, part_length, part_events, bytes_of, cut, span, leaf}
+use Rattle.mdinline_text_machine.specs.Parts.{bytes_of, cut, span, leaf}
 
 -- `(`
 abbrev pub is_open_parenthesis : ℕ → Bool
 is_open_parenthesis b = b == 40
 
--- a byte of a line
-abbrev pub is_of_line : ℕ → Bool
-is_of_line b = not (is_line_feed b)
-
--- the part of a string at its front: a line ending, or the line up to the next one
-abbrev pub line_part : List ℕ → Part
-line_part text = cond (has_byte_at text 0 is_line_feed) line_ending (plain_run (prefix_len is_of_line text))
-
 module _ (bytes : List ℕ) where
+  -- a line ending of a string, and the white space that the next line begins with: "the paragraph's raw content is formed by concatenating the lines and
+  -- removing initial and final spaces or tabs" (4.8); or data, up to the next line ending
+  abbrev pub line_events : (Piece × List Seat) → List Event
+  line_events (line_break n, seats) = leaf bytes LineEnding (take 1 seats) ++ leaf bytes SpaceOrTab (drop 1 seats)
+  line_events (data_run n, seats) = leaf bytes Data seats
+
   -- A string, line by line. Its lines are read as data, so no event has a link
   abbrev pub string_events : List Seat → List Event
-  string_events seats = flat_map (part_events bytes Data) (cut line_part part_length (length seats) seats)
+  string_events seats = flat_map line_events (cut piece_at piece_length (length seats) seats)
 
   -- the string of a destination, if there is one: it is in one line
   abbrev pub destination_string : List Seat → List Event

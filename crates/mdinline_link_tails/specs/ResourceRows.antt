@@ -211,19 +211,20 @@ module _ {R D : Type 0} where
   title_escape_rows =
       when (waits 10) (ends_line (exit Data ∷ []) TitleAfterEol) (reads_on [] TitleInside)
 
-  -- a line of a title goes on: white space may begin it
-  abbrev pub reads_line : List (Act R D) → Rows R D
-  reads_line begun = when (shows is_white) (reads_on begun ResourceTitleWhite) (reads_string begun TitleEscape TitleInside)
+  -- a further line of a title: white space begins it, or data
+  abbrev pub reads_line : (white begun : List (Act R D)) → Rows R D
+  reads_line white begun = when (shows is_white) (reads_on white ResourceTitleWhite) (reads_string begun TitleEscape TitleInside)
 
   -- Behind a line ending in a title: a blank line may not follow
   abbrev pub title_line_rows : Rows R D
   title_line_rows =
-      when title_closes (row (exit ResourceTitleString ∷ []) (Retry ResourceTitleEnd)) (when title_nests no_resource (when (waits 10) no_resource (reads_line (enter Data ∷ []))))
+      when title_closes (row (exit ResourceTitleString ∷ []) (Retry ResourceTitleEnd)) (when title_nests no_resource (when (waits 10) no_resource (reads_line (enter SpaceOrTab ∷ []) (enter Data ∷ []))))
 
   -- In white space behind it
   abbrev pub title_white_rows : Rows R D
   title_white_rows =
-      when title_closes (row (exit Data ∷ exit ResourceTitleString ∷ []) (Retry ResourceTitleEnd)) (when title_nests no_resource (when (waits 10) no_resource (reads_line [])))
+      when title_closes (row (exit SpaceOrTab ∷ exit ResourceTitleString ∷ []) (Retry ResourceTitleEnd))
+      (when title_nests no_resource (when (waits 10) no_resource (reads_line [] (exit SpaceOrTab ∷ enter Data ∷ []))))
 
   -- At the last mark of a title
   abbrev pub title_end_rows : Rows R D
@@ -294,7 +295,7 @@ module _ {R D : Type 0} where
   title_line = resource_state TitleAfterEol title_line_rows (Resource ∷ ResourceTitle ∷ ResourceTitleString ∷ []) 2
 
   abbrev pub title_white : StateRows TextByte R D
-  title_white = resource_state ResourceTitleWhite title_white_rows (Resource ∷ ResourceTitle ∷ ResourceTitleString ∷ Data ∷ []) 2
+  title_white = resource_state ResourceTitleWhite title_white_rows (Resource ∷ ResourceTitle ∷ ResourceTitleString ∷ SpaceOrTab ∷ []) 2
 
   abbrev pub title_end : StateRows TextByte R D
   title_end = resource_state ResourceTitleEnd title_end_rows (Resource ∷ ResourceTitle ∷ []) 1

@@ -496,7 +496,7 @@ pub fn title_line<'a, M: MachineTypes>(t: &mut Tokenizer<'a, M>) -> Result<State
             } else if waits(t, b'\n') {
                 Ok(State::Nok)
             } else if white_waits(t) {
-                t.enter(event::Name::Data)?;
+                t.enter(event::Name::SpaceOrTab)?;
                 t.consume();
                 Ok(State::Next(names::ResourceTitleWhite))
             } else if waits(t, b'\\') {
@@ -521,7 +521,7 @@ pub fn title_white<'a, M: MachineTypes>(t: &mut Tokenizer<'a, M>) -> Result<Stat
         None => Ok(State::Nok),
         Some(_) => {
             if title_closes(t) {
-                t.exit(event::Name::Data)?;
+                t.exit(event::Name::SpaceOrTab)?;
                 t.exit(event::Name::ResourceTitleString)?;
                 Ok(State::Retry(names::ResourceTitleEnd))
             } else if title_nests(t) {
@@ -532,9 +532,13 @@ pub fn title_white<'a, M: MachineTypes>(t: &mut Tokenizer<'a, M>) -> Result<Stat
                 t.consume();
                 Ok(State::Next(names::ResourceTitleWhite))
             } else if waits(t, b'\\') {
+                t.exit(event::Name::SpaceOrTab)?;
+                t.enter(event::Name::Data)?;
                 t.consume();
                 Ok(State::Next(Name::TitleEscape))
             } else {
+                t.exit(event::Name::SpaceOrTab)?;
+                t.enter(event::Name::Data)?;
                 t.consume();
                 Ok(State::Next(Name::TitleInside))
             }

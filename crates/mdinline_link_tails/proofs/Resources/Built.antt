@@ -1,6 +1,6 @@
 -- What spans keep holds of the events of a resource.
 use Rattle.std.proofs.Common.{◌≡◌, ℕ, ◌-◌, List, [], ◌++◌, Bool, true, false, cond, Option, Some, None, refl, subst, take, drop, length}
-use Rattle.std.specs.List.{between, flat_map, prefix_len}
+use Rattle.std.specs.List.{between, prefix_len}
 use Rattle.std.specs.Prelude.{option_map}
 use Rattle.markdown_base.specs.declared.event.Event.{Event}
 use Rattle.markdown_base.specs.declared.event.Name.{Name}
@@ -12,18 +12,24 @@ use Rattle.mdinline_labels.specs.declared.resources.Resource.{Resource as Parts}
 use Rattle.mdinline_labels.specs.Definitions.{end}
 use Rattle.mdinline_labels.specs.Resources.{resource_at}
 use Rattle.mdinline_labels.specs.Tails.{begins_with, is_white}
-use Rattle.mdinline_text_machine.proofs.Texts.Built.{IsBuilt, IsKeptBySpans, flat-built, part-built, three}
+use Rattle.mdinline_constructs.specs.HtmlText.{Piece, data_run, line_break, piece_at, piece_length}
+use Rattle.mdinline_text_machine.proofs.Texts.Built.{IsBuilt, IsKeptBySpans, flat-built, three}
 use Rattle.mdinline_text_machine.specs.Construct.{Found}
-use Rattle.mdinline_text_machine.specs.Parts.{bytes_of, cut, leaf, part_events, part_length, span}
-use Rattle.mdinline_link_tails.specs.Resource.{behind_destination, destination_events, destination_string, gap_events, in_marks, in_resource, line_part, resource, resource_grammar, string_events, title_events, title_string, unmarked}
+use Rattle.mdinline_text_machine.specs.Parts.{bytes_of, cut, leaf, span}
+use Rattle.mdinline_link_tails.specs.Resource.{behind_destination, destination_events, destination_string, gap_events, in_marks, in_resource, line_events, resource, resource_grammar, string_events, title_events, title_string, unmarked}
 
 module _ (bytes : List ℕ) (P : List Event → Type 0) (kept : IsKeptBySpans bytes P) where
   marked-built : (name mark : Name) (inside : List Event) (seats : List Seat) → is_void name ≡ false → P inside → P (in_marks bytes name mark inside seats)
   marked-built name mark inside seats full h =
       kept.around name seats (leaf bytes mark (take 1 seats) ++ (inside ++ leaf bytes mark (drop (length seats - 1) seats))) full (three bytes P kept mark mark (take 1 seats) (drop (length seats - 1) seats) inside h)
 
-  lines-built : (seats : List Seat) → P (string_events bytes seats)
-  lines-built seats = flat-built bytes P kept (part_events bytes Data) (cut line_part part_length (length seats) seats) (part-built bytes P kept Data)
+  line-built : (p : Piece × List Seat) → P (line_events bytes p)
+  line-built (line_break n, seats) = kept.both (leaf bytes LineEnding (take 1 seats)) (leaf bytes SpaceOrTab (drop 1 seats)) (kept.alone LineEnding (take 1 seats)) (kept.alone SpaceOrTab (drop 1 seats))
+  line-built (data_run n, seats) = kept.alone Data seats
+
+  -- a string
+  pub lines-built : (seats : List Seat) → P (string_events bytes seats)
+  lines-built seats = flat-built bytes P kept (line_events bytes) (cut piece_at piece_length (length seats) seats) line-built
 
   gap-built : (seats : List Seat) → P (gap_events bytes seats)
   gap-built seats =

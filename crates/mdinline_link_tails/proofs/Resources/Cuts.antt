@@ -20,12 +20,13 @@ use Rattle.mdinline_labels.specs.Labels.{hides}
 use Rattle.mdinline_labels.specs.Resources.{closed_at, resource_at, resource_with}
 use Rattle.mdinline_labels.specs.Tails.{begins_with, depth_behind, destination_size, enclosed_size, ends_raw, gap, is_plain, is_raw_end, is_white, marked_size, one_more, raw_end, raw_size, title_end, title_size}
 use Rattle.mdinline_labels.proofs.Sizes.{marked-within}
+use Rattle.mdinline_constructs.proofs.HtmlTexts.Pieces.{is_no_line_feed, piece-positive}
+use Rattle.mdinline_constructs.specs.HtmlText.{data_run, line_break, piece_at, piece_length}
 use Rattle.mdinline_text_machine.proofs.DeepSpans.Atoms.{IsCut, OneLine, cut-append, cut-leaf, cut-span}
 use Rattle.mdinline_text_machine.proofs.DeepSpans.Stretches.{NoEnding, cuts, one-taken, plain-line, run-plain, three-cut}
 use Rattle.mdinline_text_machine.specs.Construct.{Found}
-use Rattle.mdinline_text_machine.specs.Parts.{bytes_of, leaf, line_ending, part_events, part_length, plain_run, span}
-use Rattle.mdinline_link_tails.specs.Resource.{behind_destination, destination_events, destination_string, gap_events, in_marks, in_resource, is_of_line, line_part, resource, resource_grammar, string_events, title_events, title_string, unmarked}
-use Rattle.mdinline_link_tails.proofs.Resources.Lines.{part-positive}
+use Rattle.mdinline_text_machine.specs.Parts.{bytes_of, leaf, span}
+use Rattle.mdinline_link_tails.specs.Resource.{behind_destination, destination_events, destination_string, gap_events, in_marks, in_resource, line_events, resource, resource_grammar, string_events, title_events, title_string, unmarked}
 
 -- ---- stretches of a list
 
@@ -170,18 +171,25 @@ module _ (bytes : List ℕ) where
 
   -- ---- destinations and titles
 
-  line-cut : (s : Seat) (ss : List Seat) → let a = line_part (bytes_of (s ∷ ss)) in IsCut bytes (part_events bytes Data (a, take (part_length a) (s ∷ ss))) (take (part_length a) (s ∷ ss))
+  line-cut : (s : Seat) (ss : List Seat) → let a = piece_at (bytes_of (s ∷ ss)) in IsCut bytes (line_events bytes (a, take (piece_length a) (s ∷ ss))) (take (piece_length a) (s ∷ ss))
   line-cut s ss =
-      let l = s ∷ ss in
-      let n = prefix_len is_of_line (bytes_of l) in
-      elim (s.byte == 10) as (λ t. let a = cond t line_ending (plain_run n) in IsCut bytes (part_events bytes Data (a, take (part_length a) l)) (take (part_length a) l)) [
-        | true ↦ cut-leaf bytes LineEnding (take 1 l) (one-taken l)
-        | false ↦ cut-leaf bytes Data (take n l) (plain-line (take n l) (run-plain is_of_line refl l))
+      let text = bytes_of (s ∷ ss) in
+      elim (s.byte == 10) as (λ t. let a = cond t (line_break (prefix_len is_white (bytes_of ss))) (data_run (prefix_len is_no_line_feed text)) in
+      IsCut bytes (line_events bytes (a, take (piece_length a) (s ∷ ss))) (take (piece_length a) (s ∷ ss))) [
+        | true ↦
+            let n = prefix_len is_white (bytes_of ss) in
+            let l = take (1 + n) (s ∷ ss) in
+            let white : NoEnding (drop 1 l) = subst NoEnding (sym (drop-take 1 n (s ∷ ss))) (run-plain is_white refl ss) in
+            subst (IsCut bytes (line_events bytes (line_break n, l))) (take-append-drop 1 l)
+            (cut-append bytes (cut-leaf bytes LineEnding (take 1 l) (one-taken l)) (cut-leaf bytes SpaceOrTab (drop 1 l) (plain-line (drop 1 l) white)))
+        | false ↦
+            let l = take (prefix_len is_no_line_feed text) (s ∷ ss) in
+            cut-leaf bytes Data l (plain-line l (run-plain is_no_line_feed refl (s ∷ ss)))
       ]
 
   -- a string, line by line
   pub string-cut : (l : List Seat) → IsCut bytes (string_events bytes l) l
-  string-cut l = cuts bytes line_part part_length (part_events bytes Data) part-positive line-cut (length l) l (omega arith)
+  string-cut l = cuts bytes piece_at piece_length (line_events bytes) piece-positive line-cut (length l) l (omega arith)
 
   title-cut : (l : List Seat) (k : ℕ) → title_size (bytes_of l) ≡ Some k → IsCut bytes (title_events bytes (take k l)) (take k l) × (k ≤ length l)
   title-cut [] k h = absurd (cc)

@@ -49,12 +49,21 @@ empty : events_in (codes "(<> '')")
     ∷ (ResourceMarker, 6) ∷ (ResourceMarker, 7) ∷ (Resource, 7) ∷ [])
 empty = refl
 
--- a title of two lines, whose white space is data, and white space with a line ending before it
+-- a title of two lines, of which the second begins with white space, and white space with a line ending before it
 lines : events_in (codes "(<a>\n 'b\n c')")
     ≡ Some
     ((Resource, 0) ∷ (ResourceMarker, 0) ∷ (ResourceMarker, 1) ∷ (ResourceDestination, 1) ∷ (ResourceDestinationLiteral, 1) ∷ (ResourceDestinationLiteralMarker, 1)
     ∷ (ResourceDestinationLiteralMarker, 2) ∷ (ResourceDestinationString, 2) ∷ (Data, 2) ∷ (Data, 3) ∷ (ResourceDestinationString, 3) ∷ (ResourceDestinationLiteralMarker, 3)
     ∷ (ResourceDestinationLiteralMarker, 4) ∷ (ResourceDestinationLiteral, 4) ∷ (ResourceDestination, 4) ∷ (LineEnding, 4) ∷ (LineEnding, 5) ∷ (SpaceOrTab, 5) ∷ (SpaceOrTab, 6) ∷ (ResourceTitle, 6)
-    ∷ (ResourceTitleMarker, 6) ∷ (ResourceTitleMarker, 7) ∷ (ResourceTitleString, 7) ∷ (Data, 7) ∷ (Data, 8) ∷ (LineEnding, 8) ∷ (LineEnding, 9) ∷ (Data, 9) ∷ (Data, 11) ∷ (ResourceTitleString, 11)
+    ∷ (ResourceTitleMarker, 6) ∷ (ResourceTitleMarker, 7) ∷ (ResourceTitleString, 7) ∷ (Data, 7) ∷ (Data, 8) ∷ (LineEnding, 8) ∷ (LineEnding, 9) ∷ (SpaceOrTab, 9) ∷ (SpaceOrTab, 10) ∷ (Data, 10) ∷ (Data, 11) ∷ (ResourceTitleString, 11)
     ∷ (ResourceTitleMarker, 11) ∷ (ResourceTitleMarker, 12) ∷ (ResourceTitle, 12) ∷ (ResourceMarker, 12) ∷ (ResourceMarker, 13) ∷ (Resource, 13) ∷ [])
 lines = refl
+
+-- a title whose last line is white space alone
+white : events_in (codes "(a '\n ')")
+    ≡ Some
+    ((Resource, 0) ∷ (ResourceMarker, 0) ∷ (ResourceMarker, 1) ∷ (ResourceDestination, 1) ∷ (ResourceDestinationRaw, 1) ∷ (ResourceDestinationString, 1) ∷ (Data, 1) ∷ (Data, 2)
+    ∷ (ResourceDestinationString, 2) ∷ (ResourceDestinationRaw, 2) ∷ (ResourceDestination, 2) ∷ (SpaceOrTab, 2) ∷ (SpaceOrTab, 3) ∷ (ResourceTitle, 3) ∷ (ResourceTitleMarker, 3)
+    ∷ (ResourceTitleMarker, 4) ∷ (ResourceTitleString, 4) ∷ (LineEnding, 4) ∷ (LineEnding, 5) ∷ (SpaceOrTab, 5) ∷ (SpaceOrTab, 6) ∷ (ResourceTitleString, 6) ∷ (ResourceTitleMarker, 6)
+    ∷ (ResourceTitleMarker, 7) ∷ (ResourceTitle, 7) ∷ (ResourceMarker, 7) ∷ (ResourceMarker, 8) ∷ (Resource, 8) ∷ [])
+white = refl

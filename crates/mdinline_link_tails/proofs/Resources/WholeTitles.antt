@@ -12,7 +12,7 @@ use Rattle.mdinline_link_tails.proofs.Resources.Gaps.{in_resource_only, stop_kep
 use Rattle.mdinline_link_tails.proofs.Resources.Lines.{feed-first}
 use Rattle.mdinline_link_tails.proofs.Resources.Marks.{marks-spelled, unmarked-is, up-to}
 use Rattle.mdinline_link_tails.proofs.Resources.Steps.{PlaysResources, Does, yes, no, here, seen, enters_at, exits_at, exits_past, Finds, stands, left, fails, fails-here, reads, stays}
-use Rattle.mdinline_link_tails.proofs.Resources.Titles.{IsPassed, Place, inside, inside_look, is_bare, is_hidden, escape, in_line, in_string, mark_kept, name_of, reads-title, title-ends, title-goes, title-nests, title_from, title_inside}
+use Rattle.mdinline_link_tails.proofs.Resources.Titles.{IsPassed, Place, inside, inside_look, is_hidden, escape, in_line, in_string, mark_kept, name_of, reads-title, title-ends, title-goes, title-nests, title_from, title_inside}
 use Rattle.mdinline_link_tails.proofs.Resources.Touched.{touched, touched-call}
 
 -- what states share, with the number of what follows white space, or with the mark of a title
@@ -131,7 +131,7 @@ module _ (g : Given) (text : Text) (m : Plays g text) (r : PlaysResources g text
                         subst (Finds g text m cs p far events seats calls k TitleBegin) (onward (title_inside mark true false bs) goes.0)
                         (reads g text m cs p far events seats (4 * length vs + 2) calls in_title in_string q1 x1 (xs ++ line) local (counts local) TitleBegin TitleAfterEol v vs (ends_line (enter ResourceTitleString ∷ []) TitleAfterEol)
                         (option_and_then f (behind (0 + 1) (title_inside mark true false bs))) es there (omega arith) (touched-call local) (yes g text m k TitleBegin has2 (seen g text m (λ c. c == 10) true q1 v vs there feed)) made (λ e i. i)
-                        ((reads-title g text m r cs p far events seats q1 (v ∷ vs) mark xs f total ends vs).1 line (0 + 1) (q1 + 1) (counts local) (omega arith) (omega arith) next_at refl kept
+                        ((reads-title g text m r cs p far events seats q1 (v ∷ vs) mark xs f total ends vs).1.1 line (0 + 1) (q1 + 1) (counts local) (omega arith) (omega arith) next_at refl kept
                         (record { made = λ l. feed-first g.bytes v l feed }) (λ none. omega (arith, short (goes.0 ∙ ap one_more none), goes.1)) (whole (title_inside mark true false bs) goes.0)))
                     | false ↦ λ plain.
                         let has3 = no g text m k TitleBegin has2 (seen g text m (λ c. c == 10) false q1 v vs there plain) in
@@ -140,7 +140,7 @@ module _ (g : Given) (text : Text) (m : Plays g text) (r : PlaysResources g text
                         let made : es ≡ events ++ (xs ++ ([] ++ begins ∷ [])) =
                         ap (λ o. ((events ++ x1) ++ enters_at g text ResourceTitleString q1 ∷ []) ++ event g.bytes Enter Data (point_or text.end o) ∷ []) (at-front text.seats q1 v vs there)
                         ∙ ap (λ e. e ++ begins ∷ []) entered ∙ append_assoc events xs (begins ∷ []) in
-                        let into = λ (a : Place) (goes : IsPassed mark false false b bs (is_bare a) (is_hidden a)) (does : Does g text m k TitleBegin (reads_on (enter ResourceTitleString ∷ enter Data ∷ []) (name_of a))).
+                        let into = λ (a : Place) (goes : IsPassed mark false false b bs false (is_hidden a)) (does : Does g text m k TitleBegin (reads_on (enter ResourceTitleString ∷ enter Data ∷ []) (name_of a))).
                         subst (Finds g text m cs p far events seats calls k TitleBegin) (onward (title_from mark a bs) goes.0)
                         (reads g text m cs p far events seats (4 * length vs + 2) calls in_title in_line q1 x1 (xs ++ ([] ++ begins ∷ [])) local (counts local) TitleBegin (name_of a) v vs (reads_on (enter ResourceTitleString ∷ enter Data ∷ []) (name_of a))
                         (option_and_then f (behind (0 + 1) (title_from mark a bs))) es there (omega arith) (touched-call local) does made (λ e i. i)
