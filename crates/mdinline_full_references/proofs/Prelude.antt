@@ -10,7 +10,7 @@ pub use Rattle.markdown_base.specs.Virtual.{Seat, end_after}
 pub use Rattle.markdown_base.specs.declared.event.Event.{Event}
 pub use Rattle.markdown_base.specs.declared.event.Kind.TheVariants.{Enter, Exit}
 pub use Rattle.markdown_base.specs.declared.event.Name.{Name as EventName}
-pub use Rattle.markdown_base.specs.declared.event.Name.TheVariants.{Data, LineEnding, Reference, ReferenceMarker, ReferenceString}
+pub use Rattle.markdown_base.specs.declared.event.Name.TheVariants.{Data, LineEnding, Reference, ReferenceMarker, ReferenceString, SpaceOrTab}
 pub use Rattle.markdown_base.specs.declared.state.Name.{Name}
 pub use Rattle.markdown_base.specs.declared.state.State.TheVariants.{Next, Nok, Ok, Retry}
 pub use Rattle.markdown_base.specs.declared.state.TheConstants.Name.{LabelEndReferenceFull, LabelEolAfter, LabelEscape, LabelInside, LabelStart}

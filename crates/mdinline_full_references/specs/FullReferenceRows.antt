@@ -3,7 +3,7 @@ use Rattle.std.specs.Prelude.{ℕ, ◌+◌, ◌==◌, ◌&&◌, not, nat_le, Boo
 use Rattle.std.specs.List.{list_any}
 use Rattle.markdown_base.specs.declared.event.Event.{Event}
 use Rattle.markdown_base.specs.declared.event.Name.{Name as EventName}
-use Rattle.markdown_base.specs.declared.event.Name.TheVariants.{Data, LineEnding, Reference, ReferenceMarker, ReferenceString}
+use Rattle.markdown_base.specs.declared.event.Name.TheVariants.{Data, LineEnding, Reference, ReferenceMarker, ReferenceString, SpaceOrTab}
 use Rattle.markdown_base.specs.declared.state.Name.{Name}
 use Rattle.markdown_base.specs.declared.state.State.TheVariants.{Next, Retry, Ok, Nok}
 use Rattle.markdown_base.specs.declared.state.TheConstants.Name.{TextBeforeData, LabelEndReferenceFull, LabelStart, LabelInside, LabelEscape, LabelEolAfter}
@@ -123,12 +123,13 @@ module _ {R D : Type 0} where
   abbrev pub label_line_rows : Rows R D
   label_line_rows =
       when (waits 93) (ends_label [])
-      (when (waits 91) no_label (when (waits 10) no_label (when (shows is_white) (reads_on (enter Data ∷ []) LabelLineWhite) (reads_line (enter Data ∷ [])))))
+      (when (waits 91) no_label (when (waits 10) no_label (when (shows is_white) (reads_on (enter SpaceOrTab ∷ []) LabelLineWhite) (reads_line (enter Data ∷ [])))))
 
   -- In white space behind it
   abbrev pub label_white_rows : Rows R D
   label_white_rows =
-      when (waits 93) (ends_label (exit Data ∷ [])) (when (waits 91) no_label (when (waits 10) no_label (when (shows is_white) (reads_on [] LabelLineWhite) (reads_line []))))
+      when (waits 93) (ends_label (exit SpaceOrTab ∷ []))
+      (when (waits 91) no_label (when (waits 10) no_label (when (shows is_white) (reads_on [] LabelLineWhite) (reads_line (exit SpaceOrTab ∷ enter Data ∷ [])))))
 
   -- At its `]`: what was read has to be a label, and one that is wanted. If it is not wanted, it is noted that one is there
   abbrev pub label_end_rows : (wanted : Given → Sight → Configuration R D → Bool) → Rows R D
@@ -155,7 +156,7 @@ module _ {R D : Type 0} where
   label_line = reference_state LabelEolAfter (at_bytes_only label_line_rows) (Reference ∷ ReferenceString ∷ []) 2
 
   abbrev pub label_white : StateRows TextByte R D
-  label_white = reference_state LabelLineWhite (at_bytes_only label_white_rows) (Reference ∷ ReferenceString ∷ Data ∷ []) 2
+  label_white = reference_state LabelLineWhite (at_bytes_only label_white_rows) (Reference ∷ ReferenceString ∷ SpaceOrTab ∷ []) 2
 
   abbrev pub label_end : (wanted : Given → Sight → Configuration R D → Bool) → StateRows TextByte R D
   label_end wanted = reference_state LabelEndReferenceFullEnd (at_bytes_only (label_end_rows wanted)) (Reference ∷ []) 1

@@ -158,7 +158,7 @@ pub fn label_line<'a, M: MachineTypes>(t: &mut Tokenizer<'a, M>) -> Result<State
                 Ok(State::Nok)
             } else if white_waits(t) {
                 count_byte(t);
-                t.enter(event::Name::Data)?;
+                t.enter(event::Name::SpaceOrTab)?;
                 t.consume();
                 Ok(State::Next(names::LabelLineWhite))
             } else if waits(t, b'\\') {
@@ -185,7 +185,7 @@ pub fn label_white<'a, M: MachineTypes>(t: &mut Tokenizer<'a, M>) -> Result<Stat
         None => Ok(State::Nok),
         Some(_) => {
             if waits(t, b']') {
-                t.exit(event::Name::Data)?;
+                t.exit(event::Name::SpaceOrTab)?;
                 t.exit(event::Name::ReferenceString)?;
                 Ok(State::Retry(names::LabelEndReferenceFullEnd))
             } else if waits(t, b'[') {
@@ -198,10 +198,14 @@ pub fn label_white<'a, M: MachineTypes>(t: &mut Tokenizer<'a, M>) -> Result<Stat
                 Ok(State::Next(names::LabelLineWhite))
             } else if waits(t, b'\\') {
                 count_byte(t);
+                t.exit(event::Name::SpaceOrTab)?;
+                t.enter(event::Name::Data)?;
                 t.consume();
                 Ok(State::Next(Name::LabelEscape))
             } else {
                 count_byte(t);
+                t.exit(event::Name::SpaceOrTab)?;
+                t.enter(event::Name::Data)?;
                 t.consume();
                 Ok(State::Next(Name::LabelInside))
             }

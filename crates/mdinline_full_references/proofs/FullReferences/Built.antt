@@ -2,11 +2,11 @@
 use Rattle.std.proofs.Common.{◌≡◌, ℕ, ◌-◌, List, Bool, true, false, cond, Some, None, refl, subst, take, drop, length}
 use Rattle.std.specs.Option.{option_and_then}
 use Rattle.markdown_base.specs.declared.event.Event.{Event}
-use Rattle.markdown_base.specs.declared.event.Name.TheVariants.{Data, Reference, ReferenceMarker, ReferenceString}
-use Rattle.mdinline_text_machine.proofs.Texts.Built.{IsBuilt, IsKeptBySpans, flat-built, part-built, three}
+use Rattle.markdown_base.specs.declared.event.Name.TheVariants.{Reference, ReferenceMarker, ReferenceString}
+use Rattle.mdinline_text_machine.proofs.Texts.Built.{IsBuilt, IsKeptBySpans, three}
 use Rattle.mdinline_text_machine.specs.Construct.{Found}
-use Rattle.mdinline_text_machine.specs.Parts.{cut, part_events, part_length}
-use Rattle.mdinline_link_tails.specs.Resource.{line_part, string_events, unmarked}
+use Rattle.mdinline_link_tails.proofs.Resources.Built.{lines-built}
+use Rattle.mdinline_link_tails.specs.Resource.{string_events, unmarked}
 use Rattle.mdinline_full_references.specs.FullReference.{full_reference, full_reference_grammar, label_length, label_string, label_text}
 
 module _ (bytes : List ℕ) (P : List Event → Type 0) (kept : IsKeptBySpans bytes P) where
@@ -14,8 +14,7 @@ module _ (bytes : List ℕ) (P : List Event → Type 0) (kept : IsKeptBySpans by
   pub reference-built : (n : ℕ) → IsBuilt bytes P kept (full_reference n)
   reference-built n seats =
       let inside = unmarked bytes seats in
-      let lines = flat-built bytes P kept (part_events bytes Data) (cut line_part part_length (length inside) inside) (part-built bytes P kept Data) in
-      let string = kept.around ReferenceString inside (string_events bytes inside) refl lines in
+      let string = kept.around ReferenceString inside (string_events bytes inside) refl (lines-built bytes P kept inside) in
       kept.around Reference seats _ refl (three bytes P kept ReferenceMarker ReferenceMarker (take 1 seats) (drop (length seats - 1) seats) (label_string bytes inside) string)
 
   -- so of one that is found

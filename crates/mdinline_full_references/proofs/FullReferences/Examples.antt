@@ -3,7 +3,7 @@ use Rattle.std.proofs.Common.{◌≡◌, ℕ, List, [], ◌∷◌, ◌++◌, Boo
 use Rattle.std.specs.Prelude.{codes, map, option_map, replicate}
 use Rattle.markdown_base.specs.declared.event.Event.{Event}
 use Rattle.markdown_base.specs.declared.event.Name.{Name}
-use Rattle.markdown_base.specs.declared.event.Name.TheVariants.{Data, LineEnding, Reference, ReferenceMarker, ReferenceString}
+use Rattle.markdown_base.specs.declared.event.Name.TheVariants.{Data, LineEnding, Reference, ReferenceMarker, ReferenceString, SpaceOrTab}
 use Rattle.markdown_base.specs.Virtual.{virtual}
 use Rattle.mdinline_text_machine.specs.Construct.{Found}
 use Rattle.mdinline_full_references.specs.FullReference.{full_reference_grammar, label_length}
@@ -67,9 +67,16 @@ one-line : events_in (codes "[a]")
     ∷ (Reference, 3) ∷ [])
 one-line = refl
 
--- a line ending stands between lines, and white space is data
+-- a line ending stands between lines, and a further line may begin with white space
 lines : events_in (codes "[\na\n b]")
     ≡ Some
     ((Reference, 0) ∷ (ReferenceMarker, 0) ∷ (ReferenceMarker, 1) ∷ (ReferenceString, 1) ∷ (LineEnding, 1) ∷ (LineEnding, 2) ∷ (Data, 2) ∷ (Data, 3) ∷ (LineEnding, 3) ∷ (LineEnding, 4)
-    ∷ (Data, 4) ∷ (Data, 6) ∷ (ReferenceString, 6) ∷ (ReferenceMarker, 6) ∷ (ReferenceMarker, 7) ∷ (Reference, 7) ∷ [])
+    ∷ (SpaceOrTab, 4) ∷ (SpaceOrTab, 5) ∷ (Data, 5) ∷ (Data, 6) ∷ (ReferenceString, 6) ∷ (ReferenceMarker, 6) ∷ (ReferenceMarker, 7) ∷ (Reference, 7) ∷ [])
 lines = refl
+
+-- the last line may be white space alone
+last-white : events_in (codes "[a\n ]")
+    ≡ Some
+    ((Reference, 0) ∷ (ReferenceMarker, 0) ∷ (ReferenceMarker, 1) ∷ (ReferenceString, 1) ∷ (Data, 1) ∷ (Data, 2) ∷ (LineEnding, 2) ∷ (LineEnding, 3) ∷ (SpaceOrTab, 3) ∷ (SpaceOrTab, 4)
+    ∷ (ReferenceString, 4) ∷ (ReferenceMarker, 4) ∷ (ReferenceMarker, 5) ∷ (Reference, 5) ∷ [])
+last-white = refl

@@ -1,23 +1,25 @@
 -- The events of the string of a label, and where it stands: behind the last event that enters one.
-use Rattle.std.proofs.Common.{◌≡◌, ◌⊎◌, inl, inr, ℕ, zero, suc, ◌<◌, ◌&&◌, ◌||◌, not, true, false, cond, List, [], ◌∷◌, ◌++◌, arith, drop, get_or, length, refl, ap, ◌∙◌}
+use Rattle.std.proofs.Common.{◌≡◌, ◌⊎◌, inl, inr, ℕ, zero, suc, ◌<◌, ◌&&◌, ◌||◌, not, true, false, cond, List, [], ◌∷◌, ◌++◌, arith, drop, get_or, length, refl, take, ap, ◌∙◌}
 use Rattle.std.proofs.Math.Bool.{and-false, or-true}
 use Rattle.std.proofs.lemmas.Bool.{or_parts}
 use Rattle.std.proofs.lemmas.List.Folds.{list_any-append, list_any_at}
 use Rattle.std.specs.List.{AllByRecursion, flat_map, list_any}
 use Rattle.markdown_base.specs.declared.event.Event.{Event}
 use Rattle.markdown_base.specs.declared.event.Kind.TheVariants.{Exit}
-use Rattle.markdown_base.specs.declared.event.Name.TheVariants.{Data, LineEnding, ReferenceString}
+use Rattle.markdown_base.specs.declared.event.Name.{Name}
+use Rattle.markdown_base.specs.declared.event.Name.TheVariants.{Data, LineEnding, ReferenceString, SpaceOrTab}
 use Rattle.markdown_base.specs.Events.{is_enter, same_name}
 use Rattle.markdown_base.specs.Virtual.{Seat, end_after}
 use Rattle.mdconstructs_machines.specs.Spans.{event}
-use Rattle.mdinline_text_machine.specs.Parts.{Part, bytes_of, cut, line_ending, part_events, part_length, plain_run}
-use Rattle.mdinline_link_tails.specs.Resource.{line_part, string_events}
+use Rattle.mdinline_constructs.specs.HtmlText.{Piece, data_run, line_break, piece_at, piece_length}
+use Rattle.mdinline_text_machine.specs.Parts.{bytes_of, cut, leaf}
+use Rattle.mdinline_link_tails.specs.Resource.{line_events, string_events}
 use Rattle.mdinline_full_references.specs.FullReference.{label_string}
 use Rattle.mdinline_full_references.specs.FullReferenceRows.{begins_label, label_behind}
 
--- an event of a line, or of a line ending
+-- an event of a line, of a line ending, or of the white space behind it
 abbrev pub IsOfLines : Event → Type 0
-IsOfLines e = (e.name ≡ Data) ⊎ (e.name ≡ LineEnding)
+IsOfLines e = (e.name ≡ Data) ⊎ ((e.name ≡ LineEnding) ⊎ (e.name ≡ SpaceOrTab))
 
 both : (es fs : List Event) → AllByRecursion IsOfLines es → AllByRecursion IsOfLines fs → AllByRecursion IsOfLines (es ++ fs)
 both [] fs h i = i
@@ -26,25 +28,28 @@ both (e ∷ es) fs h i = (h.0, both es fs h.1 i)
 -- it enters no string of a label
 of-lines : (e : Event) → IsOfLines e → begins_label e ≡ false
 of-lines e (inl h) = ap (λ n. is_enter e.kind && same_name n ReferenceString) h ∙ and-false (is_enter e.kind)
-of-lines e (inr h) = ap (λ n. is_enter e.kind && same_name n ReferenceString) h ∙ and-false (is_enter e.kind)
+of-lines e (inr (inl h)) = ap (λ n. is_enter e.kind && same_name n ReferenceString) h ∙ and-false (is_enter e.kind)
+of-lines e (inr (inr h)) = ap (λ n. is_enter e.kind && same_name n ReferenceString) h ∙ and-false (is_enter e.kind)
 
 none-begins : (es : List Event) → AllByRecursion IsOfLines es → list_any begins_label es ≡ false
 none-begins [] h = refl
 none-begins (e ∷ es) h = ap (λ t. t || list_any begins_label es) (of-lines e h.0) ∙ none-begins es h.1
 
 module _ (bytes : List ℕ) where
-  part-named : (p : Part) (l : List Seat) → AllByRecursion IsOfLines (part_events bytes Data (p, l))
-  part-named line_ending [] = tt
-  part-named line_ending (s ∷ ss) = (inr refl, (inr refl, tt))
-  part-named (plain_run n) [] = tt
-  part-named (plain_run n) (s ∷ ss) = (inl refl, (inl refl, tt))
+  leaf-named : (n : Name) (l : List Seat) → ((n ≡ Data) ⊎ ((n ≡ LineEnding) ⊎ (n ≡ SpaceOrTab))) → AllByRecursion IsOfLines (leaf bytes n l)
+  leaf-named n [] h = tt
+  leaf-named n (s ∷ ss) h = (h, (h, tt))
 
-  cut-named : (n : ℕ) (l : List Seat) → AllByRecursion IsOfLines (flat_map (part_events bytes Data) (cut line_part part_length n l))
+  line-named : (p : Piece) (l : List Seat) → AllByRecursion IsOfLines (line_events bytes (p, l))
+  line-named (line_break n) l = both (leaf bytes LineEnding (take 1 l)) (leaf bytes SpaceOrTab (drop 1 l)) (leaf-named LineEnding (take 1 l) (inr (inl refl))) (leaf-named SpaceOrTab (drop 1 l) (inr (inr refl)))
+  line-named (data_run n) l = leaf-named Data l (inl refl)
+
+  cut-named : (n : ℕ) (l : List Seat) → AllByRecursion IsOfLines (flat_map (line_events bytes) (cut piece_at piece_length n l))
   cut-named zero l = tt
   cut-named (suc n) [] = tt
-  cut-named (suc n) (s ∷ ss) = both _ _ (part-named (line_part (bytes_of (s ∷ ss))) _) (cut-named n _)
+  cut-named (suc n) (s ∷ ss) = both _ _ (line-named (piece_at (bytes_of (s ∷ ss))) _) (cut-named n _)
 
-  -- A string has events of lines and of line endings alone
+  -- A string has events of lines, line endings and white space alone
   pub string-named : (l : List Seat) → AllByRecursion IsOfLines (string_events bytes l)
   string-named l = cut-named (length l) l
 

@@ -10,7 +10,7 @@ use Rattle.mdinline_labels.specs.Tails.{behind, label_size, one_more}
 use Rattle.mdinline_link_tails.specs.Resource.{in_marks, string_events}
 use Rattle.mdinline_link_tails.proofs.Resources.Marks.{marks-spelled, unmarked-is, up-to}
 use Rattle.mdinline_link_tails.proofs.Resources.Steps.{Does, yes, no, here, seen, enters_at, exits_at, exits_past}
-use Rattle.mdinline_link_tails.proofs.Resources.Titles.{Place, inside, escape, is_bare, is_hidden}
+use Rattle.mdinline_link_tails.proofs.Resources.Titles.{Place, inside, escape, is_hidden}
 use Rattle.mdinline_link_tails.proofs.Resources.Touched.{touched-call}
 use Rattle.mdinline_full_references.specs.FullReference.{full_reference, label_string}
 use Rattle.mdinline_full_references.specs.FullReferenceLooks.{label_look}
@@ -198,7 +198,7 @@ module _ (g : Given) (text : Text) (m : Plays g text) (wanted : Given → Sight 
                   subst (Finds g text m cs p far events (s ∷ ss) calls k LabelStart) (onward (in_label true false bs) goes.0)
                   (reads g text m cs p far events (s ∷ ss) (2 * length vs + 2) calls (Reference ∷ []) in_string q1 opened (xs ++ line) local (with_read text q1 local) LabelStart LabelEolAfter v vs (ends_line (enter ReferenceString ∷ []))
                   (option_and_then f (behind (0 + 1) (in_label true false bs))) es there (omega arith) (touched-read text q1 local) (yes g text m k LabelStart has1 (seen g text m (λ c. c == 10) true q1 v vs there feed)) made (λ e i. i)
-                  (reads_on_from.1 line (0 + 1) (q1 + 1) (with_read text q1 local) (omega arith) (omega arith) next_at refl counted_it
+                  (reads_on_from.1.1 line (0 + 1) (q1 + 1) (with_read text q1 local) (omega arith) (omega arith) next_at refl counted_it
                   (record { made = λ l. feed-first g.bytes v l feed }) (λ none. reach (inside_look true false bs) goes.1 (goes.0 ∙ ap one_more none)) (whole (in_label true false bs) goes.0)))
               | false ↦ λ other.
                   let has2 = no g text m k LabelStart has1 (seen g text m (λ c. c == 10) false q1 v vs there other) in
@@ -207,12 +207,12 @@ module _ (g : Given) (text : Text) (m : Plays g text) (wanted : Given → Sight 
                   let made : es ≡ events ++ (xs ++ ([] ++ begins ∷ [])) =
                   ap (λ o. ((events ++ opened) ++ enters_at g text ReferenceString q1 ∷ []) ++ event g.bytes Enter Data (point_or text.end o) ∷ []) (at-front text.seats q1 v vs there)
                   ∙ ap (λ e. e ++ begins ∷ []) entered ∙ append_assoc events xs (begins ∷ []) in
-                  let into = λ (a : Place) (goes : IsPassed false false b bs (is_bare a) (is_hidden a)) (does : Does g text m k LabelStart (reads_on (enter ReferenceString ∷ enter Data ∷ []) (name_of a))).
+                  let into = λ (a : Place) (goes : IsPassed false false b bs false (is_hidden a)) (does : Does g text m k LabelStart (reads_on (enter ReferenceString ∷ enter Data ∷ []) (name_of a))).
                   subst (Finds g text m cs p far events (s ∷ ss) calls k LabelStart) (onward (label_from a bs) goes.0)
                   (reads g text m cs p far events (s ∷ ss) (2 * length vs + 2) calls (Reference ∷ []) in_line q1 opened (xs ++ ([] ++ begins ∷ [])) local (with_read text q1 local) LabelStart (name_of a) v vs
                   (reads_on (enter ReferenceString ∷ enter Data ∷ []) (name_of a)) (option_and_then f (behind (0 + 1) (label_from a bs))) es there (omega arith) (touched-read text q1 local) does made (λ e i. i)
                   (reads_on_from.0 a [] v [] (0 + 1) (q1 + 1) (with_read text q1 local) (omega arith) (omega arith) next_at refl counted_it (ap not other, tt)
-                  (place-behind text q1 v (at-front text.seats q1 v vs there)) (record { made = λ l. refl }) (λ none. reach (inside_look (is_bare a) (is_hidden a) bs) goes.1 (goes.0 ∙ ap one_more none)) (whole (label_from a bs) goes.0))) in
+                  (place-behind text q1 v (at-front text.seats q1 v vs there)) (record { made = λ l. refl }) (λ none. reach (inside_look false (is_hidden a) bs) goes.1 (goes.0 ∙ ap one_more none)) (whole (label_from a bs) goes.0))) in
                   elim (b == 92) as (λ t. (b == 92) ≡ t → Now) [
                     | true ↦ λ w. into escape (label-goes false b bs false true plain.1 plain.0 refl (ap (λ t. t || false) other) w) (yes g text m k LabelStart has2 (seen g text m (λ c. c == 92) true q1 v vs there w))
                     | false ↦ λ w. into inside (label-goes false b bs false false plain.1 plain.0 refl (ap (λ t. t || false) other) w) (no g text m k LabelStart has2 (seen g text m (λ c. c == 92) false q1 v vs there w))
