@@ -1,5 +1,7 @@
 -- Labels as the machine of inline text sees them, through the events that were read: that of a full reference, and the own label of a bracket.
 use Rattle.std.specs.Prelude.{nat_lt}
+use Rattle.markdown_base.specs.declared.event.Name.{Name}
+use Rattle.markdown_base.specs.declared.event.Name.TheVariants.{LineEnding, SpaceOrTab}
 use Rattle.markdown_base.specs.declared.event.Point.{Point}
 use Rattle.markdown_base.specs.Events.{is_enter}
 use Rattle.markdown_base.specs.Places.{shown, stands_before}
@@ -11,9 +13,9 @@ use Rattle.mdinline_full_references.proofs.FullReferences.WholeLabels.{Tells}
 use Rattle.mdinline_full_references.specs.FullReference.{label_string}
 use Rattle.mdinline_full_references.specs.FullReferenceRows.{label_behind}
 use Rattle.mdconstructs_machines.specs.Innermost.{ended_next, innermost_spans}
-use Rattle.mdinline_link_tails.specs.Resource.{string_events}
-use Rattle.mdinline_text_machine.specs.Parts.{Part, line_ending, part_events, plain_run, cut, part_length}
-use Rattle.mdinline_link_tails.specs.Resource.{line_part}
+use Rattle.mdinline_constructs.specs.HtmlText.{Piece, data_run, line_break, piece_at, piece_length}
+use Rattle.mdinline_link_tails.specs.Resource.{line_events, string_events}
+use Rattle.mdinline_text_machine.specs.Parts.{cut, leaf}
 use Rattle.mdinline_labels.specs.Labels.{is_label}
 use Rattle.mdinline_machine.specs.Brackets.{bytes_before, is_defined_label, is_wanted_at, spanned_bytes}
 use Rattle.mdinline_machine.specs.BracketRows.{label_is_wanted, read_before}
@@ -64,19 +66,21 @@ both-shut (x ∷ []) [] h k = h
 both-shut (x ∷ []) (y ∷ ys) h k = k
 both-shut (x ∷ z ∷ xs) ys h k = both-shut (z ∷ xs) ys h k
 
-part-shut : (bytes : List ℕ) (p : Part) (l : List Seat) → EndsShut (part_events bytes Data (p, l))
-part-shut bytes line_ending [] = tt
-part-shut bytes line_ending (s ∷ ss) = refl
-part-shut bytes (plain_run n) [] = tt
-part-shut bytes (plain_run n) (s ∷ ss) = refl
+leaf-shut : (bytes : List ℕ) (n : Name) (l : List Seat) → EndsShut (leaf bytes n l)
+leaf-shut bytes n [] = tt
+leaf-shut bytes n (s ∷ ss) = refl
 
-parts-shut : (bytes : List ℕ) (n : ℕ) (l : List Seat) → EndsShut (flat_map (part_events bytes Data) (cut line_part part_length n l))
-parts-shut bytes zero l = tt
-parts-shut bytes (suc n) [] = tt
-parts-shut bytes (suc n) (s ∷ ss) =
-    let p = line_part (bytes_of (s ∷ ss)) in
-    both-shut (part_events bytes Data (p, take (part_length p) (s ∷ ss))) (flat_map (part_events bytes Data) (cut line_part part_length n (drop (part_length p) (s ∷ ss)))) (part-shut bytes p (take (part_length p) (s ∷ ss)))
-    (parts-shut bytes n (drop (part_length p) (s ∷ ss)))
+line-shut : (bytes : List ℕ) (p : Piece) (l : List Seat) → EndsShut (line_events bytes (p, l))
+line-shut bytes (line_break n) l = both-shut (leaf bytes LineEnding (take 1 l)) (leaf bytes SpaceOrTab (drop 1 l)) (leaf-shut bytes LineEnding (take 1 l)) (leaf-shut bytes SpaceOrTab (drop 1 l))
+line-shut bytes (data_run n) l = leaf-shut bytes Data l
+
+lines-shut : (bytes : List ℕ) (n : ℕ) (l : List Seat) → EndsShut (flat_map (line_events bytes) (cut piece_at piece_length n l))
+lines-shut bytes zero l = tt
+lines-shut bytes (suc n) [] = tt
+lines-shut bytes (suc n) (s ∷ ss) =
+    let p = piece_at (bytes_of (s ∷ ss)) in
+    both-shut (line_events bytes (p, take (piece_length p) (s ∷ ss))) (flat_map (line_events bytes) (cut piece_at piece_length n (drop (piece_length p) (s ∷ ss)))) (line-shut bytes p (take (piece_length p) (s ∷ ss)))
+    (lines-shut bytes n (drop (piece_length p) (s ∷ ss)))
 
 -- ---- the label of a full reference
 
@@ -125,7 +129,7 @@ module _ (defined : List ℕ → Bool) (g : Given) (text : Text) where
         let whole = before ++ label_string g.bytes (take i l) in
         let behind : spanned_bytes doc (label_behind whole) ≡ spanned_bytes doc string =
         ap (λ x. spanned_bytes doc (label_behind (before ++ label_string g.bytes x))) front ∙ ap (spanned_bytes doc) (label-behind g.bytes before v vs)
-        ∙ ap (flat_map (λ places. between places.0.index places.1.index doc)) (shut-more (string_events g.bytes (v ∷ vs)) _ refl (parts-shut g.bytes (length (v ∷ vs)) (v ∷ vs))) ∙ ap (λ x. spanned_bytes doc (string_events g.bytes x)) (sym front) in
+        ∙ ap (flat_map (λ places. between places.0.index places.1.index doc)) (shut-more (string_events g.bytes (v ∷ vs)) _ refl (lines-shut g.bytes (length (v ∷ vs)) (v ∷ vs))) ∙ ap (λ x. spanned_bytes doc (string_events g.bytes x)) (sym front) in
         let size = taken-length i l few in
         ap (λ doc. is_defined_label defined doc (label_behind whole)) (read-before g text is (q + i) z zs here) ∙ ap (λ label. is_label label && defined label) behind
         ∙ (λ j. is_defined_label defined (bytes_before g.bytes (sym rest j)) (string_events g.bytes (take i l)))
