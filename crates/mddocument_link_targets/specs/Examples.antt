@@ -158,7 +158,7 @@ references =
     } ∷
     []
 
--- destinations and titles with escapes and references, and a title over two lines
+-- destinations and titles with escapes and references, and a title over two lines, of which the second begins with white space
 abbrev pub decoded_strings : List LinkExample
 decoded_strings =
     record {
@@ -177,9 +177,9 @@ decoded_strings =
       events =
           span Link 0 15
           (link_label 0 3 (leaf Data 1 2)
-          ++ in_marks Resource ResourceMarker 3 15 (raw 4 5 (leaf Data 4 5) ++ (leaf SpaceOrTab 5 6 ++ title 6 14 (leaf Data 7 8 ++ (leaf LineEnding 8 10 ++ leaf Data 10 13)))));
+          ++ in_marks Resource ResourceMarker 3 15 (raw 4 5 (leaf Data 4 5) ++ (leaf SpaceOrTab 5 6 ++ title 6 14 (leaf Data 7 8 ++ (leaf LineEnding 8 10 ++ (leaf SpaceOrTab 10 12 ++ leaf Data 12 13))))));
       at = 0;
-      target = parts (codes "u") (Some (codes "t\n  v"));
+      target = parts (codes "u") (Some (codes "t\nv"));
     } ∷
     []
 
