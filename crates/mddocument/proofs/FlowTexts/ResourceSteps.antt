@@ -1,5 +1,5 @@
 -- The events of a resource are of neither runs nor brackets.
-use Rattle.mddocument.proofs.Prelude.{◌≡◌, ℕ, ◌-◌, true, false, cond, List, [], ◌∷◌, ◌++◌, Option, Some, None, length, take, drop, refl, subst, option_map, AllByRecursion, between, flat_map, prefix_len, every-append, Data, Event, LineEnding, SpaceOrTab, Seat, leaf, span, Found, bytes_of, cut, part_events, Part}
+use Rattle.mddocument.proofs.Prelude.{◌≡◌, ℕ, ◌-◌, true, false, cond, List, [], ◌∷◌, ◌++◌, Option, Some, None, length, take, drop, refl, subst, option_map, AllByRecursion, between, flat_map, prefix_len, every-append, Data, Event, LineEnding, SpaceOrTab, Seat, leaf, span, Found, bytes_of, cut, piece_at, piece_length}
 use Rattle.markdown_base.specs.declared.event.Name.{Name}
 use Rattle.markdown_base.specs.declared.event.Name.TheVariants.{Resource, ResourceDestination, ResourceDestinationLiteral, ResourceDestinationLiteralMarker, ResourceDestinationRaw, ResourceDestinationString, ResourceMarker, ResourceTitle, ResourceTitleMarker, ResourceTitleString}
 use Rattle.mdinline_labels.specs.declared.definitions.Stretch.{Stretch}
@@ -7,10 +7,10 @@ use Rattle.mdinline_labels.specs.declared.resources.Resource.{Resource as Parts}
 use Rattle.mdinline_labels.specs.Definitions.{end}
 use Rattle.mdinline_labels.specs.Resources.{resource_at}
 use Rattle.mdinline_labels.specs.Tails.{begins_with, is_white}
-use Rattle.mdinline_link_tails.specs.Resource.{behind_destination, destination_events, destination_string, gap_events, in_marks, in_resource, line_part, resource, resource_grammar, string_events, title_events, title_string, unmarked}
-use Rattle.mdinline_text_machine.specs.Parts.{part_length}
+use Rattle.mdinline_link_tails.specs.Resource.{behind_destination, destination_events, destination_string, gap_events, in_marks, in_resource, line_events, resource, resource_grammar, string_events, title_events, title_string, unmarked}
+use Rattle.mdinline_constructs.specs.HtmlText.{Piece, data_run, line_break}
 use Rattle.mddocument.proofs.Emphasis.RunAtoms.{IsOther, is_special}
-use Rattle.mddocument.proofs.FlowTexts.InlineSteps.{free-leaf, free-part, free-span, free-three}
+use Rattle.mddocument.proofs.FlowTexts.InlineSteps.{free-leaf, free-span, free-three}
 
 module _ (bytes : List ℕ) where
   abbrev pub Others : List Event → Type 0
@@ -21,9 +21,14 @@ module _ (bytes : List ℕ) where
       free-span 4 bytes name seats (leaf bytes mark (take 1 seats) ++ (inside ++ leaf bytes mark (drop (length seats - 1) seats))) h
       (free-three 4 bytes mark mark (take 1 seats) (drop (length seats - 1) seats) inside k k i)
 
-  pub free-lines : (ps : List (Part × List Seat)) → Others (flat_map (part_events bytes Data) ps)
+  free-line : (p : Piece × List Seat) → Others (line_events bytes p)
+  free-line (line_break n, seats) =
+      every-append IsOther (leaf bytes LineEnding (take 1 seats)) (leaf bytes SpaceOrTab (drop 1 seats)) (free-leaf 4 bytes LineEnding (take 1 seats) refl) (free-leaf 4 bytes SpaceOrTab (drop 1 seats) refl)
+  free-line (data_run n, seats) = free-leaf 4 bytes Data seats refl
+
+  pub free-lines : (ps : List (Piece × List Seat)) → Others (flat_map (line_events bytes) ps)
   free-lines [] = tt
-  free-lines (p ∷ ps) = every-append IsOther (part_events bytes Data p) (flat_map (part_events bytes Data) ps) (free-part 4 bytes Data refl p.0 p.1) (free-lines ps)
+  free-lines (p ∷ ps) = every-append IsOther (line_events bytes p) (flat_map (line_events bytes) ps) (free-line p) (free-lines ps)
 
   free-gap : (seats : List Seat) → Others (gap_events bytes seats)
   free-gap seats =
@@ -39,7 +44,7 @@ module _ (bytes : List ℕ) where
   free-title seats =
       let inside = unmarked bytes seats in
       free-marked ResourceTitle ResourceTitleMarker (title_string bytes inside) seats refl refl
-      (free-span 4 bytes ResourceTitleString inside (string_events bytes inside) refl (free-lines (cut line_part part_length (length inside) inside)))
+      (free-span 4 bytes ResourceTitleString inside (string_events bytes inside) refl (free-lines (cut piece_at piece_length (length inside) inside)))
 
   free-destination : (seats : List Seat) → Others (destination_events bytes seats)
   free-destination seats =

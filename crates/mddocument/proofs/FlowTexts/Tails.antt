@@ -1,12 +1,11 @@
 -- Tails of links and images: a resource; a full reference; `[]` of a collapsed reference; or nothing. Their events can be cut into innermost spans, and
 -- are of neither runs nor brackets.
 use Rattle.markdown_base.specs.declared.event.Name.TheVariants.{Reference, ReferenceMarker, ReferenceString}
-use Rattle.mddocument.proofs.Prelude.{◌≡◌, ◌≤◌, ℕ, Bool, true, false, cond, List, [], ◌∷◌, ◌++◌, Some, None, arith, length, refl, subst, and-right, option_and_then, Seat, leaf, cut, has_byte_at, bytes_of, Found, ItemCut, cut-append, cut-leaf}
+use Rattle.mddocument.proofs.Prelude.{◌≡◌, ◌≤◌, ℕ, Bool, true, false, cond, List, [], ◌∷◌, ◌++◌, Some, None, arith, length, refl, subst, and-right, option_and_then, Seat, leaf, cut, has_byte_at, bytes_of, Found, ItemCut, cut-append, cut-leaf, piece_at, piece_length}
 use Rattle.std.proofs.lemmas.List.{length-map}
 use Rattle.mdinline_text_machine.proofs.DeepSpans.Atoms.{cut-none, cut-span}
-use Rattle.mdinline_text_machine.specs.Parts.{part_length}
 use Rattle.mdinline_link_tails.proofs.Resources.Cuts.{resource-cut}
-use Rattle.mdinline_link_tails.specs.Resource.{line_part, resource_grammar, string_events, unmarked}
+use Rattle.mdinline_link_tails.specs.Resource.{resource_grammar, string_events, unmarked}
 use Rattle.mdinline_full_references.proofs.FullReferences.Cuts.{full-reference-cut}
 use Rattle.mdinline_full_references.specs.FullReference.{full_reference, full_reference_grammar, label_length, label_string, label_text}
 use Rattle.mdinline_machine.proofs.BracketBytes.{resource-fits, tail-holds}
@@ -40,7 +39,7 @@ module _ (bytes : List ℕ) where
   free-reference n seats =
       let inside = unmarked bytes seats in
       free-marked bytes Reference ReferenceMarker (label_string bytes inside) seats refl refl
-      (free-span 4 bytes ReferenceString inside (string_events bytes inside) refl (free-lines bytes (cut line_part part_length (length inside) inside)))
+      (free-span 4 bytes ReferenceString inside (string_events bytes inside) refl (free-lines bytes (cut piece_at piece_length (length inside) inside)))
 
   free-full : (text : List ℕ) (wanted : List ℕ → Bool) (tail : Found) → (full_reference_grammar wanted).front text ≡ Some tail → IsFreeTail tail
   free-full text wanted tail is =
