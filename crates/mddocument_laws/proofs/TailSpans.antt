@@ -1,5 +1,5 @@
 -- Tails of links: what spans of their names keep holds of the events of what is in them.
-use Rattle.mddocument_laws.proofs.Prelude.{Seat, leaf, span, Stretch, cut, line_ending, part_events, part_length, plain_run}
+use Rattle.mddocument_laws.proofs.Prelude.{Seat, leaf, span, Stretch, cut}
 use Rattle.std.proofs.Common.{ℕ, ◌-◌, List, [], ◌∷◌, ◌++◌, Some, None, Option, take, drop, length}
 use Rattle.std.proofs.lemmas.Bool.{cond_both}
 use Rattle.std.specs.List.{between, flat_map}
@@ -7,8 +7,9 @@ use Rattle.markdown_base.specs.declared.event.Event.{Event}
 use Rattle.markdown_base.specs.declared.event.Name.{Name}
 use Rattle.markdown_base.specs.declared.event.Name.TheVariants as name
 use Rattle.mdinline_labels.specs.Tails.{begins_with}
-use Rattle.mdinline_text_machine.specs.Parts.{Part, bytes_of}
-use Rattle.mdinline_link_tails.specs.Resource.{behind_destination, destination_events, destination_string, gap_events, in_marks, in_resource, line_part, string_events, title_events, unmarked}
+use Rattle.mdinline_constructs.specs.HtmlText.{Piece, data_run, line_break, piece_at, piece_length}
+use Rattle.mdinline_text_machine.specs.Parts.{bytes_of}
+use Rattle.mdinline_link_tails.specs.Resource.{behind_destination, destination_events, destination_string, gap_events, in_marks, in_resource, line_events, string_events, title_events, unmarked}
 
 -- the names of what is in a resource
 pub record AreInResource (May : Name → Type 0) : Type 0 where
@@ -41,13 +42,16 @@ module _ (bytes : List ℕ) (May : Name → Type 0) (Are : List Event → Type 0
       kept.span_around n seats (first ++ (inside ++ last)) p (kept.both first (inside ++ last) (leafs mark (take 1 seats) m) (kept.both inside last h (leafs mark (drop (length seats - 1) seats) m)))
 
   module _ (names : AreInResource May) where
-    line-parts : (ps : List (Part × List Seat)) → Are (flat_map (part_events bytes name.Data) ps)
-    line-parts [] = kept.none
-    line-parts ((line_ending, seats) ∷ ps) = kept.both (leaf bytes name.LineEnding seats) (flat_map (part_events bytes name.Data) ps) (leafs name.LineEnding seats names.line_ending) (line-parts ps)
-    line-parts ((plain_run k, seats) ∷ ps) = kept.both (leaf bytes name.Data seats) (flat_map (part_events bytes name.Data) ps) (leafs name.Data seats names.text) (line-parts ps)
+    line-pieces : (ps : List (Piece × List Seat)) → Are (flat_map (line_events bytes) ps)
+    line-pieces [] = kept.none
+    line-pieces ((line_break k, seats) ∷ ps) =
+        let first = leaf bytes name.LineEnding (take 1 seats) in
+        let second = leaf bytes name.SpaceOrTab (drop 1 seats) in
+        kept.both (first ++ second) (flat_map (line_events bytes) ps) (kept.both first second (leafs name.LineEnding (take 1 seats) names.line_ending) (leafs name.SpaceOrTab (drop 1 seats) names.white)) (line-pieces ps)
+    line-pieces ((data_run k, seats) ∷ ps) = kept.both (leaf bytes name.Data seats) (flat_map (line_events bytes) ps) (leafs name.Data seats names.text) (line-pieces ps)
 
     pub strings-of : (seats : List Seat) → Are (string_events bytes seats)
-    strings-of seats = line-parts (cut line_part part_length (length seats) seats)
+    strings-of seats = line-pieces (cut piece_at piece_length (length seats) seats)
 
     gaps : (seats : List Seat) → Are (gap_events bytes seats)
     gaps seats = search (kept.both, leafs, names)
