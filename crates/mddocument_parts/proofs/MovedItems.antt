@@ -42,7 +42,7 @@ use Rattle.mdinline_constructs.specs.HtmlText.{Piece, data_run as html_data, htm
 use Rattle.mdinline_constructs.specs.Reference.{Kind, decimal, hexadecimal, mark_events, marks as signs_of, named, reference, reference_at}
 use Rattle.mdinline_constructs.specs.StringItems.{is_string_special, string_data, string_grammars, string_item_at, string_part, string_seat_events}
 use Rattle.mdinline_constructs.specs.WhiteSpace.{white_space, white_space_at}
-use Rattle.mdinline_link_tails.specs.Resource.{behind_destination, destination_events, destination_string, gap_events, in_marks, in_resource, line_part, resource, resource_grammar, string_events, title_events, unmarked}
+use Rattle.mdinline_link_tails.specs.Resource.{behind_destination, destination_events, destination_string, gap_events, in_marks, in_resource, line_events, resource, resource_grammar, string_events, title_events, unmarked}
 use Rattle.mdinline_full_references.specs.FullReference.{full_reference, full_reference_grammar, label_length, label_text}
 use Rattle.mdinline_machine.specs.Brackets.{collapsed_reference, image_bracket, label_end, link_bracket, lone_end, no_tail}
 use Rattle.mdinline_machine.specs.InlineEvents.{data_length, data_run, delimiter_run, inline_grammars, line_break, run_length, run_or_part}
@@ -285,8 +285,12 @@ module _ (m : Moving) where
   inside : (s r : List Seat) → Part m s r → Part m (unmarked m.places.new s) (unmarked m.places.old r)
   inside s r p = middle 1 _ 1 _ s r refl (ap (λ n. n - 1) (same-length s r p)) p
 
+  line-moves : (a : Piece) (s r : List Seat) → Part m s r → Moves m (line_events m.places.new (a, s)) (line_events m.places.old (a, r))
+  line-moves (html_break n) s r p = two name.LineEnding name.SpaceOrTab _ _ _ _ (front s r 1 1 refl p) (back s r 1 1 refl p)
+  line-moves (html_data n) s r p = one name.Data s r p
+
   pub lines-move : (s r : List Seat) → Part m s r → Moves m (string_events m.places.new s) (string_events m.places.old r)
-  lines-move s r p = cuts m line_part part_length (λ bytes. part_events bytes name.Data) (λ t s r p. part-moves name.Data _ s r p) _ _ s r (same-length s r p) p
+  lines-move s r p = cuts m piece_at piece_length line_events (λ t s r p. line-moves _ s r p) _ _ s r (same-length s r p) p
 
   gap-moves : (s r : List Seat) → Part m s r → Moves m (gap_events m.places.new s) (gap_events m.places.old r)
   gap-moves s r p =
