@@ -19,7 +19,7 @@ use Rattle.mdhtml_document.specs.Html.{Shape, address_at, address_link, aligned,
 use Rattle.mdhtml_document.specs.HtmlLaws.{AreSafeOptions, HtmlIsFlow, are_apart, has_links, has_links_by, is_linked}
 use Rattle.mdhtml_document.specs.Names.{block_of, inline_of}
 use Rattle.mdhtml_document.specs.Spans.{Nothing, Span, Spans, events_of, spans_of}
-use Rattle.mdhtml_document.specs.Values.{alt_of, autolink_address, behind_first_line, cell_text, code_lines, code_text, html_flow, html_text, is_email, said, title_from}
+use Rattle.mdhtml_document.specs.Values.{alt_of, autolink_address, behind_first_line, cell_text, code_lines, code_text, html_flow, html_text, is_email, said}
 use Rattle.mdhtml_document.proofs.Safe.{email-is, href-is, language-is, moved, src-is}
 use Rattle.mdhtml_markup.specs.declared.addresses.Place.TheVariants as place
 use Rattle.mdhtml_markup.specs.declared.elements.Alignment.{Alignment}
@@ -95,7 +95,7 @@ first-given a names more allowed rest =
 
 titles-given : (title : Option (List ℕ)) → AreGiven (name_of_attribute (Title []) ∷ []) (flat_map attribute (titled title))
 titles-given None = flow.AreGiven.missing _ [] refl flow.AreGiven.none
-titles-given (Some t) = first-given (Title (title_from false t)) [] [] tt flow.AreGiven.none
+titles-given (Some t) = first-given (Title t) [] [] tt flow.AreGiven.none
 
 link-given : (url : List ℕ) (title : Option (List ℕ)) → is_allowed place.Href url ≡ true → AreGiven (attributes_of Anchor) (flat_map attribute (Href url ∷ titled title))
 link-given url title h = first-given (Href url) _ _ h (titles-given title)

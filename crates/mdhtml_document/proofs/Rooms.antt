@@ -26,7 +26,7 @@ use Rattle.mdhtml_document.specs.declared.names.Inline.TheVariants as inline
 use Rattle.mdhtml_document.specs.HtmlLaws.{ahead, room}
 use Rattle.mdhtml_document.specs.Names.{inline_of}
 use Rattle.mdhtml_document.specs.Spans.{Nothing, Span, Spans, events_of}
-use Rattle.mdhtml_document.specs.Values.{alt_by, alt_of, autolink_address, behind_first_line, block_lines, bytes_at, code_lines, code_text, cut, cut_at, has_last_line, html_text, is_address, is_blank, line_text, lines_from, reading_of, said, stripped, title_from}
+use Rattle.mdhtml_document.specs.Values.{alt_by, alt_of, autolink_address, behind_first_line, block_lines, bytes_at, code_lines, code_text, cut, cut_at, has_last_line, html_text, is_address, is_blank, line_text, lines_from, reading_of, said, stripped}
 use Rattle.mdinline_characters.specs.CharacterReferences.{Reference, character_references}
 use Rattle.mdinline_characters.specs.References.{characters_in, characters_of}
 
@@ -351,11 +351,3 @@ module _ (bytes : List ℕ) (tab : ℕ) where
       let rooms = room-append tab (events_of s) (f ∷ events_of behind) in
       let long = length-append (alt_by bytes (inline_of e.name) (events_of s) (said bytes e f s) (alt_of bytes s)) (alt_of bytes behind) in
       omega (arith, here, rest, rooms, long)
-
--- a title, without blanks
-pub title-le : (start : Bool) (t : List ℕ) → length (title_from start t) ≤ length t
-title-le start [] = omega arith
-title-le start (b ∷ bs) =
-    let h = title-le true bs in
-    let k = title-le (b == 10) bs in
-    cond-le (start && is_blank b) (title_from true bs) (b ∷ title_from (b == 10) bs) (length (b ∷ bs)) (omega (arith, h)) (omega (arith, k))

@@ -20,7 +20,7 @@ use Rattle.mdhtml_document.specs.Html.{Shape, address_at, address_link, aligned,
 use Rattle.mdhtml_document.specs.HtmlLaws.{AreSafeOptions, HtmlIsSafe, HtmlKeepsText}
 use Rattle.mdhtml_document.specs.Names.{block_of, inline_of}
 use Rattle.mdhtml_document.specs.Spans.{Nothing, Span, Spans, events_of, spans_of}
-use Rattle.mdhtml_document.specs.Values.{autolink_address, behind_first_line, cell_text, code_lines, code_text, html_flow, html_text, is_email, title_from}
+use Rattle.mdhtml_document.specs.Values.{autolink_address, behind_first_line, cell_text, code_lines, code_text, html_flow, html_text, is_email}
 use Rattle.mdhtml_markup.proofs.FlowSafe.{blocks-text}
 use Rattle.mdhtml_markup.specs.Addresses.{allowed}
 use Rattle.mdhtml_markup.specs.declared.addresses.Place.{Place}

@@ -28,10 +28,10 @@ use Rattle.mdhtml_document.specs.Html.{Shape, address_at, address_link, aligned,
 use Rattle.mdhtml_document.specs.HtmlLaws.{has_links_by, is_row}
 use Rattle.mdhtml_document.specs.Names.{block_of, blocks_by_name, inline_of}
 use Rattle.mdhtml_document.specs.Spans.{Nothing}
-use Rattle.mdhtml_document.specs.Values.{autolink_address, is_email, title_from}
+use Rattle.mdhtml_document.specs.Values.{autolink_address, is_email}
 use Rattle.mdhtml_document.specs.Walks.{is_left}
 use Rattle.mdhtml_document.proofs.Entered.{named-each}
-use Rattle.mdhtml_document.proofs.Rooms.{cond-le, title-le}
+use Rattle.mdhtml_document.proofs.Rooms.{cond-le}
 use Rattle.mdhtml_document.proofs.Safe.{all-taken}
 use Rattle.mdhtml_markup.specs.Addresses.{allowed, written_address}
 use Rattle.mdhtml_markup.specs.declared.addresses.Place.{Place}
@@ -140,10 +140,9 @@ text-short a t brief = let q = quoted-short a (escaped t) brief in let short = e
 titled-short : (title : Option (List ℕ)) → length (flat_map attribute (titled title)) ≤ 6 * option_map_or length title 0 + 9
 titled-short None = omega arith
 titled-short (Some t) =
-    let all = first-short (Title (title_from false t)) [] in
-    let short = text-short attr.Title (title_from false t) tt in
-    let less = title-le false t in
-    omega (arith, all, short, less)
+    let all = first-short (Title t) [] in
+    let short = text-short attr.Title t tt in
+    omega (arith, all, short)
 
 -- how long what a link or an image leads to makes it
 abbrev pub cost_of : Option Parts → ℕ

@@ -16,7 +16,7 @@ use Rattle.mdhtml_document.specs.declared.shapes.Mode.{Mode}
 use Rattle.mdhtml_document.specs.declared.shapes.Mode.TheVariants as mode
 use Rattle.mdhtml_document.specs.Names.{block_of, inline_of}
 use Rattle.mdhtml_document.specs.Spans.{Nothing, Span, Spans, events_of, spans_of}
-use Rattle.mdhtml_document.specs.Values.{alt_of, autolink_address, behind_first_line, cell_text, code_lines, code_text, html_flow, html_text, is_email, said, title_from}
+use Rattle.mdhtml_document.specs.Values.{alt_of, autolink_address, behind_first_line, cell_text, code_lines, code_text, html_flow, html_text, is_email, said}
 use Rattle.mdhtml_markup.specs.Addresses.{allowed}
 use Rattle.mdhtml_markup.specs.declared.addresses.Place.{Place}
 use Rattle.mdhtml_markup.specs.declared.addresses.Place.TheVariants as place
@@ -121,7 +121,7 @@ parts_in_link bytes lookup es =
     elim (target_in bytes es) [ target.Parts parts ↦ Some parts | target.Label label ↦ lookup label ]
 
 abbrev pub titled : (title : Option (List ℕ)) → List Attribute
-titled title = option_map_or (λ t. Title (title_from false t) ∷ []) title []
+titled title = option_map_or (λ t. Title t ∷ []) title []
 
 -- A link that leads nowhere is its text alone, and an image that does is what it is described by
 abbrev pub link_to : CompileOptions → Option Parts → Shape

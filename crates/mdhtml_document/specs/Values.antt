@@ -57,11 +57,6 @@ reading_of inline.Email = AsWritten
 reading_of inline.Address = AsWritten
 reading_of _ = Decoded
 
--- a title, without the blanks that further lines begin with
-abbrev pub title_from : (start : Bool) → List ℕ → List ℕ
-title_from start [] = []
-title_from start (b ∷ bs) = cond (start && is_blank b) (title_from true bs) (b ∷ title_from (b == 10) bs)
-
 -- text without a backslash (92) directly before a pipe (124)
 abbrev pub is_escape : ℕ → List ℕ → Bool
 is_escape b [] = false

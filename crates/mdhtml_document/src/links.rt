@@ -1,17 +1,15 @@
 //! Links and images: where they lead, and their attributes.
 
 ghost use Rattle.std.specs.List.{flat_map};
-ghost use Rattle.std.specs.Prelude.{◌≡◌, ◌++◌, IfOk, OnOk, Some, codes, cond, false};
+ghost use Rattle.std.specs.Prelude.{◌≡◌, ◌++◌, IfOk, OnOk, Some, codes, cond};
 ghost use Rattle.mdhtml_document.specs.Frames.{Opens, lookup_of};
 ghost use Rattle.mdhtml_document.specs.Html.{address_at, autolink, image_of, link_to, literal, parts_in_link, titled};
-ghost use Rattle.mdhtml_document.specs.Values.{title_from};
 ghost use Rattle.mdhtml_document.specs.Walks.{alt_from};
 ghost use Rattle.mdhtml_markup.specs.Addresses.{allowed, written_address};
 ghost use Rattle.mdhtml_markup.specs.declared.addresses.Place.TheVariants as place;
 ghost use Rattle.mdhtml_markup.specs.Pieces.{attribute};
 
 use crate::descriptions::{alt_of, autolink_address, is_email};
-use crate::lines::is_blank;
 use crate::shapes::{DONE, End, Frame, Mode, through};
 use markdown_base::configuration::{CompileOptions, TabSize};
 use markdown_base::event::Event;
@@ -87,32 +85,15 @@ fn push_url(
     }
 }
 
-/// A title, without the blanks that further lines begin with.
-fn title_text(alloc: Global, title: &[u8]) -> Result<Vec<u8>, AllocError>
-    ensures { IfOk result (λ text. text.items ≡ title_from false title.now) }
-{
-    let mut text = Vec::new(alloc);
-    let mut is_start = false;
-    for byte in title {
-        if is_start && is_blank(*byte) {
-            continue;
-        }
-        text.push(*byte)?;
-        is_start = *byte == b'\n';
-    }
-    Ok(text)
-}
-
 /// Adds a title, if there is one.
-fn push_title(alloc: Global, out: &mut Vec<u8>, title: &Option<Items<u8>>) -> Result<(), AllocError>
+fn push_title(out: &mut Vec<u8>, title: &Option<Items<u8>>) -> Result<(), AllocError>
     ensures { OnOk result (out.new.items ≡ out.old.items ++ flat_map attribute (titled title.now)) }
 {
     match title {
         None => Ok(()),
         Some(title) => {
-            let text = title_text(alloc, title.as_slice())?;
             out.extend_from_slice(b" title=\"")?;
-            push_escaped(out, text.as_slice())?;
+            push_escaped(out, title.as_slice())?;
             out.extend_from_slice(b"\"")
         }
     }
@@ -120,7 +101,6 @@ fn push_title(alloc: Global, out: &mut Vec<u8>, title: &Option<Items<u8>>) -> Re
 
 /// Begins a link.
 fn open_link_to(
-    alloc: Global,
     out: &mut Vec<u8>,
     options: &CompileOptions,
     parts: &Parts,
@@ -130,7 +110,7 @@ fn open_link_to(
     out.extend_from_slice(b"<a href=\"")?;
     push_url(out, options, Place::Href, parts.destination.as_slice())?;
     out.extend_from_slice(b"\"")?;
-    push_title(alloc, out, &parts.title)?;
+    push_title(out, &parts.title)?;
     out.extend_from_slice(b">")?;
     Ok(Frame {
         mode: Mode::Text,
@@ -149,13 +129,12 @@ pub(crate) fn open_link(
 {
     match parts_in_link(alloc, whole, inner)? {
         None => Ok(through(Mode::Text)),
-        Some(parts) => open_link_to(alloc, out, whole.options, &parts),
+        Some(parts) => open_link_to(out, whole.options, &parts),
     }
 }
 
 /// Writes an image, by what it is described by.
 fn push_image(
-    alloc: Global,
     out: &mut Vec<u8>,
     options: &CompileOptions,
     alt: &[u8],
@@ -168,7 +147,7 @@ fn push_image(
     out.extend_from_slice(b"\" alt=\"")?;
     push_escaped(out, alt)?;
     out.extend_from_slice(b"\"")?;
-    push_title(alloc, out, &parts.title)?;
+    push_title(out, &parts.title)?;
     out.extend_from_slice(b" />")?;
     Ok(DONE)
 }
@@ -188,7 +167,7 @@ pub(crate) fn image(
             push_escaped(out, alt.as_slice())?;
             Ok(DONE)
         }
-        Some(parts) => push_image(alloc, out, whole.options, alt.as_slice(), &parts),
+        Some(parts) => push_image(out, whole.options, alt.as_slice(), &parts),
     }
 }
 
