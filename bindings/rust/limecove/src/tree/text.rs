@@ -119,21 +119,15 @@ impl Text {
 
     /// Adds a destination or a title: its lines, without the white space with which a further line begins.
     pub(crate) fn add_string(&mut self, string: Option<Node<'_>>) -> Result<(), Error> {
-        let mut is_start = false;
         for part in string.iter().flat_map(Node::children) {
-            let mut text = part.text();
-            while let (true, [b' ' | b'\t', rest @ ..]) = (is_start, text) {
-                text = rest;
-            }
             match part.name() {
-                Name::Data => self.add_unescaped(text, &part.tree.text)?,
+                Name::Data => self.add_unescaped(part.text(), &part.tree.text)?,
                 Name::LineEnding | Name::CharacterEscape | Name::CharacterReference => {
                     self.add_node(&part)?;
                 }
-                // a prefix of a line, which then still starts
-                _ => continue,
+                // a prefix of a line, or its white space
+                _ => {}
             }
-            is_start = part.name() == Name::LineEnding;
         }
         Ok(())
     }
