@@ -211,11 +211,10 @@ def definitions_in(document, spans):
 
 def plain(document, spans):
     """The text of a string: its lines, without the white space that a further line begins with."""
-    text, is_line_start = "", False
+    text = ""
     for span in spans:
         if span.name == "Data":
-            data = bytes_of(document, span)
-            text += data.lstrip(BLANKS) if is_line_start else data
+            text += bytes_of(document, span)
         elif span.name == "LineEnding":
             text += "\n"
         elif span.name == "CharacterEscape":
@@ -224,7 +223,6 @@ def plain(document, spans):
             text += reference(bytes_of(document, span)[1:-1])
         elif span.name not in ("SpaceOrTab", "BlockQuotePrefix"):
             raise NoRule(f"no rule for {span.name} in a string")
-        is_line_start = span.name == "LineEnding"
     return text
 
 
@@ -431,6 +429,13 @@ BY_HAND = [
      " =CharacterReferenceMarkerSemi 11:8 12:9 -CharacterReference 12:9 +CharacterEscape 12:9 =CharacterEscapeMarker 12:9 13:10"
      " =CharacterEscapeValue 13:10 14:11 -CharacterEscape 14:11 =HardBreakEscape 14:11 15:12 =LineEnding 15:12 16:1 +HtmlText 16:1 =HtmlTextData 16:1 19:4"
      " -HtmlText 19:4 -Paragraph 19:4", "<p><code>a b</code>&lt;*<br />\n<b></p>\n"),
+    # a further line of a title begins with white space
+    ('[a](b "c\n d")', "+Paragraph 0:1 +Link 0:1 +Label 0:1 +LabelLink 0:1 =LabelMarker 0:1 1:2 -LabelLink 1:2 +LabelText 1:2 =Data 1:2 2:3 -LabelText 2:3"
+     " +LabelEnd 2:3 =LabelMarker 2:3 3:4 -LabelEnd 3:4 -Label 3:4 +Resource 3:4 =ResourceMarker 3:4 4:5 +ResourceDestination 4:5 +ResourceDestinationRaw 4:5"
+     " +ResourceDestinationString 4:5 =Data 4:5 5:6 -ResourceDestinationString 5:6 -ResourceDestinationRaw 5:6 -ResourceDestination 5:6 =SpaceOrTab 5:6 6:7"
+     " +ResourceTitle 6:7 =ResourceTitleMarker 6:7 7:8 +ResourceTitleString 7:8 =Data 7:8 8:9 =LineEnding 8:9 9:1 =SpaceOrTab 9:1 10:2 =Data 10:2 11:3"
+     " -ResourceTitleString 11:3 =ResourceTitleMarker 11:3 12:4 -ResourceTitle 12:4 =ResourceMarker 12:4 13:5 -Resource 13:5 -Link 13:5 -Paragraph 13:5",
+     '<p><a href="b" title="c\nd">a</a></p>\n'),
     ("<a:\xe9&>", "+Paragraph 0:1 +Autolink 0:1 =AutolinkMarker 0:1 1:2 =AutolinkProtocol 1:2 6:7 =AutolinkMarker 6:7 7:8 -Autolink 7:8 -Paragraph 7:8",
      '<p><a href="a:%C3%A9&amp;">a:\xe9&amp;</a></p>\n'),
     ("- a\n- > b\n", "+ListUnordered 0:1 +ListItem 0:1 +ListItemPrefix 0:1 =ListItemMarker 0:1 1:2 =SpaceOrTab 1:2 2:3 -ListItemPrefix 2:3 +Paragraph 2:3"
