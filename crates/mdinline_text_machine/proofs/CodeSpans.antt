@@ -2,6 +2,7 @@
 pub mod Bytes
 pub mod Classes
 pub mod Cuts
+pub mod Cutting
 pub mod Found
 pub mod FoundParts
 pub mod Items

@@ -114,7 +114,7 @@ pub use Rattle.mdinline_text_machine.specs.Autolink.{autolink, autolink_at, auto
 pub use Rattle.mdinline_text_machine.specs.AutolinkRows.{autolink_open, autolink_open_rows, autolink_scheme, autolink_scheme_rows, autolink_start, autolink_url, autolink_url_rows, autolinks, autolinks_are_on, has_room, has_scheme, scheme_goes_on}
 pub use Rattle.mdinline_text_machine.specs.Bytes.{backticks, ends_with, has_byte_at, is_backslash, is_backtick, is_colon, is_greater_than, is_less_than, is_line_feed, passes}
 pub use Rattle.mdinline_text_machine.specs.ChainTexts.{AreReadAtPlaces, AreReadBy, HasReadableChains, chain_data, chain_events, chain_text, with_data, with_read, with_texts}
-pub use Rattle.mdinline_text_machine.specs.CodeSpan.{before_backtick_string, code_span, code_span_at, is_backtick_or_line_feed, is_backtick_string, pieces}
+pub use Rattle.mdinline_text_machine.specs.CodeSpan.{before_backtick_string, code_events, code_span, code_span_at, code_span_found, code_span_with, is_backtick_or_line_feed, is_backtick_string, pieces}
 pub use Rattle.mdinline_text_machine.specs.CodeSpanRows.{code_spans, code_spans_are_on, raw_text_after, raw_text_backticks_start, raw_text_backticks_inside, raw_text_backticks_inside_rows, raw_text_between, raw_text_between_rows, raw_text_data, raw_text_data_rows, raw_text_sequence_close, raw_text_sequence_close_rows, raw_text_sequence_open, raw_text_sequence_open_rows, raw_text_start, raw_text_start_rows, sizes_are_equal}
 pub use Rattle.mdinline_text_machine.specs.Construct.{Between, Construct, Found, Grammar, before_rows, between_texts, first_there, grammars_of, if_on, or_else, some_begins, some_first, tried_at}
 pub use Rattle.mdinline_text_machine.specs.Escape.{escape, escape_at}

@@ -1,5 +1,7 @@
 -- The place of the backtick string that closes a code span: it is looked for from the front, a byte at a time.
-use Rattle.mdinline_text_machine.proofs.Prelude.{◌≡◌, ℕ, zero, suc, ◌+◌, ◌<◌, ◌∷◌, [], List, Bool, true, false, cond, not, ◌&&◌, ◌==◌, refl, sym, ◌∙◌, ap, subst, Option, Some, None, arith, length, take, drop, option_map, max, and-false, drop-drop, eqb-true, nat_tests, last_or, position_or_len, find, range_with_len, and-right, code_span, line_ending, plain_run, passes, ends_with, is_backtick_or_line_feed, backticks, before_backtick_string, is_backtick_string, code_span_at, part_length, part_at, plain_length, is_backtick}
+use Rattle.markdown_base.proofs.Facts.Numbers.{unlike}
+use Rattle.mdconstructs_tables.specs.Breaks.{is_white}
+use Rattle.mdinline_text_machine.proofs.Prelude.{not-true, prefix_len, ◌≡◌, ℕ, zero, suc, ◌+◌, ◌<◌, ◌∷◌, [], List, Bool, true, false, cond, not, ◌&&◌, ◌==◌, refl, sym, ◌∙◌, ap, subst, Option, Some, None, arith, length, take, drop, option_map, max, and-false, drop-drop, eqb-true, nat_tests, last_or, position_or_len, find, range_with_len, and-right, Event, Seat, line_ending, plain_run, passes, ends_with, is_backtick_or_line_feed, backticks, before_backtick_string, is_backtick_string, code_span_found, code_span_with, part_length, part_at, plain_length, is_backtick}
 
 -- the place of a backtick string, from further in front
 abbrev pub further : ℕ → Option ℕ → Option ℕ
@@ -72,14 +74,16 @@ passes-run k some (b ∷ bs) = elim (b == 96) as (λ t. (b == 96) ≡ t → Pass
 ] refl
 
 -- and so are other bytes
-passes-data : (k : ℕ) → 0 < k → (text : List ℕ) → Passes k false false text (position_or_len is_backtick_or_line_feed text)
-passes-data k some [] = refl
-passes-data k some (b ∷ bs) =
-    let n = position_or_len is_backtick_or_line_feed bs in
-    elim (is_backtick_or_line_feed b) as (λ t. is_backtick_or_line_feed b ≡ t → Passes k false false (b ∷ bs) (cond (not t) (1 + n) 0)) [
-      | true ↦ λ e. sym (no-further _)
-      | false ↦ λ e. passes-more k false false false (b ∷ bs) 1 n (no-run k some false b bs (no-tick b e)) (passes-data k some bs)
+passes-over : (P : ℕ → Bool) → ((b : ℕ) → P b ≡ true → (b == 96) ≡ false) → (k : ℕ) → 0 < k → (text : List ℕ) → Passes k false false text (prefix_len P text)
+passes-over P none k some [] = refl
+passes-over P none k some (b ∷ bs) =
+    elim (P b) as (λ t. P b ≡ t → Passes k false false (b ∷ bs) (cond t (1 + prefix_len P bs) 0)) [
+      | true ↦ λ e. passes-more k false false false (b ∷ bs) 1 (prefix_len P bs) (no-run k some false b bs (none b e)) (passes-over P none k some bs)
+      | false ↦ λ e. sym (no-further _)
     ] refl
+
+passes-data : (k : ℕ) → 0 < k → (text : List ℕ) → Passes k false false text (position_or_len is_backtick_or_line_feed text)
+passes-data k some text = passes-over (λ b. not (is_backtick_or_line_feed b)) (λ b e. no-tick b (not-true _ e)) k some text
 
 -- what begins a piece of data: a whole backtick string of another length, or a byte
 passes-first : (k : ℕ) → 0 < k → (b : ℕ) (bs : List ℕ) → (backticks (b ∷ bs) == k) ≡ false → Passes k false false (b ∷ bs) (max 1 (backticks (b ∷ bs)))
@@ -91,24 +95,34 @@ passes-first k some b bs h = elim (b == 96) as (λ t. (b == 96) ≡ t → Passes
   | false ↦ λ e. no-run k some false b bs e
 ] refl
 
--- a whole piece is passed, unless it begins with the backtick string that is looked for
+-- plain text is passed, unless it begins with the backtick string that is looked for
+pub passes-plain : (k : ℕ) → 0 < k → (b : ℕ) (bs : List ℕ) → (backticks (b ∷ bs) == k) ≡ false → Passes k false false (b ∷ bs) (plain_length is_backtick_or_line_feed (b ∷ bs))
+passes-plain k some b bs h =
+    let r = max 1 (backticks (b ∷ bs)) in
+    let rest = drop r (b ∷ bs) in
+    passes-more k false false false (b ∷ bs) r (position_or_len is_backtick_or_line_feed rest) (passes-first k some b bs h) (passes-data k some rest)
+
+-- a line ending is, with the white space behind it
+pub passes-line : (k : ℕ) → 0 < k → (b : ℕ) (bs : List ℕ) → (b == 10) ≡ true → Passes k false false (b ∷ bs) (1 + prefix_len is_white bs)
+passes-line k some b bs e =
+    passes-more k false false false (b ∷ bs) 1 (prefix_len is_white bs) (no-run k some false b bs (ap (λ c. c == 96) (eqb-true b 10 e))) (passes-over is_white (λ c h. unlike is_white 96 refl c h) k some bs)
+
+-- a whole piece is passed
 pub passes-piece : (k : ℕ) → 0 < k → (b : ℕ) (bs : List ℕ) → (backticks (b ∷ bs) == k) ≡ false → Passes k false false (b ∷ bs) (part_length (part_at is_backtick_or_line_feed (b ∷ bs)))
 passes-piece k some b bs h =
     elim (b == 10) as (λ t. (b == 10) ≡ t → Passes k false false (b ∷ bs) (part_length (cond t line_ending (plain_run (plain_length is_backtick_or_line_feed (b ∷ bs)))))) [
       | true ↦ λ e. no-run k some false b bs (ap (λ c. c == 96) (eqb-true b 10 e))
-      | false ↦ λ e.
-          let r = max 1 (backticks (b ∷ bs)) in
-          let rest = drop r (b ∷ bs) in
-          passes-more k false false false (b ∷ bs) r (position_or_len is_backtick_or_line_feed rest) (passes-first k some b bs h) (passes-data k some rest)
+      | false ↦ λ e. passes-plain k some b bs h
     ] refl
 
 -- A code span is there if a backtick string that closes it is found behind the one that opens it
-pub code-span-found : (b : ℕ) (bs : List ℕ) → b ≡ 96 → let text = b ∷ bs in code_span_at text ≡ option_map (code_span (backticks text)) (first_run (backticks text) false (drop (backticks text) text))
-code-span-found b bs is =
+pub code-span-found : (between_them : List ℕ → List Seat → List Event) (b : ℕ) (bs : List ℕ) → b ≡ 96
+    → let text = b ∷ bs in code_span_found between_them text ≡ option_map (code_span_with between_them (backticks text)) (first_run (backticks text) false (drop (backticks text) text))
+code-span-found between_them b bs is =
     let text = b ∷ bs in
     let k = backticks text in
-    ap (λ c. cond (c == 96) (option_map (code_span k) (before_backtick_string k (drop k text))) None) is
-    ∙ ap (option_map (code_span k)) (found (drop k text) k (drop k text) 0 false refl refl ∙ no-further (first_run k false (drop k text)))
+    ap (λ c. cond (c == 96) (option_map (code_span_with between_them k) (before_backtick_string k (drop k text))) None) is
+    ∙ ap (option_map (code_span_with between_them k)) (found (drop k text) k (drop k text) 0 false refl refl ∙ no-further (first_run k false (drop k text)))
 
 -- a place that was found, from one byte further on
 found-behind : (o : Option ℕ) (m : ℕ) → further 1 o ≡ Some m → (n : ℕ) × (o ≡ Some n) × (m ≡ suc n)

@@ -1,6 +1,6 @@
 -- Code spans as items: if one is there, it is read with its events; if not, data is read from its first backtick.
 use Rattle.markdown_tokenizer.proofs.Positions.Moving.{first-same}
-use Rattle.mdinline_text_machine.proofs.Prelude.{Configuration, Ending, Found, Next, State, item_length, passes, point_or, text_byte, tick-classed, Between, row, exit, eqb-true, IsText, Name, code_spans, at-front, ◌≡◌, ℕ, suc, ◌+◌, ◌-◌, ◌^◌, ◌<◌, ◌≤◌, ◌∷◌, ◌++◌, [], List, Bool, true, false, cond, refl, sym, ◌∙◌, ap, subst, Option, Some, None, arith, length, take, drop, option_map, append_assoc, take_at, drop-drop, drop-take, take-take, length-take, length-drop, flat_map, between, Event, CodeText, CodeTextSequence, CodeTextData, Retry, Ok, Nok, RawTextStart, RawTextSequenceOpen, RawTextSequenceClose, RawTextBetween, RawTextAfter, Seat, Nothing, Byte, Given, Text, Local, Choice, byte_of, counts, code_span, is_backtick, is_backtick_or_line_feed, backticks, part_length, part_at, code_span_at, bytes_of, leaf, part_events, pieces, item_events, drop-map, held, backtick, sizes_are_equal, raw_text_start_rows, raw_text_sequence_close_rows}
+use Rattle.mdinline_text_machine.proofs.Prelude.{Configuration, Ending, Found, Next, State, item_length, passes, point_or, text_byte, tick-classed, Between, row, exit, eqb-true, IsText, Name, code_spans, at-front, ◌≡◌, ℕ, suc, ◌+◌, ◌-◌, ◌^◌, ◌<◌, ◌≤◌, ◌∷◌, ◌++◌, [], List, Bool, true, false, cond, refl, sym, ◌∙◌, ap, subst, Option, Some, None, arith, length, take, drop, option_map, append_assoc, take_at, drop-drop, drop-take, take-take, length-take, length-drop, flat_map, between, Event, CodeText, CodeTextSequence, CodeTextData, Retry, Ok, Nok, RawTextStart, RawTextSequenceOpen, RawTextSequenceClose, RawTextBetween, RawTextAfter, Seat, Nothing, Byte, Given, Text, Local, Choice, byte_of, counts, code_span_found, code_span_with, is_backtick, backticks, code_span_at, bytes_of, leaf, item_events, drop-map, held, backtick, sizes_are_equal, raw_text_start_rows, raw_text_sequence_close_rows}
 use Rattle.std.proofs.lemmas.Bool.{eq-eqb}
 use Rattle.mdinline_text_machine.proofs.Texts.Cutting.{cut-enough}
 use Rattle.mdinline_text_machine.proofs.Texts.Steps.{Plays, WithRows, leads-row, EndsWith, Leads, between_items, leads-fed, leads-seen, leads-tested, leads-ok, before_class}
@@ -9,8 +9,8 @@ use Rattle.mdinline_text_machine.proofs.Plain.Items.{puts-back}
 use Rattle.mdinline_text_machine.proofs.Constructs.Listed.{outer}
 use Rattle.mdinline_text_machine.proofs.Plain.Stretches.{is_end, shows, first_byte, past, passed, past-is, past-at, past-stops, passed-counts, shown-fed, class-rows, sees, loops-from, span-read, leaf-read}
 use Rattle.mdinline_text_machine.proofs.CodeSpans.Found.{first_run, first-run-is, code-span-found}
-use Rattle.mdinline_text_machine.proofs.CodeSpans.FoundParts.{piece-positive, cut_pieces}
-use Rattle.mdinline_text_machine.proofs.CodeSpans.Parts.{Known, in_code, in_run, size_b, with_b, grows_b, run_read, opened_after, more-is, count-within, run-positive, enter_at, exit_at, inner, tries-run, sizes-read}
+use Rattle.mdinline_text_machine.proofs.CodeSpans.Cutting.{Cutting, cut_pieces, events_of, into_parts}
+use Rattle.mdinline_text_machine.proofs.CodeSpans.Parts.{Known, ReadsPieces, in_code, in_run, size_b, with_b, grows_b, run_read, opened_after, more-is, count-within, run-positive, enter_at, exit_at, inner, reads-parts, tries-run, sizes-read}
 use Rattle.mdinline_text_machine.proofs.CodeSpans.Plays.{PlaysCodeSpans, Remembering, forgetful, opening-ended, opening_rows}
 use Rattle.mdinline_text_machine.proofs.CodeSpans.Walks.{RunsAreShort, Walks, walks}
 use Rattle.mdinline_text_machine.proofs.CodeSpans.Short.{runs-of-text}
@@ -27,30 +27,35 @@ begins-run b bs h = elim (is_backtick b) as (λ t. 0 < cond t (1 + backticks bs)
   | false ↦ λ i. absurd (omega (arith, i))
 ] h
 
-module _ (g : Given) (text : Text) (m : Plays g text) (r : Remembering) (c : PlaysCodeSpans g text m r) (known : Known g text m r) (names : Between) where
+module _ (g : Given) (text : Text) (m : Plays g text) (r : Remembering) (c : PlaysCodeSpans g text m r) (known : Known g text m r) (names : Between) (ps : Cutting) (reads : (p : ℕ) (from : Local Unit Unit) → ReadsPieces g text m r c known p from ps) where
+  -- the code span, by its size
+  abbrev code : (backticks inside : ℕ) → Found
+  code backticks inside = code_span_with (events_of ps) backticks inside
+
   -- The events of the first run, of the pieces and of the last run are the code span's
   code-span-events : (k n' bound p : ℕ) (s : Seat) (ss : List Seat) (events : List Event) → drop p text.seats ≡ s ∷ ss → 0 < k → k + n' + k ≤ suc (length ss) → length (drop k (s ∷ ss)) ≤ bound
-      → ((events ++ enter_at g text m CodeText p ∷ leaf g.bytes CodeTextSequence (take k (s ∷ ss))) ++ flat_map (part_events g.bytes CodeTextData) (cut_pieces bound (take n' (drop k (s ∷ ss)))))
+      → ((events ++ enter_at g text m CodeText p ∷ leaf g.bytes CodeTextSequence (take k (s ∷ ss))) ++ flat_map (ps.events g.bytes) (cut_pieces ps bound (take n' (drop k (s ∷ ss)))))
       ++ (leaf g.bytes CodeTextSequence (take k (drop (k + n') (s ∷ ss))) ++ exit_at g text m CodeText (p + (k + n' + k)) ∷ [])
-      ≡ events ++ item_events g.bytes (code_span k n', take (k + n' + k) (s ∷ ss))
+      ≡ events ++ item_events g.bytes (code k n', take (k + n' + k) (s ∷ ss))
   code-span-events k n' bound p s ss events at some short enough =
       let l = s ∷ ss in
       let n = k + n' + k in
-      let f = part_events g.bytes CodeTextData in
+      let f = ps.events g.bytes in
       let one = leaf g.bytes CodeTextSequence in
       let size : k + n' - k ≡ n' = omega arith in
       let all : n ≡ k + (n' + k) = omega arith in
       let inside : between k (k + n') (take n l) ≡ take n' (drop k l) =
       ap (λ i. take i (drop k (take n l))) size ∙ ap (λ i. take n' (drop k (take i l))) all ∙ ap (take n') (drop-take k (n' + k) l) ∙ take-take n' (n' + k) (drop k l) (omega arith) in
-      let parts : pieces (between k (k + n') (take n l)) ≡ cut_pieces bound (take n' (drop k l)) = ap pieces inside
-      ∙ cut-enough (part_at is_backtick_or_line_feed) part_length (piece-positive is_backtick_or_line_feed) (length (take n' (drop k l))) bound (take n' (drop k l)) (omega arith)
-      (omega (arith, length-take n' (drop k l), enough)) in
-      let made : (one (take k l) ++ (flat_map f (cut_pieces bound (take n' (drop k l))) ++ one (take k (drop (k + n') l))))
-      ≡ one (take k (take n l)) ++ (flat_map f (pieces (between k (k + n') (take n l))) ++ one (drop (k + n') (take n l))) =
+      let parts : events_of ps g.bytes (between k (k + n') (take n l)) ≡ flat_map f (cut_pieces ps bound (take n' (drop k l))) = ap (events_of ps g.bytes) inside
+      ∙ ap (flat_map f)
+      (cut-enough ps.front ps.size ps.positive (length (take n' (drop k l))) bound (take n' (drop k l)) (omega arith)
+      (omega (arith, length-take n' (drop k l), enough))) in
+      let made : (one (take k l) ++ (flat_map f (cut_pieces ps bound (take n' (drop k l))) ++ one (take k (drop (k + n') l))))
+      ≡ one (take k (take n l)) ++ (events_of ps g.bytes (between k (k + n') (take n l)) ++ one (drop (k + n') (take n l))) =
       cc (take-take k n l (omega arith), parts, drop-take (k + n') k l) in
-      joined events (enter_at g text m CodeText p) (one (take k l)) (flat_map f (cut_pieces bound (take n' (drop k l)))) (one (take k (drop (k + n') l))) (exit_at g text m CodeText (p + n))
+      joined events (enter_at g text m CodeText p) (one (take k l)) (flat_map f (cut_pieces ps bound (take n' (drop k l)))) (one (take k (drop (k + n') l))) (exit_at g text m CodeText (p + n))
       ∙ ap (λ c. events ++ enter_at g text m CodeText p ∷ (c ++ exit_at g text m CodeText (p + n) ∷ [])) made
-      ∙ ap (λ c. events ++ c) (span-read text g.bytes CodeText (one (take k (take n l)) ++ (flat_map f (pieces (between k (k + n') (take n l))) ++ one (drop (k + n') (take n l)))) n p s ss at (omega (arith, some)) short)
+      ∙ ap (λ c. events ++ c) (span-read text g.bytes CodeText (one (take k (take n l)) ++ (events_of ps g.bytes (between k (k + n') (take n l)) ++ one (drop (k + n') (take n l)))) n p s ss at (omega (arith, some)) short)
 
   -- The backtick string that closes a code span is read, and the code span ends behind it
   closes : (p : ℕ) (from : Local Unit Unit) → RunsAreShort text → (k : ℕ) → 0 < k → (l : List Seat) (q : ℕ) (events : List Event) (local : Local Unit Unit) (cs : List Choice) → drop q text.seats ≡ l → size_b local ≡ k
@@ -134,8 +139,8 @@ module _ (g : Given) (text : Text) (m : Plays g text) (r : Remembering) (c : Pla
       → let l = s ∷ ss in let k = backticks (bytes_of l) in
       let cs = outer names.home nok p ended events ∷ [] in
       let begun = events ++ enter_at g text m CodeText p ∷ leaf g.bytes CodeTextSequence (take k l) in
-      (o : Option ℕ) → first_run k false (bytes_of rest) ≡ o → Walks g text m r c known p from k cs (length rest) (p + k) rest begun mid o
-      → Ends from nok p ended events l (shows rest in_code (p + k) begun mid) cs (Retry RawTextBetween) (option_map (code_span k) o)
+      (o : Option ℕ) → first_run k false (bytes_of rest) ≡ o → Walks g text m r c known ps p from k cs (length rest) (p + k) rest begun mid o
+      → Ends from nok p ended events l (shows rest in_code (p + k) begun mid) cs (Retry RawTextBetween) (option_map (code k) o)
   from-walk from short nok p ended events mid s ss at tick rest past-rest None found walked =
       let made = enter_at g text m CodeText p ∷ leaf g.bytes CodeTextSequence (take (backticks (bytes_of (s ∷ ss))) (s ∷ ss)) in (
         r.all_noted (counts walked.2),
@@ -150,7 +155,7 @@ module _ (g : Given) (text : Text) (m : Plays g text) (r : Remembering) (c : Pla
       let k = backticks (bytes_of l) in
       let bound = length rest in
       let begun = events ++ enter_at g text m CodeText p ∷ leaf g.bytes CodeTextSequence (take k l) in
-      let pieces_at = λ (r : List Seat). flat_map (part_events g.bytes CodeTextData) (cut_pieces bound (take n' r)) in
+      let pieces_at = λ (r : List Seat). flat_map (ps.events g.bytes) (cut_pieces ps bound (take n' r)) in
       let some : 0 < k = run-positive s.byte (bytes_of ss) tick in
       let behind : rest ≡ drop k l = sym past-rest ∙ past-is is_backtick l in
       let at1 : drop (p + k + n') text.seats ≡ drop n' rest = sym (drop-drop n' (p + k) text.seats) ∙ ap (drop n') (past-at g text m is_backtick l p (p + k) at refl ∙ past-rest) in
@@ -159,7 +164,7 @@ module _ (g : Given) (text : Text) (m : Plays g text) (r : Remembering) (c : Pla
       let left : length rest ≡ suc (length ss) - k = ap length behind ∙ length-drop k l in
       let place : p + k + n' + k ≡ p + (k + n' + k) = omega arith in
       let whole = (begun ++ pieces_at rest) ++ (leaf g.bytes CodeTextSequence (take k (drop n' rest)) ++ exit_at g text m CodeText (p + k + n' + k) ∷ []) in
-      let made : whole ≡ events ++ item_events g.bytes (code_span k n', take (k + n' + k) l) =
+      let made : whole ≡ events ++ item_events g.bytes (code k n', take (k + n' + k) l) =
       cc (
         drop-drop n' k l,
         code-span-events k n' bound p s ss events at some (omega (arith, some, last, count-within is_backtick (drop n' rest), length-drop n' rest, left))
@@ -180,7 +185,7 @@ module _ (g : Given) (text : Text) (m : Plays g text) (r : Remembering) (c : Pla
       → (rest : List Seat) → past is_backtick (s ∷ ss) ≡ rest
       → let l = s ∷ ss in let k = backticks (bytes_of l) in
       Ends from nok p ended events l (shows rest in_run (p + k) ((events ++ enter_at g text m CodeText p ∷ []) ++ enter_at g text m CodeTextSequence p ∷ []) (passed is_backtick grows_b l (with_b 0 (counts from))))
-      (outer names.home nok p ended events ∷ []) (Retry RawTextSequenceOpen) (option_map (code_span k) (first_run k false (bytes_of rest)))
+      (outer names.home nok p ended events ∷ []) (Retry RawTextSequenceOpen) (option_map (code k) (first_run k false (bytes_of rest)))
   behind-opening short nok p ended events from s ss at tick knows rest behind =
       let l = s ∷ ss in
       let k = backticks (bytes_of l) in
@@ -195,15 +200,15 @@ module _ (g : Given) (text : Text) (m : Plays g text) (r : Remembering) (c : Pla
       (leaf-read text g.bytes CodeTextSequence k p s ss at (run-positive s.byte (bytes_of ss) tick) (count-within is_backtick l))) in
       let o = first_run k false (bytes_of rest) in
       let further : ((t : Seat) (ts : List Seat) → past is_backtick l ≡ t ∷ ts → r.hopeless t.point (counts read) ≡ false)
-      → Ends from nok p ended events l (shows rest in_code (p + k) entered (counts read)) cs (Retry RawTextBetween) (option_map (code_span k) o) =
+      → Ends from nok p ended events l (shows rest in_code (p + k) entered (counts read)) cs (Retry RawTextBetween) (option_map (code k) o) =
       λ hopeful. from-walk from short nok p ended events (counts read) s ss at tick rest behind o refl
-      (walks g text m r c known p from k cs short (run-positive s.byte (bytes_of ss) tick) (length rest) (p + k) rest entered (counts read) size (omega arith) at1 (known.opens p from s ss at tick size hopeful knows)) in
+      (walks g text m r c known ps p from k cs (reads p from) short (run-positive s.byte (bytes_of ss) tick) (length rest) (p + k) rest entered (counts read) size (omega arith) at1 (known.opens p from s ss at tick size hopeful knows)) in
       let within = λ (es : Ending) (h : EndsWith g text m (shows rest in_code (p + k) entered (counts read)) cs (Retry RawTextBetween) es). subst (λ c. EndsWith g text m (shows rest in_code (p + k) c (counts read)) cs (Retry RawTextBetween) es) (sym made) h in
       elim rest as (λ rest. past is_backtick l ≡ rest → drop (p + k) text.seats ≡ rest
       → (((t : Seat) (ts : List Seat) → past is_backtick l ≡ t ∷ ts → r.hopeless t.point (counts read) ≡ false)
-      → Ends from nok p ended events l (shows rest in_code (p + k) entered (counts read)) cs (Retry RawTextBetween) (option_map (code_span k) (first_run k false (bytes_of rest))))
+      → Ends from nok p ended events l (shows rest in_code (p + k) entered (counts read)) cs (Retry RawTextBetween) (option_map (code k) (first_run k false (bytes_of rest))))
       → ((es : Ending) → EndsWith g text m (shows rest in_code (p + k) entered (counts read)) cs (Retry RawTextBetween) es → EndsWith g text m (shows rest in_code (p + k) (begun ++ exit_at g text m CodeTextSequence (p + k) ∷ []) (counts read)) cs (Retry RawTextBetween) es)
-      → Ends from nok p ended events l (shows rest in_run (p + k) begun read) cs (Retry RawTextSequenceOpen) (option_map (code_span k) (first_run k false (bytes_of rest)))) [
+      → Ends from nok p ended events l (shows rest in_run (p + k) begun read) cs (Retry RawTextSequenceOpen) (option_map (code k) (first_run k false (bytes_of rest)))) [
         | [] ↦ λ behind at1 further within.
             ends-before from nok p ended events l (shows [] in_run (p + k) begun read) (shows [] in_code (p + k) entered (counts read)) cs cs (Retry RawTextSequenceOpen) (Retry RawTextBetween) None
             (λ es h. leads-seen g text m (opening_rows r) (shows [] in_run (p + k) begun read) cs RawTextSequenceOpen es refl refl (c.raw_text_sequence_open _) (within es h)) (further (λ t ts e. absurd (let no : [] ≡ t ∷ ts = sym behind ∙ e in cc)))
@@ -211,10 +216,10 @@ module _ (g : Given) (text : Text) (m : Plays g text) (r : Remembering) (c : Pla
             let o = first_run k false (bytes_of (t ∷ ts)) in
             let other : is_backtick t.byte ≡ false = ap (λ l. passes is_backtick (first_byte l)) (sym behind) ∙ past-stops is_backtick l in
             elim (r.hopeless t.point (counts read)) as (λ b. r.hopeless t.point (counts read) ≡ b
-            → Ends from nok p ended events l (shows (t ∷ ts) in_run (p + k) begun read) cs (Retry RawTextSequenceOpen) (option_map (code_span k) o)) [
+            → Ends from nok p ended events l (shows (t ∷ ts) in_run (p + k) begun read) cs (Retry RawTextSequenceOpen) (option_map (code k) o)) [
               | true ↦ λ e.
                   let none = known.gives_up p from s ss at tick size knows t ts behind e in
-                  subst (λ o. Ends from nok p ended events l (shows (t ∷ ts) in_run (p + k) begun read) cs (Retry RawTextSequenceOpen) (option_map (code_span k) o)) (sym none.0) (
+                  subst (λ o. Ends from nok p ended events l (shows (t ∷ ts) in_run (p + k) begun read) cs (Retry RawTextSequenceOpen) (option_map (code k) o)) (sym none.0) (
                     counts read,
                     none.1,
                     λ es h.
@@ -223,7 +228,7 @@ module _ (g : Given) (text : Text) (m : Plays g text) (r : Remembering) (c : Pla
                         (ap (take (length events)) (append_assoc events (enter_at g text m CodeText p ∷ []) (enter_at g text m CodeTextSequence p ∷ [])) ∙ take_at events (enter_at g text m CodeText p ∷ enter_at g text m CodeTextSequence p ∷ []) (length events) refl) es h),
                   )
               | false ↦ λ e.
-                  ends-before from nok p ended events l (shows (t ∷ ts) in_run (p + k) begun read) (shows (t ∷ ts) in_code (p + k) entered (counts read)) cs cs (Retry RawTextSequenceOpen) (Retry RawTextBetween) (option_map (code_span k) o)
+                  ends-before from nok p ended events l (shows (t ∷ ts) in_run (p + k) begun read) (shows (t ∷ ts) in_code (p + k) entered (counts read)) cs cs (Retry RawTextSequenceOpen) (Retry RawTextBetween) (option_map (code k) o)
                   (λ es h. goes-in (p + k) begun read cs t ts at1 other false e es (within es h))
                   (further (λ u us same. let first : t ≡ u = first-same t u ts us (sym behind ∙ same) in ap (λ (v : Seat). r.hopeless v.point (counts read)) (sym first) ∙ e))
             ] refl
@@ -231,7 +236,7 @@ module _ (g : Given) (text : Text) (m : Plays g text) (r : Remembering) (c : Pla
 
   -- Code spans are tried at backticks
   pub tries-code-span : RunsAreShort text → (nok : Name) (p : ℕ) (ended : Bool) (events : List Event) (local : Local Unit Unit) (s : Seat) (ss : List Seat) → drop p text.seats ≡ s ∷ ss → s.byte ≡ 96 → known.knows p local
-      → Ends local nok p ended events (s ∷ ss) (between_items p Byte ended events local) (outer names.home nok p ended events ∷ []) (Retry RawTextStart) (code_span_at (bytes_of (s ∷ ss)))
+      → Ends local nok p ended events (s ∷ ss) (between_items p Byte ended events local) (outer names.home nok p ended events ∷ []) (Retry RawTextStart) (code_span_found (events_of ps) (bytes_of (s ∷ ss)))
   tries-code-span short nok p ended events local s ss at is knows =
       let l = s ∷ ss in
       let k = backticks (bytes_of l) in
@@ -241,9 +246,9 @@ module _ (g : Given) (text : Text) (m : Plays g text) (r : Remembering) (c : Pla
       let begun = (events ++ enter_at g text m CodeText p ∷ []) ++ enter_at g text m CodeTextSequence p ∷ [] in
       let o = first_run k false (bytes_of rest) in
       let same : o ≡ first_run k false (drop k (bytes_of l)) = ap (first_run k false) (ap bytes_of (past-is is_backtick l) ∙ sym (drop-map (λ (s : Seat). s.byte) k l)) in
-      subst (Ends local nok p ended events l (between_items p Byte ended events local) cs (Retry RawTextStart)) (ap (option_map (code_span k)) same ∙ sym (code-span-found s.byte (bytes_of ss) is))
+      subst (Ends local nok p ended events l (between_items p Byte ended events local) cs (Retry RawTextStart)) (ap (option_map (code k)) same ∙ sym (code-span-found (events_of ps) s.byte (bytes_of ss) is))
       (ends-before local nok p ended events l (between_items p Byte ended events local) (shows rest in_run (p + k) begun (passed is_backtick grows_b l (with_b 0 (counts local)))) cs cs (Retry RawTextStart) (Retry RawTextSequenceOpen)
-      (option_map (code_span k) o) (opens nok p ended events local s ss at tick)
+      (option_map (code k) o) (opens nok p ended events local s ss at tick)
       (behind-opening short nok p ended events local s ss at tick knows rest refl))
 
 -- a test that fails
@@ -260,6 +265,7 @@ nothing_remembered g text m = record {
   opens = λ p from s ss at tick size hopeful h. tt;
   gives_up = λ p from s ss at tick size h t ts behind e. never e;
   line = λ p from q local s ss at is h. tt;
+  white_line = λ p from q local s ss at is h. tt;
   in_data = λ p from q local s ss at is h. tt;
   chunk = λ p from q local s ss at tick size events h. tt;
   ends = λ p from s ss here q local at none h. tt;
@@ -267,9 +273,12 @@ nothing_remembered g text m = record {
 }
 
 module _ (g : Given) (text : Text) (m : Plays g text) (c : PlaysCodeSpans g text m forgetful) (names : Between) where
+  abbrev parts : (p : ℕ) (from : Local Unit Unit) → ReadsPieces g text m forgetful c (nothing_remembered g text m) p from into_parts
+  parts p from = reads-parts g text m c (nothing_remembered g text m) p from
+
   -- by such a machine a code span is decided
   decides : (from : Local Unit Unit) (nok : Name) (p : ℕ) (ended : Bool) (events : List Event) (seats : List Seat) (k : Configuration Unit Unit) (cs : List Choice) (s : State) (o : Option Found)
-      → Ends g text m forgetful c (nothing_remembered g text m) names from nok p ended events seats k cs s o → DecidesPart g text m names nok p ended events seats k cs s o
+      → Ends g text m forgetful c (nothing_remembered g text m) names into_parts parts from nok p ended events seats k cs s o → DecidesPart g text m names nok p ended events seats k cs s o
   decides from nok p ended events seats k cs s None d = (d.0, tt, d.2)
   decides from nok p ended events seats k cs s (Some item) d = (d.0, d.1, tt, d.3)
 
@@ -277,4 +286,4 @@ module _ (g : Given) (text : Text) (m : Plays g text) (c : PlaysCodeSpans g text
   pub code-spans-read : IsText g text → ReadsPart g text m names code_spans
   code-spans-read is nok p ended events local s ss here first knows =
       decides local nok p ended events (s ∷ ss) _ _ _ (code_span_at (bytes_of (s ∷ ss)))
-      (tries-code-span g text m forgetful c (nothing_remembered g text m) names (runs-of-text g text is) nok p ended events local s ss here (eqb-true s.byte 96 first) tt)
+      (tries-code-span g text m forgetful c (nothing_remembered g text m) names into_parts parts (runs-of-text g text is) nok p ended events local s ss here (eqb-true s.byte 96 first) tt)

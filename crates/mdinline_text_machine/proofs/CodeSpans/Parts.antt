@@ -1,13 +1,14 @@
 -- The pieces of a code span, as the machine of texts reads them: line endings, data, and runs that do not close it.
 use Rattle.mdinline_text_machine.proofs.Prelude.{at-front, ◌≡◌, ℕ, suc, ◌+◌, ◌^◌, ◌<◌, ◌≤◌, ◌∷◌, ◌++◌, [], List, Bool, true, false, cond, not, ◌==◌, ◌||◌, refl, sym, ◌∙◌, ap, subst, Option, Some, None, arith, nat_tests, not-true, not-false, max, length, take, drop, slice_get, append_assoc, take_at, drop-drop, drop-map, drop-next, length-drop, length-map, prefix_len-le-length, prefix_len, position_or_len, Event, Enter, Exit, CodeText, CodeTextSequence, CodeTextData, LineEnding, Next, Retry, RawTextBetween, RawTextData, RawTextSequenceClose, RawTextAfter, RawTextBackticksStart, RawTextBackticksInside, Seat, Nothing, Byte, Attempt, Given, Text, Local, Choice, byte_of, point_or, end_or, end_place, class_of, counts, passes, Part, line_ending, plain_run, is_line_feed, is_backtick, is_backtick_or_line_feed, backticks, part_length, plain_length, bytes_of, row, exit, event, leaf, part_events, held, TextByte, backtick, line_feed, text_byte, more_than, sizes_are_equal, raw_text_data_rows, raw_text_sequence_close_rows, raw_text_backticks_inside_rows, line-ending-read}
 use Rattle.markdown_base.specs.declared.event.Name.{Name as EventName}
+use Rattle.mdconstructs_tables.specs.Breaks.{is_white}
 use Rattle.mdinline_text_machine.proofs.Texts.Steps.{Plays, EndsWith, Leads, leads-seen, leads-tested, leads-nok, before_class}
 use Rattle.mdinline_text_machine.proofs.Plain.Classes.{tick-class, run-ended}
 use Rattle.mdinline_text_machine.proofs.Plain.Stretches.{shows, first_byte, past, passed, past-is, past-at, past-stops, passed-keeps, passed-counts, goes-next, class-rows, sees, loops, leaf-read}
-use Rattle.mdinline_text_machine.proofs.CodeSpans.Classes.{at-data}
 use Rattle.mdinline_text_machine.proofs.CodeSpans.Found.{first_run}
-use Rattle.mdinline_text_machine.proofs.CodeSpans.FoundParts.{piece_of}
-use Rattle.mdinline_text_machine.proofs.CodeSpans.Plays.{PlaysCodeSpans, Remembering, before_chunk_rows, between_rows}
+use Rattle.mdinline_text_machine.proofs.CodeSpans.Classes.{at-data}
+use Rattle.mdinline_text_machine.proofs.CodeSpans.Cutting.{Cutting, into_parts, piece_of}
+use Rattle.mdinline_text_machine.proofs.CodeSpans.Plays.{PlaysCodeSpans, Remembering, before_chunk_rows, between-data, between_rows, forgetful}
 
 -- the spans that are open in a code span
 abbrev pub in_code : List EventName
@@ -54,7 +55,7 @@ abbrev pub data_length : List ℕ → ℕ
 data_length bytes = position_or_len is_backtick_or_line_feed bytes
 
 -- line endings are of the class of LF
-line-feed-class : (b : ℕ) → is_line_feed b ≡ true → text_byte b ≡ line_feed
+pub line-feed-class : (b : ℕ) → is_line_feed b ≡ true → text_byte b ≡ line_feed
 line-feed-class b h = let e : b ≡ 10 = grind (arith, nat_tests) in ap text_byte e
 
 -- data ends at a byte that is none, and at the end
@@ -91,6 +92,10 @@ closed_after l local = counts (counts (run_read l local))
 -- data
 abbrev pub data_after : List Seat → Local Unit Unit → Local Unit Unit
 data_after l local = counts (passed is_code_byte counts l (counts local))
+
+-- a line ending, with the white space behind it
+abbrev pub line_after : List Seat → Local Unit Unit → Local Unit Unit
+line_after ss local = counts (passed is_white counts ss (counts local))
 
 -- a backtick string that is data, with the data behind it; its first event is the last of these
 abbrev pub chunk_after : Remembering → List Event → List Seat → Local Unit Unit → Local Unit Unit
@@ -147,6 +152,8 @@ pub record Known (g : Given) (text : Text) (m : Plays g text) (r : Remembering) 
       → r.hopeless t.point (opened_after (s ∷ ss) from) ≡ true → (first_run (backticks (bytes_of (s ∷ ss))) false (bytes_of (t ∷ ts)) ≡ None) × left p from (opened_after (s ∷ ss) from)
   pub line : (p : ℕ) (from : Local Unit Unit) (q : ℕ) (local : Local Unit Unit) (s : Seat) (ss : List Seat) → drop q text.seats ≡ s ∷ ss → is_line_feed s.byte ≡ true
       → inside p from q local → inside p from (q + 1) (counts local)
+  pub white_line : (p : ℕ) (from : Local Unit Unit) (q : ℕ) (local : Local Unit Unit) (s : Seat) (ss : List Seat) → drop q text.seats ≡ s ∷ ss → is_line_feed s.byte ≡ true
+      → inside p from q local → inside p from (q + (1 + prefix_len is_white (bytes_of ss))) (line_after ss local)
   pub in_data : (p : ℕ) (from : Local Unit Unit) (q : ℕ) (local : Local Unit Unit) (s : Seat) (ss : List Seat) → drop q text.seats ≡ s ∷ ss → is_backtick_or_line_feed s.byte ≡ false
       → inside p from q local → inside p from (q + data_length (bytes_of (s ∷ ss))) (data_after (s ∷ ss) local)
   pub chunk : (p : ℕ) (from : Local Unit Unit) (q : ℕ) (local : Local Unit Unit) (s : Seat) (ss : List Seat) → drop q text.seats ≡ s ∷ ss → is_backtick s.byte ≡ true
@@ -182,23 +189,34 @@ module _ (g : Given) (text : Text) (m : Plays g text) (r : Remembering) (c : Pla
       let rest = past is_code_byte l in
       loops g text m in_code_data cs RawTextData is_code_byte counts
       (λ q ended events local s at inside es.
-      leads-seen g text m raw_text_data_rows (held in_code_data q Byte ended events local) cs RawTextData es (ap byte_of at) (at-data (before_class g text q) s.byte (not-true _ inside)).1 (c.raw_text_data _))
+      leads-seen g text m raw_text_data_rows (held in_code_data q Byte ended events local) cs RawTextData es (ap byte_of at) (at-data (before_class g text q) s.byte (not-true _ inside)) (c.raw_text_data _))
       l q q' events local at is es
       (leads-seen g text m raw_text_data_rows (shows rest in_code_data q' events (passed is_code_byte counts l local)) cs RawTextData es (sees g text m rest q' (past-at g text m is_code_byte l q q' at is))
       (data-ended (before_class g text q') (first_byte rest) (past-stops is_code_byte l)) (c.raw_text_data _) h)
 
 module _ (g : Given) (text : Text) (m : Plays g text) (r : Remembering) (c : PlaysCodeSpans g text m r) (n : Known g text m r) (p : ℕ) (from : Local Unit Unit) where
-  -- a piece is read, with its events
-  abbrev pub ReadsAs : (q : ℕ) (s : Seat) (ss : List Seat) (events : List Event) (local : Local Unit Unit) (cs : List Choice) → Part → Type 0
-  ReadsAs q s ss events local cs a =
-      (after : Local Unit Unit) × (size_b after ≡ size_b local) × n.inside p from (q + part_length a) after
+  -- so many bytes are read, with these events
+  abbrev pub ReadsAs : (q : ℕ) (s : Seat) (ss : List Seat) (events : List Event) (local : Local Unit Unit) (cs : List Choice) → (size : ℕ) → (made : List Event) → Type 0
+  ReadsAs q s ss events local cs size made =
+      (after : Local Unit Unit) × (size_b after ≡ size_b local) × n.inside p from (q + size) after
       × Leads g text m (held in_code q Byte false events local) cs (Retry RawTextBetween)
-      (shows (drop (part_length a) (s ∷ ss)) in_code (q + part_length a) (events ++ part_events g.bytes CodeTextData (a, take (part_length a) (s ∷ ss))) after) cs (Retry RawTextBetween)
+      (shows (drop size (s ∷ ss)) in_code (q + size) (events ++ made) after) cs (Retry RawTextBetween)
+
+  -- so many bytes of data
+  abbrev pub ReadsData : (q : ℕ) (s : Seat) (ss : List Seat) (events : List Event) (local : Local Unit Unit) (cs : List Choice) → ℕ → Type 0
+  ReadsData q s ss events local cs size = ReadsAs q s ss events local cs size (leaf g.bytes CodeTextData (take size (s ∷ ss)))
+
+  -- Each piece is read with its events, if it begins with no backtick string that closes the code span
+  abbrev pub ReadsPieces : Cutting → Type 0
+  ReadsPieces c =
+      (q : ℕ) (s : Seat) (ss : List Seat) (events : List Event) (local : Local Unit Unit) (cs : List Choice) → drop q text.seats ≡ s ∷ ss
+      → (backticks (bytes_of (s ∷ ss)) == size_b local) ≡ false → backticks (bytes_of (s ∷ ss)) < 2 ^ 64 → n.inside p from q local
+      → let a = piece_of c (s ∷ ss) in ReadsAs q s ss events local cs (c.size a) (c.events g.bytes (a, take (c.size a) (s ∷ ss)))
 
   -- a backtick string that does not close the code span, with the data after it: it is tried, put back, and read once more
   reads-chunk : (q : ℕ) (s : Seat) (ss : List Seat) (events : List Event) (local : Local Unit Unit) (cs : List Choice) → drop q text.seats ≡ s ∷ ss → is_backtick s.byte ≡ true
       → (backticks (bytes_of (s ∷ ss)) == size_b local) ≡ false → backticks (bytes_of (s ∷ ss)) < 2 ^ 64 → n.inside p from q local
-      → ReadsAs q s ss events local cs (plain_run (backticks (bytes_of (s ∷ ss)) + data_length (bytes_of (past is_backtick (s ∷ ss)))))
+      → ReadsData q s ss events local cs (backticks (bytes_of (s ∷ ss)) + data_length (bytes_of (past is_backtick (s ∷ ss))))
   reads-chunk q s ss events local cs at tick other short inside =
       let l = s ∷ ss in
       let j = backticks (bytes_of l) in
@@ -242,50 +260,58 @@ module _ (g : Given) (text : Text) (m : Plays g text) (r : Remembering) (c : Pla
             (rw (behind, same) h))))))))),
       )
 
-  -- Each piece is read with its events, if it begins with no backtick string that closes the code span
-  pub reads-piece : (q : ℕ) (s : Seat) (ss : List Seat) (events : List Event) (local : Local Unit Unit) (cs : List Choice) → drop q text.seats ≡ s ∷ ss
-      → (backticks (bytes_of (s ∷ ss)) == size_b local) ≡ false → backticks (bytes_of (s ∷ ss)) < 2 ^ 64 → n.inside p from q local → ReadsAs q s ss events local cs (piece_of (s ∷ ss))
-  reads-piece q s ss events local cs at other short inside =
+  -- data is, up to a line ending or the next backtick string
+  pub reads-data : (q : ℕ) (s : Seat) (ss : List Seat) (events : List Event) (local : Local Unit Unit) (cs : List Choice) → drop q text.seats ≡ s ∷ ss → is_line_feed s.byte ≡ false
+      → (backticks (bytes_of (s ∷ ss)) == size_b local) ≡ false → backticks (bytes_of (s ∷ ss)) < 2 ^ 64 → n.inside p from q local
+      → ReadsData q s ss events local cs (plain_length is_backtick_or_line_feed (bytes_of (s ∷ ss)))
+  reads-data q s ss events local cs at e other short inside =
       let l = s ∷ ss in
       let bytes = bytes_of l in
       let front = at-front text.seats q s ss at in
-      elim (is_line_feed s.byte) as (λ t. is_line_feed s.byte ≡ t → ReadsAs q s ss events local cs (cond t line_ending (plain_run (plain_length is_backtick_or_line_feed bytes)))) [
-        | true ↦ λ e.
-            let made = (events ++ enter_at g text m LineEnding q ∷ []) ++ event g.bytes Exit LineEnding (end_or text.end (slice_get text.seats q)) ∷ [] in (
-              counts local,
-              refl,
-              n.line p from q local s ss at e inside,
+      elim (is_backtick s.byte) as (λ t. is_backtick s.byte ≡ t → ReadsData q s ss events local cs (plain_length is_backtick_or_line_feed bytes)) [
+        | true ↦ λ tick.
+            let some = run-positive s.byte (bytes_of ss) tick in
+            let first : max 1 (backticks bytes) ≡ backticks bytes = omega (arith, some) in
+            let rest : drop (backticks bytes) bytes ≡ bytes_of (past is_backtick l) = drop-map (λ (s : Seat). s.byte) (backticks bytes) l ∙ ap bytes_of (sym (past-is is_backtick l)) in
+            let size = ap (λ r. r + data_length (drop r bytes)) first ∙ ap (λ k. backticks bytes + data_length k) rest in
+            subst (λ n. ReadsData q s ss events local cs n) (sym size) (reads-chunk q s ss events local cs at tick other short inside)
+        | false ↦ λ tickless.
+            let plain : is_backtick_or_line_feed s.byte ≡ false = ap (λ t. t || is_backtick s.byte) e ∙ tickless in
+            let size_of = data_length bytes in
+            let begun = events ++ enter_at g text m CodeTextData q ∷ [] in
+            let after = counts (passed is_code_byte counts l (counts local)) in
+            let none : backticks bytes ≡ 0 = ap (λ t. cond t (1 + backticks (bytes_of ss)) 0) tickless in
+            let some : size_of ≡ 1 + data_length (bytes_of ss) = ap (λ t. cond (not t) (1 + data_length (bytes_of ss)) 0) plain in
+            let size : plain_length is_backtick_or_line_feed bytes ≡ size_of = ap (λ r. max 1 r + data_length (drop (max 1 r) bytes)) none ∙ sym some in
+            let same = plain-events g text m size_of q s ss events at (omega (arith, some)) (count-within is_code_byte l) in
+            subst (λ n. ReadsData q s ss events local cs n) (sym size) (
+              after,
+              passed-keeps size_b counts (λ l. refl) is_code_byte l (counts local),
+              n.in_data p from q local s ss at plain inside,
               λ es h.
-                  leads-seen g text m (between_rows r) (held in_code q Byte false events local) cs RawTextBetween es (ap byte_of front)
-                  (class-rows g text m (between_rows r) q s line_feed (line-feed-class s.byte e)) (c.raw_text_between _)
-                  (goes-next g text m ss in_code (q + 1) made (counts local) cs RawTextBetween (drop-next text.seats q s ss at) es
-                  (subst (λ l. EndsWith g text m (shows ss in_code (q + 1) l (counts local)) cs (Retry RawTextBetween) es) (sym (line-ending-read g text events q s front)) h)),
+                  leads-seen g text m (between_rows r) (held in_code q Byte false events local) cs RawTextBetween es (ap byte_of front) (between-data r (before_class g text q) s.byte plain) (c.raw_text_between _)
+                  (data-read g text m r c l q (q + size_of) begun (counts local) cs at refl es
+                  (rw (past-is is_code_byte l, same) h)),
             )
-        | false ↦ λ e.
-            elim (is_backtick s.byte) as (λ t. is_backtick s.byte ≡ t → ReadsAs q s ss events local cs (plain_run (plain_length is_backtick_or_line_feed bytes))) [
-              | true ↦ λ tick.
-                  let some = run-positive s.byte (bytes_of ss) tick in
-                  let first : max 1 (backticks bytes) ≡ backticks bytes = omega (arith, some) in
-                  let rest : drop (backticks bytes) bytes ≡ bytes_of (past is_backtick l) = drop-map (λ (s : Seat). s.byte) (backticks bytes) l ∙ ap bytes_of (sym (past-is is_backtick l)) in
-                  let size = ap (λ r. r + data_length (drop r bytes)) first ∙ ap (λ k. backticks bytes + data_length k) rest in
-                  subst (λ n. ReadsAs q s ss events local cs (plain_run n)) (sym size) (reads-chunk q s ss events local cs at tick other short inside)
-              | false ↦ λ tickless.
-                  let plain : is_backtick_or_line_feed s.byte ≡ false = ap (λ t. t || is_backtick s.byte) e ∙ tickless in
-                  let size_of = data_length bytes in
-                  let begun = events ++ enter_at g text m CodeTextData q ∷ [] in
-                  let after = counts (passed is_code_byte counts l (counts local)) in
-                  let none : backticks bytes ≡ 0 = ap (λ t. cond t (1 + backticks (bytes_of ss)) 0) tickless in
-                  let some : size_of ≡ 1 + data_length (bytes_of ss) = ap (λ t. cond (not t) (1 + data_length (bytes_of ss)) 0) plain in
-                  let size : plain_length is_backtick_or_line_feed bytes ≡ size_of = ap (λ r. max 1 r + data_length (drop (max 1 r) bytes)) none ∙ sym some in
-                  let same = plain-events g text m size_of q s ss events at (omega (arith, some)) (count-within is_code_byte l) in
-                  subst (λ n. ReadsAs q s ss events local cs (plain_run n)) (sym size) (
-                    after,
-                    passed-keeps size_b counts (λ l. refl) is_code_byte l (counts local),
-                    n.in_data p from q local s ss at plain inside,
-                    λ es h.
-                        leads-seen g text m (between_rows r) (held in_code q Byte false events local) cs RawTextBetween es (ap byte_of front) (at-data (before_class g text q) s.byte plain).0 (c.raw_text_between _)
-                        (data-read g text m r c l q (q + size_of) begun (counts local) cs at refl es
-                        (rw (past-is is_code_byte l, same) h)),
-                  )
-            ] refl
       ] refl
+
+-- A machine that remembers nothing reads line endings and data
+pub reads-parts : (g : Given) (text : Text) (m : Plays g text) (c : PlaysCodeSpans g text m forgetful) (n : Known g text m forgetful) (p : ℕ) (from : Local Unit Unit) → ReadsPieces g text m forgetful c n p from into_parts
+reads-parts g text m c n p from q s ss events local cs at other short inside =
+    let l = s ∷ ss in
+    let front = at-front text.seats q s ss at in
+    elim (is_line_feed s.byte) as (λ t. is_line_feed s.byte ≡ t → let a = cond t line_ending (plain_run (plain_length is_backtick_or_line_feed (bytes_of l))) in
+    ReadsAs g text m forgetful c n p from q s ss events local cs (part_length a) (part_events g.bytes CodeTextData (a, take (part_length a) l))) [
+      | true ↦ λ e.
+          let made = (events ++ enter_at g text m LineEnding q ∷ []) ++ event g.bytes Exit LineEnding (end_or text.end (slice_get text.seats q)) ∷ [] in (
+            counts local,
+            refl,
+            n.line p from q local s ss at e inside,
+            λ es h.
+                leads-seen g text m (between_rows forgetful) (held in_code q Byte false events local) cs RawTextBetween es (ap byte_of front)
+                (class-rows g text m (between_rows forgetful) q s line_feed (line-feed-class s.byte e)) (c.raw_text_between _)
+                (goes-next g text m ss in_code (q + 1) made (counts local) cs RawTextBetween (drop-next text.seats q s ss at) es
+                (subst (λ l. EndsWith g text m (shows ss in_code (q + 1) l (counts local)) cs (Retry RawTextBetween) es) (sym (line-ending-read g text events q s front)) h)),
+          )
+      | false ↦ λ e. reads-data g text m forgetful c n p from q s ss events local cs at e other short inside
+    ] refl

@@ -1,14 +1,16 @@
 -- A machine that remembers backtick strings: what it knows of them where a code span is tried, in it, and where it is over; and how many calls are
 -- counted.
-use Rattle.markdown_base.proofs.Common.{leads-back}
-use Rattle.mdinline_text_machine.proofs.Prelude.{Between, Byte, Name, RawTextStart, Retry, code_span_at, eqb-true, ◌⊎◌, ◌≡◌, ℕ, ◌+◌, ◌-◌, ◌*◌, ◌≤◌, ◌==◌, ◌&&◌, not, ◌∷◌, ◌++◌, [], List, Bool, true, false, cond, refl, sym, ◌∙◌, ap, subst, inl, inr, None, arith, nat_tests, not-true, and_parts, cases_lt, length, drop, drop-drop, length-drop, at-front, Event, CodeTextData, Seat, Point, Given, Text, IsText, Local, counts, point_or, shown, passes, is_line_feed, is_backtick, is_backtick_or_line_feed, backticks, bytes_of}
+use Rattle.markdown_base.proofs.Common.{drop-next, leads-back}
+use Rattle.mdconstructs_tables.specs.Breaks.{is_white}
+use Rattle.mdinline_text_machine.proofs.Prelude.{Between, Byte, Name, RawTextStart, Retry, code_span_found, eqb-true, ◌⊎◌, ◌≡◌, ℕ, ◌+◌, ◌-◌, ◌*◌, ◌≤◌, ◌==◌, ◌&&◌, not, ◌∷◌, ◌++◌, [], List, Bool, true, false, cond, refl, sym, ◌∙◌, ap, subst, inl, inr, None, arith, nat_tests, not-true, and_parts, cases_lt, length, drop, drop-drop, length-drop, at-front, Event, CodeTextData, Seat, Point, Given, Text, IsText, Local, counts, point_or, shown, passes, is_line_feed, is_backtick, is_backtick_or_line_feed, backticks, bytes_of, prefix_len}
+use Rattle.mdinline_text_machine.proofs.CodeSpans.Cutting.{Cutting, events_of}
 use Rattle.mdinline_text_machine.proofs.CodeSpans.Found.{first_run, further}
-use Rattle.mdinline_text_machine.proofs.CodeSpans.Parts.{Known, chunk_after, closed_after, count-within, data_after, data_length, enter_at, grows_b, grows_c, is_code_byte, opened_after, run-positive, run_read, size_b, size_c, with_b, with_c}
+use Rattle.mdinline_text_machine.proofs.CodeSpans.Parts.{Known, ReadsPieces, chunk_after, closed_after, count-within, data_after, data_length, enter_at, grows_b, grows_c, is_code_byte, line_after, opened_after, run-positive, run_read, size_b, size_c, with_b, with_c}
 use Rattle.mdinline_text_machine.proofs.CodeSpans.Items.{Ends, tries-code-span}
 use Rattle.mdinline_text_machine.proofs.CodeSpans.Plays.{PlaysCodeSpans, Remembering, Notes, Writes}
 use Rattle.mdinline_text_machine.proofs.CodeSpans.Short.{runs-of-text}
 use Rattle.mdinline_text_machine.proofs.Constructs.Listed.{outer}
-use Rattle.mdinline_text_machine.proofs.CodeSpans.Seen.{Complete, Sound, Tracks, behind-run, sound-run, tracks-as, tracks-data, tracks-line, tracks-none, tracks-run}
+use Rattle.mdinline_text_machine.proofs.CodeSpans.Seen.{Complete, Sound, Tracks, behind-run, sound-run, tracks-as, tracks-data, tracks-line, tracks-none, tracks-run, tracks-white}
 use Rattle.mdinline_text_machine.proofs.CodeSpans.Ticks.{tick-shown}
 use Rattle.mdinline_text_machine.proofs.Plain.Passed.{after-passed}
 use Rattle.mdinline_text_machine.proofs.Plain.Stretches.{first_byte, past, past-at, past-is, past-stops, passed}
@@ -24,11 +26,12 @@ abbrev pub seen : Local Unit Unit → Bool
 seen local = local.tokenize_state.seen
 
 -- A memory of backtick strings: whether one of a length was seen that does not begin before an index; how one is noted, which begins where the last
--- event is and has the length that was read; and how it is noted that all were seen
+-- event is and has the length that was read; and how it is noted that all were seen. And the state behind a line ending
 pub record Memory : Type 0 where
   pub ahead : Local Unit Unit → (k index : ℕ) → Bool
   pub noted : Notes
   pub all_noted : Writes
+  pub behind_line : Name
   pub same : (a b : Local Unit Unit) → (remembered a).runs ≡ (remembered b).runs → (k index : ℕ) → ahead a k index ≡ ahead b k index
   pub notes : (events : List Event) (e : Event) (local : Local Unit Unit) (index : ℕ) → index ≤ e.point.index → ahead (noted (events ++ e ∷ []) local) (size_c local) index ≡ true
   pub keeps_old : (events : List Event) (local : Local Unit Unit) (k index : ℕ) → ahead local k index ≡ true → ahead (noted events local) k index ≡ true
@@ -48,6 +51,7 @@ remembering y = record {
   hopeless = λ p local. seen local && not (y.ahead local (size_b local) p.index);
   noted = y.noted;
   all_noted = y.all_noted;
+  behind_line = y.behind_line;
 }
 
 -- a call that writes one of the two sizes
@@ -86,6 +90,15 @@ after-data l local =
     let read = passed is_code_byte counts l begun in
     let one = after-call local in
     let all = after-passed counts after-call is_code_byte l begun in
+    let last = after-call read in
+    record { calls = omega (arith, one.calls, all.calls, last.calls); same = last.same ∙ all.same ∙ one.same }
+
+after-line : (ss : List Seat) (local : Local Unit Unit) → IsAfter (prefix_len is_white (bytes_of ss) + 2) local (line_after ss local)
+after-line ss local =
+    let begun = counts local in
+    let read = passed is_white counts ss begun in
+    let one = after-call local in
+    let all = after-passed counts after-call is_white ss begun in
     let last = after-call read in
     record { calls = omega (arith, one.calls, all.calls, last.calls); same = last.same ∙ all.same ∙ one.same }
 
@@ -194,6 +207,18 @@ module _ (g : Given) (text : Text) (is : IsText g text) (m : Plays g text) (y : 
       let other : (s.byte == 96) ≡ false = grind (arith, nat_tests) in
       moves 1 p from q (q + 1) local (counts local) (after-call local) (tracks-line xs (y.ahead local) (p + run_at p) q s ss at other h.tracks)
       (omega (arith, length-behind xs q 1 (s ∷ ss) at (omega arith))) (omega arith) h
+
+  pub white-line : (p : ℕ) (from : Local Unit Unit) (q : ℕ) (local : Local Unit Unit) (s : Seat) (ss : List Seat) → drop q xs ≡ s ∷ ss → is_line_feed s.byte ≡ true
+      → InsideRuns p from q local → InsideRuns p from (q + (1 + prefix_len is_white (bytes_of ss))) (line_after ss local)
+  white-line p from q local s ss at feed h =
+      let n = prefix_len is_white (bytes_of ss) in
+      let other : (s.byte == 96) ≡ false = grind (arith, nat_tests) in
+      let next : drop (q + 1) xs ≡ ss = drop-next xs q s ss at in
+      let place : q + 1 + n ≡ q + (1 + n) = omega arith in
+      let tracks = subst (λ e. Tracks xs (y.ahead local) (p + run_at p) e false) place
+      (tracks-white xs (y.ahead local) (p + run_at p) ss (q + 1) next (tracks-line xs (y.ahead local) (p + run_at p) q s ss at other h.tracks)) in
+      moves (n + 2) p from q (q + (1 + n)) local (line_after ss local) (after-line ss local) tracks
+      (omega (arith, length-behind xs q (1 + n) (s ∷ ss) at (omega (arith, count-within is_white ss)))) (omega arith) h
 
   pub in-data : (p : ℕ) (from : Local Unit Unit) (q : ℕ) (local : Local Unit Unit) (s : Seat) (ss : List Seat) → drop q xs ≡ s ∷ ss → is_backtick_or_line_feed s.byte ≡ false
       → InsideRuns p from q local → InsideRuns p from (q + data_length (bytes_of (s ∷ ss))) (data_after (s ∷ ss) local)
@@ -372,6 +397,7 @@ module _ (g : Given) (text : Text) (is : IsText g text) (m : Plays g text) (y : 
     opens = λ p from s ss at tick size hopeful knows. opens p from s ss at tick knows size hopeful;
     gives_up = λ p from s ss at tick size knows t ts behind hopeless. gives-up p from s ss at tick knows size t ts behind hopeless;
     line = line;
+    white_line = white-line;
     in_data = in-data;
     chunk = chunk;
     ends = ends;
@@ -421,9 +447,9 @@ module _ (g : Given) (text : Text) (is : IsText g text) (m : Plays g text) (y : 
       subst (λ b. spent after + cond b 0 (7 * length (drop (p + n) xs)) ≤ spent from + owed p from + (7 * n + 2)) (sym h.seen_same) (owes (seen from))
 
   -- ---- The theorem of code spans that are read by such a machine
-  module _ (c : PlaysCodeSpans g text m (remembering y)) (names : Between) where
+  module _ (c : PlaysCodeSpans g text m (remembering y)) (names : Between) (ps : Cutting) (reads : (p : ℕ) (from : Local Unit Unit) → ReadsPieces g text m (remembering y) c known_runs p from ps) where
     pub remembered-code-spans-read : (nok : Name) (p : ℕ) (ended : Bool) (events : List Event) (local : Local Unit Unit) (s : Seat) (ss : List Seat) → drop p text.seats ≡ s ∷ ss → is_backtick s.byte ≡ true
         → KnowsRuns p local
-        → Ends g text m (remembering y) c known_runs names local nok p ended events (s ∷ ss) (between_items p Byte ended events local) (outer names.home nok p ended events ∷ []) (Retry RawTextStart) (code_span_at (bytes_of (s ∷ ss)))
+        → Ends g text m (remembering y) c known_runs names ps reads local nok p ended events (s ∷ ss) (between_items p Byte ended events local) (outer names.home nok p ended events ∷ []) (Retry RawTextStart) (code_span_found (events_of ps) (bytes_of (s ∷ ss)))
     remembered-code-spans-read nok p ended events local s ss here first knows =
-        tries-code-span g text m (remembering y) c known_runs names (runs-of-text g text is) nok p ended events local s ss here (eqb-true s.byte 96 first) knows
+        tries-code-span g text m (remembering y) c known_runs names ps reads (runs-of-text g text is) nok p ended events local s ss here (eqb-true s.byte 96 first) knows

@@ -2,6 +2,8 @@
 -- an index.
 use Rattle.mdinline_text_machine.proofs.Prelude.{◌⊎◌, ◌≡◌, ℕ, zero, suc, ◌+◌, ◌-◌, ◌<◌, ◌≤◌, ◌==◌, ◌&&◌, not, ◌∷◌, [], List, Bool, true, false, cond, refl, sym, ◌∙◌, ap, subst, inl, inr, Option, Some, None, arith, nat_tests, cases_lt, drop, drop-drop, drop-next, eqb-true, prefix_len, Seat, is_backtick, is_backtick_or_line_feed, backticks, bytes_of, passes, Given, Text, IsText}
 use Rattle.std.proofs.lemmas.Bool.{eq-eqb, not-true}
+use Rattle.markdown_base.proofs.Facts.Numbers.{unlike}
+use Rattle.mdconstructs_tables.specs.Breaks.{is_white}
 use Rattle.mdinline_text_machine.proofs.CodeSpans.Found.{first_run, further, further-further, no-further, no-run, no-tick}
 use Rattle.mdinline_text_machine.proofs.CodeSpans.Parts.{data_length, is_code_byte}
 use Rattle.mdinline_text_machine.proofs.CodeSpans.Ticks.{index-behind, index-upto}
@@ -139,6 +141,13 @@ module _ (xs : List Seat) where
 
   pub tracks-data : (ahead : ℕ → ℕ → Bool) (q0 : ℕ) (l : List Seat) (q : ℕ) → drop q xs ≡ l → Tracks ahead q0 q false → Tracks ahead q0 (q + data_length (bytes_of l)) false
   tracks-data = tracks-over is_code_byte false code-starts
+
+  -- over white space
+  white-starts : (b : ℕ) (bs : List ℕ) → is_white b ≡ true → ((b == 96) ≡ false) × ((j : ℕ) → 0 < j → starts false (b ∷ bs) j ≡ false)
+  white-starts b bs h = other-starts b bs (unlike is_white 96 refl b h)
+
+  pub tracks-white : (ahead : ℕ → ℕ → Bool) (q0 : ℕ) (l : List Seat) (q : ℕ) → drop q xs ≡ l → Tracks ahead q0 q false → Tracks ahead q0 (q + prefix_len is_white (bytes_of l)) false
+  tracks-white = tracks-over is_white false white-starts
 
   pub tracks-line : (ahead : ℕ → ℕ → Bool) (q0 q : ℕ) (s : Seat) (ss : List Seat) → drop q xs ≡ s ∷ ss → (s.byte == 96) ≡ false → Tracks ahead q0 q false → Tracks ahead q0 (q + 1) false
   tracks-line ahead q0 q s ss at other tracks =

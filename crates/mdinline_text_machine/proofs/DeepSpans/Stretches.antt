@@ -75,6 +75,14 @@ byte-plain test fails [] m h = absurd (cc)
 byte-plain test fails (s ∷ ss) zero h = (unlike test 10 fails s.byte h, tt)
 byte-plain test fails (s ∷ ss) (suc m) h = byte-plain test fails ss m h
 
+-- nor in plain text
+pub text-run : (ends : ℕ → Bool) → ends 10 ≡ true → (s : Seat) (ss : List Seat) → (s.byte == 10) ≡ false → NoEnding (take (plain_length ends (bytes_of (s ∷ ss))) (s ∷ ss))
+text-run ends feed s ss other =
+    let text = bytes_of (s ∷ ss) in
+    let r = max 1 (backticks text) in
+    let first = first-plain (backticks text) s ss other (run-plain is_backtick refl (s ∷ ss)) in
+    plain-add r (position_or_len ends (drop r text)) (s ∷ ss) first (run-behind (λ b. not (ends b)) (ap not feed) r (s ∷ ss))
+
 module _ (bytes : List ℕ) where
   -- ---- data
   lines-cut : (lines : List (List Seat)) → AllByRecursion EndsOnce lines → IsCut bytes (flat_map (data_line bytes) lines) (flat_map both lines)
@@ -104,14 +112,10 @@ module _ (bytes : List ℕ) where
       → let a = part_at ends (bytes_of (s ∷ ss)) in IsCut bytes (part_events bytes name (a, take (part_length a) (s ∷ ss))) (take (part_length a) (s ∷ ss))
   part-cut ends feed name s ss =
       let text = bytes_of (s ∷ ss) in
-      let r = max 1 (backticks text) in
       elim (s.byte == 10) as (λ t. (s.byte == 10) ≡ t
       → let a = cond t line_ending (plain_run (plain_length ends text)) in IsCut bytes (part_events bytes name (a, take (part_length a) (s ∷ ss))) (take (part_length a) (s ∷ ss))) [
         | true ↦ λ e. cut-leaf bytes LineEnding (take 1 (s ∷ ss)) (one-taken (s ∷ ss))
-        | false ↦ λ e.
-            let first = first-plain (backticks text) s ss e (run-plain is_backtick refl (s ∷ ss)) in
-            let plain = plain-add r (position_or_len ends (drop r text)) (s ∷ ss) first (run-behind (λ b. not (ends b)) (ap not feed) r (s ∷ ss)) in
-            cut-leaf bytes name (take (plain_length ends text) (s ∷ ss)) (plain-line (take (plain_length ends text) (s ∷ ss)) plain)
+        | false ↦ λ e. cut-leaf bytes name (take (plain_length ends text) (s ∷ ss)) (plain-line (take (plain_length ends text) (s ∷ ss)) (text-run ends feed s ss e))
       ] refl
 
   -- ---- an item at the front of virtual bytes: its events can be cut
