@@ -98,6 +98,7 @@ pub use Rattle.mdinline_constructs.specs.HtmlTag
 pub use Rattle.mdinline_constructs.specs.HtmlTagRows
 pub use Rattle.mdinline_constructs.specs.HtmlText
 pub use Rattle.mdinline_constructs.specs.HtmlTextRows
+pub use Rattle.mdinline_constructs.specs.LinedCode
 pub use Rattle.mdinline_constructs.specs.Reference
 pub use Rattle.mdinline_constructs.specs.ReferenceRows
 pub use Rattle.mdinline_constructs.specs.RememberedCode

@@ -22,7 +22,7 @@ pub use Rattle.markdown_base.specs.declared.configuration.ParseOptions.{ParseOpt
 pub use Rattle.markdown_base.specs.declared.event.Event.{Event}
 pub use Rattle.markdown_base.specs.declared.event.Kind.TheVariants.{Enter, Exit}
 pub use Rattle.markdown_base.specs.declared.event.Name.{Name as EventName}
-pub use Rattle.markdown_base.specs.declared.event.Name.TheVariants.{Autolink, AutolinkEmail, AutolinkMarker, CharacterReference, CharacterReferenceMarker, CharacterReferenceMarkerHexadecimal, CharacterReferenceMarkerNumeric, CharacterReferenceMarkerSemi, CharacterReferenceValue, CodeTextSequence, HardBreakEscape, HardBreakTrailing, HtmlText, HtmlTextData, LineEnding, SpaceOrTab}
+pub use Rattle.markdown_base.specs.declared.event.Name.TheVariants.{Autolink, AutolinkEmail, AutolinkMarker, CharacterReference, CharacterReferenceMarker, CharacterReferenceMarkerHexadecimal, CharacterReferenceMarkerNumeric, CharacterReferenceMarkerSemi, CharacterReferenceValue, CodeText, CodeTextData, CodeTextSequence, HardBreakEscape, HardBreakTrailing, HtmlText, HtmlTextData, LineEnding, SpaceOrTab}
 pub use Rattle.markdown_base.specs.declared.event.Point.{Point}
 pub use Rattle.markdown_base.specs.declared.state.Name.{Name}
 pub use Rattle.markdown_base.specs.declared.state.State.{State}
@@ -49,11 +49,12 @@ pub use Rattle.mdinline_constructs.specs.HtmlTag.{begins_attribute_name, behind,
 pub use Rattle.mdinline_constructs.specs.HtmlTagRows.{html_tags, html_text_attribute_name_after_rows, html_text_attribute_name_rows, html_text_end_rows, html_text_open_rows, html_text_start_rows, html_text_tag_close_between_rows, html_text_tag_close_rows, html_text_tag_close_start_rows, html_text_tag_open_between_rows, html_text_tag_open_rows, html_text_value_before_rows, html_text_value_quoted_after_rows, html_text_value_quoted_rows, html_text_value_unquoted_rows, is_quote, quote_is, quote_waits}
 pub use Rattle.mdinline_constructs.specs.HtmlText.{Piece, data_run, has_blank_line, html, html_of, line_break, piece_at, piece_events, piece_length}
 pub use Rattle.mdinline_constructs.specs.HtmlTextRows.{CanEndHtml, CanEndHtmlLine, follows_line_ending, html_ends, html_following, html_goes_on, html_is_on, html_line_begins, html_line_ending_after_prefix_rows, html_line_ending_after_rows, html_line_ends, html_rows, html_state, is_following, no_html, sees}
+pub use Rattle.mdinline_constructs.specs.LinedCode.{code_piece_at, code_piece_events, lined_code_at, lined_events}
 pub use Rattle.mdinline_constructs.specs.Reference.{Kind, body_at, decimal, hexadecimal, is_number_sign, is_semicolon, is_value, is_value_byte, is_x, mark_events, marks, named, number_at, reference, reference_at, value_at}
 pub use Rattle.mdinline_constructs.specs.ReferenceRows.{at_number_sign, at_semicolon, at_x, going_on, is_ampersand_class, is_whole, marker_is, may_go_on, name_behind, reference_numeric_rows, reference_open_rows, reference_start_rows, reference_value, reference_value_rows, references, references_are_on, value_begins, value_goes_on, value_grows, value_is_whole}
-pub use Rattle.mdinline_constructs.specs.RememberedCode.{all_runs_seen, index_of, is_ahead, is_hopeless, is_seen_from, later_of, remembered_between_rows, remembered_chunk_rows, remembered_open_rows, runs_of, seen_at, unseen, with_run, with_run_at}
+pub use Rattle.mdinline_constructs.specs.RememberedCode.{all_runs_seen, code_line_rows, code_white_rows, index_of, is_ahead, is_hopeless, is_seen_from, later_of, remembered_between_rows, remembered_chunk_rows, remembered_code_spans, remembered_open_rows, runs_of, seen_at, unseen, with_run, with_run_at}
 pub use Rattle.mdinline_constructs.specs.WhiteSpace.{is_white_left, white_space, white_space_at}
-pub use Rattle.mdinline_constructs.specs.declared.names.TheConstants.{HtmlTextMarkClose, HtmlTextMarkInside, HtmlTextMarkLine, HtmlTextMarkOpen, HtmlTextMarkStart, HtmlTextMarkWhite}
+pub use Rattle.mdinline_constructs.specs.declared.names.TheConstants.{HtmlTextMarkClose, HtmlTextMarkInside, HtmlTextMarkLine, HtmlTextMarkOpen, HtmlTextMarkStart, HtmlTextMarkWhite, RawTextLineStart, RawTextLineWhite}
 pub use Rattle.mdconstructs_machines.proofs.LineReads.Rows.{row_step}
 pub use Rattle.mdconstructs_machines.proofs.LineReads.Onward.{leads-step}
 pub use Rattle.mdconstructs_machines.proofs.LineReads.Steps.{at-front, held, place-behind}
@@ -98,7 +99,6 @@ pub use Rattle.mdinline_text_machine.proofs.Texts.Reads.{ReadsPart}
 pub use Rattle.mdinline_text_machine.proofs.Texts.Steps.{EndsWith, HasRow, HasRows, Leads, Plays, before_class, between_items, leads-ok, leads-row, leads-seen, leads-tested, tested}
 pub use Rattle.mdinline_text_machine.specs.Autolink.{is_allowed}
 pub use Rattle.mdinline_text_machine.specs.Bytes.{backticks, ends_with, has_byte_at, is_ampersand, is_backslash, is_backtick, is_greater_than, is_less_than, is_line_feed, is_space, passes}
-pub use Rattle.mdinline_text_machine.specs.CodeSpan.{code_span_at}
 pub use Rattle.mdinline_text_machine.specs.Construct.{Between, Found}
 pub use Rattle.mdinline_text_machine.specs.Items.{item_length}
 pub use Rattle.mdinline_text_machine.specs.Laws.Classes.{by-class, tick-classed}

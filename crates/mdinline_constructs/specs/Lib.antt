@@ -17,6 +17,7 @@ pub mod HtmlMarkedRows
 pub mod HtmlTag
 pub mod HtmlTagRows
 -- remembered code
+pub mod LinedCode
 pub mod RememberedCode
 -- strings: what is read in them
 pub mod StringItems

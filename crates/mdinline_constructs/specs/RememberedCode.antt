@@ -3,7 +3,7 @@
 use Rattle.std.specs.Prelude.{ℕ, zero, suc, ◌&&◌, nat_le, not, Bool, true, false, cond, List, [], ◌∷◌, Option, Some, None}
 use Rattle.std.specs.List.{last_or}
 use Rattle.markdown_base.specs.declared.event.Event.{Event}
-use Rattle.markdown_base.specs.declared.event.Name.TheVariants.{CodeTextData, CodeTextSequence}
+use Rattle.markdown_base.specs.declared.event.Name.TheVariants.{CodeText, CodeTextData, CodeTextSequence, LineEnding, SpaceOrTab}
 use Rattle.markdown_base.specs.declared.state.State.TheVariants.{Next, Retry, Nok}
 use Rattle.markdown_base.specs.declared.state.TheConstants.Name.{RawTextBetween, RawTextSequenceOpen}
 use Rattle.mdinline_text_machine.specs.declared.names.TheConstants.{RawTextBackticksInside}
@@ -12,10 +12,14 @@ use Rattle.markdown_tokenizer.specs.Sight.{Sight}
 use Rattle.markdown_tokenizer.specs.Text.{Given}
 use Rattle.markdown_tokenizer.specs.declared.tokenizer.state.Container.TheVariants.{BlockQuote}
 use Rattle.markdown_tokenizer.specs.declared.tokenizer.state.ContainerState.{ContainerState}
-use Rattle.mdconstructs_tables.specs.Rows.{enter, exit, consume, write, Rows, row, when, StateRows}
-use Rattle.mdinline_text_machine.specs.CodeSpanRows.{code_spans, raw_text_after, raw_text_backticks_start, raw_text_backticks_inside, raw_text_between, raw_text_between_rows, raw_text_data, raw_text_sequence_close, raw_text_sequence_open, raw_text_start}
-use Rattle.mdinline_text_machine.specs.Construct.{Construct, Found}
-use Rattle.mdinline_text_machine.specs.TextBytes.{TextByte, backtick}
+use Rattle.mdconstructs_tables.specs.Rows.{enter, exit, consume, write, Rows, row, when, StateRows, state}
+use Rattle.mdinline_text_machine.specs.CodeSpanRows.{code_spans, in_code_data, line_ending_then, raw_text_after, raw_text_backticks_start, raw_text_backticks_inside, raw_text_between, raw_text_between_rows, raw_text_data, raw_text_sequence_close, raw_text_sequence_open, raw_text_start}
+use Rattle.mdinline_constructs.specs.LinedCode.{lined_code_grammar}
+use Rattle.mdinline_constructs.specs.declared.names.TheConstants.{RawTextLineStart, RawTextLineWhite}
+use Rattle.mdconstructs_tables.specs.Numbers.{Price, by_left, by_run, numbers}
+use Rattle.mdinline_text_machine.specs.Construct.{Construct, Found, if_option, tried}
+use Rattle.mdinline_text_machine.specs.TextCosts.{text_cost}
+use Rattle.mdinline_text_machine.specs.TextBytes.{TextByte, backtick, line_feed, white}
 use Rattle.mdinline_text_machine.specs.TextSizes.{size_b_grows}
 
 -- ---- what is remembered: for each length whether backtick strings of it were seen, and where the last of them begins
@@ -97,11 +101,30 @@ remembered_open = record raw_text_sequence_open { rows = remembered_open_rows }
 -- in it, at the end of the text
 abbrev pub remembered_between_rows : {R D : Type 0} → (previous current : Option TextByte) → Rows R D
 remembered_between_rows _ None = row (write runs_are_seen ∷ []) Nok
+remembered_between_rows previous (Some line_feed) = line_ending_then RawTextLineStart
 remembered_between_rows previous (Some w) = raw_text_between_rows previous (Some w)
 
 -- its state
 abbrev pub remembered_between : {R D : Type 0} → StateRows TextByte R D
 remembered_between = record raw_text_between { rows = remembered_between_rows }
+
+-- Behind a line ending in it: white space of the next line may begin
+abbrev pub code_line_rows : {R D : Type 0} → (previous current : Option TextByte) → Rows R D
+code_line_rows _ (Some white) = row (enter SpaceOrTab ∷ consume ∷ []) (Next RawTextLineWhite)
+code_line_rows _ _ = row [] (Retry RawTextBetween)
+
+-- its state: a code span is open
+abbrev pub code_line : {R D : Type 0} → StateRows TextByte R D
+code_line = tried (state RawTextLineStart code_line_rows (CodeText ∷ []) (text_cost (by_left 0 7 2)))
+
+-- in that white space
+abbrev pub code_white_rows : {R D : Type 0} → (previous current : Option TextByte) → Rows R D
+code_white_rows _ (Some white) = row (consume ∷ []) (Next RawTextLineWhite)
+code_white_rows _ _ = row (exit SpaceOrTab ∷ []) (Retry RawTextBetween)
+
+-- its state: white space is open, too
+abbrev pub code_white : {R D : Type 0} → StateRows TextByte R D
+code_white = tried (state RawTextLineWhite code_white_rows (CodeText ∷ SpaceOrTab ∷ []) (text_cost (by_left 0 7 2)))
 
 -- a backtick string of another length is data, and is noted
 abbrev pub remembered_chunk_rows : {R D : Type 0} → (previous current : Option TextByte) → Rows R D
@@ -111,8 +134,16 @@ remembered_chunk_rows _ _ = row (enter CodeTextData ∷ write run_is_noted ∷ [
 abbrev pub remembered_chunk : {R D : Type 0} → StateRows TextByte R D
 remembered_chunk = record raw_text_backticks_start { rows = remembered_chunk_rows }
 
+-- What its states cost
+abbrev pub remembered_code_prices : List (Price TextByte)
+remembered_code_prices =
+    by_left 0 7 0 ∷ by_run (numbers 0 1 7 2) ∷ by_left 0 7 1 ∷ by_left 0 7 2 ∷ by_left 0 7 2 ∷ in_code_data ∷ by_run (numbers 0 1 0 1) ∷ by_left 0 0 1 ∷ by_run (numbers 0 1 7 4)
+    ∷ by_run (numbers 0 1 7 3) ∷ []
+
 -- How code spans are read by a machine that remembers
 abbrev pub remembered_code_spans : {R D : Type 0} → Construct Found TextByte R D
 remembered_code_spans = record code_spans {
-  states = raw_text_start ∷ remembered_open ∷ remembered_between ∷ raw_text_data ∷ raw_text_sequence_close ∷ raw_text_after ∷ remembered_chunk ∷ raw_text_backticks_inside ∷ [];
+  grammar = lined_code_grammar;
+  allowed = if_option lined_code_grammar;
+  states = raw_text_start ∷ remembered_open ∷ remembered_between ∷ code_line ∷ code_white ∷ raw_text_data ∷ raw_text_sequence_close ∷ raw_text_after ∷ remembered_chunk ∷ raw_text_backticks_inside ∷ [];
 }

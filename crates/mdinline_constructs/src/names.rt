@@ -1,4 +1,4 @@
-//! The names of states of raw HTML and of hard breaks that the Rust crate has none for, with numbers from 1,100 on.
+//! The names of states of raw HTML, of code spans and of hard breaks that the Rust crate has none for, with numbers from 1,100 on.
 #![allow(non_upper_case_globals)]
 
 use markdown_tokenizer::state::Name;
@@ -20,3 +20,9 @@ pub const HtmlTextMarkWhite: Name = Name { number: 1_104 };
 
 /// Raw HTML between marks: after bytes of the closing mark.
 pub const HtmlTextMarkClose: Name = Name { number: 1_105 };
+
+/// Code span: after a line ending.
+pub const RawTextLineStart: Name = Name { number: 1_106 };
+
+/// Code span: in white space after a line ending.
+pub const RawTextLineWhite: Name = Name { number: 1_107 };

@@ -13,8 +13,9 @@ ghost use Rattle.markdown_tokenizer.specs.Configuration.{at_configuration};
 ghost use Rattle.markdown_tokenizer.specs.Sight.{sight_of};
 ghost use Rattle.mdconstructs_tables.specs.RowInvariant.{DoesAll, IsCallable, step_in};
 ghost use Rattle.mdinline_text_machine.specs.TextBytes.{text_byte};
-ghost use Rattle.mdinline_constructs.specs.RememberedCode.{index_of, is_ahead, is_hopeless, is_seen_from, later_of, remembered_between, remembered_chunk, remembered_open, runs_are_seen, seen_at, unseen, with_run, with_run_at};
+ghost use Rattle.mdinline_constructs.specs.RememberedCode.{code_line, code_white, index_of, is_ahead, is_hopeless, is_seen_from, later_of, remembered_between, remembered_chunk, remembered_open, runs_are_seen, seen_at, unseen, with_run, with_run_at};
 
+use crate::names as construct_names;
 use markdown_tokenizer::event;
 use markdown_tokenizer::owned::Items;
 use markdown_tokenizer::state::{MachineTypes, Name, State};
@@ -64,7 +65,7 @@ pub fn remembered_between<'a, M: MachineTypes>(
         }
         Some(b'\n') => {
             marker(t, event::Name::LineEnding)?;
-            Ok(State::Next(Name::RawTextBetween))
+            Ok(State::Next(construct_names::RawTextLineStart))
         }
         Some(b'`') => {
             t.attempt_next(names::RawTextAfter, names::RawTextBackticksStart)?;
@@ -75,6 +76,38 @@ pub fn remembered_between<'a, M: MachineTypes>(
         Some(_) => {
             t.enter(event::Name::CodeTextData)?;
             Ok(State::Retry(Name::RawTextData))
+        }
+    }
+}
+
+/// Behind a line ending in a code span: white space of the next line may begin.
+pub fn code_line<'a, M: MachineTypes>(t: &mut Tokenizer<'a, M>) -> Result<State, AllocError>
+    requires { IsCallable text_byte code_line t.old }
+    ensures { IfOk result (DoesAll (step_in text_byte code_line t.old) t.old t.new) }
+{
+    match t.current() {
+        Some(b' ' | b'\t') => {
+            t.enter(event::Name::SpaceOrTab)?;
+            t.consume();
+            Ok(State::Next(construct_names::RawTextLineWhite))
+        }
+        _ => Ok(State::Retry(Name::RawTextBetween)),
+    }
+}
+
+/// In white space of a further line of a code span.
+pub fn code_white<'a, M: MachineTypes>(t: &mut Tokenizer<'a, M>) -> Result<State, AllocError>
+    requires { IsCallable text_byte code_white t.old }
+    ensures { IfOk result (DoesAll (step_in text_byte code_white t.old) t.old t.new) }
+{
+    match t.current() {
+        Some(b' ' | b'\t') => {
+            t.consume();
+            Ok(State::Next(construct_names::RawTextLineWhite))
+        }
+        _ => {
+            t.exit(event::Name::SpaceOrTab)?;
+            Ok(State::Retry(Name::RawTextBetween))
         }
     }
 }

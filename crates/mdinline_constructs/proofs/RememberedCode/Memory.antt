@@ -1,5 +1,5 @@
 -- What is remembered of backtick strings is a memory of them, as the theorem of code spans asks for one.
-use Rattle.mdinline_constructs.proofs.Prelude.{◌≡◌, ◌⊎◌, inl, inr, ℕ, zero, suc, ◌≤◌, ◌&&◌, nat_le, ◌∷◌, [], List, true, false, cond, refl, sym, ◌∙◌, ap, subst, arith, Option, Some, None, last_or, and_parts, nat_tests, ContainerState, last-more, size_c, between_rows, opening_rows, Memory, remembering, TextByte, backtick, all_runs_seen, index_of, is_ahead, is_seen_from, later_of, remembered_between_rows, remembered_open_rows, runs_of, seen_at, with_run, with_run_at}
+use Rattle.mdinline_constructs.proofs.Prelude.{◌≡◌, ◌⊎◌, inl, inr, ℕ, zero, suc, ◌≤◌, ◌&&◌, nat_le, ◌∷◌, [], List, true, false, cond, refl, sym, ◌∙◌, ap, subst, arith, Option, Some, None, last_or, and_parts, nat_tests, ContainerState, last-more, size_c, between_rows, opening_rows, Memory, remembering, RawTextLineStart, TextByte, backtick, line_feed, all_runs_seen, index_of, is_ahead, is_seen_from, later_of, remembered_between_rows, remembered_open_rows, runs_of, seen_at, with_run, with_run_at}
 
 -- ---- one entry
 at-least : (i j : ℕ) → j ≤ i → nat_le j i ≡ true
@@ -77,6 +77,7 @@ code_memory = record {
   ahead = λ local k index. is_ahead (runs_of local) k index;
   noted = λ events local. with_run_at (index_of (last_or None events)) local;
   all_noted = all_runs_seen;
+  behind_line = RawTextLineStart;
   same = λ a b e k index. ap (λ runs. is_ahead runs k index) e;
   notes = λ events e local index h.
       subst (λ i. is_ahead (with_run (runs_of local) (size_c local) i) (size_c local) index ≡ true) (sym (ap index_of (last-more None events e)))
@@ -102,4 +103,5 @@ opening-remembered before (Some _) = refl
 
 pub between-remembered : (before waits : Option TextByte) → remembered_between_rows {R = Unit} {D = Unit} before waits ≡ between_rows (remembering code_memory) before waits
 between-remembered before None = refl
+between-remembered before (Some line_feed) = refl
 between-remembered before (Some w) = refl

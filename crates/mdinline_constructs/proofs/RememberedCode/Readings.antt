@@ -1,6 +1,8 @@
 -- How a machine reads code spans that remembers backtick strings: they are decided as they are without that, what is remembered holds, and calls are
 -- paid: a look to the end once, and else by the bytes.
-use Rattle.mdinline_constructs.proofs.Prelude.{◌≡◌, ℕ, ◌+◌, ◌*◌, ◌<◌, ◌≤◌, ◌∷◌, ◌++◌, [], List, Bool, true, false, cond, refl, sym, ◌∙◌, ap, subst, arith, length, take, drop, Option, Some, None, eqb-true, drop-drop, length-map, drop-next, Seat, Event, Name, State, Next, Retry, RawTextStart, Choice, Configuration, Local, Given, IsText, Text, Byte, Nothing, Ends, run-positive, PlaysCodeSpans, KnowsRuns, known_runs, knows-as, knows-later, knows-nothing, left-paid, others, read-paid, remembered-code-spans-read, remembering, seen, code-span-within, OfOption, outer, Remembered, remembered, spent, Leads, Plays, between_items, backticks, is_backtick, code_span_at, Between, Found, item_length, bytes_of, item_events}
+use Rattle.mdinline_constructs.proofs.Prelude.{◌≡◌, ℕ, ◌+◌, ◌*◌, ◌<◌, ◌≤◌, ◌∷◌, ◌++◌, [], List, Bool, true, false, cond, refl, sym, ◌∙◌, ap, subst, arith, length, take, drop, Option, Some, None, eqb-true, drop-drop, length-map, drop-next, Seat, Event, Name, State, Next, Retry, RawTextStart, Choice, Configuration, Local, Given, IsText, Text, Byte, Nothing, Ends, run-positive, PlaysCodeSpans, KnowsRuns, known_runs, knows-as, knows-later, knows-nothing, left-paid, others, read-paid, remembered-code-spans-read, remembering, seen, code-span-within, OfOption, outer, Remembered, remembered, spent, Leads, Plays, between_items, backticks, is_backtick, Between, Found, item_length, bytes_of, item_events, lined_code_at, lined_events}
+use Rattle.mdinline_text_machine.proofs.CodeSpans.Parts.{ReadsPieces}
+use Rattle.mdinline_constructs.proofs.RememberedCode.Lines.{PlaysCodeLines, into_lines, reads-lines}
 use Rattle.mdinline_constructs.proofs.RememberedCode.Memory.{code_memory}
 
 -- The calls of the one look that may still come to the end
@@ -40,7 +42,10 @@ module _ (g : Given) (text : Text) (is : IsText g text) (m : Plays g text) where
       empty : Local Unit Unit
       empty = record local { tokenize_state = record local.tokenize_state { document_container_stack = [] } }
 
-  module _ (c : PlaysCodeSpans g text m (remembering code_memory)) (names : Between) where
+  module _ (c : PlaysCodeSpans g text m (remembering code_memory)) (lines : PlaysCodeLines g text m) (names : Between) where
+    abbrev reads : (p : ℕ) (from : Local Unit Unit) → ReadsPieces g text m (remembering code_memory) c (known_runs g text is m code_memory) p from into_lines
+    reads p from = reads-lines g text m c lines (known_runs g text is m code_memory) p from
+
     -- A code span is decided
     abbrev pub CodeDecided : (nok : Name) (p : ℕ) (ended : Bool) (events : List Event) → Local Unit Unit → Seat → List Seat → Configuration Unit Unit → List Choice → State → Option Found → Type 0
     CodeDecided nok p ended events local s ss k cs st None =
@@ -56,7 +61,7 @@ module _ (g : Given) (text : Text) (is : IsText g text) (m : Plays g text) where
 
     decided : (nok : Name) (p : ℕ) (ended : Bool) (events : List Event) (local : Local Unit Unit) (s : Seat) (ss : List Seat) → drop p text.seats ≡ s ∷ ss → is_backtick s.byte ≡ true → (k : Configuration Unit Unit) (cs : List Choice) (st : State) (o : Option Found)
         → OfOption (λ item. (item_length item ≤ length (bytes_of (s ∷ ss))) × (backticks (bytes_of (s ∷ ss)) ≤ item_length item)) o
-        → Ends g text m (remembering code_memory) c (known_runs g text is m code_memory) names local nok p ended events (s ∷ ss) k cs st o → CodeDecided nok p ended events local s ss k cs st o
+        → Ends g text m (remembering code_memory) c (known_runs g text is m code_memory) names into_lines reads local nok p ended events (s ∷ ss) k cs st o → CodeDecided nok p ended events local s ss k cs st o
     decided nok p ended events local s ss here tick k cs st None w d =
         let next : drop (p + 1) text.seats ≡ ss = drop-next text.seats p s ss here in
         let paid : spent d.0 + cond (seen d.0) 0 (7 * length (drop (p + 1) text.seats)) ≤ spent local + cond (seen local) 0 (7 * length (drop p text.seats)) + (7 * backticks (bytes_of (drop p text.seats)) + 3) =
@@ -90,8 +95,8 @@ module _ (g : Given) (text : Text) (is : IsText g text) (m : Plays g text) where
     -- The theorem of code spans that are remembered
     pub remembered-code-read : (nok : Name) (p : ℕ) (ended : Bool) (events : List Event) (local : Local Unit Unit) (s : Seat) (ss : List Seat) → drop p text.seats ≡ s ∷ ss → is_backtick s.byte ≡ true
         → knows_code p (remembered local)
-        → CodeDecided nok p ended events local s ss (between_items p Byte ended events local) (outer names.home nok p ended events ∷ []) (Retry RawTextStart) (code_span_at (bytes_of (s ∷ ss)))
+        → CodeDecided nok p ended events local s ss (between_items p Byte ended events local) (outer names.home nok p ended events ∷ []) (Retry RawTextStart) (lined_code_at (bytes_of (s ∷ ss)))
     remembered-code-read nok p ended events local s ss here first known =
-        decided nok p ended events local s ss here first (between_items p Byte ended events local) (outer names.home nok p ended events ∷ []) (Retry RawTextStart) (code_span_at (bytes_of (s ∷ ss)))
-        (code-span-within s.byte (bytes_of ss) (eqb-true s.byte 96 first))
-        (remembered-code-spans-read g text is m code_memory c names nok p ended events local s ss here first (known local refl))
+        decided nok p ended events local s ss here first (between_items p Byte ended events local) (outer names.home nok p ended events ∷ []) (Retry RawTextStart) (lined_code_at (bytes_of (s ∷ ss)))
+        (code-span-within lined_events s.byte (bytes_of ss) (eqb-true s.byte 96 first))
+        (remembered-code-spans-read g text is m code_memory c names into_lines reads nok p ended events local s ss here first (known local refl))
