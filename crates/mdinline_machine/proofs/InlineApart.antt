@@ -1,6 +1,6 @@
 -- The constructs of inline text by their bytes; and the classes at which the machine goes on with data.
 use Rattle.std.proofs.lemmas.Bool.{or_parts}
-use Rattle.mdinline_machine.proofs.Prelude.{◌≡◌, ℕ, ◌&&◌, ◌||◌, List, ◌∷◌, Bool, true, false, cond, sym, ap, ◌∙◌, arith, or-false, nat_tests, Constructs, is_white, autolinks-apart, code-spans-apart, AreApart, begins-classed, escapes-apart, line-classed, is_line_feed, some_begins, some_first, item_length, is_line_feed_class, punctuation, text_byte, emails-apart, html-marks-apart, html-tags-apart, break-escapes-apart, references-apart, begins_run, ends_data, marked_grammars, behind_autolinks, behind_emails, behind_escapes, behind_marks, inline_constructs, Found, first_there, none-there, ◌<◌, data_length, data_run, delimiter_run, inline_item_at, line_break, run_length, run_or_part, positive, prefix_len, there-holds, trailing-break-some, white-space-some, white_grammars, Memory, begins_bracket, bracket_or_part}
+use Rattle.mdinline_machine.proofs.Prelude.{◌≡◌, ℕ, ◌&&◌, ◌||◌, List, ◌∷◌, Bool, true, false, cond, sym, ap, ◌∙◌, arith, or-false, nat_tests, Constructs, is_white, autolinks-apart, lined-code-apart, AreApart, begins-classed, escapes-apart, line-classed, is_line_feed, some_begins, some_first, item_length, is_line_feed_class, punctuation, text_byte, emails-apart, html-marks-apart, html-tags-apart, break-escapes-apart, references-apart, begins_run, ends_data, marked_grammars, behind_autolinks, behind_emails, behind_escapes, behind_marks, inline_constructs, Found, first_there, none-there, ◌<◌, data_length, data_run, delimiter_run, inline_item_at, line_break, run_length, run_or_part, positive, prefix_len, there-holds, trailing-break-some, white-space-some, white_grammars, Memory, begins_bracket, bracket_or_part}
 use Rattle.mdinline_machine.proofs.RunBytes.{no-run}
 use Rattle.mdinline_machine.proofs.BracketBytes.{begins-no-bracket, some-bracket, white-no-bracket}
 
@@ -17,7 +17,7 @@ pub behind-autolinks-apart : AreApart text_byte item_length behind_autolinks
 behind-autolinks-apart = (record { classed = emails-apart.classed; nowhere = emails-apart.nowhere; some = emails-apart.some }, behind-emails-apart)
 
 pub inline-apart : AreApart text_byte item_length inline_constructs
-inline-apart = (record { classed = code-spans-apart.classed; nowhere = code-spans-apart.nowhere; some = code-spans-apart.some }, (record { classed = autolinks-apart.classed; nowhere = autolinks-apart.nowhere; some = autolinks-apart.some }, behind-autolinks-apart))
+inline-apart = (record { classed = lined-code-apart.classed; nowhere = lined-code-apart.nowhere; some = lined-code-apart.some }, (record { classed = autolinks-apart.classed; nowhere = autolinks-apart.nowhere; some = autolinks-apart.some }, behind-autolinks-apart))
 
 -- white space ends no data by itself
 pub white-plain : (on : Constructs) (b : ℕ) → is_white b ≡ true → ends_data on b ≡ false

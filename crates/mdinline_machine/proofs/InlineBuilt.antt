@@ -1,5 +1,5 @@
 -- What is read of inline text is balanced, and no event of it has a link: that holds of each item.
-use Rattle.mdinline_machine.proofs.Prelude.{◌≡◌, ℕ, zero, suc, ◌-◌, Bool, List, [], ◌∷◌, ◌++◌, false, true, cond, take, drop, length, refl, flat_map, prefix_len, Constructs, Event, Enter, Exit, AttentionSequence, Data, LineEnding, SpaceOrTab, IsBalanced, empty, balanced_span, Seat, end_after, IsBalanced-append, HaveNoLinks, Given, Text, is_white, has_byte_at, is_line_feed, item_length, bytes_of, Found, Memory, Some, after_item, bracket_or_part, cut_remembering, label_end, nothing_read, event, leaf, span, item_events, autolink-built, code-span-built, EachThere, there-holds, escape-built, IsKeptBySpans, IsBuilt, links-kept, email-built, html-mark-built, html-tag-built, break-escape-built, trailing-break-built, reference-built, white-space-built, begins_run, data_length, data_run, delimiter_run, inline_grammars, inline_item_at, inline_items, line_break, read_events, run_length, run_or_part}
+use Rattle.mdinline_machine.proofs.Prelude.{◌≡◌, ℕ, zero, suc, ◌-◌, Bool, List, [], ◌∷◌, ◌++◌, false, true, cond, take, drop, length, refl, flat_map, prefix_len, Constructs, Event, Enter, Exit, AttentionSequence, Data, LineEnding, SpaceOrTab, IsBalanced, empty, balanced_span, Seat, end_after, IsBalanced-append, HaveNoLinks, Given, Text, is_white, has_byte_at, is_line_feed, item_length, bytes_of, Found, Memory, Some, after_item, bracket_or_part, cut_remembering, label_end, nothing_read, event, leaf, span, item_events, autolink-built, lined-code-built, EachThere, there-holds, escape-built, IsKeptBySpans, IsBuilt, links-kept, email-built, html-mark-built, html-tag-built, break-escape-built, trailing-break-built, reference-built, white-space-built, begins_run, data_length, data_run, delimiter_run, inline_grammars, inline_item_at, inline_items, line_break, read_events, run_length, run_or_part}
 use Rattle.markdown_base.specs.declared.event.Name.{Name}
 use Rattle.markdown_base.specs.declared.event.Name.TheVariants.{LabelEnd, LabelImage, LabelImageMarker, LabelLink, LabelMarker, Reference, ReferenceMarker}
 use Rattle.mdinline_link_tails.proofs.Resources.Built.{resource-built}
@@ -21,7 +21,7 @@ module _ (bytes : List ℕ) (P : List Event → Type 0) (kept : IsKeptBySpans by
   -- of what each construct has at the front of a text
   each-built : (text : List ℕ) → EachThere (IsBuilt bytes P kept) inline_grammars text
   each-built text = (
-    code-span-built bytes P kept text,
+    lined-code-built bytes P kept text,
     (autolink-built bytes P kept text, (email-built bytes P kept text, (html-mark-built bytes P kept text, (html-tag-built bytes P kept text, (escape-built bytes P kept text, (break-escape-built bytes P kept text, (reference-built bytes P kept text, (trailing-break-built bytes P kept text, (white-space-built bytes P kept text, tt))))))))),
   )
 

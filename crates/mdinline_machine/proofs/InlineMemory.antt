@@ -9,7 +9,7 @@ use Rattle.mdinline_machine.proofs.InlineCalls.{DecidedSo, RemembersSo, code-so,
 use Rattle.mdinline_machine.proofs.InlinePrices.{IsTextMemory, TextMemory, code_toll, inline_budget, mark_toll}
 use Rattle.mdinline_machine.proofs.PlainItems.{IsPlain, code-plain, html-plain}
 use Rattle.mdinline_machine.proofs.InlineListed.{then_data, then_tags}
-use Rattle.mdinline_machine.proofs.Playing.{inlines_play, inlines_play_code_spans, inlines_play_marks}
+use Rattle.mdinline_machine.proofs.Playing.{inlines_play, inlines_play_code_lines, inlines_play_code_spans, inlines_play_marks}
 use Rattle.mdinline_machine.proofs.Starts.{start_local}
 
 -- what is remembered of marks is as it was, if all beside backtick strings is
@@ -71,7 +71,7 @@ module _ (defined : List ℕ → Bool) (g : Given) (text : Text) (is-text : IsTe
 
     -- ---- code spans
     code-decided : (nok : Name) (p : ℕ) (ended : Bool) (events : List Event) (local : Local Unit Unit) (s : Seat) (ss : List Seat) → is_backtick s.byte ≡ true → KnowsMarks text p (remembered local) → (st : State) (o : Option Found) → OfOption IsPlain o
-        → CodeDecided g text is-text m (inlines_play_code_spans defined g text) between_texts nok p ended events local s ss (between_items p Byte ended events local) (outer TextBefore nok p ended events ∷ []) st o
+        → CodeDecided g text is-text m (inlines_play_code_spans defined g text) (inlines_play_code_lines defined g text) between_texts nok p ended events local s ss (between_items p Byte ended events local) (outer TextBefore nok p ended events ∷ []) st o
         → Decided code_ahead marks_ahead code_toll nok p ended events local s ss st o
     code-decided nok p ended events local s ss tick marks st None mark d =
         let after = d.0 in
@@ -98,7 +98,7 @@ module _ (defined : List ℕ → Bool) (g : Given) (text : Text) (is-text : IsTe
     pub code-remembers : RemembersSo defined g text inline_memory memory-is budget code_ahead marks_ahead code_toll then_data
     code-remembers nok p ended events local s ss here first sound =
         code-decided nok p ended events local s ss first sound.1 (Retry then_data.start) (then_data.grammar.front (bytes_of (s ∷ ss))) (code-plain (bytes_of (s ∷ ss)))
-        (remembered-code-read g text is-text m (inlines_play_code_spans defined g text) between_texts nok p ended events local s ss here first sound.0)
+        (remembered-code-read g text is-text m (inlines_play_code_spans defined g text) (inlines_play_code_lines defined g text) between_texts nok p ended events local s ss here first sound.0)
 
     -- ---- raw HTML between marks
     marks-decided : (nok : Name) (p : ℕ) (ended : Bool) (events : List Event) (local : Local Unit Unit) (s : Seat) (ss : List Seat) → (here : drop p text.seats ≡ s ∷ ss) → (s.byte == 60) ≡ true → inline_memory.sound p (remembered local)

@@ -3,12 +3,13 @@ use Rattle.mdinline_machine.proofs.Prelude.{◌≡◌, ℕ, ◌+◌, List, ◌�
 use Rattle.mdinline_text_machine.proofs.Constructs.Apart.{when-there}
 use Rattle.mdinline_text_machine.specs.Autolink.{autolink, autolink_at, autolink_to, uri}
 use Rattle.mdinline_text_machine.specs.Bytes.{backticks, is_backtick, is_greater_than, is_less_than}
-use Rattle.mdinline_text_machine.specs.CodeSpan.{before_backtick_string, code_span, code_span_at}
+use Rattle.mdinline_text_machine.specs.CodeSpan.{before_backtick_string, code_span_with}
 use Rattle.mdinline_text_machine.specs.Construct.{plain}
 use Rattle.mdinline_text_machine.specs.Escape.{escape, escape_at}
 use Rattle.mdinline_constructs.specs.Email.{email_at, email_with, is_atext}
 use Rattle.mdinline_constructs.specs.HardBreak.{break_escape_at, hard_break_escape, hard_break_trailing, trailing_break_at}
 use Rattle.mdinline_constructs.specs.HtmlText.{has_blank_line, html, html_of}
+use Rattle.mdinline_constructs.specs.LinedCode.{lined_code_at, lined_events}
 use Rattle.mdinline_constructs.specs.Reference.{reference_at}
 use Rattle.mdinline_constructs.specs.WhiteSpace.{white_space, white_space_at}
 use Rattle.mdinline_machine.proofs.DataBytes.{data_joined, joined_part, white_behind}
@@ -25,11 +26,11 @@ mapped-plain : {A : Type 0} (f : A → Found) → ((a : A) → IsPlain (f a)) �
 mapped-plain f h None = tt
 mapped-plain f h (Some a) = h a
 
-pub code-plain : (text : List ℕ) → IsPlainIf (code_span_at text)
+pub code-plain : (text : List ℕ) → IsPlainIf (lined_code_at text)
 code-plain text =
     let n = backticks text in
-    let o = option_map (code_span n) (before_backtick_string n (drop n text)) in
-    when-there IsPlain (has_byte_at text 0 is_backtick) o (mapped-plain (code_span n) (λ k. refl) (before_backtick_string n (drop n text)))
+    let o = option_map (code_span_with lined_events n) (before_backtick_string n (drop n text)) in
+    when-there IsPlain (has_byte_at text 0 is_backtick) o (mapped-plain (code_span_with lined_events n) (λ k. refl) (before_backtick_string n (drop n text)))
 
 to-plain : (text : List ℕ) (o : Option ℕ) → IsPlainIf (autolink_to text o)
 to-plain text None = tt

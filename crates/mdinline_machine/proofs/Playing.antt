@@ -9,6 +9,7 @@ use Rattle.mdinline_link_tails.proofs.Resources.Steps.{PlaysResources}
 use Rattle.mdinline_machine.specs.declared.names.TheConstants.{LabelEndNotResource}
 use Rattle.mdinline_machine.specs.BracketRows.{bracket_rows, end_is_awaited, end_may_make, image_begins, kept_starts, label_is_wanted, link_begins, mark_begins, may_make, one_waits}
 use Rattle.mdinline_constructs.proofs.HtmlTags.Places as place
+use Rattle.mdinline_constructs.proofs.RememberedCode.Lines.{PlaysCodeLines}
 use Rattle.mdinline_machine.proofs.Counted.{counted_step}
 use Rattle.mdinline_machine.proofs.InlineApart.{begins_mark, marked-classed, punctuation-ends}
 
@@ -252,6 +253,10 @@ module _ (defined : List ℕ → Bool) (g : Given) (text : Text) where
     raw_text_backticks_inside = λ k. refl;
     keeps = λ events local. refl;
   }
+
+  -- and further lines of code spans as they are
+  abbrev pub inlines_play_code_lines : PlaysCodeLines g text inlines_play
+  inlines_play_code_lines = record { line = λ k. refl; white = λ k. refl }
 
   -- and so it begins data
   abbrev pub inlines_begin_data : BeginsData g text inlines_play

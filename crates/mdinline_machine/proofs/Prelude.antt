@@ -96,7 +96,7 @@ pub use Rattle.mdinline_constructs.specs.HtmlTextRows.{html_line_ending_after, h
 pub use Rattle.mdinline_constructs.proofs.Emails.Alike.{domain-ends-alike, hyphen-alike, label-alike, label-ends-alike, name-alike, name-ends-alike}
 pub use Rattle.mdinline_constructs.specs.Reference.{Kind, decimal, hexadecimal, mark_events, marks, named, reference, reference_at}
 pub use Rattle.mdinline_constructs.specs.ReferenceRows.{at_number_sign, at_semicolon, at_x, reference_numeric, reference_open, reference_start, reference_value, references, value_goes_on, value_is_whole}
-pub use Rattle.mdinline_constructs.specs.RememberedCode.{remembered_between, remembered_chunk, remembered_code_spans, remembered_open}
+pub use Rattle.mdinline_constructs.specs.RememberedCode.{code_line, code_white, remembered_between, remembered_chunk, remembered_code_spans, remembered_open}
 pub use Rattle.mdinline_constructs.specs.WhiteSpace.{ends_line_at, is_white_left, white_space, white_space_at}
 pub use Rattle.mdinline_link_tails.specs.Resource.{resource, resource_grammar}
 pub use Rattle.mdinline_machine.specs.Brackets.{Bracket, Memory, after_item, before_link, begins_bracket, begins_end, begins_image, begins_link, bracket_at, end_at, end_of_last, image_bracket, is_close_bracket, is_exclamation, is_image_bracket, is_of_bracket, is_open_bracket, label_end, link_bracket, lone_end, nothing_read, waiting_behind}
@@ -129,8 +129,8 @@ pub use Rattle.mdinline_text_machine.proofs.Autolinks.Bytes.{autolinks-apart}
 pub use Rattle.mdinline_text_machine.proofs.Autolinks.Calls.{autolink-paid, autolink-within, from-less-ahead, from-less-within, from_less, link-missed, link_calls}
 pub use Rattle.mdinline_text_machine.proofs.Autolinks.Cuts.{autolink-built}
 pub use Rattle.mdinline_text_machine.proofs.Autolinks.Readings.{autolinks-reads-in}
-pub use Rattle.mdinline_text_machine.proofs.CodeSpans.Bytes.{code-spans-apart}
-pub use Rattle.mdinline_text_machine.proofs.CodeSpans.Cuts.{code-span-built}
+pub use Rattle.mdinline_constructs.proofs.RememberedCode.Bytes.{lined-code-apart}
+pub use Rattle.mdinline_constructs.proofs.RememberedCode.Cuts.{lined-code-built}
 pub use Rattle.mdinline_text_machine.proofs.CodeSpans.Plays.{PlaysCodeSpans}
 pub use Rattle.mdinline_text_machine.proofs.CodeSpans.Remembered.{knows-later as runs-later, others, remembering}
 pub use Rattle.mdinline_text_machine.proofs.Constructs.Apart.{AreApart, EachThere, IsApart, OfOption, begins-classed, none-there, or-none, positive, there-holds, when-so, when-there}

@@ -11,7 +11,7 @@ use Rattle.mdconstructs_tables.specs.Breaks.{is_white}
 use Rattle.mdinline_links.specs.Linked.{with_links}
 use Rattle.mdinline_text_machine.specs.Autolink.{autolink_grammar}
 use Rattle.mdinline_text_machine.specs.Bytes.{has_byte_at, is_line_feed}
-use Rattle.mdinline_text_machine.specs.CodeSpan.{code_span_grammar}
+use Rattle.mdinline_constructs.specs.LinedCode.{lined_code_grammar}
 use Rattle.mdinline_text_machine.specs.Construct.{Found, Grammar, first_there, or_else, some_first, plain}
 use Rattle.mdinline_text_machine.specs.Escape.{escape_grammar}
 use Rattle.mdinline_text_machine.specs.Items.{item_length}
@@ -29,7 +29,7 @@ use Rattle.mdinline_machine.specs.RunRows.{begins_run}
 -- The constructs of inline text that begin with a mark: code spans, autolinks, email autolinks, raw HTML between marks, tags, backslash
 -- escapes, hard breaks by a backslash, and character references
 abbrev pub marked_grammars : List (Grammar Found)
-marked_grammars = code_span_grammar ∷ autolink_grammar ∷ email_grammar ∷ html_mark_grammar ∷ html_tag_grammar ∷ escape_grammar ∷ break_escape_grammar ∷ reference_grammar ∷ []
+marked_grammars = lined_code_grammar ∷ autolink_grammar ∷ email_grammar ∷ html_mark_grammar ∷ html_tag_grammar ∷ escape_grammar ∷ break_escape_grammar ∷ reference_grammar ∷ []
 
 -- Those that begin with white space: hard breaks by spaces, and white space at the end of a line
 abbrev pub white_grammars : List (Grammar Found)

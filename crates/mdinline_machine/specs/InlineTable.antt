@@ -15,7 +15,6 @@ use Rattle.mdconstructs_tables.specs.Over.{unchanged}
 use Rattle.mdconstructs_tables.specs.Numbers.{Price, by_left, by_class, numbers}
 use Rattle.mdinline_text_machine.specs.Bytes.{is_space, passes}
 use Rattle.mdinline_text_machine.specs.AutolinkRows.{autolinks, autolink_prices}
-use Rattle.mdinline_text_machine.specs.CodeSpanRows.{code_span_prices}
 use Rattle.mdinline_text_machine.specs.Construct.{Construct, Found, between_texts, data_rows, some_begins, some_begun, some_follows, states_of, tried_at}
 use Rattle.mdinline_text_machine.specs.EscapeRows.{escapes, escape_prices}
 use Rattle.mdinline_text_machine.specs.TextBytes.{TextByte, backslash, less, line_feed, punctuation, white, text_byte, is_backslash_class, is_backtick_class, is_less_class, is_line_feed_class}
@@ -24,7 +23,7 @@ use Rattle.mdinline_text_machine.specs.TextTable.{text_before_data, data_at_brea
 use Rattle.mdinline_constructs.specs.EmailRows.{emails, email_prices}
 use Rattle.mdinline_constructs.specs.HardBreakRows.{break_escapes, break_escape_prices, trailing_breaks_are_on}
 use Rattle.mdinline_constructs.specs.ReferenceRows.{references, reference_prices}
-use Rattle.mdinline_constructs.specs.RememberedCode.{remembered_code_spans}
+use Rattle.mdinline_constructs.specs.RememberedCode.{remembered_code_prices, remembered_code_spans}
 use Rattle.mdinline_constructs.specs.HtmlMarkedRows.{html_marks, html_mark_prices}
 use Rattle.mdinline_constructs.specs.HtmlTagRows.{html_tags, html_tag_prices}
 use Rattle.mdinline_machine.specs.BracketRows.{bracket_prices, bracket_rows, bracket_states, mark_begins}
@@ -263,7 +262,7 @@ inline_prices =
     ++ (run_prices
     ++ (by_left 4 20 9 ∷ by_left 4 20 8 ∷ by_left 4 20 8 ∷ by_left 4 20 7 ∷ by_left 4 18 0 ∷ by_left 4 18 6 ∷ by_left 4 17 4 ∷ by_left 4 15 2 ∷ by_left 4 13 0 ∷ at_data_break ∷ by_left 4 21 10
     ∷ by_left 4 21 11 ∷ by_left 4 21 11 ∷ by_left 4 21 11 ∷ by_left 4 21 11 ∷ by_left 4 21 11 ∷ by_left 4 21 11
-    ∷ (code_span_prices ++ (autolink_prices ++ (email_prices ++ (html_mark_prices ++ (html_tag_prices ++ (escape_prices ++ (break_escape_prices ++ (reference_prices ++ bracket_prices))))))))))
+    ∷ (remembered_code_prices ++ (autolink_prices ++ (email_prices ++ (html_mark_prices ++ (html_tag_prices ++ (escape_prices ++ (break_escape_prices ++ (reference_prices ++ bracket_prices))))))))))
 
 -- the states between constructs, but the first
 abbrev pub own_states : List (StateRows TextByte Unit Unit)

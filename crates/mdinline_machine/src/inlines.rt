@@ -40,7 +40,9 @@ use mdinline_constructs::names as construct_names;
 use mdinline_constructs::reference::{
     reference_numeric, reference_open, reference_start, reference_value, references_are_on,
 };
-use mdinline_constructs::remembered_code::{remembered_between, remembered_chunk, remembered_open};
+use mdinline_constructs::remembered_code::{
+    code_line, code_white, remembered_between, remembered_chunk, remembered_open,
+};
 use mdinline_full_references::{full_reference, names as reference_names};
 use mdinline_labels::labels::Labels;
 use mdinline_link_tails::{names as resource_names, resource};
@@ -163,6 +165,8 @@ impl Machine for Inlines {
             Name::RawTextStart => raw_text_start(t),
             Name::RawTextSequenceOpen => remembered_open(t),
             Name::RawTextBetween => remembered_between(t),
+            construct_names::RawTextLineStart => code_line(t),
+            construct_names::RawTextLineWhite => code_white(t),
             Name::RawTextData => raw_text_data(t),
             Name::RawTextSequenceClose => raw_text_sequence_close(t),
             text_names::RawTextAfter => raw_text_after(t),

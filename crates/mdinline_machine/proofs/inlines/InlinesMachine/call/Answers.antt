@@ -1,4 +1,4 @@
-use Rattle.mdinline_machine.proofs.Prelude.{refl, rules, callable, never-called, autolink_start, autolink_open, autolink_scheme, autolink_url, raw_text_start, raw_text_data, raw_text_sequence_close, raw_text_after, raw_text_backticks_inside, escape_start, escape_inside, by_left, text_byte, text_cost, text_before_data, data_at_break, email_start, email_atext, email_label, email_value, cdata_open, comment_open, declaration_open, mark_close, mark_inside, mark_line, mark_open, mark_start, mark_white, html_text_start, html_text_open, html_text_tag_close_start, html_text_tag_close, html_text_tag_close_between, html_text_tag_open, html_text_tag_open_between, html_text_attribute_name, html_text_attribute_name_after, html_text_value_before, html_text_value_quoted, html_text_value_quoted_after, html_text_value_unquoted, html_text_end, html_line_ending_after, html_line_ending_after_prefix, break_escape_start, break_escape_after, remembered_between, remembered_chunk, remembered_open, reference_start, reference_open, reference_numeric, reference_value, string_start, string_before, string_before_data, attention_start, attention_inside, inline_start, line_start, line_white, inline_before, before_hard_break_escape, before_email, before_html, before_tag, inline_data, text_space, text_spaces, text_white, data_space, data_spaces, data_white, at_data_break, inlines}
+use Rattle.mdinline_machine.proofs.Prelude.{refl, rules, callable, never-called, autolink_start, autolink_open, autolink_scheme, autolink_url, raw_text_start, raw_text_data, raw_text_sequence_close, raw_text_after, raw_text_backticks_inside, escape_start, escape_inside, by_left, text_byte, text_cost, text_before_data, data_at_break, email_start, email_atext, email_label, email_value, cdata_open, comment_open, declaration_open, mark_close, mark_inside, mark_line, mark_open, mark_start, mark_white, html_text_start, html_text_open, html_text_tag_close_start, html_text_tag_close, html_text_tag_close_between, html_text_tag_open, html_text_tag_open_between, html_text_attribute_name, html_text_attribute_name_after, html_text_value_before, html_text_value_quoted, html_text_value_quoted_after, html_text_value_unquoted, html_text_end, html_line_ending_after, html_line_ending_after_prefix, break_escape_start, break_escape_after, code_line, code_white, remembered_between, remembered_chunk, remembered_open, reference_start, reference_open, reference_numeric, reference_value, string_start, string_before, string_before_data, attention_start, attention_inside, inline_start, line_start, line_white, inline_before, before_hard_break_escape, before_email, before_html, before_tag, inline_data, text_space, text_spaces, text_white, data_space, data_spaces, data_white, at_data_break, inlines}
 use Rattle.mdinline_labels.specs.Defined.{defines}
 use Rattle.mdconstructs_tables.specs.Over.{unchanged}
 use Rattle.mdconstructs_tables.proofs.Rows.Calls.{did-step}
@@ -56,6 +56,12 @@ remembered_open-requires c = callable (inlines (defines c.args.self.now.labels))
 
 pub remembered_between-requires : goal.remembered_between-requires
 remembered_between-requires c = callable (inlines (defines c.args.self.now.labels)) unchanged (λ local. refl) c.args.name remembered_between _ _ (search rules) refl c.requires.invariant.holds c.begin.ensures
+
+pub code_line-requires : goal.code_line-requires
+code_line-requires c = callable (inlines (defines c.args.self.now.labels)) unchanged (λ local. refl) c.args.name code_line _ _ (search rules) refl c.requires.invariant.holds c.begin.ensures
+
+pub code_white-requires : goal.code_white-requires
+code_white-requires c = callable (inlines (defines c.args.self.now.labels)) unchanged (λ local. refl) c.args.name code_white _ _ (search rules) refl c.requires.invariant.holds c.begin.ensures
 
 pub raw_text_data-requires : goal.raw_text_data-requires
 raw_text_data-requires c = callable (inlines (defines c.args.self.now.labels)) unchanged (λ local. refl) c.args.name raw_text_data _ _ (search rules) refl c.requires.invariant.holds c.begin.ensures
@@ -317,6 +323,12 @@ returns-in-RawTextSequenceOpen c = record { call_is_step = did-step (inlines (de
 
 pub returns-in-RawTextBetween : goal.returns-in-RawTextBetween
 returns-in-RawTextBetween c = record { call_is_step = did-step (inlines (defines c.args.self.now.labels)) c.args.name remembered_between _ _ _ _ (search rules) refl c.begin.ensures c.remembered_between.ensures }
+
+pub returns-in-RawTextLineStart : goal.returns-in-RawTextLineStart
+returns-in-RawTextLineStart c = record { call_is_step = did-step (inlines (defines c.args.self.now.labels)) c.args.name code_line _ _ _ _ (search rules) refl c.begin.ensures c.code_line.ensures }
+
+pub returns-in-RawTextLineWhite : goal.returns-in-RawTextLineWhite
+returns-in-RawTextLineWhite c = record { call_is_step = did-step (inlines (defines c.args.self.now.labels)) c.args.name code_white _ _ _ _ (search rules) refl c.begin.ensures c.code_white.ensures }
 
 pub returns-in-RawTextData : goal.returns-in-RawTextData
 returns-in-RawTextData c = record { call_is_step = did-step (inlines (defines c.args.self.now.labels)) c.args.name raw_text_data _ _ _ _ (search rules) refl c.begin.ensures c.raw_text_data.ensures }
