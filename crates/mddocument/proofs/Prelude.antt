@@ -172,7 +172,7 @@ pub use Rattle.mdconstructs_tables.proofs.Tables.Lawful.{knowing-lawful}
 pub use Rattle.mdconstructs_tables.proofs.Tables.Refusals.{no-run-refused, none-refused}
 pub use Rattle.mdconstructs_tables.specs.Refusals.{RulesRefuseNothing}
 pub use Rattle.mdinline_text_machine.proofs.Autolinks.Cuts.{autolink-cut}
-pub use Rattle.mdinline_text_machine.proofs.CodeSpans.Cuts.{code-span-cut}
+pub use Rattle.mdinline_constructs.proofs.RememberedCode.Cuts.{lined-code-cut}
 pub use Rattle.mdinline_text_machine.proofs.Constructs.Apart.{EachThere, OfOption, there-holds, when-there}
 pub use Rattle.mdinline_text_machine.proofs.DeepSpans.Atoms.{Atom, InOneLine, IsCut, MapCut, OneLine, all_at, atom_events, atom_seats, atoms-more, cut-append, cut-leaf, events_of, map-cut, open-atoms, seats_of}
 pub use Rattle.mdinline_text_machine.proofs.DeepSpans.Chunks.{chain-seats, chunk_seats}
@@ -197,7 +197,8 @@ pub use Rattle.mdinline_text_machine.proofs.Texts.WholePlaces.{whole-is-text}
 pub use Rattle.mdinline_text_machine.specs.Autolink.{autolink, autolink_at, autolink_to, uri}
 pub use Rattle.mdinline_text_machine.specs.Bytes.{backticks, has_byte_at, is_backslash, is_backtick, is_greater_than, is_less_than, is_line_feed, is_space}
 pub use Rattle.mdinline_text_machine.specs.ChainTexts.{HasReadableChains, chain_text, with_data, with_read, with_texts}
-pub use Rattle.mdinline_text_machine.specs.CodeSpan.{before_backtick_string, code_span, code_span_at, pieces}
+pub use Rattle.mdinline_constructs.specs.LinedCode.{code_piece_at, code_piece_events, lined_code_at, lined_events}
+pub use Rattle.mdinline_text_machine.specs.CodeSpan.{before_backtick_string, code_span_with}
 pub use Rattle.mdinline_text_machine.specs.Construct.{Found, Grammar}
 pub use Rattle.mdinline_text_machine.specs.Escape.{escape, escape_at}
 pub use Rattle.mdinline_text_machine.specs.Items.{item_length}

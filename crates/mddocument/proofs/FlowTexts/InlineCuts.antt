@@ -1,6 +1,6 @@
 -- The items of inline text can be cut into innermost spans, none of which goes over a line ending but at its end.
 use Rattle.markdown_base.proofs.Facts.Numbers.{unlike}
-use Rattle.mddocument.proofs.Prelude.{◌≡◌, ℕ, ◌+◌, ◌&&◌, true, false, cond, List, [], ◌∷◌, take, drop, refl, sym, subst, arith, suc, drop-map, drop-take, take-append-drop, prefix_len, every-map, Constructs, AttentionSequence, Data, LineEnding, SpaceOrTab, Seat, is_white, is_line_ending, autolink-cut, code-span-cut, EachThere, IsCut, OneLine, cut-append, cut-leaf, ItemCut, NoEnding, first-plain, one-taken, plain-add, plain-line, run-plain, escape-cut, backticks, is_backtick, is_line_feed, bytes_of, first_plain, item_events, email-cut, html-mark-cut, html-tag-cut, break-escape-cut, trailing-break-cut, reference-cut, white-space-cut, is_white_left, or_parts, begins_run, data_length, data_run, delimiter_run, ends_data, ends_data_at, inline_grammars, line_break, run_length, run_or_part, up_to, is_delimiter, leaf, Found}
+use Rattle.mddocument.proofs.Prelude.{◌≡◌, ℕ, ◌+◌, ◌&&◌, true, false, cond, List, [], ◌∷◌, take, drop, refl, sym, subst, arith, suc, drop-map, drop-take, take-append-drop, prefix_len, every-map, Constructs, AttentionSequence, Data, LineEnding, SpaceOrTab, Seat, is_white, is_line_ending, autolink-cut, lined-code-cut, EachThere, IsCut, OneLine, cut-append, cut-leaf, ItemCut, NoEnding, first-plain, one-taken, plain-add, plain-line, run-plain, escape-cut, backticks, is_backtick, is_line_feed, bytes_of, first_plain, item_events, email-cut, html-mark-cut, html-tag-cut, break-escape-cut, trailing-break-cut, reference-cut, white-space-cut, is_white_left, or_parts, begins_run, data_length, data_run, delimiter_run, ends_data, ends_data_at, inline_grammars, line_break, run_length, run_or_part, up_to, is_delimiter, leaf, Found}
 use Rattle.mdinline_machine.proofs.RunBytes.{run-delimits}
 use Rattle.markdown_base.specs.declared.event.Name.TheVariants.{LabelEnd, LabelLink, LabelMarker}
 use Rattle.mdinline_machine.specs.Brackets.{label_end, link_bracket, lone_end}
@@ -59,7 +59,7 @@ module _ (bytes : List ℕ) (on : Constructs) where
       ] refl
 
   pub each-cut : (l : List Seat) → EachThere (ItemCut bytes l) inline_grammars (bytes_of l)
-  each-cut l = (code-span-cut bytes l, (autolink-cut bytes l, (email-cut bytes l, (html-mark-cut bytes l, (html-tag-cut bytes l, (escape-cut bytes l, (break-escape-cut bytes l, (reference-cut bytes l, (trailing-break-cut bytes l, (white-space-cut bytes l, tt))))))))))
+  each-cut l = (lined-code-cut bytes l, (autolink-cut bytes l, (email-cut bytes l, (html-mark-cut bytes l, (html-tag-cut bytes l, (escape-cut bytes l, (break-escape-cut bytes l, (reference-cut bytes l, (trailing-break-cut bytes l, (white-space-cut bytes l, tt))))))))))
 
   -- brackets and ends
   pub link-cut : (l : List Seat) → ItemCut bytes l link_bracket

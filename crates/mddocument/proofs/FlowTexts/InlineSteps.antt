@@ -1,5 +1,5 @@
 -- Delimiters of a document stand byte by byte; and the events of other items are of neither runs nor brackets.
-use Rattle.mddocument.proofs.Prelude.{◌≡◌, inl, ℕ, zero, suc, ◌+◌, ◌==◌, true, false, cond, List, [], ◌∷◌, ◌++◌, Option, Some, None, length, take, drop, refl, sym, ◌∙◌, subst, arith, nat_tests, is_ascii_punctuation, ◌&&◌, nat_le, nat_lt, option_map, slice_get, AllByRecursion, between, flat_map, prefix_len, eqb-true, every-append, Event, Exit, Autolink, AutolinkEmail, AutolinkMarker, AutolinkProtocol, CharacterEscape, CharacterEscapeMarker, CharacterEscapeValue, CharacterReference, CharacterReferenceMarker, CharacterReferenceMarkerHexadecimal, CharacterReferenceMarkerNumeric, CharacterReferenceMarkerSemi, CharacterReferenceValue, CodeText, CodeTextData, CodeTextSequence, HardBreakEscape, HardBreakTrailing, HtmlText, HtmlTextData, LineEnding, SpaceOrTab, shown, Seat, begins_with_lf, end_after, in_tab, point, tab_width, virtual, virtual_from, shown-other, drop-first, later, is_white, event, leaf, span, EachThere, OfOption, when-there, autolink, autolink_at, autolink_to, uri, backticks, has_byte_at, is_backslash, is_backtick, is_greater_than, is_less_than, is_line_feed, is_space, before_backtick_string, code_span, code_span_at, pieces, Found, escape, escape_at, Part, line_ending, plain_run, bytes_of, cut, part_events, reference-holds, decimal, hexadecimal, mark_events, marks, named, reference_at, email, email_at, email_with, is_at_sign, is_atext, is_domain, is_domain_byte, html-there, marked, tag_length, html_of, piece_at, piece_events, piece_length, break_escape_at, hard_break_escape, hard_break_trailing, trailing_break_at, is_white_left, white_space, white_space_at, inline_grammars, line_break, run_length, is_delimiter, IsWhole}
+use Rattle.mddocument.proofs.Prelude.{◌≡◌, inl, ℕ, zero, suc, ◌+◌, ◌==◌, true, false, cond, List, [], ◌∷◌, ◌++◌, Option, Some, None, length, take, drop, refl, sym, ◌∙◌, subst, arith, nat_tests, is_ascii_punctuation, ◌&&◌, nat_le, nat_lt, option_map, slice_get, AllByRecursion, between, flat_map, prefix_len, eqb-true, every-append, Event, Exit, Autolink, AutolinkEmail, AutolinkMarker, AutolinkProtocol, CharacterEscape, CharacterEscapeMarker, CharacterEscapeValue, CharacterReference, CharacterReferenceMarker, CharacterReferenceMarkerHexadecimal, CharacterReferenceMarkerNumeric, CharacterReferenceMarkerSemi, CharacterReferenceValue, CodeText, CodeTextData, CodeTextSequence, HardBreakEscape, HardBreakTrailing, HtmlText, HtmlTextData, LineEnding, SpaceOrTab, shown, Seat, begins_with_lf, end_after, in_tab, point, tab_width, virtual, virtual_from, shown-other, drop-first, later, is_white, event, leaf, span, EachThere, OfOption, when-there, autolink, autolink_at, autolink_to, uri, backticks, has_byte_at, is_backslash, is_backtick, is_greater_than, is_less_than, is_line_feed, is_space, before_backtick_string, code_piece_at, code_piece_events, code_span_with, lined_code_at, lined_events, Found, escape, escape_at, bytes_of, cut, reference-holds, decimal, hexadecimal, mark_events, marks, named, reference_at, email, email_at, email_with, is_at_sign, is_atext, is_domain, is_domain_byte, html-there, marked, tag_length, html_of, piece_at, piece_events, piece_length, break_escape_at, hard_break_escape, hard_break_trailing, trailing_break_at, is_white_left, white_space, white_space_at, inline_grammars, line_break, run_length, is_delimiter, IsWhole}
 use Rattle.markdown_base.specs.declared.event.Name.{Name}
 use Rattle.mdconstructs_tables.proofs.Looks.Left.{at-front}
 use Rattle.mdinline_constructs.specs.Reference.{Kind}
@@ -101,24 +101,26 @@ module _ (t : ℕ) (bytes : List ℕ) where
   abbrev pub IsFree : Found → Type 0
   IsFree found = (seats : List Seat) → AllByRecursion IsOther (found.events bytes seats)
 
-  pub free-part : (n : Name) → is_special n ≡ false → (p : Part) (seats : List Seat) → AllByRecursion IsOther (part_events bytes n (p, seats))
-  free-part n h line_ending seats = free-leaf LineEnding seats refl
-  free-part n h (plain_run m) seats = free-leaf n seats h
+  free-code-piece : (p : Piece × List Seat) → AllByRecursion IsOther (code_piece_events bytes p)
+  free-code-piece (html.line_break n, seats) =
+      every-append IsOther (leaf bytes LineEnding (take 1 seats)) (leaf bytes SpaceOrTab (drop 1 seats)) (free-leaf LineEnding (take 1 seats) refl) (free-leaf SpaceOrTab (drop 1 seats) refl)
+  free-code-piece (html.data_run n, seats) = free-leaf CodeTextData seats refl
 
-  free-parts : (ps : List (Part × List Seat)) → AllByRecursion IsOther (flat_map (part_events bytes CodeTextData) ps)
-  free-parts [] = tt
-  free-parts (p ∷ ps) = every-append IsOther (part_events bytes CodeTextData p) (flat_map (part_events bytes CodeTextData) ps) (free-part CodeTextData refl p.0 p.1) (free-parts ps)
+  free-code-pieces : (ps : List (Piece × List Seat)) → AllByRecursion IsOther (flat_map (code_piece_events bytes) ps)
+  free-code-pieces [] = tt
+  free-code-pieces (p ∷ ps) = every-append IsOther (code_piece_events bytes p) (flat_map (code_piece_events bytes) ps) (free-code-piece p) (free-code-pieces ps)
 
-  free-code : (k : ℕ) (o : Option ℕ) → OfOption IsFree (option_map (code_span k) o)
+  free-code : (k : ℕ) (o : Option ℕ) → OfOption IsFree (option_map (code_span_with lined_events k) o)
   free-code k None = tt
   free-code k (Some n) = λ seats.
-      let inner = flat_map (part_events bytes CodeTextData) (pieces (between k (k + n) seats)) in
-      free-span CodeText seats _ refl (free-three CodeTextSequence CodeTextSequence (take k seats) (drop (k + n) seats) inner refl refl (free-parts (pieces (between k (k + n) seats))))
+      let middle = between k (k + n) seats in
+      free-span CodeText seats _ refl
+      (free-three CodeTextSequence CodeTextSequence (take k seats) (drop (k + n) seats) (lined_events bytes middle) refl refl (free-code-pieces (cut code_piece_at piece_length (length middle) middle)))
 
-  pub free-code-span : (text : List ℕ) → OfOption IsFree (code_span_at text)
+  pub free-code-span : (text : List ℕ) → OfOption IsFree (lined_code_at text)
   free-code-span text =
       let k = backticks text in
-      when-there IsFree (has_byte_at text 0 is_backtick) (option_map (code_span k) (before_backtick_string k (drop k text))) (free-code k (before_backtick_string k (drop k text)))
+      when-there IsFree (has_byte_at text 0 is_backtick) (option_map (code_span_with lined_events k) (before_backtick_string k (drop k text))) (free-code k (before_backtick_string k (drop k text)))
 
   free-link : (text : List ℕ) (o : Option ℕ) → OfOption IsFree (autolink_to text o)
   free-link text None = tt
