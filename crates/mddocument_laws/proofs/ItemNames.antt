@@ -14,13 +14,14 @@ use Rattle.mdinline_labels.specs.Labels.{is_label}
 use Rattle.mdinline_labels.specs.declared.resources.Resource.{Resource as Parts}
 use Rattle.mdinline_labels.specs.Resources.{resource_at}
 use Rattle.mdinline_text_machine.specs.Autolink.{autolink, autolink_at, autolink_to, uri}
-use Rattle.mdinline_text_machine.specs.CodeSpan.{before_backtick_string, code_span, code_span_at, pieces}
+use Rattle.mdinline_text_machine.specs.CodeSpan.{before_backtick_string, code_span_with}
 use Rattle.mdinline_text_machine.specs.Parts.{Part, bytes_of}
 use Rattle.mdinline_constructs.specs.Email.{email, email_at, email_with}
 use Rattle.mdinline_constructs.specs.HardBreak.{break_escape_at, hard_break_escape, hard_break_trailing, trailing_break_at}
 use Rattle.mdinline_constructs.specs.HtmlMarked.{marked}
 use Rattle.mdinline_constructs.specs.HtmlTag.{tag_length}
 use Rattle.mdinline_constructs.specs.HtmlText.{Piece, data_run as html_run, has_blank_line, html, html_of, line_break as html_break, piece_at, piece_events, piece_length}
+use Rattle.mdinline_constructs.specs.LinedCode.{code_piece_at, code_piece_events, lined_code_at, lined_events}
 use Rattle.mdinline_link_tails.specs.Resource.{resource, string_events, unmarked}
 use Rattle.mdinline_full_references.specs.FullReference.{full_reference, label_length, label_text}
 use Rattle.mdinline_machine.specs.Brackets.{Bracket, Memory, after_item, are_brackets, before_link, bytes_before, has_bracket, spanned_bytes, begins_end, begins_link, bracket_at, collapsed_reference, end_at, end_of_last, image_bracket, is_image_bracket, is_wanted_at, label_end, link_bracket, lone_end, no_tail, nothing_read, own_is_defined, own_tail, tail_of, waiting_behind}
@@ -84,11 +85,16 @@ module _ (on : Constructs) where
   parts-named bytes n (plain_run k, seats) h = leafs bytes n seats h
 
   -- ---- code spans, autolinks, escapes, hard breaks, white space
-  code-item : (b i : ℕ) → on.code_text ≡ true → IsItem (code_span b i)
+  code-named : (bytes : List ℕ) (p : Piece × List Seat) → on.code_text ≡ true → Are (code_piece_events bytes p)
+  code-named bytes (html_break n, seats) h = search (together, leafs)
+  code-named bytes (html_run n, seats) h = leafs bytes name.CodeTextData seats h
+
+  code-item : (b i : ℕ) → on.code_text ≡ true → IsItem (code_span_with lined_events b i)
   code-item b i h = record {
     mark = refl;
     names = λ bytes seats.
-        let inside = named-flat (part_events bytes name.CodeTextData) (pieces (between b (b + i) seats)) (λ p. parts-named bytes name.CodeTextData p h) in
+        let middle = between b (b + i) seats in
+        let inside = named-flat (code_piece_events bytes) (cut code_piece_at piece_length (length middle) middle) (λ p. code-named bytes p h) in
         over bytes name.CodeText seats _ h (and (leafs bytes name.CodeTextSequence (take b seats) h) (and inside (leafs bytes name.CodeTextSequence (drop (b + i) seats) h)));
   }
 
@@ -96,8 +102,8 @@ module _ (on : Constructs) where
   mapped f None h = tt
   mapped f (Some a) h = h a
 
-  codes-fit : (text : List ℕ) → on.code_text ≡ true → IfItem (code_span_at text)
-  codes-fit text h = cond_both (has_byte_at text 0 is_backtick) _ None IfItem (λ e. mapped (code_span (backticks text)) (before_backtick_string (backticks text) (drop (backticks text) text)) (λ i. code-item (backticks text) i h)) (λ e. tt)
+  codes-fit : (text : List ℕ) → on.code_text ≡ true → IfItem (lined_code_at text)
+  codes-fit text h = cond_both (has_byte_at text 0 is_backtick) _ None IfItem (λ e. mapped (code_span_with lined_events (backticks text)) (before_backtick_string (backticks text) (drop (backticks text) text)) (λ i. code-item (backticks text) i h)) (λ e. tt)
 
   autolink-item : (n : ℕ) → on.autolink ≡ true → IsItem (autolink n)
   autolink-item n h = record { mark = refl; names = λ bytes seats. search (together, over, leafs, h) }
