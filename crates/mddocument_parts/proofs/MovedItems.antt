@@ -19,7 +19,7 @@ use Rattle.mdconstructs_machines.specs.Spans.{event, leaf, span}
 use Rattle.mdinline_text_machine.proofs.Constructs.Apart.{EachThere, OfOption, there-holds, when-there}
 use Rattle.mdinline_text_machine.specs.Autolink.{autolink, autolink_at, autolink_to, uri}
 use Rattle.mdinline_text_machine.specs.Bytes.{backticks, has_byte_at, is_line_feed}
-use Rattle.mdinline_text_machine.specs.CodeSpan.{before_backtick_string, code_span, code_span_at, is_backtick_or_line_feed}
+use Rattle.mdinline_text_machine.specs.CodeSpan.{before_backtick_string, code_span_with}
 use Rattle.mdinline_text_machine.specs.Construct.{Found}
 use Rattle.mdinline_text_machine.specs.Escape.{escape, escape_at}
 use Rattle.mdinline_text_machine.specs.Items.{item_length}
@@ -38,6 +38,7 @@ use Rattle.mdinline_constructs.specs.Email.{email, email_at, email_with, is_atex
 use Rattle.mdinline_constructs.specs.HardBreak.{break_escape_at, hard_break_escape, hard_break_trailing, trailing_break_at}
 use Rattle.mdinline_constructs.specs.HtmlMarked.{marked}
 use Rattle.mdinline_constructs.specs.HtmlTag.{tag_length}
+use Rattle.mdinline_constructs.specs.LinedCode.{code_piece_at, code_piece_events, lined_code_at, lined_events}
 use Rattle.mdinline_constructs.specs.HtmlText.{Piece, data_run as html_data, html, html_of, line_break as html_break, piece_at, piece_events, piece_length}
 use Rattle.mdinline_constructs.specs.Reference.{Kind, decimal, hexadecimal, mark_events, marks as signs_of, named, reference, reference_at}
 use Rattle.mdinline_constructs.specs.StringItems.{is_string_special, string_data, string_grammars, string_item_at, string_part, string_seat_events}
@@ -196,16 +197,20 @@ module _ (m : Moving) where
   part-moves n line_ending s r p = one name.LineEnding s r p
   part-moves n (plain_run k) s r p = one n s r p
 
-  code-moves : (k n : ℕ) → MovesAs (code_span k n)
+  code-piece-moves : (a : Piece) (s r : List Seat) → Part m s r → Moves m (code_piece_events m.places.new (a, s)) (code_piece_events m.places.old (a, r))
+  code-piece-moves (html_break n) s r p = two name.LineEnding name.SpaceOrTab _ _ _ _ (front s r 1 1 refl p) (back s r 1 1 refl p)
+  code-piece-moves (html_data n) s r p = one name.CodeTextData s r p
+
+  code-moves : (k n : ℕ) → MovesAs (code_span_with lined_events k n)
   code-moves k n s r p =
       let inside = middle k (k + n) k (k + n) s r refl refl p in
       around m name.CodeText s r _ _ p
       (three name.CodeTextSequence name.CodeTextSequence _ _ _ _ _ _ (front s r k k refl p)
-      (cuts m (part_at is_backtick_or_line_feed) part_length (λ bytes. part_events bytes name.CodeTextData) (λ t s r p. part-moves name.CodeTextData _ s r p) _ _ _ _ (same-length _ _ inside) inside)
+      (cuts m code_piece_at piece_length code_piece_events (λ t s r p. code-piece-moves _ s r p) _ _ _ _ (same-length _ _ inside) inside)
       (back s r (k + n) (k + n) refl p))
 
-  code : (text : List ℕ) → MovesIf (code_span_at text)
-  code text = let k = backticks text in when-there MovesAs _ (option_map (code_span k) (before_backtick_string k (drop k text))) (mapped (code_span k) (code-moves k) (before_backtick_string k (drop k text)))
+  code : (text : List ℕ) → MovesIf (lined_code_at text)
+  code text = let k = backticks text in when-there MovesAs _ (option_map (code_span_with lined_events k) (before_backtick_string k (drop k text))) (mapped (code_span_with lined_events k) (code-moves k) (before_backtick_string k (drop k text)))
 
   link-moves : (outer marker inner : Name) (n : ℕ) (s r : List Seat) → Part m s r
       → Moves m (span m.places.new outer s (leaf m.places.new marker (take 1 s) ++ (leaf m.places.new inner (between 1 (1 + n) s) ++ leaf m.places.new marker (drop (1 + n) s))))
