@@ -9,7 +9,6 @@ use Rattle.markdown_base.specs.declared.event.Name.TheVariants.{AttentionSequenc
 use Rattle.mdconstructs_machines.specs.Spans.{leaf, span}
 use Rattle.mdconstructs_tables.specs.Breaks.{is_white}
 use Rattle.mdinline_text_machine.proofs.Autolinks.Cuts.{autolink-built}
-use Rattle.mdinline_text_machine.proofs.CodeSpans.Cuts.{code-span-built}
 use Rattle.mdinline_text_machine.proofs.Constructs.Apart.{EachThere, OfOption, there-holds}
 use Rattle.mdinline_text_machine.proofs.Escapes.Cuts.{escape-built}
 use Rattle.mdinline_text_machine.proofs.Texts.Built.{IsBuilt, IsKeptBySpans}
@@ -23,6 +22,7 @@ use Rattle.mdinline_constructs.proofs.HardBreaks.Cuts.{break-escape-built, trail
 use Rattle.mdinline_constructs.proofs.HtmlMarks.Bytes.{html-mark-built}
 use Rattle.mdinline_constructs.proofs.HtmlTags.Bytes.{html-tag-built}
 use Rattle.mdinline_constructs.proofs.References.Cuts.{reference-built}
+use Rattle.mdinline_constructs.proofs.RememberedCode.Cuts.{lined-code-built}
 use Rattle.mdinline_constructs.proofs.WhiteSpaces.Cuts.{white-space-built}
 use Rattle.mdinline_constructs.specs.WhiteSpace.{white_space}
 use Rattle.mdinline_link_tails.proofs.Resources.Built.{resource-built}
@@ -121,7 +121,7 @@ module _ (bytes : List ℕ) where
   calm-each : (text : List ℕ) → EachThere Calm inline_grammars text
   calm-each text =
       let k = calm-kept bytes in (
-        code-span-built bytes IsCalm k text,
+        lined-code-built bytes IsCalm k text,
         (
           autolink-built bytes IsCalm k text,
           (

@@ -9,7 +9,7 @@ use Rattle.mdconstructs_tables.specs.Breaks.{is_white}
 use Rattle.mdinline_text_machine.proofs.Constructs.Apart.{EachThere, OfOption, there-holds, when-there}
 use Rattle.mdinline_text_machine.specs.Autolink.{autolink, autolink_to, uri}
 use Rattle.mdinline_text_machine.specs.Bytes.{backticks, has_byte_at, is_backtick, is_greater_than, is_less_than, is_line_feed}
-use Rattle.mdinline_text_machine.specs.CodeSpan.{before_backtick_string, code_span, code_span_at, pieces}
+use Rattle.mdinline_text_machine.specs.CodeSpan.{before_backtick_string, code_span_with}
 use Rattle.mdinline_text_machine.specs.Construct.{Found}
 use Rattle.mdinline_text_machine.specs.Escape.{escape, escape_at}
 use Rattle.mdinline_text_machine.specs.Items.{item_length}
@@ -23,6 +23,7 @@ use Rattle.mdinline_constructs.specs.HtmlMarked.{marked}
 use Rattle.mdinline_constructs.specs.HtmlTag.{tag_length}
 use Rattle.mdinline_constructs.specs.HtmlText.{Piece, html_of, piece_at, piece_events, piece_length}
 use Rattle.mdinline_constructs.specs.HtmlText as html
+use Rattle.mdinline_constructs.specs.LinedCode.{code_piece_at, code_piece_events, lined_code_at, lined_events}
 use Rattle.mdinline_constructs.specs.Reference.{Kind, decimal, hexadecimal, mark_events, marks, named, reference_at}
 use Rattle.mdinline_constructs.specs.StringItems.{string_data, string_grammars, string_item_at, string_part, string_seat_events}
 use Rattle.mdinline_constructs.specs.WhiteSpace.{white_space}
@@ -144,22 +145,26 @@ module _ (bytes : List ℕ) where
   three : (a c : Name) (xs zs : List Seat) (inside : List Event) → is_free a ≡ true → is_free c ≡ true → IsInner inside → IsInner (leaf bytes a xs ++ (inside ++ leaf bytes c zs))
   three a c xs zs inside f g h = inner-both (leaf bytes a xs) (inside ++ leaf bytes c zs) (leafs a xs f) (inner-both inside (leaf bytes c zs) h (leafs c zs g))
 
-  code-parts : (ps : List (Part × List Seat)) → IsInner (flat_map (part_events bytes name.CodeTextData) ps)
-  code-parts [] = inner-none
-  code-parts ((line_ending, seats) ∷ ps) = inner-both (leaf bytes name.LineEnding seats) (flat_map (part_events bytes name.CodeTextData) ps) (leafs name.LineEnding seats refl) (code-parts ps)
-  code-parts ((plain_run k, seats) ∷ ps) = inner-both (leaf bytes name.CodeTextData seats) (flat_map (part_events bytes name.CodeTextData) ps) (leafs name.CodeTextData seats refl) (code-parts ps)
+  code-pieces : (ps : List (Piece × List Seat)) → IsInner (flat_map (code_piece_events bytes) ps)
+  code-pieces [] = inner-none
+  code-pieces ((html.line_break n, seats) ∷ ps) =
+      let first = leaf bytes name.LineEnding (take 1 seats) in
+      let second = leaf bytes name.SpaceOrTab (drop 1 seats) in
+      inner-both (first ++ second) (flat_map (code_piece_events bytes) ps) (inner-both first second (leafs name.LineEnding (take 1 seats) refl) (leafs name.SpaceOrTab (drop 1 seats) refl)) (code-pieces ps)
+  code-pieces ((html.data_run n, seats) ∷ ps) = inner-both (leaf bytes name.CodeTextData seats) (flat_map (code_piece_events bytes) ps) (leafs name.CodeTextData seats refl) (code-pieces ps)
 
-  code-out : (k : ℕ) (o : Option ℕ) → OfOption Out (option_map (code_span k) o)
+  code-out : (k : ℕ) (o : Option ℕ) → OfOption Out (option_map (code_span_with lined_events k) o)
   code-out k None = tt
   code-out k (Some n) = λ seats.
-      let inner = flat_map (part_events bytes name.CodeTextData) (pieces (between k (k + n) seats)) in
+      let middle = between k (k + n) seats in
+      let inner = lined_events bytes middle in
       inline name.CodeText seats (leaf bytes name.CodeTextSequence (take k seats) ++ (inner ++ leaf bytes name.CodeTextSequence (drop (k + n) seats))) ((λ around is. is), refl, (λ s ss inside. refl))
-      (three name.CodeTextSequence name.CodeTextSequence (take k seats) (drop (k + n) seats) inner refl refl (code-parts (pieces (between k (k + n) seats))))
+      (three name.CodeTextSequence name.CodeTextSequence (take k seats) (drop (k + n) seats) inner refl refl (code-pieces (cut code_piece_at piece_length (length middle) middle)))
 
-  codes-out : (text : List ℕ) → OfOption Out (code_span_at text)
+  codes-out : (text : List ℕ) → OfOption Out (lined_code_at text)
   codes-out text =
       let k = backticks text in
-      when-there Out (has_byte_at text 0 is_backtick) (option_map (code_span k) (before_backtick_string k (drop k text))) (code-out k (before_backtick_string k (drop k text)))
+      when-there Out (has_byte_at text 0 is_backtick) (option_map (code_span_with lined_events k) (before_backtick_string k (drop k text))) (code-out k (before_backtick_string k (drop k text)))
 
   -- an address between two markers
   address : (inner : Name) (n : ℕ) (seats : List Seat) → is_free inner ≡ true
