@@ -13,6 +13,7 @@ use Rattle.mdinline_constructs.specs.HardBreak.{hard_break_escape, hard_break_tr
 use Rattle.mdinline_constructs.specs.HtmlMarked.{marked}
 use Rattle.mdinline_constructs.specs.HtmlTag.{tag_length}
 use Rattle.mdinline_constructs.specs.HtmlText.{has_blank_line, html, html_of}
+use Rattle.mdinline_constructs.specs.LinedCode.{lined_events}
 use Rattle.mdinline_machine.specs.RunRows.{begins_run}
 use Rattle.mdinline_labels.specs.Tails.{bare_behind, begins_with, is_plain, label_size, marked_size}
 use Rattle.mdinline_link_tails.proofs.Resources.Cuts.{string-cut}
@@ -22,7 +23,7 @@ use Rattle.mdinline_text_machine.proofs.DeepSpans.Stretches.{ItemCut}
 use Rattle.mdinline_text_machine.proofs.Paragraphs.ChainEvents.{all-begin, is-text}
 use Rattle.mdinline_text_machine.specs.Autolink.{autolink, autolink_to, uri}
 use Rattle.mdinline_text_machine.specs.Bytes.{backticks, has_byte_at, is_backtick, is_greater_than, is_less_than, is_line_feed}
-use Rattle.mdinline_text_machine.specs.CodeSpan.{before_backtick_string, code_span}
+use Rattle.mdinline_text_machine.specs.CodeSpan.{before_backtick_string, code_span_with}
 use Rattle.mdinline_text_machine.specs.Construct.{BracketMark, Found, Grammar, fails, makes, opens, or_else, plain}
 use Rattle.mdinline_text_machine.specs.Escape.{escape}
 use Rattle.mdinline_text_machine.specs.Parts.{bytes_of}
@@ -49,9 +50,9 @@ html-plain text (Some n) = elim (has_blank_line (take n text)) as (λ t. OfOptio
 constructs-plain : (text : List ℕ) → EachThere IsPlain inline_grammars text
 constructs-plain text =
     let n = backticks text in
-    let code = option_map (code_span n) (before_backtick_string n (drop n text)) in
+    let code = option_map (code_span_with lined_events n) (before_backtick_string n (drop n text)) in
     let line = has_byte_at text 0 is_less_than in (
-      when-there IsPlain (has_byte_at text 0 is_backtick) code (mapped-plain (code_span n) (λ k. refl) (before_backtick_string n (drop n text))),
+      when-there IsPlain (has_byte_at text 0 is_backtick) code (mapped-plain (code_span_with lined_events n) (λ k. refl) (before_backtick_string n (drop n text))),
       (
         when-there IsPlain line (autolink_to text (uri (drop 1 text))) (to-plain text (uri (drop 1 text))),
         (
