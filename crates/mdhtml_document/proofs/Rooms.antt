@@ -7,7 +7,7 @@ use Rattle.std.proofs.lemmas.Option.{none-some}
 use Rattle.std.proofs.lemmas.Slice.Eq.{bytes_eq-Decides}
 use Rattle.std.proofs.lemmas.Str.{len_utf8_bounds, length-encode}
 use Rattle.std.specs.Char.{digit_value, encode_utf8}
-use Rattle.std.specs.List.{flat_map, list_all, list_any, prefix_len, repeat, slice_range}
+use Rattle.std.specs.List.{flat_map, list_all, list_any, repeat, slice_range}
 use Rattle.std.specs.Option.{option_map_or}
 use Rattle.std.specs.Prelude.{zero, ◌==◌, ◌&&◌, ◌||◌, not, Bool, true, false, cond, bytes_eq, nat_le, nat_lt, option_map, slice_get, slice_index}
 use Rattle.std.specs.Str.Parse.{digits_value}
@@ -26,7 +26,7 @@ use Rattle.mdhtml_document.specs.declared.names.Inline.TheVariants as inline
 use Rattle.mdhtml_document.specs.HtmlLaws.{ahead, room}
 use Rattle.mdhtml_document.specs.Names.{inline_of}
 use Rattle.mdhtml_document.specs.Spans.{Nothing, Span, Spans, events_of}
-use Rattle.mdhtml_document.specs.Values.{alt_by, alt_of, autolink_address, behind_first_line, block_lines, bytes_at, code_lines, code_text, cut, cut_at, has_last_line, html_text, is_address, is_blank, line_text, lines_from, reading_of, said, stripped}
+use Rattle.mdhtml_document.specs.Values.{alt_by, alt_of, autolink_address, behind_first_line, block_lines, bytes_at, code_lines, code_text, cut, cut_at, has_last_line, html_text, is_address, lines_from, reading_of, said, stripped}
 use Rattle.mdinline_characters.specs.CharacterReferences.{Reference, character_references}
 use Rattle.mdinline_characters.specs.References.{characters_in, characters_of}
 
@@ -254,22 +254,15 @@ module _ (bytes : List ℕ) (tab : ℕ) where
       let rest = address-le es in
       cond-le (is_address e) (bytes_at bytes e es) (autolink_address bytes es) (room tab (e ∷ es)) (omega (arith, here)) (omega (arith, rest))
 
-  start-le : (start : Bool) (t : List ℕ) → length (line_text start t) ≤ length t
-  start-le start t = cond-le start (drop (prefix_len is_blank t) t) t (length t) (drop-le (prefix_len is_blank t) t) (omega arith)
-
-  pub lines-le : (n : Name) (ending : ℕ) (start : Bool) (es : List Event) → length (lines_from bytes n ending start es) ≤ room tab es
-  lines-le n ending start [] = omega arith
-  lines-le n ending start (e ∷ es) =
+  pub lines-le : (n : Name) (ending : ℕ) (es : List Event) → length (lines_from bytes n ending es) ≤ room tab es
+  lines-le n ending [] = omega arith
+  lines-le n ending (e ∷ es) =
       let here = at-le e es in
-      let cut = start-le start (bytes_at bytes e es) in
-      let ended = lines-le n ending true es in
-      let on = lines-le n ending false es in
-      let rest = lines-le n ending start es in
-      let long = length-append (line_text start (bytes_at bytes e es)) (lines_from bytes n ending false es) in
-      cond-le (enters name.LineEnding e) (ending ∷ lines_from bytes n ending true es)
-      (cond (enters n e) (line_text start (bytes_at bytes e es) ++ lines_from bytes n ending false es) (lines_from bytes n ending start es)) (room tab (e ∷ es)) (omega (arith, ended))
-      (cond-le (enters n e) (line_text start (bytes_at bytes e es) ++ lines_from bytes n ending false es) (lines_from bytes n ending start es) (room tab (e ∷ es)) (omega (arith, here, cut, on, long))
-      (omega (arith, rest)))
+      let rest = lines-le n ending es in
+      let long = length-append (bytes_at bytes e es) (lines_from bytes n ending es) in
+      cond-le (enters name.LineEnding e) (ending ∷ lines_from bytes n ending es) (cond (enters n e) (bytes_at bytes e es ++ lines_from bytes n ending es) (lines_from bytes n ending es)) (room tab (e ∷ es))
+      (omega (arith, rest))
+      (cond-le (enters n e) (bytes_at bytes e es ++ lines_from bytes n ending es) (lines_from bytes n ending es) (room tab (e ∷ es)) (omega (arith, here, rest, long)) (omega (arith, rest)))
 
   stripped-le : (t : List ℕ) → length (stripped t) ≤ length t
   stripped-le t =
@@ -278,7 +271,7 @@ module _ (bytes : List ℕ) (tab : ℕ) where
       (omega (arith, s)) (omega arith)
 
   pub code-le : (es : List Event) → length (code_text bytes es) ≤ room tab es
-  code-le es = through _ _ _ (stripped-le (lines_from bytes name.CodeTextData 32 false es)) (lines-le name.CodeTextData 32 false es)
+  code-le es = through _ _ _ (stripped-le (lines_from bytes name.CodeTextData 32 es)) (lines-le name.CodeTextData 32 es)
 
   repeat-long : (n : ℕ) → length {A = ℕ} (repeat n (32 ∷ [])) ≡ n
   repeat-long zero = refl
@@ -326,7 +319,7 @@ module _ (bytes : List ℕ) (tab : ℕ) where
   alt-by-le : (i : Inline) (es : List Event) (own alt : List ℕ) (u : ℕ) → length own ≤ u → 1 ≤ u → length alt ≤ room tab es → length (alt_by bytes i es own alt) ≤ u + room tab es
   alt-by-le inline.Ending es own alt u o p a = omega (arith, p)
   alt-by-le inline.Code es own alt u o p a = let h = code-le es in omega (arith, h)
-  alt-by-le inline.Html es own alt u o p a = let h = lines-le name.HtmlTextData 10 false es in omega (arith, h)
+  alt-by-le inline.Html es own alt u o p a = let h = lines-le name.HtmlTextData 10 es in omega (arith, h)
   alt-by-le inline.Autolink es own alt u o p a = let h = address-le es in omega (arith, h)
   alt-by-le inline.Tail es own alt u o p a = omega arith
   alt-by-le inline.Break es own alt u o p a = let l = length-append own alt in omega (arith, o, a, l)

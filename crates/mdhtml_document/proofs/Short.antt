@@ -195,7 +195,7 @@ module _ (options : CompileOptions) (bytes : List â„•) (lookup : (label : List â
   inline-short in_cell inline.Html es said alt few all t f r a =
       let h = raw-short options (cell_text in_cell (html_text bytes es)) in
       let less = cell-le in_cell (html_text bytes es) in
-      let text = lines-le bytes tab name.HtmlTextData 10 false es in
+      let text = lines-le bytes tab name.HtmlTextData 10 es in
       whole refl (omega (arith, h, less, text, r))
   inline-short in_cell inline.Autolink es said alt few all t f r a =
       let h = autolink-short options bytes es in

@@ -1,6 +1,6 @@
 -- What spans say that are written at once: code (CommonMark 0.31, 4.4, 4.5, 6.1), raw HTML (4.6, 6.6), autolinks (6.5), literals (GFM 0.29, 6.9), and
 -- what images are described by (6.4). By the events in the span, or the spans in it.
-use Rattle.std.specs.List.{list_all, list_any, prefix_len, repeat, slice_range}
+use Rattle.std.specs.List.{list_all, list_any, repeat, slice_range}
 use Rattle.std.specs.Prelude.{ℕ, ◌+◌, ◌-◌, ◌%◌, ◌==◌, ◌&&◌, ◌||◌, not, nat_lt, Bool, true, false, cond, List, [], ◌∷◌, ◌++◌, drop, length, slice_index}
 use Rattle.markdown_base.specs.declared.event.Event.{Event}
 use Rattle.markdown_base.specs.declared.event.Name.{Name}
@@ -15,13 +15,6 @@ use Rattle.mdhtml_document.specs.declared.names.Inline.{Inline}
 use Rattle.mdhtml_document.specs.declared.names.Inline.TheVariants as inline
 use Rattle.mdhtml_document.specs.Names.{inline_of}
 use Rattle.mdhtml_document.specs.Spans.{Nothing, Span, Spans, events_of}
-
-abbrev pub is_blank : ℕ → Bool
-is_blank b = (b == 32) || (b == 9)
-
--- text without the blanks that it begins with, if it begins a line
-abbrev pub line_text : (start : Bool) → List ℕ → List ℕ
-line_text start t = cond start (drop (prefix_len is_blank t) t) t
 
 -- "First, line endings are converted to spaces. If the resulting string both begins and ends with a space character, but does not consist entirely of
 -- space characters, a single space character is removed from the front and back" (6.1)
@@ -78,18 +71,17 @@ module _ (bytes : List ℕ) where
   bytes_at e [] = []
   bytes_at e (f ∷ fs) = slice_range bytes e.point.index f.point.index
 
-  -- Lines of these spans, with this byte for each line ending. Blanks at the start of a further line are none of the text, as of paragraphs
-  abbrev pub lines_from : Name → (ending : ℕ) → (start : Bool) → List Event → List ℕ
-  lines_from n ending start [] = []
-  lines_from n ending start (e ∷ es) =
-      cond (enters name.LineEnding e) (ending ∷ lines_from n ending true es)
-      (cond (enters n e) (line_text start (bytes_at e es) ++ lines_from n ending false es) (lines_from n ending start es))
+  -- Lines of these spans, with this byte for each line ending
+  abbrev pub lines_from : Name → (ending : ℕ) → List Event → List ℕ
+  lines_from n ending [] = []
+  lines_from n ending (e ∷ es) =
+      cond (enters name.LineEnding e) (ending ∷ lines_from n ending es) (cond (enters n e) (bytes_at e es ++ lines_from n ending es) (lines_from n ending es))
 
   abbrev pub code_text : List Event → List ℕ
-  code_text es = stripped (lines_from name.CodeTextData 32 false es)
+  code_text es = stripped (lines_from name.CodeTextData 32 es)
 
   abbrev pub html_text : List Event → List ℕ
-  html_text es = lines_from name.HtmlTextData 10 false es
+  html_text es = lines_from name.HtmlTextData 10 es
 
   -- the address of an autolink
   abbrev pub autolink_address : List Event → List ℕ

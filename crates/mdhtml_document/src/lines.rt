@@ -1,39 +1,13 @@
 //! Lines of text that spans say: code, and HTML within text.
 
-ghost use Rattle.std.specs.List.{list_all, prefix_len};
-ghost use Rattle.std.specs.Prelude.{◌≡◌, ◌==◌, ◌++◌, ◌≤◌, ◌∷◌, IfOk, IfSome, false, length};
-ghost use Rattle.mdhtml_document.specs.Values.{cell_text, code_text, html_text, is_blank, is_escape, line_text, lines_from, stripped, unescaped};
+ghost use Rattle.std.specs.List.{list_all};
+ghost use Rattle.std.specs.Prelude.{◌≡◌, ◌==◌, ◌++◌, ◌∷◌, IfOk, IfSome, OnOk};
+ghost use Rattle.mdhtml_document.specs.Values.{cell_text, code_text, html_text, is_escape, lines_from, stripped, unescaped};
 
 use crate::spans::bytes_at;
 use markdown_base::event::{Event, Name};
 use mddocument_link_targets::spans::enters;
 use std::alloc::{AllocError, Global};
-
-/// Whether a byte is a space or a tab.
-pub(crate) fn is_blank(byte: u8) -> bool
-    ensures { result ≡ is_blank byte }
-{
-    byte == b' ' || byte == b'\t'
-}
-
-/// How many blanks come first.
-fn blanks_first(text: &[u8]) -> usize
-    ensures value { result ≡ prefix_len is_blank text.now }
-    ensures within { result ≤ length text.now }
-{
-    text.iter().take_while(|byte| is_blank(**byte)).count()
-}
-
-/// A text without the blanks that it begins with, if it begins a line.
-fn line_text(is_start: bool, text: &[u8]) -> &[u8]
-    ensures { result.now ≡ line_text is_start text.now }
-{
-    if is_start {
-        &text[blanks_first(text)..]
-    } else {
-        text
-    }
-}
 
 /// Whether all bytes are spaces.
 fn is_spaces(text: &[u8]) -> bool
@@ -54,27 +28,23 @@ fn stripped(text: &[u8]) -> &[u8]
     }
 }
 
-/// Adds what an event says in lines. Returns whether a line starts behind it.
+/// Adds what an event says in lines.
 fn push_line(
     text: &mut Vec<u8>,
     bytes: &[u8],
     name: Name,
     ending: u8,
-    is_start: bool,
     event: &Event,
     behind: &[Event],
-) -> Result<bool, AllocError>
-    ensures { IfOk result (λ next. text.new.items ++ lines_from bytes.now name ending next behind.now ≡ text.old.items ++ lines_from bytes.now name ending is_start (event.now ∷ behind.now)) }
+) -> Result<(), AllocError>
+    ensures { OnOk result (text.new.items ++ lines_from bytes.now name ending behind.now ≡ text.old.items ++ lines_from bytes.now name ending (event.now ∷ behind.now)) }
 {
     if enters(event, Name::LineEnding) {
         text.push(ending)?;
-        return Ok(true);
+    } else if enters(event, name) {
+        text.extend_from_slice(bytes_at(bytes, event, behind))?;
     }
-    if enters(event, name) {
-        text.extend_from_slice(line_text(is_start, bytes_at(bytes, event, behind)))?;
-        return Ok(false);
-    }
-    Ok(is_start)
+    Ok(())
 }
 
 /// Lines of spans of a name, with this byte for each line ending.
@@ -85,20 +55,11 @@ fn lines_of(
     ending: u8,
     events: &[Event],
 ) -> Result<Vec<u8>, AllocError>
-    ensures { IfOk result (λ text. text.items ≡ lines_from bytes.now name ending false events.now) }
+    ensures { IfOk result (λ text. text.items ≡ lines_from bytes.now name ending events.now) }
 {
     let mut text = Vec::new(alloc);
-    let mut is_start = false;
     for (i, event) in events.iter().enumerate() {
-        is_start = push_line(
-            &mut text,
-            bytes,
-            name,
-            ending,
-            is_start,
-            event,
-            &events[i + 1..],
-        )?;
+        push_line(&mut text, bytes, name, ending, event, &events[i + 1..])?;
     }
     Ok(text)
 }
@@ -111,7 +72,7 @@ fn one_behind<'a>(
     event: &Event,
     behind: &[Event],
 ) -> Option<&'a [u8]>
-    ensures { IfSome result (λ next. next.now ++ lines_from bytes.now name 32 false behind.now ≡ text.now ++ lines_from bytes.now name 32 false (event.now ∷ behind.now)) }
+    ensures { IfSome result (λ next. next.now ++ lines_from bytes.now name 32 behind.now ≡ text.now ++ lines_from bytes.now name 32 (event.now ∷ behind.now)) }
 {
     if enters(event, Name::LineEnding) {
         return None;
@@ -128,7 +89,7 @@ fn one_behind<'a>(
 
 /// The bytes of the one span of a name. Nothing, if there are more, or a line ending.
 fn one_of<'a>(bytes: &'a [u8], name: Name, events: &[Event]) -> Option<&'a [u8]>
-    ensures { IfSome result (λ text. text.now ≡ lines_from bytes.now name 32 false events.now) }
+    ensures { IfSome result (λ text. text.now ≡ lines_from bytes.now name 32 events.now) }
 {
     let mut text: &[u8] = &[];
     for (i, event) in events.iter().enumerate() {

@@ -30,7 +30,7 @@ use Rattle.mdhtml_document.specs.Names.{inline_of}
 use Rattle.mdhtml_document.specs.declared.names.Inline.{Inline}
 use Rattle.mdhtml_document.specs.declared.names.Inline.TheVariants as inline
 use Rattle.mdhtml_document.specs.Spans.{Nothing, Span, Spans, events_of}
-use Rattle.mdhtml_document.specs.Values.{alt_by, alt_of, autolink_address, block_lines, bytes_at, code_lines, code_text, cut, cut_at, html_flow, html_text, is_address, line_text, lines_from, reading_of, said, stripped}
+use Rattle.mdhtml_document.specs.Values.{alt_by, alt_of, autolink_address, block_lines, bytes_at, code_lines, code_text, cut, cut_at, html_flow, html_text, is_address, lines_from, reading_of, said, stripped}
 use Rattle.mdhtml_markup.specs.Pieces.{Language}
 use Rattle.mdhtml_laws.proofs.FurtherSpans.{all_on, behind-on, drop-one-on, events-of-on, first-directly-on, first-on, has-last-on, inside-on, met_on, on, spans_on}
 use Rattle.mdhtml_laws.specs.Moved.{IsMarked, is_read}
@@ -181,17 +181,16 @@ module _ (links : Option Link → Option Link) (lines n : ℕ) (new old : List �
   at-on e [] h = refl
   at-on e (f ∷ fs) h = same.ranges e.point.index f.point.index h.0.fits
 
-  lines-on : (m : Name) (ending : ℕ) (start : Bool) (es : List Event) → AreFine es → lines_from new m ending start (more es) ≡ lines_from old m ending start es
-  lines-on m ending start [] h = refl
-  lines-on m ending start (e ∷ es) h =
-      λ i. cond (enters name.LineEnding e) (ending ∷ lines-on m ending true es h.1 i)
-      (cond (enters m e) (line_text start (at-on e es h.1 i) ++ lines-on m ending false es h.1 i) (lines-on m ending start es h.1 i))
+  lines-on : (m : Name) (ending : ℕ) (es : List Event) → AreFine es → lines_from new m ending (more es) ≡ lines_from old m ending es
+  lines-on m ending [] h = refl
+  lines-on m ending (e ∷ es) h =
+      λ i. cond (enters name.LineEnding e) (ending ∷ lines-on m ending es h.1 i) (cond (enters m e) (at-on e es h.1 i ++ lines-on m ending es h.1 i) (lines-on m ending es h.1 i))
 
   pub code-text-on : (es : List Event) → AreFine es → code_text new (more es) ≡ code_text old es
-  code-text-on es h = ap stripped (lines-on name.CodeTextData 32 false es h)
+  code-text-on es h = ap stripped (lines-on name.CodeTextData 32 es h)
 
   pub html-text-on : (es : List Event) → AreFine es → html_text new (more es) ≡ html_text old es
-  html-text-on es h = lines-on name.HtmlTextData 10 false es h
+  html-text-on es h = lines-on name.HtmlTextData 10 es h
 
   pub address-on : (es : List Event) → AreFine es → autolink_address new (more es) ≡ autolink_address old es
   address-on [] h = refl
