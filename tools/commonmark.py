@@ -14,8 +14,8 @@ usage: tools/commonmark.py SPEC PROGRAM [--machine NAME] [--failing] [--example 
   --self-test     the HTML of a few lists of events that are written by hand; no SPEC, no PROGRAM
 
 The renderer knows no Markdown: it sees the names and places of events, and the bytes between places. A name without a rule makes the
-example wrong. Three rules are of what no event says: white space at the start of a line in a code span is left out; a code span that
-begins and ends with a space loses both, unless it is all spaces; and a list is loose if a blank line is between two blocks of an item, or
+example wrong. Two rules are of what no event says: a code span that begins and ends with a space loses both, unless it is all spaces; and a
+list is loose if a blank line is between two blocks of an item, or
 between two items.
 """
 
@@ -33,7 +33,6 @@ import usage  # noqa: E402
 
 EVENT = re.compile(r"(enter|exit) (\w+) \d+:(\d+) \((\d+)\+(\d+)\)")
 TAB = 4  # CommonMark's distance between tab stops
-BLANKS = " \t"
 # These hold no text that is shown.
 SILENT = {"SpaceOrTab", "BlankLineEnding", "LineEnding", "BlockQuotePrefix", "ListItemPrefix"}
 MARKERS = {"AutolinkMarker", "CharacterEscapeMarker", "EmphasisSequence", "StrongSequence", "SpaceOrTab"}
@@ -152,18 +151,16 @@ class Inline:
 
     def code(self, spans):
         """The text of a code span."""
-        is_line_start, code = False, ""
+        code = ""
         for span in spans:
-            if span.name == "SpaceOrTab":  # the indentation of an item
+            if span.name == "SpaceOrTab":  # the white space of a further line
                 continue
             if span.name not in ("CodeTextSequence", "CodeTextData", "LineEnding"):
                 raise NoRule(f"no rule for {span.name} in a code span")
             if span.name == "CodeTextData":
-                text = bytes_of(self.document, span)
-                code += text.lstrip(BLANKS) if is_line_start else text
+                code += bytes_of(self.document, span)
             elif span.name == "LineEnding":
                 code += " "
-            is_line_start = span.name == "LineEnding"
         return code[1:-1] if code[:1] == code[-1:] == " " and code.strip(" ") else code
 
 
@@ -424,7 +421,7 @@ BY_HAND = [
      " =HeadingSetextUnderlineSequence 2:1 4:3 -HeadingSetextUnderline 4:3 -HeadingSetext 4:3 =LineEnding 4:3 5:1 +ThematicBreak 5:1"
      " =ThematicBreakSequence 5:1 8:4 -ThematicBreak 8:4 =LineEnding 8:4 9:1 +HtmlFlow 9:1 =HtmlFlowData 9:1 12:4 -HtmlFlow 12:4 =LineEnding 12:4 13:1",
      "<h2>a</h2>\n<hr />\n<p>\n"),
-    ("` a\n b `&lt;\\*\\\n<b>", "+Paragraph 0:1 +CodeText 0:1 =CodeTextSequence 0:1 1:2 =CodeTextData 1:2 3:4 =LineEnding 3:4 4:1 =CodeTextData 4:1 7:4"
+    ("` a\n b `&lt;\\*\\\n<b>", "+Paragraph 0:1 +CodeText 0:1 =CodeTextSequence 0:1 1:2 =CodeTextData 1:2 3:4 =LineEnding 3:4 4:1 =SpaceOrTab 4:1 5:2 =CodeTextData 5:2 7:4"
      " =CodeTextSequence 7:4 8:5 -CodeText 8:5 +CharacterReference 8:5 =CharacterReferenceMarker 8:5 9:6 =CharacterReferenceValue 9:6 11:8"
      " =CharacterReferenceMarkerSemi 11:8 12:9 -CharacterReference 12:9 +CharacterEscape 12:9 =CharacterEscapeMarker 12:9 13:10"
      " =CharacterEscapeValue 13:10 14:11 -CharacterEscape 14:11 =HardBreakEscape 14:11 15:12 =LineEnding 15:12 16:1 +HtmlText 16:1 =HtmlTextData 16:1 19:4"

@@ -179,19 +179,14 @@ impl Text {
     /// Adds the text of a code span: line endings are spaces, blanks at the start of a line are none of it, and a space at both ends
     /// neither, if there is more than spaces.
     fn add_code_text(&mut self, code: &Node<'_>) -> Result<(), Error> {
-        let (from, mut is_start) = (self.0.len(), false);
+        let from = self.0.len();
         for part in code.children() {
-            let mut text = part.text();
-            while let (true, [b' ' | b'\t', rest @ ..]) = (is_start, text) {
-                text = rest;
-            }
             match part.name() {
                 Name::LineEnding => self.add_bytes(b" ")?,
-                Name::CodeTextData => self.add_text(text)?,
-                // a prefix of a line, which then still starts
-                _ => continue,
+                Name::CodeTextData => self.add_text(part.text())?,
+                // a prefix of a line, or its white space
+                _ => {}
             }
-            is_start = part.name() == Name::LineEnding;
         }
         let text = &self.0[from..];
         if text.len() > 1
