@@ -19,7 +19,7 @@ code-piece-positive b bs = elim (b == 10) as (λ t. 0 < piece_length (cond t (li
   | false ↦ omega arith
 ]
 
-code-piece-within : (b : ℕ) (bs : List ℕ) (n : ℕ) → piece_length (code_piece_at (b ∷ bs)) ≤ suc n → code_piece_at (take (suc n) (b ∷ bs)) ≡ code_piece_at (b ∷ bs)
+pub code-piece-within : (b : ℕ) (bs : List ℕ) (n : ℕ) → piece_length (code_piece_at (b ∷ bs)) ≤ suc n → code_piece_at (take (suc n) (b ∷ bs)) ≡ code_piece_at (b ∷ bs)
 code-piece-within b bs n h =
     elim (b == 10) as (λ t. piece_length (cond t (line_break (prefix_len is_white bs)) (data_run (plain_length is_backtick_or_line_feed (b ∷ bs)))) ≤ suc n
     → cond t (line_break (prefix_len is_white (take n bs))) (data_run (plain_length is_backtick_or_line_feed (take (suc n) (b ∷ bs))))
@@ -28,7 +28,7 @@ code-piece-within b bs n h =
       | false ↦ λ i. ap data_run (plain-within is_backtick_or_line_feed (b ∷ bs) n i)
     ] h
 
-code-piece-passes : (k : ℕ) → 0 < k → (b : ℕ) (bs : List ℕ) → (backticks (b ∷ bs) == k) ≡ false → Passes k false false (b ∷ bs) (piece_length (code_piece_at (b ∷ bs)))
+pub code-piece-passes : (k : ℕ) → 0 < k → (b : ℕ) (bs : List ℕ) → (backticks (b ∷ bs) == k) ≡ false → Passes k false false (b ∷ bs) (piece_length (code_piece_at (b ∷ bs)))
 code-piece-passes k some b bs h =
     elim (b == 10) as (λ t. (b == 10) ≡ t → Passes k false false (b ∷ bs) (piece_length (cond t (line_break (prefix_len is_white bs)) (data_run (plain_length is_backtick_or_line_feed (b ∷ bs)))))) [
       | true ↦ λ e. passes-line k some b bs e
