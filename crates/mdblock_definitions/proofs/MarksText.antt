@@ -121,7 +121,7 @@ white-fits n bs e = record { within = omega (arith, e, prefix_len-le-length is_w
 plain-is : (wanted : ℕ) (hidden : Bool) (b : ℕ) → is_plain wanted hidden b ≡ true → (b == wanted) ≡ true
 plain-is wanted hidden b e = (and_parts (b == wanted) (not hidden) e).0
 
-marked-end : (first last : ℕ) (bare hidden : Bool) (bs : List ℕ) (n : ℕ) → marked_size first last bare hidden bs ≡ Some n → begins_with last (drop n bs) ≡ true
+pub marked-end : (first last : ℕ) (bare hidden : Bool) (bs : List ℕ) (n : ℕ) → marked_size first last bare hidden bs ≡ Some n → begins_with last (drop n bs) ≡ true
 marked-end first last bare hidden [] n e = absurd (cc)
 marked-end first last bare hidden (b ∷ bs) n e =
     by (λ m. marked-end first last (bare_behind bare b) (hides hidden b) bs m) (is_plain last hidden b) refl (is_plain first hidden b || (bare && (b == 10))) e

@@ -8,7 +8,7 @@ use Rattle.mddocument_editing.specs.Leading.{targets_in}
 use Rattle.mddocument_editing.specs.Said.{saids}
 
 -- neither of two tests passes
-neither : (a b : Bool) → (a || b) ≡ false → (a ≡ false) × (b ≡ false)
+pub neither : (a b : Bool) → (a || b) ≡ false → (a ≡ false) × (b ≡ false)
 neither false b h = (refl, h)
 neither true b h = absurd (cc h)
 

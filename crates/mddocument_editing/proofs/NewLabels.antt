@@ -74,11 +74,6 @@ pub alike : (gone come written_gone written_come none_gone none_come : Bool) →
 alike gone come written_gone written_come none_gone none_come is_gone empty_gone is_come empty_come same =
     sym (alone written_gone none_gone empty_gone) ∙ sym is_gone ∙ sym same ∙ is_come ∙ alone written_come none_come empty_come
 
--- neither of two
-pub neither-of : (a b : Bool) → (a || b) ≡ false → (a ≡ false) × (b ≡ false)
-neither-of false b is = (refl, is)
-neither-of true b is = absurd (cc is)
-
 -- ---- what is kept, with parts in the place of some of its sections
 module _ (k : Kept) {xs : List Section} (same : xs ≡ k.sections.items) where
   -- its sections have the labels that they define

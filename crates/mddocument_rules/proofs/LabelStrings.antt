@@ -3,9 +3,9 @@ use Rattle.mddocument_rules.proofs.Prelude.{◌≡◌, ◌∙◌, ℕ, ◌+◌, 
 use Rattle.std.proofs.lemmas.List.{map-append}
 use Rattle.markdown_base.proofs.Common.{every-drop, every-take}
 use Rattle.markdown_base.specs.declared.event.Name.TheVariants as name
-use Rattle.markdown_edits.proofs.Balanced.{IsBalanced-pair, balanced_from_open, names_after_all-append, names_after_balanced}
+use Rattle.markdown_edits.proofs.Balanced.{balanced_from_open, names_after_all-append, names_after_balanced}
 use Rattle.markdown_edits.specs.OpenNames.{names_after, names_after_all}
-use Rattle.mdinline_link_strings.proofs.Kept.{data-is}
+use Rattle.mdinline_link_strings.proofs.Kept.{data-balanced}
 use Rattle.mdinline_link_strings.specs.Strings.{in_string_after, is_data, is_string, line_as_string, seats_between, with_strings}
 use Rattle.mdblock_definitions.proofs.SectionSound.{document-sound}
 use Rattle.mdblock_definitions.specs.Definitions.{Place, between, gap_marks, line_marks, parts_marks, places_in, places_of, seats_of, string_lines, text_of}
@@ -20,9 +20,6 @@ use Rattle.mddocument_rules.proofs.HeldStrings.{AreOutside, first-stays, read}
 use Rattle.mddocument_rules.proofs.SpokenDefinitions.{AreLabelled, IsLabelled, before-bytes, behind_label, gap-no-data, label-seat, letter-seat, letters-are, no-data-both, no-data-leaf, section-labelled}
 use Rattle.mddocument_rules.proofs.TextItems.{string-balanced}
 use Rattle.mddocument_rules.specs.ReferenceLaws.{LabelsAreOfSections, label_events_of_section, labels_of_definitions, parts_of_definitions, parts_of_section}
-
-data-pair : (e f : Event) → is_data e f ≡ true → IsBalanced (e ∷ f ∷ [])
-data-pair e f h = let is = data-is e f h in IsBalanced-pair e f is.0 is.1 is.2
 
 -- marks one behind another
 in-a-row : (gap sign said close behind : List Mark) (e1 x1 e2 x2 : Mark)
@@ -47,7 +44,7 @@ module _ (on : Constructs) (t : ℕ) (bytes : List ℕ) where
           names_after_all-append (Some st) (line e f) (read on t bytes state es)
           ∙ ap (λ o. names_after_all o (read on t bytes state es)) (names_after_balanced (string-balanced bytes on (seats_between t bytes e.point f.point)) st)
           ∙ one
-          ∙ ap (λ o. names_after_all o es) (sym (names_after_balanced (data-pair e f (and_parts state (is_data e f) h).1) st))
+          ∙ ap (λ o. names_after_all o es) (sym (names_after_balanced (data-balanced e f (and_parts state (is_data e f) h).1) st))
           ∙ sym (names_after_all-append (Some st) (e ∷ f ∷ []) es)
       cases false h one other = other
 

@@ -1,5 +1,5 @@
 -- Each definition of a document has a label with text: so it has virtual bytes, and in it a string is entered before any data.
-use Rattle.mddocument_rules.proofs.Prelude.{◌≡◌, ◌∙◌, ℕ, suc, ◌+◌, ◌-◌, ◌==◌, Bool, true, false, cond, List, [], ◌∷◌, ◌++◌, None, Option, Some, ap, arith, drop, flat_map, length, refl, subst, sym, take, and_parts, false≢true, AllByRecursion, every-append, option_and_then, option_map, nat_le, ◌&&◌, ◌||◌, not, Event, Enter, Exit, Name, Seat, end_after, same_name, event, Definition, Mark, leaf_marks, span_marks, white, Part, Inside, Section, defined, all_rows}
+use Rattle.mddocument_rules.proofs.Prelude.{◌≡◌, ◌∙◌, ℕ, suc, ◌+◌, ◌-◌, Bool, true, false, cond, List, [], ◌∷◌, ◌++◌, None, Option, Some, ap, arith, drop, flat_map, length, refl, subst, sym, take, and_parts, false≢true, AllByRecursion, every-append, option_and_then, option_map, nat_le, ◌&&◌, not, Event, Enter, Exit, Name, Seat, end_after, same_name, event, Definition, Mark, leaf_marks, span_marks, white, Part, Inside, Section, defined, all_rows}
 use Rattle.std.proofs.lemmas.Bool.{or_left}
 use Rattle.std.proofs.lemmas.Grind.{flat_map-append}
 use Rattle.std.proofs.lemmas.List.{drop-drop, drop-map, drop-take, length-drop, length-map, length-take-le, map-append, take-append-drop, take-map, take-take}
@@ -11,11 +11,12 @@ use Rattle.markdown_base.proofs.Common.{every-drop, every-take}
 use Rattle.markdown_base.specs.declared.event.Name.TheVariants as name
 use Rattle.mdinline_labels.specs.declared.definitions.Stretch.{Stretch}
 use Rattle.mdinline_labels.specs.Definitions.{definition_at, definitions, definitions_from, destination_at, end, end_of, ended, label_at, line_left, stretch_at, title_at, titled_or_not}
-use Rattle.mdinline_labels.specs.Labels.{characters, has_no_bracket, hides, is_filled, is_label}
-use Rattle.mdinline_labels.specs.Tails.{bare_behind, begins_with, is_plain, is_white, label_size, marked_size, one_more}
+use Rattle.mdinline_labels.specs.Labels.{characters, has_no_bracket, is_filled, is_label}
+use Rattle.mdinline_labels.specs.Tails.{begins_with, is_white, label_size}
 use Rattle.mdinline_link_strings.specs.Strings.{is_string}
 use Rattle.mdblock_definitions.proofs.DefinitionLines.{text-is}
 use Rattle.mdblock_definitions.proofs.DefinitionsWithin.{definitions-one}
+use Rattle.mdblock_definitions.proofs.MarksText.{marked-end}
 use Rattle.mdblock_definitions.specs.Definitions.{Place, all_seats, between, byte_at, destination_marks, ending_at, ending_marks, gap_marks, is_byte, leaf, line_marks, marked, parts_marks, places_in, places_of, seats_of, span, string_lines, text_byte, text_of}
 use Rattle.mdblock_definitions.specs.Labelled.{IsInText}
 use Rattle.mdblock_definitions.specs.Sectioned.{AreSound, IsSound}
@@ -42,19 +43,6 @@ pub record LabelIs (x : List ℕ) (s : Stretch) : Type 0 where
   pub label : is_label (take (s.size - 2) (drop (s.from + 1) x)) ≡ true
   pub close : begins_with 93 (drop (s.size - 2) (drop (s.from + 1) x)) ≡ true
 
--- a stretch up to a mark ends there
-mark-ends : (first last : ℕ) (bare hidden : Bool) (bs : List ℕ) (n : ℕ) → marked_size first last bare hidden bs ≡ Some n → begins_with last (drop n bs) ≡ true
-mark-ends first last bare hidden [] n e = absurd (none-some n e)
-mark-ends first last bare hidden (b ∷ bs) n e =
-    by (λ m is. mark-ends first last (bare_behind bare b) (hides hidden b) bs m is) (is_plain last hidden b) refl (is_plain first hidden b || (bare && (b == 10))) (marked_size first last (bare_behind bare b) (hides hidden b) bs) refl e
-  where
-    by : ((m : ℕ) → marked_size first last (bare_behind bare b) (hides hidden b) bs ≡ Some m → begins_with last (drop m bs) ≡ true) → (p : Bool) → is_plain last hidden b ≡ p → (q : Bool) (o : Option ℕ)
-        → marked_size first last (bare_behind bare b) (hides hidden b) bs ≡ o → cond p (Some 0) (cond q None (one_more o)) ≡ Some n → begins_with last (drop n (b ∷ bs)) ≡ true
-    by more true i q o is h = subst (λ k. begins_with last (drop k (b ∷ bs)) ≡ true) (same_Some 0 n h) (and_parts (b == last) (not hidden) i).0
-    by more false i true o is h = absurd (none-some n h)
-    by more false i false None is h = absurd (none-some n h)
-    by more false i false (Some m) is h = let next : suc m ≡ m + 1 = omega arith in subst (λ k. begins_with last (drop k (b ∷ bs)) ≡ true) (next ∙ same_Some (m + 1) n h) (more m is)
-
 module _ (x : List ℕ) where
   label-is : (s : Stretch) → label_at x ≡ Some s → LabelIs x s
   label-is s e = by (begins_with 91 (drop from x)) (label_size (drop (from + 1) x)) refl e
@@ -74,7 +62,7 @@ module _ (x : List ℕ) where
           subst (LabelIs x) found.1 (record {
             from_is = refl;
             label = ap (λ k. is_label (take k (drop (from + 1) x))) size ∙ both.0;
-            close = ap (λ k. begins_with 93 (drop k (drop (from + 1) x))) size ∙ mark-ends 91 93 false false (drop (from + 1) x) n is;
+            close = ap (λ k. begins_with 93 (drop k (drop (from + 1) x))) size ∙ marked-end 91 93 false false (drop (from + 1) x) n is;
           })
 
   ended-label : (l de : Stretch) (t : Option Stretch) (d : Definition) → ended x l de t ≡ Some d → l ≡ d.label

@@ -48,7 +48,7 @@ data-is e f h =
     let two = and_parts (not (is_enter f.kind)) (same_name f.name Data) both.1 in
     (enter-is e.kind one.0, exit-is f.kind two.0, same_name-true f.name Data two.1 ∙ sym (same_name-true e.name Data one.1))
 
-data-balanced : (e f : Event) → is_data e f ≡ true → IsBalanced (e ∷ f ∷ [])
+pub data-balanced : (e f : Event) → is_data e f ≡ true → IsBalanced (e ∷ f ∷ [])
 data-balanced e f h = let is = data-is e f h in IsBalanced-pair e f is.0 is.1 is.2
 
 module _ (on : Constructs) (t : ℕ) (bytes : List ℕ) where

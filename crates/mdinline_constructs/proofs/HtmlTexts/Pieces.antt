@@ -6,7 +6,7 @@ pub use Rattle.mdinline_text_machine.proofs.Texts.Passing.{AllPass, StopsAt, one
 abbrev pub is_no_line_feed : ℕ → Bool
 is_no_line_feed b = not (is_line_feed b)
 
-no-feed : (b : ℕ) → is_no_line_feed b ≡ true → (b == 10) ≡ false
+pub no-feed : (b : ℕ) → is_no_line_feed b ≡ true → (b == 10) ≡ false
 no-feed b h = elim (b == 10) as (λ t. not t ≡ true → t ≡ false) [ true ↦ λ i. absurd (cc) | false ↦ λ i. refl ] h
 
 -- each piece is a byte at least

@@ -2,13 +2,10 @@
 use Rattle.mdinline_link_tails.proofs.Prelude.{◌≡◌, ℕ, zero, suc, ◌+◌, ◌==◌, not, List, [], ◌∷◌, ◌++◌, true, false, cond, take, drop, length, refl, ap, ◌∙◌, arith, flat_map, prefix_len, append_assoc, take_at, drop_at, Data, Event, LineEnding, SpaceOrTab, Seat, bytes_of, leaf, cut-enough, drop-less}
 use Rattle.std.proofs.Common.{one-add}
 use Rattle.mdconstructs_tables.specs.Breaks.{is_white}
-use Rattle.mdinline_constructs.proofs.HtmlTexts.Pieces.{is_no_line_feed, piece-positive}
+use Rattle.mdinline_constructs.proofs.HtmlTexts.Pieces.{is_no_line_feed, no-feed, piece-positive}
 use Rattle.mdinline_constructs.specs.HtmlText.{Piece, data_run, line_break, piece_at, piece_length}
 use Rattle.mdinline_link_tails.specs.Resource.{line_events, string_events}
 use Rattle.mdinline_text_machine.proofs.Texts.Passing.{AllPass, StopsAt, run-is}
-
-no-feed : (b : ℕ) → is_no_line_feed b ≡ true → (b == 10) ≡ false
-no-feed b h = elim (b == 10) as (λ t. not t ≡ true → t ≡ false) [ true ↦ λ i. absurd (cc) | false ↦ λ i. refl ] h
 
 -- one more is taken
 pub take-more : (j : ℕ) (l : List Seat) (s : Seat) (ss : List Seat) → drop j l ≡ s ∷ ss → take (j + 1) l ≡ take j l ++ s ∷ []

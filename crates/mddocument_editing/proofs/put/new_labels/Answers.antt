@@ -1,6 +1,7 @@
 use Rattle.mddocument_editing.proofs.Prelude.{◌||◌, ◌-◌, length, drop, refl, sym, ap, ◌∙◌, or-false, every-drop, every-take, defines, IsLabelled, bytes_of_parts}
 use Rattle.mddocument_editing.proofs.put.new_labels.Goals as goal
-use Rattle.mddocument_editing.proofs.NewLabels.{alike, defined-recut, is_written, kept-labelled, kept-recut, neither-of}
+use Rattle.mddocument_editing.proofs.AnyOf.{neither}
+use Rattle.mddocument_editing.proofs.NewLabels.{alike, defined-recut, is_written, kept-labelled, kept-recut}
 
 pub define_sections-requires : goal.define_sections-requires
 define_sections-requires c =
@@ -49,9 +50,9 @@ pub returns-clause-near : goal.returns-clause-near
 returns-clause-near c label none =
     let first = defines c.define_sections-2.new.labels label in
     let written = is_written c.args.kept.now.options (bytes_of_parts c.args.parts.now) label in
-    let neither = neither-of _ _ (sym (c.in_ok-define_all-2.ensures label) ∙ none) in
+    let both = neither _ _ (sym (c.in_ok-define_all-2.ensures label) ∙ none) in
     kept-recut c.args.kept.now c.as_slice-sections.ensures.value c.args.parts.now c.requires.recut label c.requires.kept
-    (alike _ _ _ _ _ _ (c.in_ok-define_sections.ensures label) (c.new-gone.ensures label) (c.in_ok-define_parts.ensures label) (c.new-come.ensures label) (neither.0 ∙ sym neither.1))
+    (alike _ _ _ _ _ _ (c.in_ok-define_sections.ensures label) (c.new-gone.ensures label) (c.in_ok-define_parts.ensures label) (c.new-come.ensures label) (both.0 ∙ sym both.1))
     ∙ sym (defined-recut c.args.kept.now c.as_slice-sections.ensures.value c.args.parts.now c.requires.recut label (c.in_ok-define_sections-3.ensures label)
     (c.in_ok-define_all.ensures label ∙ ap (λ b. b || first) (c.in_ok-define_parts.ensures label ∙ ap (λ b. written || b) (c.new-come.ensures label) ∙ or-false written)) (c.in_ok-define_sections-2.ensures label)
     (c.new-labels.ensures label))
