@@ -40,22 +40,22 @@ place-some r h = let p = later (markers_of_all r.closed) r.start in some-in-plac
 
 module _ (bytes : List ℕ) (T : List Event → Type 0) (Q : Type 0) (A B : Q → List Event → Q → Type 0) (R : Q → Run → Q → Type 0) (kept : IsKeptBetween bytes T Q A B R) where
   -- places with an index of the list
-  abbrev Place : Type 0
+  abbrev pub Place : Type 0
   Place = Q × ℕ
 
-  abbrev Goes : Place → List Event → Place → Type 0
+  abbrev pub Goes : Place → List Event → Place → Type 0
   Goes p es q = B p.0 es q.0 × (p.1 ≤ q.1)
 
-  abbrev RunGoes : Place → Run → Place → Type 0
+  abbrev pub RunGoes : Place → Run → Place → Type 0
   RunGoes p r q = R p.0 r q.0 × (p.1 ≤ r.index) × (r.index < q.1)
 
-  parts-first : (p q : Place) (ps : List Part) → AreParts Place Goes RunGoes p ps q → AreParts Q B R p.0 ps q.0
+  pub parts-first : (p q : Place) (ps : List Part) → AreParts Place Goes RunGoes p ps q → AreParts Q B R p.0 ps q.0
   parts-first p q [] h = ap (λ (x : Place). x.0) h
   parts-first p q (run r ∷ ps) h = (h.0.0, (h.1.0.0, h.1.1, h.1.2), parts-first h.0 q ps h.2)
   parts-first p q (events es ∷ ps) h = (h.0.0, (h.1.0.0, h.1.1, h.1.2), parts-first h.0 q ps h.2)
 
   -- so the runs stand one behind another
-  parts-ascend : (p q : Place) (ps : List Part) → AreParts Place Goes RunGoes p ps q → (p.1 ≤ q.1) × AllByRecursion (λ (r : Run). p.1 ≤ r.index) (runs_of_parts ps) × AreAscending (runs_of_parts ps)
+  pub parts-ascend : (p q : Place) (ps : List Part) → AreParts Place Goes RunGoes p ps q → (p.1 ≤ q.1) × AllByRecursion (λ (r : Run). p.1 ≤ r.index) (runs_of_parts ps) × AreAscending (runs_of_parts ps)
   parts-ascend p q [] h = let same = ap (λ (x : Place). x.1) h in (omega (arith, same), tt, tt)
   parts-ascend p q (run r ∷ ps) h =
       let more = parts-ascend h.0 q ps h.2 in
@@ -82,7 +82,7 @@ module _ (bytes : List ℕ) (T : List Event → Type 0) (Q : Type 0) (A B : Q �
       some-front (in_place s) (with_runs ps ss) (place-some s (omega (arith, many, h.1.2)))
   runs-some p q (events es ∷ ps) ss h same some = some-front es (with_runs ps ss) h.1.2
 
-  by-parts : IsKeptByParts Place Goes RunGoes
+  pub by-parts : IsKeptByParts Place Goes RunGoes
   by-parts = record {
     nothing = λ q. (kept.nothing q.0, omega arith);
     together = λ p m q xs ys b c h k. (kept.together p.0 m.0 q.0 xs ys b c h.0 k.0, omega (arith, h.1, k.1));
@@ -96,11 +96,11 @@ module _ (bytes : List ℕ) (T : List Event → Type 0) (Q : Type 0) (A B : Q �
   one-span p m j k e xs less b known h = (((kept.same p m (e ∷ xs) b h, less), b, omega arith), (λ is. ((kept.data_of_it p m e xs is known h, less), data-balanced (e ∷ xs), omega arith)))
 
   -- what is left behind a span, and the part that the span is
-  abbrev Behind : ℕ → Place → List Event × List Event → Part × List Run → Q → Type 0
+  abbrev pub Behind : ℕ → Place → List Event × List Event → Part × List Run → Q → Type 0
   Behind bound p w x q =
       (m : Q) × (k : ℕ) × ((n : Place) × IsSpan Place Goes RunGoes p w.0 n × IsPart Place Goes RunGoes p x.0 n × AreSpans Place Goes RunGoes n (spans_in bound w.1) x.1 (m, k)) × A m [] q
 
-  aligned : (bound : ℕ) (es : List Event) (j : ℕ) (before : Option ℕ) (p q : Q) → length es ≤ bound → names_after_all (Some []) es ≡ Some [] → AllByRecursion T (spans_in bound es) → A p es q
+  pub aligned : (bound : ℕ) (es : List Event) (j : ℕ) (before : Option ℕ) (p q : Q) → length es ≤ bound → names_after_all (Some []) es ≡ Some [] → AllByRecursion T (spans_in bound es) → A p es q
       → (m : Q) × (k : ℕ) × AreSpans Place Goes RunGoes (p, j) (spans_in bound es) (runs_from bytes j 0 before es) (m, k) × A m [] q
   aligned zero [] j before p q few end known h = (p, j, refl, h)
   aligned zero (e ∷ es) j before p q few end known h = absurd (omega (arith, few))

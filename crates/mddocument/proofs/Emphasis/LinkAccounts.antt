@@ -233,25 +233,25 @@ module _ (bytes : List ℕ) where
       (subst (λ xs. Over m (unlinked_event Enter LabelText (last_place e.point es) ∷ xs) q) (sym same) spanned)
 
   -- ---- emphasis
-  abbrev AreOver : List Seat → List Part → List Seat → Type 0
+  abbrev pub AreOver : List Seat → List Part → List Seat → Type 0
   AreOver = AreParts (List Seat) Over RunOver
 
-  unpaired : (p q : List Seat) (ps : List Part) → AreOver p ps q → AreUnpaired (runs_of_parts ps)
+  pub unpaired : (p q : List Seat) (ps : List Part) → AreOver p ps q → AreUnpaired (runs_of_parts ps)
   unpaired p q [] h = tt
   unpaired p q (run r ∷ ps) h = (h.1.1, unpaired h.0 q ps h.2)
   unpaired p q (events es ∷ ps) h = unpaired h.0 q ps h.2
 
   -- the first part is no run that closes something
-  abbrev IsFree : List Part → List Run → Type 0
+  abbrev pub IsFree : List Part → List Run → Type 0
   IsFree (run r ∷ ps) (s ∷ ss) = s.closed ≡ []
   IsFree ps ss = Unit {0}
 
-  record Goes (p : List Seat) (ps : List Part) (ss : List Run) (q : List Seat) : Type 0 where
-    over : Over p (with_runs ps ss) q
-    opens : IsFree ps ss → Opens (with_runs ps ss)
+  pub record Goes (p : List Seat) (ps : List Part) (ss : List Run) (q : List Seat) : Type 0 where
+    pub over : Over p (with_runs ps ss) q
+    pub opens : IsFree ps ss → Opens (with_runs ps ss)
 
   -- a run opens nothing, or an enter is behind it
-  free-behind : (p m q : List Seat) (r s : Run) (ps : List Part) (ss : List Run) → RunOver p r m → AreOver m ps q → standing s ≡ standing r → map standing ss ≡ map standing (runs_of_parts ps) → AreBeside (s ∷ ss)
+  pub free-behind : (p m q : List Seat) (r s : Run) (ps : List Part) (ss : List Run) → RunOver p r m → AreOver m ps q → standing s ≡ standing r → map standing ss ≡ map standing (runs_of_parts ps) → AreBeside (s ∷ ss)
       → (IsFree ps ss → Opens (with_runs ps ss)) → (s.opened ≡ []) ⊎ Opens (with_runs ps ss)
   free-behind p m q r s [] ss h k first others beside opens = inr tt
   free-behind p m q r s (events es ∷ ps) ss h k first others beside opens = inr (opens tt)
@@ -272,7 +272,7 @@ module _ (bytes : List ℕ) where
   beside-others s [] h = tt
   beside-others s (t ∷ ss) h = h.1
 
-  parts-go : (p q : List Seat) (ps : List Part) (ss : List Run) → AreOver p ps q → map standing ss ≡ map standing (runs_of_parts ps) → AreBeside ss → Goes p ps ss q
+  pub parts-go : (p q : List Seat) (ps : List Part) (ss : List Run) → AreOver p ps q → map standing ss ≡ map standing (runs_of_parts ps) → AreBeside ss → Goes p ps ss q
   parts-go p q [] ss h stand beside = record { over = subst (λ x. Over p [] x) h (over-none p); opens = λ free. tt }
   parts-go p q (run r ∷ ps) [] h stand beside = cc
   parts-go p q (run r ∷ ps) (s ∷ ss) h stand beside =
@@ -300,7 +300,7 @@ module _ (bytes : List ℕ) where
       let more = parts-go h.0 q ps ss h.2 stand beside in
       record { over = over-both p h.0 q es (with_runs ps ss) h.1.1 h.1.0 more.over; opens = λ free. opens-front es (with_runs ps ss) h.1.2 (balanced-opens h.1.1) }
 
-  over-is-kept : IsKeptBetween bytes HoldsMarkers (List Seat) IsRead Over RunOver
+  pub over-is-kept : IsKeptBetween bytes HoldsMarkers (List Seat) IsRead Over RunOver
   over-is-kept = record {
     apart = λ p q xs ys b c h. read-apart p q xs ys b h;
     same = λ p q es b h. record { seats = seats_of h.atoms; are = h.are; lined = lined-atoms bytes es h.atoms h.have h.lines };
