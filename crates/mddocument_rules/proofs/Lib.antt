@@ -60,3 +60,6 @@ pub mod MarkedSections
 pub mod WrittenMarkers
 pub mod MarkedLists
 mod ListExamples
+-- blank lines
+pub mod BlankLines
+mod BlankExamples

@@ -9,3 +9,5 @@ pub mod ReferenceLaws
 -- lists: items of one list, and lists and quotes in a row
 pub mod ListLaws
 pub mod MarkerLaws
+-- blank lines: in what they stand, by the lines around them
+pub mod BlankLines
