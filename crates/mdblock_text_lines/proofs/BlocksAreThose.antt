@@ -42,16 +42,17 @@ use Rattle.mdblock_definitions.specs.Rows.{rows}
 use Rattle.mdblock_definitions.specs.Sections.{Inside, Section, defined, lines, sections}
 use Rattle.mdblock_definitions.specs.Skeleton.{all_rows, letters}
 use Rattle.mdblock_text_lines.specs.Asked.{BlocksAreThose}
-use Rattle.mdblock_text_lines.specs.DocumentBlocks.{document_blocks, has_number, text_lines}
+use Rattle.mdblock_text_lines.specs.DocumentBlocks.{document_blocks, has_number, texts_of_section}
 use Rattle.mdblock_text_lines.specs.TextLines.{flow_events}
 use Rattle.mdblock_text_lines.proofs.ChunkRuns.{chains-good}
 use Rattle.mdblock_text_lines.proofs.LetterBlocks.{AllAlike, IsAlike, IsBehind, behind-alike, events-alike}
 use Rattle.mdblock_text_lines.proofs.LetterKinds.{underline-is}
 use Rattle.mdblock_text_lines.proofs.LetterMarks.{IsKept, lettered}
 use Rattle.mdblock_text_lines.proofs.RowLines.{first-left, lazy-left, plain-left}
+use Rattle.mdblock_text_lines.proofs.SectionsAreThose.{sections-are-those, skeleton-is-that}
 use Rattle.mdblock_text_lines.proofs.SectionTexts.{BehindTails, IsFine, document-good}
 use Rattle.mdblock_text_lines.proofs.StretchLines.{AreLeft, IsLeft, TextTails, ending-dropped, first-line, lines-left, only-line, texts}
-use Rattle.mdblock_text_lines.proofs.ToldLines.{Flagged, IsTold, document-told, flagged, is_lazy_underline}
+use Rattle.mdblock_text_lines.proofs.ToldLines.{Flagged, IsTold, document-told, flagged, is_lazy_underline, numbers_of}
 
 -- what would be an underline is not blank
 underline-filled : (on : Constructs) (t : List ℕ) → is_some (underline_rank on t) ≡ true → is_blank_line t ≡ false
@@ -74,7 +75,7 @@ module _ (g : Given) (is : IsDocument g) where
   at = letters on V
 
   abbrev numbers : List ℕ
-  numbers = text_lines on V
+  numbers = numbers_of on V
 
   abbrev is_text : Line → Bool
   is_text = has_number numbers
@@ -248,11 +249,18 @@ module _ (g : Given) (is : IsDocument g) where
   all-each [] h = refl
   all-each (c ∷ cs) h = λ i. each c h.0 i ∷ all-each cs h.1 i
 
-  blocks : document_blocks g ≡ old.document_blocks g
+  blocks : with_children (Some Content) sk (map (λ c. flow_events on is_text g.bytes (text_from g sk c).seats) (fitting_starts (Some Content) sk)) ≡ old.document_blocks g
   blocks =
       let indices = range_with_len 0 (length sk) in
       let begin = every-kept (λ k. Unit {0}) (λ c. begins (Some Content) sk c ≡ true) (begins (Some Content) sk) (λ k u e. e) indices (every-all (λ k. Unit {0}) (λ k. tt) indices) in
       ap (with_children (Some Content) sk) (all-each (fitting_starts (Some Content) sk) begin)
 
+-- and its sections are those of its code
 pub blocks-are-those : BlocksAreThose
-blocks-are-those = blocks
+blocks-are-those g is =
+    let on = g.options.constructs in
+    (λ i.
+    let sk = skeleton-is-that g i in
+    let is_text = has_number (flat_map (texts_of_section on) (sections-are-those on (virtual g.tab g.bytes) i)) in
+    with_children (Some Content) sk (map (λ c. flow_events on is_text g.bytes (text_from g sk c).seats) (fitting_starts (Some Content) sk)))
+    ∙ blocks g is

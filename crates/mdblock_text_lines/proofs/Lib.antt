@@ -11,6 +11,10 @@ mod ToldLines
 mod ChunkRuns
 mod SectionTexts
 mod StretchLines
+-- sections: where blank lines stand
+pub mod BlankLines
+pub mod SectionsAreThose
 -- laws
 pub mod BlocksAreThose
 mod Examples
+mod BlankExamples

@@ -16,7 +16,7 @@ use Rattle.mdblock_definitions.proofs.Covered.{rows_of, sections-hold-lines}
 use Rattle.mdblock_definitions.specs.Rows.{rows}
 use Rattle.mdblock_definitions.specs.Sections.{Inside, Section, defined, lines, sections}
 use Rattle.mdblock_definitions.specs.Skeleton.{all_rows, letters, sections_in_seats, text_begin}
-use Rattle.mdblock_text_lines.specs.DocumentBlocks.{text_lines}
+use Rattle.mdblock_text_lines.specs.DocumentBlocks.{texts_of_section}
 use Rattle.mdblock_text_lines.proofs.LaidLines.{AreApart, AreRowsLaid, IsLaid, rows-laid, virtual-laid}
 
 -- ---- lines, and whether they are text whatever they look like
@@ -203,8 +203,12 @@ all-told numbers letters number low (z ∷ zs) (is, high, some, all, apart, rest
     own true = ap (λ x. x || false) (eq-eqb z.0.number z.0.number refl)
     own false = refl
 
--- The numbers of lines that are text, and the letters, of a document
-pub document-told : (on : Constructs) (t : ℕ) (bytes : List ℕ) → let seats = virtual t bytes in AllByRecursion (IsTold (text_lines on seats) (letters on seats)) (flat_map (flagged on) (sections_in_seats on seats))
+-- The numbers of a document's lines that are text, by the sections that its code reads
+abbrev pub numbers_of : Constructs → List Seat → List ℕ
+numbers_of on seats = flat_map (texts_of_section on) (sections_in_seats on seats)
+
+-- These numbers, and the letters, of a document
+pub document-told : (on : Constructs) (t : ℕ) (bytes : List ℕ) → let seats = virtual t bytes in AllByRecursion (IsTold (numbers_of on seats) (letters on seats)) (flat_map (flagged on) (sections_in_seats on seats))
 document-told on t bytes =
     let seats = virtual t bytes in
     let rs = rows on (lines_in seats) in
@@ -212,8 +216,8 @@ document-told on t bytes =
     let zs = flat_map (flagged on) ss in
     let laid : AreRowsLaid 1 0 rs = rows-laid on (record { before = nothing_known on; text = [] }) 1 0 (lines_in seats) (virtual-laid t 1 1 0 bytes) in
     let laid-zs : AreRowsLaid 1 0 (map (λ (z : Flagged). z.0) zs) = subst (AreRowsLaid 1 0) (sym (all-rows-flagged on ss ∙ sections-hold-lines on rs)) laid in
-    let ns : AllByRecursion (Tells own_number own_number (text_lines on seats)) zs =
+    let ns : AllByRecursion (Tells own_number own_number (numbers_of on seats)) zs =
     subst (λ l. AllByRecursion (Tells own_number own_number l) zs) (sym (all-picked on own_number ss)) (tells own_number own_number [] 1 zs tt (numbers-spread 1 0 zs laid-zs)) in
     let ls : AllByRecursion (Tells text_begin own_indices (letters on seats)) zs =
     subst (λ l. AllByRecursion (Tells text_begin own_indices l) zs) (sym (all-picked on text_begin ss)) (tells text_begin own_indices [] 0 zs tt (indices-spread 1 0 zs laid-zs)) in
-    all-told (text_lines on seats) (letters on seats) 1 0 zs laid-zs ns ls
+    all-told (numbers_of on seats) (letters on seats) 1 0 zs laid-zs ns ls

@@ -12,9 +12,8 @@ use Rattle.markdown_children.specs.Reads.{text_from}
 use Rattle.mdblock_leaf_blocks.specs.LeafBlocks.{Line}
 use Rattle.mdblock_leaf_blocks.specs.LineKinds.{underline_rank}
 use Rattle.mdblock_containers.specs.Rows.{Row, rest_of}
-use Rattle.mdblock_definitions.specs.Blocks.{document_skeleton}
 use Rattle.mdblock_definitions.specs.Sections.{Section, defined, lines}
-use Rattle.mdblock_definitions.specs.Skeleton.{sections_in_seats}
+use Rattle.mdblock_text_lines.specs.DocumentSections.{document_skeleton, sections_in_seats}
 use Rattle.mdblock_text_lines.specs.TextLines.{flow_events}
 
 module _ (on : Constructs) where

@@ -1,5 +1,7 @@
 -- laws
 pub mod Asked
--- blocks: leaf blocks of lines of which some are text, and the blocks of a document by that
+-- blocks: parts and sections, by where blank lines stand; leaf blocks of lines of which some are text; and the blocks of a document by these
+pub mod BlankLines
+pub mod DocumentSections
 pub mod DocumentBlocks
 pub mod TextLines

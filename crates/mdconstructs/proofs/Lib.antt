@@ -175,6 +175,7 @@ pub use Rattle.mdblock_containers.proofs.TextLemmas
 pub use Rattle.mdblock_containers.proofs.TightMarks
 pub use Rattle.mdblock_containers.proofs.WritingLemmas
 pub use Rattle.mdblock_containers.proofs.WrittenLemmas
+pub use Rattle.mddocument.proofs.DefinedLabels
 pub use Rattle.mddocument.proofs.Emphasis as InlineEmphasis
 pub use Rattle.mddocument.proofs.FlowTexts
 pub use Rattle.mddocument.proofs.InContainers

@@ -18,5 +18,7 @@ mod Tiled
 mod RangeReads
 -- walks, for laws: what holds of single marks holds of skeletons and leaf blocks
 pub mod Walks
+-- labels: those of a document's definitions
+pub mod DefinedLabels
 -- references: their bytes stand side by side in the document
 pub mod ReferenceBytes

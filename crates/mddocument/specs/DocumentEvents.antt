@@ -5,8 +5,8 @@ use Rattle.markdown_base.specs.Events.{IsVoidTight}
 use Rattle.markdown_base.specs.Virtual.{virtual}
 use Rattle.markdown_tokenizer.specs.Text.{Given, IsDocument}
 use Rattle.mdblock_text_lines.specs.DocumentBlocks.{document_blocks}
+use Rattle.mdblock_text_lines.specs.DocumentSections.{written_labels}
 use Rattle.mdblock_definitions.specs.Labelled.{is_one_of}
-use Rattle.mdblock_definitions.specs.Skeleton.{written_labels}
 use Rattle.mdinline_machine.specs.InlineChains.{with_inlines, with_strings as with_string_chunks}
 use Rattle.mdinline_link_strings.specs.Strings.{with_strings}
 

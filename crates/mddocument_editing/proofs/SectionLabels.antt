@@ -1,6 +1,7 @@
 -- The labels of a document that is cut: those of its sections, one after another.
-use Rattle.mddocument_editing.proofs.Prelude.{◌≡◌, ℕ, ◌≤◌, true, List, [], ◌∷◌, ◌++◌, length, sym, ap, ◌∙◌, and_parts, leb-true, flat_map, ParseOptions, is_one_of, is_rest, are_sections_by, document_of, Divided, IsDivided, is_label_of, labels_written, ◌&&◌, nat_le}
-use Rattle.std.proofs.Common.{append-nil}
+use Rattle.mddocument_editing.proofs.Prelude.{◌≡◌, ℕ, ◌≤◌, true, List, [], ◌∷◌, ◌++◌, length, sym, ap, ◌∙◌, and_parts, leb-true, flat_map, ParseOptions, is_one_of, is_rest, are_sections_by, bytes_of, document, document_of, Divided, IsDivided, is_label_of, labels_written, ◌&&◌, nat_le}
+use Rattle.std.proofs.Common.{Bool, append-nil}
+use Rattle.mddocument.proofs.DefinedLabels.{labels-are-defined}
 use Rattle.mddocument_editing.proofs.Below.{first-tells, labels-both, labels-none, rest-begins}
 
 module _ (options : ParseOptions) where
@@ -35,4 +36,5 @@ module _ (options : ParseOptions) where
 
 -- a label is defined in a document that is cut if it is one of those of its sections
 pub labels-divided : (d : Divided) → IsDivided d → (label : List ℕ) → is_one_of (flat_map (labels_written d.options) d.sections) label ≡ is_label_of d label
-labels-divided d divided label = ap (λ labels. is_one_of labels label) (sym (labels-of-sections d.options d.sections divided.sections.cut))
+labels-divided d divided label =
+    ap (λ labels. is_one_of labels label) (sym (labels-of-sections d.options d.sections divided.sections.cut)) ∙ ap (λ (is : List ℕ → Bool). is label) (sym (labels-are-defined (document d.options (bytes_of d))))

@@ -1,6 +1,6 @@
 -- Documents have names of the constructs that are on: so do their containers and definitions, and what is put in place of chunks and strings.
-use Rattle.mddocument_laws.proofs.Prelude.{chain_text, document_blocks, document_skeleton, rows, Inside, Section, defined, lines, text_in, all_rows, labels_in, labels_of_section, sections_in_seats, skeleton, inline_events, with_inlines, string_events, lines_in}
-use Rattle.std.proofs.Common.{◌≡◌, ℕ, List, [], ◌∷◌, ◌++◌, Bool, true, false, Some, inl, inr, sym, ◌∙◌, subst}
+use Rattle.mddocument_laws.proofs.Prelude.{chain_text, document_blocks, rows, Inside, Section, defined, lines, text_in, all_rows, labels_in, labels_of_section, sections_in_seats, skeleton, inline_events, with_inlines, string_events, lines_in}
+use Rattle.std.proofs.Common.{◌≡◌, ℕ, List, [], ◌∷◌, ◌++◌, Bool, ap, true, false, Some, inl, inr, sym, ◌∙◌, subst}
 use Rattle.std.proofs.lemmas.Bool.{cond_both, false_from_ne_true, false≢true, or_cases, or_left, or_right}
 use Rattle.std.proofs.lemmas.List.Elements.{All-contains, All-contains_itself, All-from_recursion, All-weaker, recursion_from_All}
 use Rattle.std.specs.List.{AllByRecursion, filter, flat_map}
@@ -22,8 +22,11 @@ use Rattle.markdown_children.specs.Ready.{place_at}
 use Rattle.mdinline_labels.specs.Defined.{is_same}
 use Rattle.mdblock_definitions.specs.Labelled.{is_one_of}
 use Rattle.mdinline_link_strings.specs.StringItems.{string_seat_events}
+use Rattle.mdblock_text_lines.proofs.SectionsAreThose.{skeleton-is-that}
 use Rattle.mdblock_text_lines.specs.DocumentBlocks.{has_number, text_lines}
+use Rattle.mdblock_text_lines.specs.DocumentSections.{document_skeleton}
 use Rattle.mdblock_text_lines.specs.TextLines as told
+use Rattle.mddocument.proofs.DefinedLabels.{labels-are-defined}
 use Rattle.mddocument.proofs.FlowTexts.InlineSteps.{Steps, steps-virtual}
 use Rattle.mddocument.specs.DocumentEvents.{document_events, document_texts, is_defined_in}
 use Rattle.mddocument_laws.specs.Names.{may_be_named}
@@ -108,7 +111,7 @@ pub defined-if-on : (g : Given) → AreDefinedIfOn (is_defined_in g) g.options.c
 defined-if-on g label e =
     let on = g.options.constructs in
     let seats = virtual g.tab g.bytes in
-    of-sections on label (sections_in_seats on seats) (sections-on on on (own on) (rows on (lines_in seats)) (rows-on on on (own on) (lines_in seats))) e
+    of-sections on label (sections_in_seats on seats) (sections-on on on (own on) (rows on (lines_in seats)) (rows-on on on (own on) (lines_in seats))) (ap (λ (is : List ℕ → Bool). is label) (sym (labels-are-defined g)) ∙ e)
 
 -- ---- the virtual bytes of chains of chunks are some of the document's
 module _ (g : Given) where
@@ -135,8 +138,9 @@ blocks-named : (g : Given) → Named (May g.options.constructs) (document_blocks
 blocks-named g =
     let on = g.options.constructs in
     let is_text = has_number (text_lines on (virtual g.tab g.bytes)) in
-    children-named (May on) (Some Content) (document_skeleton g) (λ c. told.flow_events on is_text g.bytes (text_from g (document_skeleton g) c).seats) (bare-named on g.bytes (virtual g.tab g.bytes))
-    (λ c. told-named-by on on (λ block h. h) is_text g.bytes (text_from g (document_skeleton g) c).seats)
+    let bare = document_skeleton g in
+    children-named (May on) (Some Content) bare (λ c. told.flow_events on is_text g.bytes (text_from g bare c).seats) (subst (Named (May on)) (sym (skeleton-is-that g)) (bare-named on g.bytes (virtual g.tab g.bytes)))
+    (λ c. told-named-by on on (λ block h. h) is_text g.bytes (text_from g bare c).seats)
 
 texts-named : (g : Given) → Named (May g.options.constructs) (document_texts g)
 texts-named g =

@@ -1,11 +1,13 @@
 -- The blocks of a document have no spans of inline text: no container, no definition and no leaf block is one. So they have no links.
-use Rattle.mddocument_rules.proofs.Prelude.{◌≡◌, ◌∙◌, ℕ, true, false, List, Some, refl, subst, sym, false_from_ne_true, false≢true, AllByRecursion, Constructs, Event, Name, Seat, is_wanted, inline_names, virtual, Given, document_blocks, document_skeleton, Bool}
+use Rattle.mddocument_rules.proofs.Prelude.{◌≡◌, ◌∙◌, ℕ, true, false, List, Some, refl, subst, sym, false_from_ne_true, false≢true, AllByRecursion, Constructs, Event, Name, Seat, is_wanted, inline_names, virtual, Given, document_blocks, Bool}
 use Rattle.markdown_base.specs.declared.event.Content.TheVariants.{Content}
 use Rattle.markdown_base.specs.declared.event.Name.TheVariants as name
 use Rattle.markdown_children.specs.Reads.{text_from}
 use Rattle.mdblock_definitions.specs.Skeleton.{skeleton}
 use Rattle.mdblock_leaf_blocks.specs.LeafBlocks.{Line}
+use Rattle.mdblock_text_lines.proofs.SectionsAreThose.{skeleton-is-that}
 use Rattle.mdblock_text_lines.specs.DocumentBlocks.{has_number, text_lines}
+use Rattle.mdblock_text_lines.specs.DocumentSections.{document_skeleton}
 use Rattle.mdblock_text_lines.specs.TextLines.{flow_events}
 use Rattle.mddocument_laws.proofs.ChildNames.{children-named}
 use Rattle.mddocument_laws.proofs.Chosen.{AreOther}
@@ -46,7 +48,7 @@ blocks-named g =
     let on = g.options.constructs in
     let is_text = has_number (text_lines on (virtual g.tab g.bytes)) in
     let bare = document_skeleton g in
-    children-named IsOther (Some Content) bare (λ c. flow_events on is_text g.bytes (text_from g bare c).seats) (skeleton-other on g.bytes (virtual g.tab g.bytes)) (λ c. flow-other on is_text g.bytes (text_from g bare c).seats)
+    children-named IsOther (Some Content) bare (λ c. flow_events on is_text g.bytes (text_from g bare c).seats) (subst (Named IsOther) (sym (skeleton-is-that g)) (skeleton-other on g.bytes (virtual g.tab g.bytes))) (λ c. flow-other on is_text g.bytes (text_from g bare c).seats)
 
 pub blocks-not-inline : (g : Given) → AllByRecursion (λ (e : Event). is_wanted inline_names e.name ≡ false) (document_blocks g)
 blocks-not-inline g = (blocks-named g).all

@@ -17,6 +17,7 @@ use Rattle.mdblock_definitions.specs.Skeleton.{labels_in, labels_of_section, wri
 use Rattle.mdinline_labels.proofs.Known.{any-map}
 use Rattle.mdinline_labels.specs.Labels.{normalised}
 use Rattle.mdinline_labels.specs.Tails.{begins_with}
+use Rattle.mddocument.proofs.DefinedLabels.{labels-are-defined}
 use Rattle.mddocument.specs.DocumentEvents.{document_events}
 use Rattle.mddocument_link_targets.specs.Spans.{enters, first_in, inside}
 use Rattle.mddocument_link_targets.specs.Strings.{as_written}
@@ -110,6 +111,7 @@ any-defined bytes label at (e ∷ es) = by (enters name.Definition e) (bytes_eq 
 pub defined-is-defined : DefinedIsDefined
 defined-is-defined g label is =
     let n = normalised label in
-    sym (any-map (λ l. bytes_eq n l) normalised (written_labels g.options.constructs (virtual g.tab g.bytes)))
+    ap (λ (is : List ℕ → Bool). is label) (labels-are-defined g)
+    ∙ sym (any-map (λ l. bytes_eq n l) normalised (written_labels g.options.constructs (virtual g.tab g.bytes)))
     ∙ ap (list_any (λ l. bytes_eq n l)) (sym (labels-are-written g is))
     ∙ sym (any-defined g.bytes n 0 (document_events g))

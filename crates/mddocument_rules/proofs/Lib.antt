@@ -60,6 +60,3 @@ pub mod MarkedSections
 pub mod WrittenMarkers
 pub mod MarkedLists
 mod ListExamples
--- blank lines
-pub mod BlankLines
-mod BlankExamples

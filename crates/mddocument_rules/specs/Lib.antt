@@ -9,5 +9,3 @@ pub mod ReferenceLaws
 -- lists: items of one list, and lists and quotes in a row
 pub mod ListLaws
 pub mod MarkerLaws
--- blank lines: in what they stand, by the lines around them
-pub mod BlankLines

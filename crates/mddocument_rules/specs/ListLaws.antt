@@ -8,12 +8,9 @@ use Rattle.mdblock_containers.specs.Prefixes.{containers_of}
 use Rattle.mdblock_containers.specs.Rows.{Row}
 use Rattle.mdblock_containers.specs.Skeleton.{list_name}
 use Rattle.mdblock_definitions.specs.Rows.{rows}
+use Rattle.mdblock_text_lines.specs.BlankLines.{containers_in}
 
 -- ---- items of a list (5.3)
-
--- the containers of a line, from the outermost on: those that go on with it, and those that begin in it
-abbrev pub containers_in : Row → List Container
-containers_in row = containers_of row.went_on ++ containers_of row.begun
 
 -- An item is of the same type as the first item of its list. That begins in the line in which the list begins, and stands in as many containers. The
 -- two have one marker: a bullet character, or the delimiter behind a number

@@ -1,6 +1,5 @@
 //! Laws of what documents are read as, in CommonMark's words. Each is a function that does nothing; its contract is the law.
 
-ghost use Rattle.mddocument_rules.specs.BlankLines.{PartsAreThose};
 ghost use Rattle.mddocument_rules.specs.BracketLaws.{EndsAreReferences, EndsHaveBrackets, LabelsAreOne, OwnLabelsAreAsked, WalksAreOne};
 ghost use Rattle.mddocument_rules.specs.DefinitionLaws.{DefinitionsOfDocumentsAreLinear, NoDefinitionInADefinition};
 ghost use Rattle.mddocument_rules.specs.LinkLaws.{MadeByLabels, MadeByTexts, RunsAreWritten};
@@ -58,12 +57,6 @@ pub fn lists_are_of_one_type()
 /// Between two block quotes in a row is a blank line, if indented code is on.
 pub fn quotes_are_apart()
     ensures { QuotesAreApart }
-{}
-
-/// A blank line stands in what the lines before and behind it both stand in; and in the quotes whose markers it has, and the items that begin in it. The
-/// parts of a document that stand so are those of which its containers are read, whatever its lines and its constructs.
-pub fn blank_lines_stand_in_what_is_around_them()
-    ensures { PartsAreThose }
 {}
 
 /// A list is of items of one type, by the events of a document's containers: each item has the marker of the list that it stands in. An ordered list

@@ -57,6 +57,7 @@ use Rattle.mddocument.proofs.FlowTexts.Whole.{inlines-are-read}
 use Rattle.mddocument.proofs.InContainers.Merged.{IsBare}
 use Rattle.mddocument.specs.DocumentEvents.{document_events, document_texts, is_defined_in}
 use Rattle.mddocument.specs.Documents.{document, virtual_bytes}
+use Rattle.mddocument.proofs.DefinedLabels.{labels-are-defined}
 use Rattle.mddocument.specs.FlowTexts.{flow_inlines}
 use Rattle.mddocument_parts.proofs.Events.{full-lines, in-blocks}
 use Rattle.mddocument_parts.proofs.Links.{blocks-link-back}
@@ -102,7 +103,7 @@ module _ (options : ParseOptions) (bytes : List ℕ) (nothing : defines_nothing 
       let on = options.constructs in
       let seats = virtual_bytes options bytes in
       let none : NothingIsDefined on bytes seats = by (NothingIsDefined on bytes seats) (λ off. definitions-can-be-off on off bytes seats) (definitions-need-brackets on bytes seats) in
-      ap is_one_of (none-normalised (written_labels on seats) none.no_labels)
+      labels-are-defined g ∙ ap is_one_of (none-normalised (written_labels on seats) none.no_labels)
 
 -- ==== A document in which no container begins is read as its leaf blocks are.
 -- ---- marks without chunks

@@ -1,4 +1,5 @@
 use Rattle.mdinline_labels.specs.Defined.{defines}
+use Rattle.mddocument.proofs.DefinedLabels.{labels-are-defined}
 use Rattle.mddocument.proofs.InContainers.InlineHolds.{inlines-hold-text}
 use Rattle.mddocument.proofs.InContainers.Tight.{events-tight}
 use Rattle.mddocument.proofs.InContainers.Skeletons.{skeleton-laws}
@@ -11,7 +12,7 @@ pub returns-clause-events : goal.returns-clause-events
 returns-clause-events c =
     let g = document c.args.options.now c.args.bytes.now in
     let known : List ℕ → Bool = defines c.in_ok-blocks.blocks.labels in
-    let labels : known ≡ is_defined_in g = λ i label. c.in_ok-blocks.ensures.labels label i in
+    let labels : known ≡ is_defined_in g = (λ i label. c.in_ok-blocks.ensures.labels label i) ∙ sym (labels-are-defined g) in
     IfOk-weaker c.with_texts.result _ _ (λ new (e : new.items ≡ document_events_by known g). e ∙ ap (λ (d : List ℕ → Bool). document_events_by d g) labels) c.with_texts.ensures.events
 
 pub returns-clause-formed : goal.returns-clause-formed

@@ -1,4 +1,4 @@
-use Rattle.std.proofs.Common.{[], ◌∙◌, ◌∷◌, List, ap, arith, subst, sym, take, ℕ}
+use Rattle.std.proofs.Common.{Bool, [], ◌∙◌, ◌∷◌, List, ap, arith, subst, sym, take, ℕ}
 use Rattle.std.proofs.Math.Bool.{or_comm}
 use Rattle.std.proofs.lemmas.List.{take_all}
 use Rattle.std.proofs.lemmas.List.Elements.{All-append, All-from_recursion}
@@ -8,6 +8,8 @@ use Rattle.markdown_base.specs.Virtual.{virtual}
 use Rattle.mdblock_definitions.specs.Labelled.{is_one_of}
 use Rattle.mdblock_definitions.specs.Skeleton.{written_labels}
 use Rattle.mdinline_labels.specs.Defined.{is_same}
+use Rattle.mddocument.proofs.DefinedLabels.{labels-are-defined}
+use Rattle.mddocument.specs.Documents.{document}
 use Rattle.mddocument_editing.proofs.Below.{labels-none}
 use Rattle.mddocument_sinks.proofs.PieceEvents.{of-piece}
 use Rattle.mddocument_sinks.specs.Seams.{IsSeam}
@@ -57,3 +59,4 @@ returns-clause-labels c label =
     let bytes = c.args.bytes.now in
     c.loop-start.invariant.labels label
     ∙ ap (λ (part : List ℕ). is_one_of (written_labels options.constructs (virtual options.tab_size part)) label) (take_all c.loop-start.start bytes c.loop-start-test.false)
+    ∙ ap (λ (is : List ℕ → Bool). is label) (sym (labels-are-defined (document options bytes)))

@@ -1,15 +1,15 @@
 -- Where a blank line stands (CommonMark 0.31, 5.1 to 5.3), in one sentence: in what the lines before and behind it both stand in; and in the quotes whose
 -- markers it has, and the items that begin in it.
-use Rattle.std.specs.Prelude.{◌≡◌, ℕ, zero, suc, ◌==◌, ◌&&◌, not, nat_le, Bool, true, cond, List, [], ◌∷◌, drop, length, take}
+use Rattle.std.specs.Prelude.{ℕ, zero, suc, ◌==◌, ◌&&◌, not, nat_le, Bool, true, cond, List, [], ◌∷◌, ◌++◌, drop, length, take}
 use Rattle.std.specs.List.{flat_map}
-use Rattle.markdown_base.specs.declared.configuration.Constructs.{Constructs}
-use Rattle.mdblock_leaf_blocks.specs.LeafBlocks.{Line}
 use Rattle.mdblock_lines.specs.Containers.{Container, item, quote}
+use Rattle.mdblock_containers.specs.Prefixes.{containers_of}
 use Rattle.mdblock_containers.specs.Rows.{Row, has_none}
 use Rattle.mdblock_containers.specs.Skeleton.{Frame, Part, frames_of, further, shared}
-use Rattle.mdblock_containers.specs.Skeleton as now
-use Rattle.mdblock_definitions.specs.Rows.{rows}
-use Rattle.mddocument_rules.specs.ListLaws.{containers_in}
+
+-- the containers of a line, from the outermost on: those that go on with it, and those that begin in it
+abbrev pub containers_in : Row → List Container
+containers_in row = containers_of row.went_on ++ containers_of row.begun
 
 -- the spans of the next line that is not left blank; none, behind the last
 abbrev pub frames_behind : List Row → List Frame
@@ -50,7 +50,3 @@ parts_in (suc bound) before (row ∷ behind) =
 
 abbrev pub parts : List Row → List Part
 parts all = parts_in (length all) [] all
-
--- They are the parts of which a document's skeleton is made
-abbrev pub PartsAreThose : Type 0
-PartsAreThose = (on : Constructs) (lines : List Line) → parts (rows on lines) ≡ now.parts (rows on lines)

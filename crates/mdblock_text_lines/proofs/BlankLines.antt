@@ -24,8 +24,8 @@ use Rattle.mdblock_containers.specs.Rows.{Before, Row, closed, has_none}
 use Rattle.mdblock_containers.specs.Skeleton.{Frame, Part, frames_of, further, going_on_at, list_at, list_begun, list_name, shared}
 use Rattle.mdblock_containers.specs.Skeleton as now
 use Rattle.mdblock_definitions.proofs.KnownReads.{known-reads, nothing}
-use Rattle.mddocument_rules.specs.BlankLines.{PartsAreThose, frames_at, frames_behind, has_marker, marked, parts, parts_in, standing}
-use Rattle.mddocument_rules.specs.ListLaws.{containers_in}
+use Rattle.mdblock_text_lines.specs.Asked.{PartsAreThose}
+use Rattle.mdblock_text_lines.specs.BlankLines.{containers_in, frames_at, frames_behind, has_marker, marked, parts, parts_in, standing}
 
 -- ---- containers that a blank line stands in, from the outermost on
 
@@ -416,9 +416,9 @@ module _ (on : Constructs) (R : Reads on) where
       frames-new : frames_at fs head others ≡ flat_map frames_of kept ++ list
       frames-new =
           (λ k.
-              let both = both-is k in
-              let own = flat_map frames_of (marked n (all-went k)) in
-              cond ((left_is on (R.before b) n l left).0 k) (cond (nat_le (length both) (length own)) own both) (flat_map frames_of (containers_in head)))
+          let both = both-is k in
+          let own = flat_map frames_of (marked n (all-went k)) in
+          cond ((left_is on (R.before b) n l left).0 k) (cond (nat_le (length both) (length own)) own both) (flat_map frames_of (containers_in head)))
           ∙ longer-are went (marked n went) g (list_at others) (marked-front n went) few (list-short (list_at others) (list-is others)) kept (kept-are n g went old)
 
       one : IsOneList list
