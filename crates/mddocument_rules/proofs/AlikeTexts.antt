@@ -2,11 +2,8 @@
 use Rattle.mddocument_rules.proofs.Prelude.{◌≡◌, ◌∙◌, ◌⊎◌, ℕ, Bool, true, false, cond, List, [], ◌∷◌, ◌++◌, append-nil, append_assoc, ap, flat_map, inl, inr, map, refl, sym, false≢true, AllByRecursion, ◌&&◌, Seat}
 use Rattle.std.specs.Char.{to_ascii_uppercase}
 use Rattle.std.specs.Str.{is_utf8}
+use Rattle.mddocument_rules.specs.SegmentLaws.{Alike}
 use Rattle.mdinline_labels.specs.Labels.{collapsed, collapsed_behind, folded_text, is_label_white, normalised, shown_byte}
-
--- whatever comes behind them
-abbrev pub Alike : (xs ys : List ℕ) → Type 0
-Alike xs ys = (zs ws : List ℕ) → ((begun apart : Bool) → collapsed_behind begun apart zs ≡ collapsed_behind begun apart ws) → (begun apart : Bool) → collapsed_behind begun apart (xs ++ zs) ≡ collapsed_behind begun apart (ys ++ ws)
 
 pub alike-none : Alike [] []
 alike-none zs ws h = h

@@ -43,12 +43,24 @@ pub mod BracketTexts
 pub mod DocumentLinks
 pub mod EndReasons
 pub mod FlatLinks
+pub mod HeldParts
 pub mod LinkedFlat
 pub mod LinksApart
 pub mod MadeTexts
 pub mod WrittenRuns
 pub mod OwnLabels
+pub mod OwnWritten
+pub mod Leading
+pub mod MadeLeads
+pub mod FoldReferences
+pub mod TailLeads
+pub mod TextReferences
+pub mod ReferenceStrings
+pub mod Reworked
+pub mod CutTexts
+pub mod WrittenTexts
 pub mod QuietItems
+pub mod ItemKinds
 -- lists
 pub mod BegunPlaces
 pub mod Markers

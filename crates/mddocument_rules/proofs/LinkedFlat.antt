@@ -1,99 +1,52 @@
 -- Links, images and emphasis in place of brackets and runs: events of links come in turn, as a link is made only of a bracket behind which none was made.
-use Rattle.mddocument_rules.proofs.Prelude.{◌≡◌, ◌∙◌, ℕ, true, false, cond, not, List, [], ◌∷◌, ◌++◌, ◌+◌, drop, length, map, refl, sym, ap, subst, inl, inr, cases_Bool, cond_both, false≢true, and_parts, or_cases, AllByRecursion, every-append, ◌&&◌, ◌||◌, Event, Exit, Name, Point, same_name-true, Run, closings, data_of, events_of_runs, later, markers_of_all, openings, paired, unlinked_event}
+use Rattle.mddocument_rules.proofs.Prelude.{◌≡◌, ◌∙◌, ℕ, true, false, cond, not, List, [], ◌∷◌, ◌++◌, ◌+◌, drop, length, map, refl, sym, ap, subst, inl, inr, cases_Bool, cond_both, false≢true, and_parts, or_cases, AllByRecursion, every-append, ◌&&◌, ◌||◌, Event, Exit, Name, same_name-true, Run, unlinked_event}
 use Rattle.std.proofs.lemmas.Bool.{or_parts}
 use Rattle.std.proofs.Math.Bool.{and-false}
 use Rattle.markdown_base.specs.declared.event.Kind.TheVariants.{Enter}
-use Rattle.markdown_base.specs.declared.event.Name.TheVariants.{Image, Label, LabelEnd, LabelImage, LabelLink, LabelMarker, LabelText, Link, Reference, Resource}
+use Rattle.markdown_base.specs.declared.event.Name.TheVariants.{Image, LabelEnd, LabelImage, LabelLink, LabelMarker, Link, Reference, Resource}
 use Rattle.markdown_base.specs.Events.{is_enter, same_name}
-use Rattle.markdown_tokenizer.proofs.Positions.Order.{every-all}
-use Rattle.mdinline_emphasis.specs.declared.pairs.Style.{Style}
 use Rattle.mdinline_emphasis.specs.declared.pairs.Style.TheVariants.{Emphasis as OfEmphasis, Strong as OfStrong, Struck, StruckTwice}
 use Rattle.mdinline_emphasis.specs.Runs.{runs_in}
-use Rattle.mdinline_links.specs.Linked.{Part, SoFar, Waiting, added, around as spanned, as_data, emphasised_parts, ended, events, failed, is_bracket, is_named, is_run, is_tail, label_text, last_place, linked_from, linked_parts, made, opened, outermost_spans, part_of, run, runs_of_parts, spanning, taken, text_before, text_behind, with_links}
+use Rattle.mdinline_links.specs.Linked.{Part, SoFar, Waiting, added, around as spanned, as_data, emphasised_parts, ended, events, failed, is_bracket, is_named, is_run, is_tail, last_place, linked_from, linked_parts, made, opened, outermost_spans, part_of, run, taken, with_links}
 use Rattle.mdinline_machine.specs.Brackets.{Bracket, before_link}
-use Rattle.mddocument_laws.proofs.Chosen.{chosen-behind}
-use Rattle.mddocument_laws.proofs.EmphasisEvents.{IsOfStyle, as-data-are, closings-are, data-are, openings-are}
+use Rattle.mddocument_laws.proofs.Chosen.{AreOther, chosen-behind}
+use Rattle.mddocument_laws.proofs.EmphasisEvents.{IsOfStyle}
 use Rattle.mddocument_laws.proofs.LinkEvents.{AnyRun}
-use Rattle.mddocument_laws.proofs.LinkWalk.{AreParts, IsPart, before-is, behind-is, every-part}
+use Rattle.mddocument_laws.proofs.LinkWalk.{AreParts, IsPart, every-part}
 use Rattle.mddocument_rules.specs.BracketLaws.{folded, kinds_folded}
 use Rattle.mddocument_rules.proofs.FlatLinks.{InTurn, IsFlat, IsLinkless, flat-both, flat-linkless, is_link, linkless-both, linkless-none}
+use Rattle.mddocument_rules.proofs.HeldParts.{AreApart, Hold, data-other, inside-holds, inside_made, parts-hold, spanned-holds}
 
 -- ---- what has no link
-abbrev IsOther : Name → Type 0
-IsOther n = is_link n ≡ false
-
-other-style : (s : Style) → IsOfStyle IsOther s
-other-style OfEmphasis = (refl, refl, refl)
-other-style OfStrong = (refl, refl, refl)
-other-style Struck = (refl, refl, refl)
-other-style StruckTwice = (refl, refl, refl)
-
-closings-linkless : (p : Point) (ss : List Style) → IsLinkless (closings p ss)
-closings-linkless p ss = record { none = closings-are (λ (e : Event). IsOther e.name) IsOther (λ e h. h) refl p ss (every-all (IsOfStyle IsOther) other-style ss) }
-
-openings-linkless : (p : Point) (ss : List Style) → IsLinkless (openings p ss)
-openings-linkless p ss = record { none = openings-are (λ (e : Event). IsOther e.name) IsOther (λ e h. h) refl p ss (every-all (IsOfStyle IsOther) other-style ss) }
-
-plain-linkless : (p : Point) (n : ℕ) → IsLinkless (data_of p n)
-plain-linkless p n = record { none = data-are (λ (e : Event). IsOther e.name) IsOther (λ e h. h) refl p n }
+links-apart : AreApart is_link
+links-apart = record {
+  styles = λ s. elim s as (λ s. IsOfStyle (λ n. is_link n ≡ false) s) [ OfEmphasis ↦ (refl, refl, refl) | OfStrong ↦ (refl, refl, refl) | Struck ↦ (refl, refl, refl) | StruckTwice ↦ (refl, refl, refl) ];
+  data_is = refl;
+  label_is = refl;
+  text_is = refl;
+}
 
 data-linkless : (es : List Event) → IsLinkless (as_data es)
-data-linkless es = record { none = as-data-are (λ (e : Event). IsOther e.name) IsOther (λ e h. h) refl es }
+data-linkless es = record { none = data-other is_link links-apart es }
 
-one-linkless : (e : Event) → IsOther e.name → IsLinkless (e ∷ [])
-one-linkless e h = record { none = (h, tt) }
-
--- ---- emphasis, labels and images, by what holds of lists without links, and of two lists if of both
+-- ---- images and links, by what holds of lists without links, and of two lists if of both
 module _ (B : List Event → Type 0) (both : (xs ys : List Event) → B xs → B ys → B (xs ++ ys)) (free : (es : List Event) → IsLinkless es → B es) where
-  abbrev pub Hold : List Part → Type 0
-  Hold ps = AreParts B AnyRun ps
+  free-of : (es : List Event) → AreOther is_link es → B es
+  free-of es h = free es (record { none = h })
 
-  runs-hold : (texts : ℕ → List Event) → ((k : ℕ) → B (texts k)) → (rs : List Run) → B (events_of_runs texts rs)
-  runs-hold texts t [] = free [] linkless-none
-  runs-hold texts t (r ∷ rs) =
-      let p = later (markers_of_all r.closed) r.start in
-      let closed = closings r.start r.closed in
-      let plain = data_of p r.left in
-      let begun = openings (later r.left p) r.opened in
-      both ((texts r.index ++ closed) ++ (plain ++ begun)) (events_of_runs texts rs)
-      (both (texts r.index ++ closed) (plain ++ begun) (both (texts r.index) closed (t r.index) (free closed (closings-linkless r.start r.closed)))
-      (both plain begun (free plain (plain-linkless p r.left)) (free begun (openings-linkless (later r.left p) r.opened)))) (runs-hold texts t rs)
+  abbrev Held : List Part → Type 0
+  Held ps = Hold is_link links-apart B both free-of ps
 
-  pub parts-hold : (ps : List Part) → Hold ps → B (emphasised_parts ps)
-  parts-hold ps h =
-      let nothing = free [] linkless-none in
-      both (events_of_runs (text_before [] ps) (paired (runs_of_parts ps))) (text_behind [] ps)
-      (runs-hold (text_before [] ps) (λ k. before-is B AnyRun nothing both [] ps k nothing h) (paired (runs_of_parts ps))) (behind-is B AnyRun nothing both [] ps nothing h)
+  all-parts-hold : (ps : List Part) → Held ps → B (emphasised_parts ps)
+  all-parts-hold ps h = parts-hold is_link links-apart B both free-of ps h
 
-  spanning-holds : (n : Name) (start end : Point) (es : List Event) → IsOther n → B es → B (spanning n start end es)
-  spanning-holds n start end es o h =
-      let first = unlinked_event Enter n start in
-      let last = unlinked_event Exit n end in
-      both (first ∷ []) (es ++ last ∷ []) (free (first ∷ []) (one-linkless first o)) (both es (last ∷ []) h (free (last ∷ []) (one-linkless last o)))
+  in-link-holds : (opener : List Event) (ps : List Part) (close tail : List Event) → IsLinkless opener → Held ps → IsLinkless close → IsLinkless tail → B (inside_made is_link links-apart B both free-of opener ps close tail)
+  in-link-holds opener ps close tail o h c l = inside-holds is_link links-apart B both free-of opener ps close tail o.none h c.none l.none
 
-  spanned-holds : (n : Name) (es : List Event) → IsOther n → B es → B (spanned n es)
-  spanned-holds n [] o h = h
-  spanned-holds n (e ∷ es) o h = spanning-holds n e.point (last_place e.point es) (e ∷ es) o h
-
-  label-text-holds : (opener close : List Event) (ps : List Part) → Hold ps → B (label_text opener close ps)
-  label-text-holds [] close ps h = free [] linkless-none
-  label-text-holds (e ∷ es) [] ps h = free [] linkless-none
-  label-text-holds (e ∷ es) (f ∷ fs) [] h = free [] linkless-none
-  label-text-holds (e ∷ es) (f ∷ fs) (p ∷ ps) h = spanning-holds LabelText (last_place e.point es) f.point (emphasised_parts (p ∷ ps)) refl (parts-hold (p ∷ ps) h)
-
-  -- what is in a link or an image
-  abbrev pub inside_made : (opener : List Event) → List Part → (close tail : List Event) → List Event
-  inside_made opener ps close tail = spanned Label (opener ++ (label_text opener close ps ++ close)) ++ tail
-
-  pub inside-holds : (opener : List Event) (ps : List Part) (close tail : List Event) → IsLinkless opener → Hold ps → IsLinkless close → IsLinkless tail → B (inside_made opener ps close tail)
-  inside-holds opener ps close tail o h c l =
-      let text = label_text opener close ps in
-      let label = both opener (text ++ close) (free opener o) (both text close (label-text-holds opener close ps h) (free close c)) in
-      both (spanned Label (opener ++ (text ++ close))) tail (spanned-holds Label (opener ++ (text ++ close)) refl label) (free tail l)
-
-  pub image-holds : (opener : List Event) (ps : List Part) (close tail : List Event) → is_named LabelImage opener ≡ true → IsLinkless opener → Hold ps → IsLinkless close → IsLinkless tail → B (made opener ps close tail)
+  image-holds : (opener : List Event) (ps : List Part) (close tail : List Event) → is_named LabelImage opener ≡ true → IsLinkless opener → Held ps → IsLinkless close → IsLinkless tail → B (made opener ps close tail)
   image-holds opener ps close tail image o h c l =
-      subst (λ t. B (spanned (cond t Image Link) (inside_made opener ps close tail))) (sym image) (spanned-holds Image (inside_made opener ps close tail) refl (inside-holds opener ps close tail o h c l))
+      let inside = inside_made is_link links-apart B both free-of opener ps close tail in
+      subst (λ t. B (spanned (cond t Image Link) inside)) (sym image) (spanned-holds is_link links-apart B both free-of Image inside refl (in-link-holds opener ps close tail o h c l))
 
 abbrev pub AreFlat : List Part → Type 0
 AreFlat ps = AreParts IsFlat AnyRun ps
@@ -114,8 +67,8 @@ link-flat (e ∷ es) h =
 
 link-made : (opener : List Event) (ps : List Part) (close tail : List Event) → is_named LabelImage opener ≡ false → IsLinkless opener → AreLinkless ps → IsLinkless close → IsLinkless tail → IsFlat (made opener ps close tail)
 link-made opener ps close tail image o h c l =
-    subst (λ t. IsFlat (spanned (cond t Image Link) (inside_made IsLinkless linkless-both linkless-free opener ps close tail))) (sym image)
-    (link-flat (inside_made IsLinkless linkless-both linkless-free opener ps close tail) (inside-holds IsLinkless linkless-both linkless-free opener ps close tail o h c l))
+    let inside = inside_made is_link links-apart IsLinkless linkless-both (free-of IsLinkless linkless-both linkless-free) opener ps close tail in
+    subst (λ t. IsFlat (spanned (cond t Image Link) inside)) (sym image) (link-flat inside (in-link-holds IsLinkless linkless-both linkless-free opener ps close tail o h c l))
 
 -- ---- brackets that wait, as they are remembered, and as the fold over spans has them
 -- Of a bracket of a link that is active: what is behind it has no link. That is told by a type, from the last bracket to the first
@@ -229,7 +182,7 @@ holds-ended (b ∷ bs) next span tail (w ∷ ws) z e c l a h =
     ]
 
 -- a span that is a part of its own, or a run
-part-is : (B : List Event → Type 0) (span : List Event) (rs : List Run) → B span → IsPart B AnyRun (part_of span rs).0
+pub part-is : (B : List Event → Type 0) (span : List Event) (rs : List Run) → B span → IsPart B AnyRun (part_of span rs).0
 part-is B span [] h = h
 part-is B span (r ∷ rs) h = cond_both (is_run span) (run r, rs) (events span, r ∷ rs) (λ (p : Part × List Run). IsPart B AnyRun p.0) (λ e. tt) (λ e. h)
 
@@ -250,7 +203,7 @@ holds-taken count bs next span z s e l h =
     (λ m. subst (λ n. Holds n (added span z)) (sym (s.stays e b m)) (holds-added bs span z l h)))
 
 -- a tail leaves the brackets
-named-is : (n : Name) (span : List Event) → is_named n span ≡ true → (m : Name) → same_name n m ≡ false → is_named m span ≡ false
+pub named-is : (n : Name) (span : List Event) → is_named n span ≡ true → (m : Name) → same_name n m ≡ false → is_named m span ≡ false
 named-is n [] e m other = refl
 named-is n (x ∷ xs) e m other =
     let named = (and_parts (is_enter x.kind) (same_name x.name n) e).1 in
@@ -294,4 +247,4 @@ links-flat bytes es last l r =
     let start : SoFar = record { waiting = []; behind = []; runs = runs_in bytes es } in
     let z = linked_from start (outermost_spans es) in
     let h = linked (outermost_spans es) 0 [] last start l r (record { waits = tt; behind = tt }) in
-    parts-hold IsFlat flat-both flat-linkless (linked_parts (runs_in bytes es) es) (every-part (IsPart IsFlat AnyRun) (λ (w : Waiting). AreFlat w.before) (λ w b. b) data-flat z.waiting z.behind (all-before last z.waiting (AreLinkless z.behind) h.waits) h.behind)
+    all-parts-hold IsFlat flat-both flat-linkless (linked_parts (runs_in bytes es) es) (every-part (IsPart IsFlat AnyRun) (λ (w : Waiting). AreFlat w.before) (λ w b. b) data-flat z.waiting z.behind (all-before last z.waiting (AreLinkless z.behind) h.waits) h.behind)

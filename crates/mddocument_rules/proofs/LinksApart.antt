@@ -410,7 +410,7 @@ end-waits count [] [] span rest last ends r = absurd (r.1.ends ends)
 end-waits count (b ∷ bs) [] span rest last ends r = (b, bs, refl)
 end-waits count bs (first ∷ front) span rest last ends r = let (b, more, there) = end-waits (count + length first) r.0 front span rest last ends r.2 in (b, more, (r.0, r.1, there))
 
-some-waits : (b : Bracket) (bs : List Bracket) (ws : List Waiting) → map (λ (c : Bracket). c.image) (b ∷ bs) ≡ map (λ (w : Waiting). is_named LabelImage w.opener) ws → (w : Waiting) × (more : List Waiting) × (ws ≡ w ∷ more)
+pub some-waits : (b : Bracket) (bs : List Bracket) (ws : List Waiting) → map (λ (c : Bracket). c.image) (b ∷ bs) ≡ map (λ (w : Waiting). is_named LabelImage w.opener) ws → (w : Waiting) × (more : List Waiting) × (ws ≡ w ∷ more)
 some-waits b bs [] e = absurd (cc)
 some-waits b bs (w ∷ ws) e = (w, ws, refl)
 

@@ -19,7 +19,7 @@ use Rattle.mddocument_link_targets.specs.Targets.{label_of, resource_parts, targ
 use Rattle.mddocument_rules.specs.LinkLaws.{EntersNone, MadeByLabels, MadeByTexts}
 
 -- what is in a span, and behind it, by the events behind its enter
-in-span : (n : Name) (p q : Point) (es rest : List Event) → IsBalanced es → (inside (drop 1 (spanning n p q es ++ rest)) ≡ es) × (behind (drop 1 (spanning n p q es ++ rest)) ≡ rest)
+pub in-span : (n : Name) (p q : Point) (es rest : List Event) → IsBalanced es → (inside (drop 1 (spanning n p q es ++ rest)) ≡ es) × (behind (drop 1 (spanning n p q es ++ rest)) ≡ rest)
 in-span n p q es rest b =
     let exit = unlinked_event Exit n q in
     let same : drop 1 (spanning n p q es ++ rest) ≡ es ++ exit ∷ rest = append_assoc es (exit ∷ []) rest in
@@ -27,7 +27,7 @@ in-span n p q es rest b =
     (ap inside same ∙ ends.0, ap behind same ∙ ends.1)
 
 -- the first span of a name is behind events that enter none
-first-behind : (n : Name) (xs ys : List Event) → EntersNone n xs → first_in n (xs ++ ys) ≡ first_in n ys
+pub first-behind : (n : Name) (xs ys : List Event) → EntersNone n xs → first_in n (xs ++ ys) ≡ first_in n ys
 first-behind n [] ys h = refl
 first-behind n (x ∷ xs) ys h = ap (λ b. cond b (Some (inside (xs ++ ys))) (first_in n (xs ++ ys))) h.0 ∙ first-behind n xs ys h.1
 

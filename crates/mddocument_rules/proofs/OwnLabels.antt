@@ -22,10 +22,10 @@ use Rattle.mddocument_rules.proofs.LinksApart.{labels-are-one}
 use Rattle.mddocument_rules.specs.BracketLaws.{OwnLabelsAreAsked, remembered}
 
 -- ---- outermost spans, one after another, are the events
-abbrev flat : List (List Event) → List Event
+abbrev pub flat : List (List Event) → List Event
 flat spans = flat_map (λ (span : List Event). span) spans
 
-all-joined : (bound : ℕ) (es : List Event) → length es ≤ bound → flat (spans_in bound es) ≡ es
+pub all-joined : (bound : ℕ) (es : List Event) → length es ≤ bound → flat (spans_in bound es) ≡ es
 all-joined zero [] fits = refl
 all-joined zero (e ∷ es) fits = absurd (omega (arith, fits))
 all-joined (suc bound) [] fits = refl
@@ -94,4 +94,4 @@ own-labels-are-asked defined on bytes seats runs front rest b bs e waits own =
     let behind : drop b.count m.events ≡ flat at.behind =
     (λ i. drop (sym at.counted i) ((events ∙ sym whole) i)) ∙ drop-append_seam (flat at.before) (flat at.behind) in
     let none = false_from_ne_true (list_any is_bracket at.behind) (λ some. false≢true (sym (not-true (has_bracket (drop b.count m.events)) asked.0) ∙ ap has_bracket behind ∙ of-all at.behind some)) in
-    let parts = got.1 none in (at.behind, parts.0, parts.1, subst (λ l. is_defined_label defined (bytes_before bytes m.ahead) l ≡ true) behind asked.1)
+    (at.before, at.behind, at.are, got.1 none, subst (λ l. is_defined_label defined (bytes_before bytes m.ahead) l ≡ true) behind asked.1)

@@ -19,9 +19,13 @@ use Rattle.mddocument_laws.proofs.TailSpans.{AreInResource, IsKeptInside, in-mar
 use Rattle.mddocument_laws.specs.Names.{may_be_named}
 use Rattle.mddocument_rules.proofs.Places.{by-wanted, is_free}
 
--- ---- names of links, of brackets and of ends
+-- ---- names of links and of their labels, which no item has, and of markers of block quotes
+abbrev pub strange_names : List Name
+strange_names = name.Link ∷ name.Image ∷ name.Label ∷ name.LabelText ∷ name.BlockQuoteMarker ∷ []
+
+-- these, and names of brackets and of ends
 abbrev pub linking_names : List Name
-linking_names = name.Link ∷ name.LabelLink ∷ name.LabelImage ∷ name.LabelEnd ∷ name.LabelMarker ∷ []
+linking_names = name.LabelLink ∷ name.LabelImage ∷ name.LabelEnd ∷ name.LabelMarker ∷ strange_names
 
 abbrev pub IsQuiet : Name → Type 0
 IsQuiet n = is_wanted linking_names n ≡ false
@@ -34,19 +38,20 @@ quiet-other n m h k = false_from_ne_true (same_name n m) (λ e. false≢true (sy
 
 -- ---- constructs
 -- where no bracket and no end is on, none of these names stands
-abbrev without : Constructs
-without = record default_constructs { label_start_link = false; label_start_image = false; label_end = false }
+abbrev pub without : Constructs
+without = record default_constructs { label_start_link = false; label_start_image = false; label_end = false; block_quote = false }
 
 quiet-name : (n : Name) → may_be_named without n ≡ true → IsQuiet n
 quiet-name n may =
     false_from_ne_true (is_wanted linking_names n)
-    (λ e. by-wanted (λ m. may_be_named without m ≡ true → ⊥) linking_names n ((λ f. false≢true f), ((λ f. false≢true f), ((λ f. false≢true f), ((λ f. false≢true f), ((λ f. false≢true f), tt))))) e may)
+    (λ e. by-wanted (λ m. may_be_named without m ≡ true → ⊥) linking_names n
+    ((λ f. false≢true f), ((λ f. false≢true f), ((λ f. false≢true f), ((λ f. false≢true f), ((λ f. false≢true f), ((λ f. false≢true f), ((λ f. false≢true f), ((λ f. false≢true f), ((λ f. false≢true f), tt))))))))) e may)
 
 -- what is found has other names
 abbrev pub HasQuiet : Found → Type 0
 HasQuiet f = (bytes : List ℕ) (seats : List Seat) → AreQuiet (f.events bytes seats)
 
-item-quiet : (f : Found) → IsItem without f → HasQuiet f
+pub item-quiet : (f : Found) → IsItem without f → HasQuiet f
 item-quiet f h bytes seats = weaker (λ n may. quiet-name n (plain-may without n may)) (f.events bytes seats) (h.names bytes seats).named
 
 -- and does nothing with brackets

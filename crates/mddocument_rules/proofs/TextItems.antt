@@ -13,7 +13,7 @@ use Rattle.mdinline_text_machine.specs.CodeSpan.{before_backtick_string, code_sp
 use Rattle.mdinline_text_machine.specs.Construct.{Found}
 use Rattle.mdinline_text_machine.specs.Escape.{escape, escape_at}
 use Rattle.mdinline_text_machine.specs.Items.{item_length}
-use Rattle.mdinline_text_machine.specs.Parts.{Part, bytes_of, cut, cut_remembering, line_ending, part, part_events, plain_run}
+use Rattle.mdinline_text_machine.specs.Parts.{Part, bytes_of, cut, cut_remembering, line_ending, part, plain_run}
 use Rattle.mdinline_text_machine.specs.TextEvents.{item_events}
 use Rattle.mdinline_constructs.proofs.HtmlTexts.Cuts.{html-there}
 use Rattle.mdinline_constructs.proofs.References.Bytes.{reference-holds}

@@ -11,7 +11,8 @@ use Rattle.mdinline_labels.specs.Labels.{is_label_white}
 use Rattle.mdinline_labels.specs.Tails.{begins_with}
 use Rattle.mddocument_link_targets.specs.Strings.{as_written}
 use Rattle.mddocument_rules.proofs.HeldStrings.{read}
-use Rattle.mddocument_rules.proofs.AlikeTexts.{Alike, alike-both, alike-none, alike-white, written-alike}
+use Rattle.mddocument_rules.proofs.AlikeTexts.{alike-both, alike-none, alike-white, written-alike}
+use Rattle.mddocument_rules.specs.SegmentLaws.{Alike}
 use Rattle.mddocument_rules.proofs.VirtualBytes.{EndsTabs, NoFeeds, stretch-whole}
 use Rattle.mddocument_rules.proofs.WrittenPrefixes.{IsSomeGap, leaf-outside, leaf-written, line-front}
 use Rattle.mddocument_rules.proofs.WrittenSpans.{written}

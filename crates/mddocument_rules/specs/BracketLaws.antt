@@ -56,23 +56,29 @@ abbrev pub parts_of : List (List Event) → List Run → List Part
 parts_of [] rs = []
 parts_of (span ∷ spans) rs = (part_of span rs).0 ∷ parts_of spans (part_of span rs).1
 
--- And behind the last bracket the fold has the spans that were read behind it, if none of them is a bracket. Of these is the label of a collapsed or a
--- shortcut reference: the walk over items asks whether it is defined (`own_is_defined`), and the fold makes the text of the link
+-- the runs that are left behind spans
+abbrev pub runs_left : List (List Event) → List Run → List Run
+runs_left [] rs = rs
+runs_left (span ∷ spans) rs = runs_left spans (part_of span rs).1
+
+-- And behind the last bracket the fold has the spans that were read behind it, with the runs that those before leave, if none of them is a bracket. Of these
+-- is the label of a collapsed or a shortcut reference: the walk over items asks whether it is defined (`own_is_defined`), and the fold makes the text of the
+-- link
 abbrev pub LabelsAreOne : Type 0
 LabelsAreOne =
     (defined : List ℕ → Bool) (on : Constructs) (bytes : List ℕ) (seats : List Seat) (runs : List Run) (front rest : List (Found × List Seat)) (b : Bracket) (bs : List Bracket)
     → inline_items on defined bytes seats ≡ front ++ rest → (remembered bytes (nothing_read seats) front).waiting ≡ b ∷ bs
     → let spans = outermost_spans (flat_map (item_events bytes) front) in
-    (at : SpansAround spans b) × (list_any is_bracket at.behind ≡ false → (left : List Run) × ((folded runs spans).behind ≡ parts_of at.behind left))
+    (at : SpansAround spans b) × (list_any is_bracket at.behind ≡ false → (folded runs spans).behind ≡ parts_of at.behind (runs_left at.before runs))
 
 -- So the own label of a bracket, which the walk over items asks for, is that of the spans behind the bracket of which the fold makes the text of a link
 abbrev pub OwnLabelsAreAsked : Type 0
 OwnLabelsAreAsked =
     (defined : List ℕ → Bool) (on : Constructs) (bytes : List ℕ) (seats : List Seat) (runs : List Run) (front rest : List (Found × List Seat)) (b : Bracket) (bs : List Bracket)
     → inline_items on defined bytes seats ≡ front ++ rest → let m = remembered bytes (nothing_read seats) front in
-    m.waiting ≡ b ∷ bs → own_is_defined defined bytes b m ≡ true
-    → (spans : List (List Event)) × (left : List Run) × ((folded runs (outermost_spans (flat_map (item_events bytes) front))).behind ≡ parts_of spans left)
-    × (is_defined_label defined (bytes_before bytes m.ahead) (flat_map (λ (span : List Event). span) spans) ≡ true)
+    m.waiting ≡ b ∷ bs → own_is_defined defined bytes b m ≡ true → let read = outermost_spans (flat_map (item_events bytes) front) in
+    (before behind : List (List Event)) × (read ≡ before ++ behind) × ((folded runs read).behind ≡ parts_of behind (runs_left before runs))
+    × (is_defined_label defined (bytes_before bytes m.ahead) (flat_map (λ (span : List Event). span) behind) ≡ true)
 
 -- A tail that a bracket may have at an end, by what is remembered before the end and by the bytes behind it: a resource; or a full reference, whose label is
 -- defined; or that of a reference by the bracket's own label, which is defined

@@ -6,6 +6,7 @@ pub mod BracketLaws
 pub mod LinkLaws
 pub mod DefinitionLaws
 pub mod ReferenceLaws
+pub mod SegmentLaws
 -- lists: items of one list, and lists and quotes in a row
 pub mod ListLaws
 pub mod MarkerLaws

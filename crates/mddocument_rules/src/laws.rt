@@ -5,7 +5,8 @@ ghost use Rattle.mddocument_rules.specs.DefinitionLaws.{DefinitionsOfDocumentsAr
 ghost use Rattle.mddocument_rules.specs.LinkLaws.{MadeByLabels, MadeByTexts, RunsAreWritten};
 ghost use Rattle.mddocument_rules.specs.ListLaws.{ItemsHaveTheMarker, ListsHaveOneMarker, NeighboursDiffer, QuotesAreApart};
 ghost use Rattle.mddocument_rules.specs.MarkerLaws.{ListsAreNamedByMarkers, ListsAreOfOneType};
-ghost use Rattle.mddocument_rules.specs.ReferenceLaws.{DefinedIsDefined, DefinitionsAreOfSections, DefinitionsHaveLabels, LabelsAreOfSections, LabelsAreWritten};
+ghost use Rattle.mddocument_rules.specs.ReferenceLaws.{DefinedIsDefined, DefinitionsAreOfSections, DefinitionsHaveLabels, LabelsAreOfSections, LabelsAreWritten, OwnLabelsAreWritten, ReferenceLabelsStay, ReferencesOfChainsAreDefined, ReferencesOfTextsAreDefined};
+ghost use Rattle.mddocument_rules.specs.SegmentLaws.{AllLinksLeadAlike, LinksLeadAlike};
 ghost use Rattle.mddocument_rules.specs.StandingLaws.{BlocksStand, LeafBlocksStand, NoLinkInALink, SkeletonsStand, SpansStand};
 ghost use Rattle.mddocument_rules.specs.TextLaws.{EmphasisStands, InlineTextStands, LinksStand, NoLinkInALinkOfText};
 
@@ -116,4 +117,21 @@ pub fn made_references_lead_to_their_texts()
 /// Emphasis keeps what is written: what it puts in the place of a delimiter run gives the bytes of the run.
 pub fn emphasis_keeps_what_is_written()
     ensures { RunsAreWritten }
+{}
+
+/// A reference in inline text has a label that is defined, whichever labels are: each link and each image without a resource leads to one. If it is the own label
+/// of the link, that is the text of the link as it is written, with its delimiter runs as they stand; and the label of a full reference stays as it is written,
+/// where strings are read. So each reference in the text of a paragraph or a heading of a document has a definition among the document's events.
+pub fn references_of_texts_are_defined()
+    ensures labels { OwnLabelsAreWritten }
+    ensures strings { ReferenceLabelsStay }
+    ensures texts { ReferencesOfTextsAreDefined }
+    ensures chains { ReferencesOfChainsAreDefined }
+{}
+
+/// Where some events stand in place of others that are written alike, where labels are compared, a link leads to the same label: neither prefixes between the lines
+/// of its text change it, nor that strings are read. So it is of all links and images among events.
+pub fn links_lead_to_what_is_written()
+    ensures links { LinksLeadAlike }
+    ensures all { AllLinksLeadAlike }
 {}
