@@ -57,12 +57,20 @@ module _ (P : Point → Type 0) (B : List Event → Type 0) (F : Run → Type 0)
   around-kept name [] n h = kept.nothing
   around-kept name (e ∷ es) n h = kept.span_around name e.point (last_place e.point es) (e ∷ es) n (kept.places e es h).0 (kept.places e es h).1 h
 
+  text-ends : (p : Point) (es : List Event) → P p → B es → P (last_place p es)
+  text-ends p [] at b = at
+  text-ends p (e ∷ es) at b = (kept.places e es b).1
+
   pub label-text : (opener close : List Event) (ps : List Part) → B opener → B close → AreParts ps → B (label_text opener close ps)
   label-text [] close ps o c h = kept.nothing
   label-text (e ∷ es) [] ps o c h = kept.nothing
   label-text (e ∷ es) (f ∷ fs) [] o c h = kept.nothing
   label-text (e ∷ es) (f ∷ fs) (p ∷ ps) o c h =
-      kept.span_around LabelText (last_place e.point es) f.point (emphasised_parts (p ∷ ps)) refl (kept.places e es o).1 (kept.places f fs c).0 (parts-emphasised (p ∷ ps) h)
+      let start = last_place e.point es in
+      let text = emphasised_parts (p ∷ ps) in
+      let inside = parts-emphasised (p ∷ ps) h in
+      let at = (kept.places e es o).1 in
+      kept.span_around LabelText start (last_place start text) text refl at (text-ends start text at inside) inside
 
   pub whole-name : (b : Bool) → is_made_of (cond b Image Link) ≡ true
   whole-name true = refl

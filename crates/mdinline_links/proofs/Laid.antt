@@ -14,9 +14,10 @@ use Rattle.mdinline_links.specs.declared.pieces.Fate.TheVariants.{Paired}
 use Rattle.mdinline_links.specs.declared.pieces.Piece.{Piece}
 use Rattle.mdinline_links.proofs.WithRuns.{emphasised-runs}
 use Rattle.mdinline_links.specs.Between.{with_runs}
-use Rattle.mdinline_links.specs.Laid.{AreAscending, Laid, NoneWait, Reads, is_waiting, placed_at, waits_at, with_fate, written_of}
+use Rattle.mdinline_links.proofs.Written.{written-append}
+use Rattle.mdinline_links.specs.Laid.{AreAscending, Laid, NoneWait, Reads, Writes, is_waiting, placed_at, waits_at, with_fate}
 use Rattle.mdinline_links.specs.Linked.{Part, run, events, Waiting, all_parts, as_data, emphasised_parts, runs_of_parts}
-use Rattle.mdinline_links.specs.Pieces.{Fits, in_fate, put, span_of}
+use Rattle.mdinline_links.specs.Pieces.{Fits, in_fate, put, span_of, written_from}
 
 pub all-front : {A : Type 0} (P : A → Type 0) (xs ys : List A) → AllByRecursion P (xs ++ ys) → AllByRecursion P xs
 all-front P [] ys h = tt
@@ -102,10 +103,6 @@ none-at i [] h = refl
 none-at i (p ∷ ps) h = ap (λ t. cond t (i ∷ waits_at (suc i) ps) (waits_at (suc i) ps)) h.0 ∙ none-at (suc i) ps h.1
 
 module _ (es : List Event) where
-  pub written-append : (ps qs : List Piece) → written_of es (ps ++ qs) ≡ written_of es ps ++ written_of es qs
-  written-append [] qs = refl
-  written-append (p ∷ ps) qs = ap (λ xs. put es p ++ xs) (written-append ps qs) ∙ sym (append_assoc (put es p) (written_of es ps) (written_of es qs))
-
   reads-append : (xs ys : List Part) (ps qs : List Piece) → Reads es xs ps → Reads es ys qs → Reads es (xs ++ ys) (ps ++ qs)
   reads-append [] ys ps qs h k = subst (λ (os : List Piece). Reads es ys (os ++ qs)) (sym h) k
   reads-append (run r ∷ xs) ys ps qs h k = (h.0, h.1 ++ qs, ap (λ os. os ++ qs) h.2, h.3, reads-append xs ys h.1 qs h.4 k)
@@ -155,7 +152,7 @@ module _ (es : List Event) where
   laid-joined w ws behind bs rs ps h =
       let f = h.0 in
       let parts = w.before ++ events (as_data w.opener) ∷ behind in
-      let one : written_of es (f.piece ∷ []) ≡ as_data w.opener = append-nil (put es f.piece) ∙ ap (λ t. in_fate t (span_of es f.piece)) f.fate ∙ ap as_data f.span in
+      let one : Writes es (f.piece ∷ []) (as_data w.opener) = λ before. append-nil (put es before f.piece) ∙ ap (λ t. in_fate before t (span_of es f.piece)) f.fate ∙ ap as_data f.span in
       let reads : Reads es (events (as_data w.opener) ∷ behind) (f.piece ∷ f.upper) = (f.piece, [], f.upper, refl, (ap is_waiting f.fate, tt), one, f.reads) in
       let more = laid-more ws w.before (events (as_data w.opener) ∷ behind) f.lower_brackets f.lower_runs f.lower (f.piece ∷ f.upper) h.1 reads in
       subst (λ xs. Laid es ws parts f.lower_brackets xs ps) (sym f.runs)
@@ -174,25 +171,28 @@ module _ (es : List Event) where
   -- ---- the events of parts whose runs have their pairs
 
   filled-reads : (xs : List Part) (ps : List Piece) (ds : List Delimiters) → Reads es xs ps → length ds ≡ length (runs_of_parts xs)
-      → NoneWait (filled ps ds) × (written_of es (filled ps ds) ≡ with_runs xs (map as_run ds))
-  filled-reads [] ps ds h long = subst (λ os. NoneWait (filled os ds) × (written_of es (filled os ds) ≡ [])) (sym h) (tt, refl)
+      → NoneWait (filled ps ds) × Writes es (filled ps ds) (with_runs xs (map as_run ds))
+  filled-reads [] ps ds h long = subst (λ os. NoneWait (filled os ds) × Writes es (filled os ds) []) (sym h) (tt, λ before. refl)
   filled-reads (run r ∷ xs) ps [] h long = absurd (omega (arith, long))
   filled-reads (run r ∷ xs) ps (d ∷ ds) h long =
       let more = filled-reads xs h.1 ds h.4 (omega (arith, long)) in
       let is : filled ps (d ∷ ds) ≡ record h.0 { fate = Paired d } ∷ filled h.1 ds =
       ap (λ os. filled os (d ∷ ds)) h.2 ∙ ap (λ t. cond t (record h.0 { fate = Paired d } ∷ filled h.1 ds) (h.0 ∷ filled h.1 (d ∷ ds))) h.3 in
-      subst (λ os. NoneWait os × (written_of es os ≡ in_place (as_run d) ++ with_runs xs (map as_run ds))) (sym is) ((refl, more.0), ap (λ ys. in_place (as_run d) ++ ys) more.1)
+      subst (λ os. NoneWait os × Writes es os (in_place (as_run d) ++ with_runs xs (map as_run ds))) (sym is) ((refl, more.0), λ before. ap (λ ys. in_place (as_run d) ++ ys) (more.1 (before ++ in_place (as_run d))))
   filled-reads (events es' ∷ xs) ps ds h long =
       let front = h.0 ∷ h.1 in
       let more = filled-reads xs h.2 ds h.6 long in
       let is : filled ps ds ≡ front ++ filled h.2 ds = ap (λ os. filled os ds) h.3 ∙ filled-front front h.2 ds h.4 in
-      subst (λ os. NoneWait os × (written_of es os ≡ es' ++ with_runs xs (map as_run ds))) (sym is) (
+      subst (λ os. NoneWait os × Writes es os (es' ++ with_runs xs (map as_run ds))) (sym is) (
         every-append (λ p. is_waiting p.fate ≡ false) front (filled h.2 ds) h.4 more.0,
-        written-append front (filled h.2 ds) ∙ ap (λ ys. ys ++ written_of es (filled h.2 ds)) h.5 ∙ ap (λ ys. es' ++ ys) more.1,
+        λ before.
+            let here = written_from es before front in
+            let behind = written_from es (before ++ here) (filled h.2 ds) in
+            written-append es before front (filled h.2 ds) ∙ ap (λ ys. ys ++ behind) (h.5 before) ∙ ap (λ ys. es' ++ ys) (more.1 (before ++ here)),
       )
 
   -- the events of pieces whose runs have their pairs are those of the parts
   pub filled-is : (xs : List Part) (ps : List Piece) (ds : List Delimiters) → Reads es xs ps → AreAscending (runs_of_parts xs) → map as_run ds ≡ paired (runs_of_parts xs) → length ds ≡ length (runs_of_parts xs)
-      → NoneWait (filled ps ds) × (written_of es (filled ps ds) ≡ emphasised_parts xs)
+      → NoneWait (filled ps ds) × Writes es (filled ps ds) (emphasised_parts xs)
   filled-is xs ps ds h a pairs long =
-      let all = filled-reads xs ps ds h long in (all.0, all.1 ∙ ap (with_runs xs) pairs ∙ sym (emphasised-runs xs a))
+      let all = filled-reads xs ps ds h long in (all.0, λ before. all.1 before ∙ ap (with_runs xs) pairs ∙ sym (emphasised-runs xs a))

@@ -103,20 +103,22 @@ module _ (At : Point → Type 0) where
       }
 
   text-ordered : (p m n q : Point) (e : Event) (es text : List Event) (f : Event) (fs : List Event) → Ordered At p (e ∷ es) m → Ordered At m text n → Ordered At n (f ∷ fs) q
-      → Ordered At p ((e ∷ es) ++ (spanning LabelText (last_place e.point es) f.point text ++ f ∷ fs)) q
+      → Ordered At p ((e ∷ es) ++ (spanning LabelText (last_place e.point es) (last_place (last_place e.point es) text) text ++ f ∷ fs)) q
   text-ordered p m n q e es text f fs h k k' =
       let l = last_place e.point es in
       let last = order-last p m (e ∷ es) h.order in
-      let exit = unlinked_event Exit LabelText f.point in
-      let inside : Ordered At l (text ++ exit ∷ []) f.point =
+      let at = last-at e.point es h.places.0 h.places.1 in
+      let x = last_place l text in
+      let over = order-last l n text (order-from l m text n last.1 k.order) in
+      let exit = unlinked_event Exit LabelText x in
+      let inside : Ordered At l (text ++ exit ∷ []) x =
       record {
-        order = order-both l text n (exit ∷ []) f.point (order-from l m text n last.1 k.order) (k'.order.0, stands-self f.point);
-        places = every-append (λ (x : Event). At x.point) text (exit ∷ []) k.places (k'.places.0, tt);
+        order = order-both l text x (exit ∷ []) x over.0 (stands-self x, stands-self x);
+        places = every-append (λ (y : Event). At y.point) text (exit ∷ []) k.places (last-at l text at k.places, tt);
       } in
-      let end : Ordered At f.point (f ∷ fs) q = record { order = (stands-self f.point, k'.order.1); places = k'.places } in
-      let both = ordered-both At l f.point q (text ++ exit ∷ []) (f ∷ fs) inside end in
-      ordered-both At p l q (e ∷ es) (spanning LabelText l f.point text ++ f ∷ fs) (record { order = last.0; places = h.places })
-      (record { order = (stands-self l, both.order); places = (last-at e.point es h.places.0 h.places.1, both.places) })
+      let end : Ordered At x (f ∷ fs) q = record { order = order-from x n (f ∷ fs) q over.1 k'.order; places = k'.places } in
+      let both = ordered-both At l x q (text ++ exit ∷ []) (f ∷ fs) inside end in
+      ordered-both At p l q (e ∷ es) (spanning LabelText l x text ++ f ∷ fs) (record { order = last.0; places = h.places }) (record { order = (stands-self l, both.order); places = (at, both.places) })
 
   order-is-kept : (bytes : List ℕ) → IsKeptBetween bytes (IsBytewise At) Point (Ordered At) (Ordered At) RunIsOrdered
   order-is-kept bytes = record {

@@ -21,9 +21,13 @@ abbrev pub is_last : List Event → Bool
 is_last [] = true
 is_last (e ∷ es) = false
 
+last-both : (p : Point) (xs ys : List Event) → last_place p (xs ++ ys) ≡ last_place (last_place p xs) ys
+last-both p [] ys = refl
+last-both p (x ∷ xs) ys = last-both x.point xs ys
+
 label-text-is : (o c : Event) (os cs : List Event) (behind : List Part)
     → label_text (o ∷ os) (c ∷ cs) behind
-    ≡ cond (is_filled behind) (unlinked_event Enter LabelText (last_place o.point os) ∷ []) [] ++ (emphasised_parts behind ++ cond (is_filled behind) (unlinked_event Exit LabelText c.point ∷ []) [])
+    ≡ cond (is_filled behind) (unlinked_event Enter LabelText (last_place o.point os) ∷ []) [] ++ (emphasised_parts behind ++ cond (is_filled behind) (unlinked_event Exit LabelText (last_place (last_place o.point os) (emphasised_parts behind)) ∷ []) [])
 label-text-is o c os cs [] = refl
 label-text-is o c os cs (p ∷ ps) = refl
 
@@ -45,10 +49,14 @@ module _ (o : Event) (os : List Event) (c : Event) (cs : List Event) (behind : L
   abbrev y : Point → Event
   y p = unlinked_event Exit (whole image) p
 
-  abbrev Pieces : List Event → List Event
-  Pieces tail =
+  -- where the text ends
+  abbrev text_end : List Event
+  text_end = cond (is_filled behind) (unlinked_event Exit LabelText (last_place (last_place o.point os) (emphasised_parts behind)) ∷ []) []
+
+  abbrev Pieces : (ends : List Event) → List Event → List Event
+  Pieces ends tail =
       opening_events image (is_filled behind) (o ∷ os)
-      ++ (emphasised_parts behind ++ (closing_events image (is_filled behind) (is_last tail) (c ∷ cs) ++ tail_events image tail))
+      ++ (emphasised_parts behind ++ ((ends ++ ((c ∷ cs) ++ x ∷ cond (is_last tail) (y (last_place c.point cs) ∷ []) [])) ++ tail_events image tail))
 
   abbrev Around : List Event → List Event
   Around tail = around (whole image) (around Label L ++ tail)
@@ -68,12 +76,12 @@ module _ (o : Event) (os : List Event) (c : Event) (cs : List Event) (behind : L
   around-is : (tail : List Event) → Around tail ≡ Whole tail (last_place c.point cs) (end_all tail (last_place c.point cs))
   around-is tail = ap (λ q. Whole tail q (end_all tail q)) label-end
 
-  around-pieces : (tail : List Event) → Around tail ≡ Pieces tail
+  around-pieces : (tail : List Event) → Around tail ≡ Pieces text_end tail
   around-pieces [] =
       let q = last_place c.point cs in
       let end : end_all [] q ≡ q = ap (last_place o.point) (append-nil (L ++ x ∷ [])) ∙ last-append o.point L x [] in
       let A = cond (is_filled behind) (unlinked_event Enter LabelText (last_place o.point os) ∷ []) [] in
-      let Z = cond (is_filled behind) (unlinked_event Exit LabelText c.point ∷ []) [] in
+      let Z = text_end in
       around-is []
       ∙ ap (λ r. Whole [] q r) end
       ∙ ap (λ t. unlinked_event Enter (whole image) o.point ∷ unlinked_event Enter Label o.point ∷ (((((o ∷ os) ++ (t ++ c ∷ cs)) ++ x ∷ []) ++ []) ++ y q ∷ [])) (label-text-is o c os cs behind)
@@ -82,17 +90,33 @@ module _ (o : Event) (os : List Event) (c : Event) (cs : List Event) (behind : L
       let q = last_place c.point cs in
       let end : end_all (t ∷ ts) q ≡ last_place t.point ts = last-append o.point (L ++ x ∷ []) t ts in
       let A = cond (is_filled behind) (unlinked_event Enter LabelText (last_place o.point os) ∷ []) [] in
-      let Z = cond (is_filled behind) (unlinked_event Exit LabelText c.point ∷ []) [] in
+      let Z = text_end in
       around-is (t ∷ ts)
       ∙ ap (λ r. Whole (t ∷ ts) q r) end
       ∙ ap (λ u. unlinked_event Enter (whole image) o.point ∷ unlinked_event Enter Label o.point ∷ (((((o ∷ os) ++ (u ++ c ∷ cs)) ++ x ∷ []) ++ t ∷ ts) ++ y (last_place t.point ts) ∷ [])) (label-text-is o c os cs behind)
       ∙ ap (λ xs. unlinked_event Enter (whole image) o.point ∷ unlinked_event Enter Label o.point ∷ xs) (regroup-tail (o ∷ os) A (emphasised_parts behind) Z (c ∷ cs) (t ∷ ts) x (y (last_place t.point ts)))
 
--- A link or an image is its bracket, its text, its end and its tail, each with what is around it
-pub made-is : (opener close tail : List Event) (behind : List Part) → 0 < length opener → 0 < length close
+-- the text ends where the events before the end of the label do
+text-ends : (o c : Event) (os before : List Event) (behind : List Part) (image : Bool)
+    → cond (is_filled behind) (unlinked_event Exit LabelText (last_place (last_place o.point os) (emphasised_parts behind)) ∷ []) []
+    ≡ cond (is_filled behind) (unlinked_event Exit LabelText (last_place c.point ((before ++ opening_events image (is_filled behind) (o ∷ os)) ++ emphasised_parts behind)) ∷ []) []
+text-ends o c os before [] image = refl
+text-ends o c os before (p ∷ ps) image =
+    let text = emphasised_parts (p ∷ ps) in
+    let front = unlinked_event Enter (whole image) o.point ∷ unlinked_event Enter Label o.point ∷ (o ∷ os) in
+    let enter = unlinked_event Enter LabelText (last_place o.point os) in
+    let first : last_place c.point (before ++ (front ++ enter ∷ [])) ≡ last_place o.point os =
+    ap (last_place c.point) (sym (append_assoc before front (enter ∷ []))) ∙ last-append c.point (before ++ front) enter [] in
+    ap (λ q. unlinked_event Exit LabelText q ∷ []) (sym (last-both c.point (before ++ (front ++ enter ∷ [])) text ∙ ap (λ q. last_place q text) first))
+
+-- A link or an image is its bracket, its text, its end and its tail, each with what is around it; whatever is before it
+pub made-is : (opener close tail before : List Event) (behind : List Part) → 0 < length opener → 0 < length close
     → let image = is_named LabelImage opener in
-    made opener behind close tail
-    ≡ opening_events image (is_filled behind) opener ++ (emphasised_parts behind ++ (closing_events image (is_filled behind) (is_last tail) close ++ tail_events image tail))
-made-is [] close tail behind a b = absurd (omega (arith, a))
-made-is (o ∷ os) [] tail behind a b = absurd (omega (arith, b))
-made-is (o ∷ os) (c ∷ cs) tail behind a b = around-pieces o os c cs behind (is_named LabelImage (o ∷ os)) tail
+    let opens = opening_events image (is_filled behind) opener in
+    let text = emphasised_parts behind in
+    made opener behind close tail ≡ opens ++ (text ++ (closing_events ((before ++ opens) ++ text) image (is_filled behind) (is_last tail) close ++ tail_events image tail))
+made-is [] close tail before behind a b = absurd (omega (arith, a))
+made-is (o ∷ os) [] tail before behind a b = absurd (omega (arith, b))
+made-is (o ∷ os) (c ∷ cs) tail before behind a b =
+    let image = is_named LabelImage (o ∷ os) in
+    around-pieces o os c cs behind image tail ∙ ap (λ ends. Pieces o os c cs behind image ends tail) (text-ends o c os before behind image)

@@ -20,8 +20,9 @@ use Rattle.mdinline_links.proofs.Cuts.{spans-first, spans-none, tail-front, tail
 use Rattle.mdinline_links.proofs.Laid.{all-joined, filled-is, placed-are}
 use Rattle.mdinline_links.proofs.Plain.{runs-behind}
 use Rattle.mdinline_links.proofs.Steps.{ascending-front, empty-between, stands-made}
-use Rattle.mdinline_links.specs.Laid.{AreAscending, IsReached, Laid, Stands, StandsFor, piece_at, placed_at, with_fate, written_of}
+use Rattle.mdinline_links.specs.Laid.{AreAscending, IsReached, Laid, Stands, StandsFor, piece_at, placed_at, with_fate}
 use Rattle.mdinline_links.specs.Linked.{SoFar, Waiting, all_parts, emphasised_parts, ended, is_named, is_tail, linked_from, outermost_spans, runs_of_parts, span_at, spans_in, taken, with_links}
+use Rattle.mdinline_links.specs.Pieces.{written_from}
 
 -- ---- the end of a label
 
@@ -169,7 +170,7 @@ stands-first bytes es h = record {
 pub all-written : (bytes : List ℕ) (es : List Event) (bs : List Bracket) (rs : List Run) (os : List ℕ) (ps : List Piece) (rest : List Run) (bound next : ℕ) (z : SoFar)
     → Stands es bs rs os ps rest z → linked_from (start_of (runs_in bytes es)) (outermost_spans es) ≡ linked_from z (spans_in bound (drop next es)) → length es ≤ next
     → (ds : List Delimiters) → map as_run ds ≡ paired rs
-    → written_of es (placed_at ps os ds) ≡ with_links bytes es
+    → written_from es [] (placed_at ps os ds) ≡ with_links bytes es
 all-written bytes es bs rs os ps rest bound next z h same end ds pairs =
     let joined = all-joined es z.waiting z.behind bs rs ps h.laid in
     let parts = all_parts z.waiting z.behind in
@@ -180,6 +181,6 @@ all-written bytes es bs rs os ps rest bound next z h same end ds pairs =
     let none : spans_in bound (drop next es) ≡ [] = spans-none bound (drop next es) (omega (arith, left, end)) in
     let reached : linked_from (start_of (runs_in bytes es)) (outermost_spans es) ≡ z = same ∙ ap (linked_from z) none in
     let filled-all = filled-is es parts ps ds joined.1 (subst AreAscending joined.0 (ascending-front rs rest h.apart)) (pairs ∙ ap paired joined.0) long in
-    ap (written_of es) (ap (λ ns. placed_at ps ns ds) h.owners ∙ placed-are ps [] ds)
-    ∙ filled-all.1
+    ap (written_from es []) (ap (λ ns. placed_at ps ns ds) h.owners ∙ placed-are ps [] ds)
+    ∙ filled-all.1 []
     ∙ ap (λ (y : SoFar). emphasised_parts (all_parts y.waiting y.behind)) (sym reached)

@@ -19,9 +19,9 @@ use Rattle.mdinline_links.proofs.Cuts.{long-span}
 use Rattle.mdinline_links.proofs.Laid.{filled-fit, laid-count, placed-are}
 use Rattle.mdinline_links.proofs.Reached.{all-written, end-reaches, read-reaches, stands-ended, stands-first, start_of, tail-reaches}
 use Rattle.mdinline_links.proofs.Steps.{room-front, stands-alone, stands-by, stands-failed, stands-opened, stands-piece, stands-run}
-use Rattle.mdinline_links.specs.Laid.{GoesOn, IsEnded, IsMade, IsReached, IsRead, Stands, bracket_at, piece_at, placed_at, written_of}
+use Rattle.mdinline_links.specs.Laid.{GoesOn, IsEnded, IsMade, IsReached, IsRead, Stands, bracket_at, piece_at, placed_at}
 use Rattle.mdinline_links.specs.Linked.{Part, run, events, SoFar, added, failed, is_bracket, is_named, is_run, is_tail, opened, outermost_spans, part_of, span_at, spans_in, taken, with_links}
-use Rattle.mdinline_links.specs.Pieces.{Fits}
+use Rattle.mdinline_links.specs.Pieces.{Fits, written_from}
 
 pub nothing-there : {A : Type 0} (xs : List A) → length xs ≡ 0 → xs ≡ []
 nothing-there [] h = refl
@@ -97,7 +97,7 @@ module _ (es : List Event) (old new : Pieces) (start end : ℕ) (order : start <
         → new.brackets.items ≡ old.brackets.items → Stands es old.brackets.items (map as_run old.runs.items) old.owners.items old.pieces.items rest z
         → Stands es new.brackets.items (map as_run new.runs.items) new.owners.items new.pieces.items rest (taken span z)
     read-same z y is adds ps bs h =
-        let all = stands-piece es old.brackets.items (map as_run old.runs.items) old.owners.items old.pieces.items rest z (piece_at start end Same) span h refl refl (fits.0, fits.1, tt) in
+        let all = stands-piece es old.brackets.items (map as_run old.runs.items) old.owners.items old.pieces.items rest z (piece_at start end Same) span h refl (λ before. refl) (fits.0, fits.1, tt) in
         subst (Stands es new.brackets.items (map as_run new.runs.items) new.owners.items new.pieces.items rest) (sym (is ∙ adds))
         (stands-by es old.brackets.items new.brackets.items (map as_run old.runs.items) (map as_run new.runs.items) old.owners.items new.owners.items
         (old.pieces.items ++ piece_at start end Same ∷ []) new.pieces.items rest rest (record z { behind = z.behind ++ events span ∷ [] }) bs (ap (map as_run) rs) os ps refl all)
@@ -195,7 +195,7 @@ first-reached bytes es all left runs places bs rs os ps is turned = record {
 
 module _ (bytes : List ℕ) (es : List Event) (all : Pieces) (left : List Delimiters) (next : ℕ) (h : IsReached es (start_of (runs_in bytes es)) (outermost_spans es) next all left)
     (ds : List Delimiters) (pairs : map as_run ds ≡ paired (map as_run all.runs.items)) where
-  pub reached-written : length es ≤ next → written_of es (placed_at all.pieces.items all.owners.items ds) ≡ with_links bytes es
+  pub reached-written : length es ≤ next → written_from es [] (placed_at all.pieces.items all.owners.items ds) ≡ with_links bytes es
   reached-written end = all-written bytes es all.brackets.items (map as_run all.runs.items) all.owners.items all.pieces.items (reverse (map as_run left)) h.bound next h.so_far h.stands h.same end ds pairs
 
   pub reached-many : length all.owners.items ≡ length ds

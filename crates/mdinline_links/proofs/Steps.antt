@@ -14,14 +14,15 @@ use Rattle.mdinline_emphasis.specs.declared.pairs.Delimiters.{Delimiters}
 use Rattle.mdinline_emphasis.specs.Emphasis.{Run, paired}
 use Rattle.mdinline_emphasis.specs.Places.{AllHaveRoom, standing}
 use Rattle.mdinline_emphasis.specs.Searches.{as_run}
+use Rattle.mdinline_links.proofs.Written.{written-append}
 use Rattle.mdinline_links.specs.declared.brackets.Bracket.{Bracket}
 use Rattle.mdinline_links.specs.declared.pieces.Fate.TheVariants.{AsData, Ends, Opens, Same, Tail}
 use Rattle.mdinline_links.specs.declared.pieces.Piece.{Piece}
-use Rattle.mdinline_links.proofs.Laid.{all-back, all-front, filled, filled-fit, filled-front, filled-is, laid-count, laid-joined, laid-more, none-at, placed-are, waits-append, with-fate-at, written-append}
+use Rattle.mdinline_links.proofs.Laid.{all-back, all-front, filled, filled-fit, filled-front, filled-is, laid-count, laid-joined, laid-more, none-at, placed-are, waits-append, with-fate-at}
 use Rattle.mdinline_links.proofs.Made.{is_filled, is_last, made-is}
-use Rattle.mdinline_links.specs.Laid.{AreAscending, IsFrame, Laid, NoneWait, Reads, Stands, bracket_at, is_waiting, piece_at, placed_at, waits_at, with_fate, written_of}
+use Rattle.mdinline_links.specs.Laid.{AreAscending, IsFrame, Laid, NoneWait, Reads, Stands, Writes, bracket_at, is_waiting, piece_at, placed_at, waits_at, with_fate}
 use Rattle.mdinline_links.specs.Linked.{Part, run, events, SoFar, Waiting, as_data, emphasised_parts, ended, failed, is_named, made, opened, runs_of_parts}
-use Rattle.mdinline_links.specs.Pieces.{Fits, closing_events, in_fate, opening_events, put, span_of, tail_events}
+use Rattle.mdinline_links.specs.Pieces.{Fits, closing_events, in_fate, opening_events, put, span_of, tail_events, written_from}
 
 -- ---- runs one behind another
 
@@ -74,7 +75,7 @@ module _ (es : List Event) where
 
   -- some pieces whose events these are
   pub stands-events : (bs : List Bracket) (rs : List Run) (os : List ℕ) (ps : List Piece) (left : List Run) (z : SoFar) (q : Piece) (qs : List Piece) (xs : List Event)
-      → Stands es bs rs os ps left z → NoneWait (q ∷ qs) → written_of es (q ∷ qs) ≡ xs → AllByRecursion (Fits (length es)) (q ∷ qs)
+      → Stands es bs rs os ps left z → NoneWait (q ∷ qs) → Writes es (q ∷ qs) xs → AllByRecursion (Fits (length es)) (q ∷ qs)
       → Stands es bs rs os (ps ++ q ∷ qs) left (record z { behind = z.behind ++ events xs ∷ [] })
   stands-events bs rs os ps left z q qs xs h none is fit =
       let reads : Reads es (events xs ∷ []) (q ∷ qs) = (q, qs, [], sym (append-nil (q ∷ qs)), none, is, refl) in
@@ -90,9 +91,9 @@ module _ (es : List Event) where
 
   -- one piece that is written so
   pub stands-piece : (bs : List Bracket) (rs : List Run) (os : List ℕ) (ps : List Piece) (left : List Run) (z : SoFar) (q : Piece) (xs : List Event)
-      → Stands es bs rs os ps left z → is_waiting q.fate ≡ false → put es q ≡ xs → Fits (length es) q
+      → Stands es bs rs os ps left z → is_waiting q.fate ≡ false → ((before : List Event) → put es before q ≡ xs) → Fits (length es) q
       → Stands es bs rs os (ps ++ q ∷ []) left (record z { behind = z.behind ++ events xs ∷ [] })
-  stands-piece bs rs os ps left z q xs h none is fit = stands-events bs rs os ps left z q [] xs h (none, tt) (append-nil (put es q) ∙ is) (fit, tt)
+  stands-piece bs rs os ps left z q xs h none is fit = stands-events bs rs os ps left z q [] xs h (none, tt) (λ before. append-nil (put es before q) ∙ is before) (fit, tt)
 
   -- ---- a run
 
@@ -148,7 +149,7 @@ module _ (es : List Event) where
       → Stands es (take (length bs - 1) bs) rs os (ps ++ q ∷ []) left (failed span ws z)
   stands-taken bs rs os ps left z q span [] e h fate is fit =
       let none : bs ≡ [] = (subst (λ ws. Laid es ws z.behind bs rs ps) (sym e) h.laid).0 in
-      let is_data : put es q ≡ as_data span = ap (λ t. in_fate t (span_of es q)) fate ∙ ap as_data is in
+      let is_data = λ (before : List Event). (let one : put es before q ≡ as_data span = ap (λ t. in_fate before t (span_of es q)) fate ∙ ap as_data is in one) in
       let all = stands-piece bs rs os ps left z q (as_data span) h (ap is_waiting fate) is_data fit in
       subst (λ xs. Stands es xs rs os (ps ++ q ∷ []) left (record z { behind = z.behind ++ events (as_data span) ∷ [] })) (none ∙ ap (λ xs. take (length xs - 1) xs) (sym none)) all
   stands-taken bs rs os ps left z q span (w ∷ ws) e h fate is fit =
@@ -158,7 +159,7 @@ module _ (es : List Event) where
       let parts = w.before ++ events (as_data w.opener) ∷ z.behind in
       let joined : Stands es f.lower_brackets rs os ps left (record z { waiting = ws; behind = parts }) =
       record { laid = laid-joined es w ws z.behind bs rs ps laid; owners = h.owners; left = h.left; apart = h.apart; room = h.room; fit = h.fit } in
-      let is_data : put es q ≡ as_data span = ap (λ t. in_fate t (span_of es q)) fate ∙ ap as_data is in
+      let is_data = λ (before : List Event). (let one : put es before q ≡ as_data span = ap (λ t. in_fate before t (span_of es q)) fate ∙ ap as_data is in one) in
       let all = stands-piece f.lower_brackets rs os ps left (record z { waiting = ws; behind = parts }) q (as_data span) joined (ap is_waiting fate) is_data fit in
       let fewer : length bs - 1 ≡ length f.lower_brackets = (let l = ap length f.brackets ∙ length-append f.lower_brackets (b ∷ []) in omega (arith, l)) in
       let lower : f.lower_brackets ≡ take (length bs - 1) bs =
@@ -199,7 +200,7 @@ module _ (es : List Event) (image : Bool) (end tail : ℕ) (order : end ≤ tail
 
   record AreTails (ts : List Piece) : Type 0 where
     none : NoneWait ts
-    is : written_of es ts ≡ tail_events image (between end tail es)
+    is : Writes es ts (tail_events image (between end tail es))
     fit : AllByRecursion (Fits (length es)) ts
 
   are-tails : AreTails tails × ((end == tail) ≡ is_last (between end tail es))
@@ -210,14 +211,14 @@ module _ (es : List Event) (image : Bool) (end tail : ℕ) (order : end ≤ tail
             let other : (end == tail) ≡ false = grind (arith, nat_tests, less) in
             let long = long-between end tail es order within in (
               subst (λ t. AreTails (cond t (piece_at end tail (Tail image) ∷ []) [])) (sym h)
-                  (record { none = (refl, tt); is = append-nil (tail_events image (between end tail es)); fit = ((order, within, tt), tt) }),
+                  (record { none = (refl, tt); is = λ before. append-nil (tail_events image (between end tail es)); fit = ((order, within, tt), tt) }),
               other ∙ sym (filled-more (between end tail es) (omega (arith, long, less))),
             )
         | inr h ↦
             let same : end ≡ tail = grind (arith, h, order) in
             let this : (end == tail) ≡ true = grind (arith, nat_tests, same) in
             let nothing : between end tail es ≡ [] = ap (λ n. between end n es) (sym same) ∙ empty-between end es in (
-              subst (λ t. AreTails (cond t (piece_at end tail (Tail image) ∷ []) [])) (sym h) (record { none = tt; is = ap (tail_events image) (sym nothing); fit = tt }),
+              subst (λ t. AreTails (cond t (piece_at end tail (Tail image) ∷ []) [])) (sym h) (record { none = tt; is = λ before. ap (tail_events image) (sym nothing); fit = tt }),
               this ∙ ap is_last (sym nothing),
             )
       ]
@@ -232,14 +233,14 @@ alone-by es bs rs os ps rest z [] start end tail waits h none some order within 
       | inl t ↦
           let one = piece_at end tail Same in
           let all = stands-events es bs rs os ps rest z close (one ∷ []) (between start end es ++ between end tail es) h (refl, (refl, tt))
-          (ap (λ xs. between start end es ++ xs) (append-nil (between end tail es))) ((omega (arith, some), omega (arith, order, within), tt), ((order, within, tt), tt)) in
+          (λ before. ap (λ xs. between start end es ++ xs) (append-nil (between end tail es))) ((omega (arith, some), omega (arith, order, within), tt), ((order, within, tt), tt)) in
           subst (λ c. Stands es bs rs os ((ps ++ close ∷ []) ++ cond c (one ∷ []) []) rest (ended (between start end es) (between end tail es) [] z)) (sym t)
           (subst (λ qs. Stands es bs rs os qs rest (ended (between start end es) (between end tail es) [] z)) (sym (append_assoc ps (close ∷ []) (one ∷ []))) all)
       | inr t ↦
           let same : end ≡ tail = grind (arith, t, order) in
           let nothing : between end tail es ≡ [] = ap (λ n. between end n es) (sym same) ∙ empty-between end es in
           let all = stands-events es bs rs os ps rest z close [] (between start end es ++ between end tail es) h (refl, tt)
-          (ap (λ xs. between start end es ++ xs) (sym nothing)) ((omega (arith, some), omega (arith, order, within), tt), tt) in
+          (λ before. ap (λ xs. between start end es ++ xs) (sym nothing)) ((omega (arith, some), omega (arith, order, within), tt), tt) in
           subst (λ c. Stands es bs rs os ((ps ++ close ∷ []) ++ cond c (piece_at end tail Same ∷ []) []) rest (ended (between start end es) (between end tail es) [] z)) (sym t)
           (subst (λ qs. Stands es bs rs os qs rest (ended (between start end es) (between end tail es) [] z)) (sym (append-nil (ps ++ close ∷ []))) all)
     ]
@@ -356,7 +357,7 @@ module _ (es : List Event) (bs : List Bracket) (rs : List Run) (os : List ℕ) (
     room-all : AllHaveRoom (map standing ((f.lower_runs ++ runs_in_it) ++ rest))
     room-all = subst (λ xs. AllHaveRoom (map standing (xs ++ rest))) f.runs h.room
 
-    inside-is : NoneWait inside × (written_of es inside ≡ emphasised_parts z.behind)
+    inside-is : NoneWait inside × Writes es inside (emphasised_parts z.behind)
     inside-is = filled-is es z.behind f.upper ds f.reads (ascending-behind f.lower_runs runs_in_it (ascending-front (f.lower_runs ++ runs_in_it) rest apart-all)) pairs-are long-placed
 
     fit-all : AllByRecursion (Fits (length es)) (f.lower ++ f.piece ∷ f.upper)
@@ -376,18 +377,21 @@ module _ (es : List Event) (bs : List Bracket) (rs : List Run) (os : List ℕ) (
     abbrev link : List Event
     link = made w.opener z.behind span behind_it
 
-    written-is : written_of es (opener ∷ (inside ++ close ∷ tails es image end tail order within)) ≡ link
-    written-is =
+    written-is : Writes es (opener ∷ (inside ++ close ∷ tails es image end tail order within)) link
+    written-is before =
         let ts = tails es image end tail order within in
         let tailed = are-tails es image end tail order within in
         let long = long-between start end es (omega (arith, some)) (omega (arith, order, within)) in
-        ap (λ xs. put es opener ++ xs) (written-append es inside (close ∷ ts))
-        ∙ ap (λ s. opening_events image whole_filled s ++ (written_of es inside ++ (closing_events image whole_filled (end == tail) span ++ written_of es ts))) f.span
-        ∙ ap (λ xs. opening_events image whole_filled w.opener ++ (xs ++ (closing_events image whole_filled (end == tail) span ++ written_of es ts))) inside-is.1
-        ∙ ap (λ xs. opening_events image whole_filled w.opener ++ (emphasised_parts z.behind ++ (closing_events image whole_filled (end == tail) span ++ xs))) tailed.0.is
-        ∙ ap (λ t. opening_events image whole_filled w.opener ++ (emphasised_parts z.behind ++ (closing_events image whole_filled t span ++ tail_events image behind_it))) tailed.1
-        ∙ ap (λ t. opening_events image t w.opener ++ (emphasised_parts z.behind ++ (closing_events image t (is_last behind_it) span ++ tail_events image behind_it))) is-filled
-        ∙ sym (made-is w.opener span behind_it z.behind f.some (omega (arith, long, some)))
+        let first = put es before opener in
+        let text = emphasised_parts z.behind in
+        let closes = λ (xs : List Event) (filled last : Bool). closing_events ((before ++ xs) ++ text) image filled last span in
+        ap (λ xs. first ++ xs) (written-append es (before ++ first) inside (close ∷ ts))
+        ∙ ap (λ xs. first ++ (xs ++ written_from es ((before ++ first) ++ xs) (close ∷ ts))) (inside-is.1 (before ++ first))
+        ∙ ap (λ xs. first ++ (text ++ (closes first whole_filled (end == tail) ++ xs))) (tailed.0.is (((before ++ first) ++ text) ++ closes first whole_filled (end == tail)))
+        ∙ ap (λ s. opening_events image whole_filled s ++ (text ++ (closes (opening_events image whole_filled s) whole_filled (end == tail) ++ tail_events image behind_it))) f.span
+        ∙ ap (λ t. opening_events image whole_filled w.opener ++ (text ++ (closes (opening_events image whole_filled w.opener) whole_filled t ++ tail_events image behind_it))) tailed.1
+        ∙ ap (λ t. opening_events image t w.opener ++ (text ++ (closes (opening_events image t w.opener) t (is_last behind_it) ++ tail_events image behind_it))) is-filled
+        ∙ sym (made-is w.opener span behind_it before z.behind f.some (omega (arith, long, some)))
 
     made-stands : Stands es f.lower_brackets (take b.runs rs) (take b.runs os) new_pieces rest (record z { waiting = ws; behind = w.before ++ events link ∷ [] })
     made-stands =

@@ -1,9 +1,8 @@
 -- What the code writes of spans.
 use Rattle.std.proofs.Common.{◌≡◌, ◌+◌, ◌-◌, ◌<◌, ◌≤◌, ◌∙◌, ℕ, suc, List, [], ◌∷◌, ◌++◌, Some, ap, append-nil, append_assoc, arith, drop, get_or, length, sym, take}
 use Rattle.std.proofs.Math.Seq.{take-add, take-suc}
-use Rattle.std.proofs.lemmas.Grind.{flat_map-append}
 use Rattle.std.proofs.lemmas.List.{drop-drop}
-use Rattle.std.specs.List.{between, flat_map}
+use Rattle.std.specs.List.{between}
 use Rattle.std.specs.Prelude.{slice_get}
 use Rattle.std.proofs.lemmas.Option.{same_Some}
 use Rattle.markdown_base.specs.declared.event.Event.{Event}
@@ -11,7 +10,7 @@ use Rattle.markdown_base.specs.declared.event.Point.{Point}
 use Rattle.mdinline_links.specs.declared.pieces.Fate.TheVariants.{Same}
 use Rattle.mdinline_links.specs.declared.pieces.Piece.{Piece}
 use Rattle.mdinline_links.specs.Linked.{last_place}
-use Rattle.mdinline_links.specs.Pieces.{in_fate, put}
+use Rattle.mdinline_links.specs.Pieces.{in_fate, put, written_from}
 
 -- events end where the last one stands
 pub last-is : (p : Point) (es : List Event) (e : Event) → slice_get es (length es - 1) ≡ Some e → last_place p es ≡ e.point
@@ -33,15 +32,29 @@ between-join es a b c one two =
     ∙ ap (λ n. take n (drop a es)) whole
 
 -- a piece that stays goes on with events that are not written yet
-pub stays-held : (es out : List Event) (from upto : ℕ) (p : Piece) → from ≤ upto → p.start ≤ p.end → p.start ≡ upto → p.fate ≡ Same → out ++ between from p.end es ≡ (out ++ between from upto es) ++ put es p
+pub stays-held : (es out : List Event) (from upto : ℕ) (p : Piece) → from ≤ upto → p.start ≤ p.end → p.start ≡ upto → p.fate ≡ Same
+    → out ++ between from p.end es ≡ (out ++ between from upto es) ++ put es (out ++ between from upto es) p
 stays-held es out from upto p order runs at same =
-    let here : put es p ≡ between upto p.end es = ap (λ f. in_fate f (between p.start p.end es)) same ∙ ap (λ n. between n p.end es) at in
-    sym (append_assoc out (between from upto es) (put es p) ∙ ap (λ xs. out ++ (between from upto es ++ xs)) here ∙ ap (λ xs. out ++ xs) (between-join es from upto p.end order (omega (arith, runs, at))))
+    let before = out ++ between from upto es in
+    let here : put es before p ≡ between upto p.end es = ap (λ f. in_fate before f (between p.start p.end es)) same ∙ ap (λ n. between n p.end es) at in
+    sym (append_assoc out (between from upto es) (put es before p) ∙ ap (λ xs. out ++ (between from upto es ++ xs)) here ∙ ap (λ xs. out ++ xs) (between-join es from upto p.end order (omega (arith, runs, at))))
+
+-- what is written of two lists of pieces
+pub written-append : (es before : List Event) (ps qs : List Piece) → written_from es before (ps ++ qs) ≡ written_from es before ps ++ written_from es (before ++ written_from es before ps) qs
+written-append es before [] qs = ap (λ xs. written_from es xs qs) (sym (append-nil before))
+written-append es before (p ∷ ps) qs =
+    let here = put es before p in
+    let more = written_from es (before ++ here) ps in
+    ap (λ xs. here ++ xs) (written-append es (before ++ here) ps qs)
+    ∙ sym (append_assoc here more (written_from es ((before ++ here) ++ more) qs))
+    ∙ ap (λ xs. (here ++ more) ++ written_from es xs qs) (append_assoc before here more)
 
 -- what is written of one piece more
-pub written-more : (es : List Event) (ps : List Piece) (i : ℕ) (p : Piece) → i < length ps → p ≡ get_or ps i p → flat_map (put es) (take i ps) ++ put es p ≡ flat_map (put es) (take (i + 1) ps)
+pub written-more : (es : List Event) (ps : List Piece) (i : ℕ) (p : Piece) → i < length ps → p ≡ get_or ps i p
+    → written_from es [] (take i ps) ++ put es (written_from es [] (take i ps)) p ≡ written_from es [] (take (i + 1) ps)
 written-more es ps i p inside is =
     let same : i + 1 ≡ suc i = omega arith in
-    ap (λ xs. flat_map (put es) (take i ps) ++ xs) (sym (append-nil (put es p)) ∙ ap (λ q. flat_map (put es) (q ∷ [])) is)
-    ∙ sym (flat_map-append (put es) (take i ps) (get_or ps i p ∷ []))
-    ∙ ap (flat_map (put es)) (sym (take-suc ps i p inside) ∙ ap (λ n. take n ps) (sym same))
+    let so_far = written_from es [] (take i ps) in
+    ap (λ xs. so_far ++ xs) (sym (append-nil (put es so_far p)) ∙ ap (λ q. written_from es so_far (q ∷ [])) is)
+    ∙ sym (written-append es [] (take i ps) (get_or ps i p ∷ []))
+    ∙ ap (written_from es []) (sym (take-suc ps i p inside) ∙ ap (λ n. take n ps) (sym same))

@@ -54,7 +54,7 @@ HoldsAround Q B = (p q : Q) (name : Name) (e : Event) (es : List Event) → is_m
 abbrev pub HoldsAroundText : (Q : Type 0) → (Q → List Event → Q → Type 0) → Type 0
 HoldsAroundText Q B =
     (p m n q : Q) (e : Event) (es text : List Event) (f : Event) (fs : List Event) → 0 < length text → IsBalanced (e ∷ es) → IsBalanced text → B p (e ∷ es) m → B m text n
-    → B n (f ∷ fs) q → B p ((e ∷ es) ++ (spanning LabelText (last_place e.point es) f.point text ++ f ∷ fs)) q
+    → B n (f ∷ fs) q → B p ((e ∷ es) ++ (spanning LabelText (last_place e.point es) (last_place (last_place e.point es) text) text ++ f ∷ fs)) q
 
 -- `A` is the property of what is read, `B` that of what is made, and `T` what is known of each outermost span besides. `A` holds of both parts of
 -- a list, and gives `B`; `B` holds of nothing, of two lists together, of a span around a list, of data in the place of a span that may be data, of a

@@ -1,6 +1,6 @@
 -- Inner: how pieces are laid out for the parts of a text. No public contract cites this file.
 use Rattle.std.specs.Prelude.{◌≡◌, ℕ, zero, suc, ◌+◌, ◌-◌, ◌<◌, ◌≤◌, nat_lt, ◌==◌, Bool, true, false, cond, List, [], ◌∷◌, ◌++◌, drop, length, map, reverse, take}
-use Rattle.std.specs.List.{AllByRecursion, between, flat_map}
+use Rattle.std.specs.List.{AllByRecursion, between}
 use Rattle.markdown_base.specs.declared.event.Event.{Event}
 use Rattle.markdown_base.specs.declared.event.Name.TheVariants.{LabelImage, LabelMarker}
 use Rattle.mdinline_emphasis.specs.declared.pairs.Delimiters.{Delimiters}
@@ -13,7 +13,7 @@ use Rattle.mdinline_links.specs.declared.pieces.Fate.{Fate}
 use Rattle.mdinline_links.specs.declared.pieces.Fate.TheVariants.{AsData, Opens, Ends, Tail, Waits, Paired}
 use Rattle.mdinline_links.specs.declared.pieces.Piece.{Piece}
 use Rattle.mdinline_links.specs.Linked.{Part, run, events, SoFar, Waiting, ended, is_bracket, is_named, is_run, linked_from, runs_of_parts, spans_in, taken}
-use Rattle.mdinline_links.specs.Pieces.{Fits, put, span_of}
+use Rattle.mdinline_links.specs.Pieces.{Fits, span_of, written_from}
 
 -- a piece is a run that is in no pair yet
 abbrev pub is_waiting : Fate → Bool
@@ -43,15 +43,16 @@ placed_at ps (o ∷ os) (d ∷ ds) = with_fate o (Paired d) (placed_at ps os ds)
 abbrev pub piece_at : (start end : ℕ) → Fate → Piece
 piece_at start end fate = record { start = start; end = end; fate = fate }
 
-abbrev pub written_of : List Event → List Piece → List Event
-written_of es ps = flat_map (put es) ps
+-- these events are written of pieces, whatever is before them
+abbrev pub Writes : List Event → List Piece → List Event → Type 0
+Writes es ps xs = (before : List Event) → written_from es before ps ≡ xs
 
 -- these pieces are those of parts: one for each run, which is in no pair yet, and some for the events between two
 abbrev pub Reads : List Event → List Part → List Piece → Type 0
 Reads es [] ps = ps ≡ []
 Reads es (run r ∷ parts) ps = (p : Piece) × (more : List Piece) × (ps ≡ p ∷ more) × (is_waiting p.fate ≡ true) × Reads es parts more
 Reads es (events xs ∷ parts) ps =
-    (p : Piece) × (front more : List Piece) × (ps ≡ (p ∷ front) ++ more) × NoneWait (p ∷ front) × (written_of es (p ∷ front) ≡ xs) × Reads es parts more
+    (p : Piece) × (front more : List Piece) × (ps ≡ (p ∷ front) ++ more) × NoneWait (p ∷ front) × Writes es (p ∷ front) xs × Reads es parts more
 
 abbrev pub bracket_at : (piece runs : ℕ) → (image : Bool) → Bracket
 bracket_at piece runs image = record { piece = piece; runs = runs; image = image }

@@ -87,9 +87,13 @@ abbrev pub as_data : List Event → List Event
 as_data [] = []
 as_data (e ∷ es) = unlinked_event Enter Data e.point ∷ unlinked_event Exit Data (last_place e.point es) ∷ []
 
--- The text of a link or an image, between its bracket and its end, with emphasis; where nothing is between them, there is none
+-- The text of a link or an image, between its bracket and its end, with emphasis: from where the bracket ends to where the text does, so that no
+-- prefix of an empty last line is in it. Where nothing is between them, there is none
 abbrev pub label_text : (opener close : List Event) → (between : List Part) → List Event
-label_text (e ∷ es) (f ∷ fs) (p ∷ ps) = spanning LabelText (last_place e.point es) f.point (emphasised_parts (p ∷ ps))
+label_text (e ∷ es) (f ∷ fs) (p ∷ ps) =
+    let start = last_place e.point es in
+    let text = emphasised_parts (p ∷ ps) in
+    spanning LabelText start (last_place start text) text
 label_text opener close between = []
 
 -- a link, or an image: its label, which is the bracket, the text and the end; and its tail

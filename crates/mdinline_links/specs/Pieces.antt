@@ -26,11 +26,11 @@ opening_events image filled (e ∷ es) =
     ∷ unlinked_event Enter Label e.point
     ∷ ((e ∷ es) ++ cond filled (unlinked_event Enter LabelText (last_place e.point es) ∷ []) [])
 
--- the end of a label: its text ends, if it has one, and the label does; and the span, if no tail is behind
-abbrev pub closing_events : (image filled last : Bool) → List Event → List Event
-closing_events image filled last [] = []
-closing_events image filled last (e ∷ es) =
-    cond filled (unlinked_event Exit LabelText e.point ∷ []) []
+-- the end of a label, behind these events: its text ends, if it has one, where they do, and the label does; and the span, if no tail is behind
+abbrev pub closing_events : (before : List Event) → (image filled last : Bool) → List Event → List Event
+closing_events before image filled last [] = []
+closing_events before image filled last (e ∷ es) =
+    cond filled (unlinked_event Exit LabelText (last_place e.point before) ∷ []) []
     ++ ((e ∷ es) ++ unlinked_event Exit Label (last_place e.point es) ∷ cond last (unlinked_event Exit (whole image) (last_place e.point es) ∷ []) [])
 
 -- a tail, behind which the span ends
@@ -38,22 +38,27 @@ abbrev pub tail_events : (image : Bool) → List Event → List Event
 tail_events image [] = []
 tail_events image (e ∷ es) = (e ∷ es) ++ unlinked_event Exit (whole image) (last_place e.point es) ∷ []
 
--- what comes in the place of a span
-abbrev pub in_fate : Fate → List Event → List Event
-in_fate Same span = span
-in_fate AsData span = as_data span
-in_fate (Opens image filled) span = opening_events image filled span
-in_fate (Ends image filled last) span = closing_events image filled last span
-in_fate (Tail image) span = tail_events image span
-in_fate Waits span = span
-in_fate (Paired d) span = in_place (as_run d)
+-- what comes in the place of a span, behind these events
+abbrev pub in_fate : (before : List Event) → Fate → List Event → List Event
+in_fate before Same span = span
+in_fate before AsData span = as_data span
+in_fate before (Opens image filled) span = opening_events image filled span
+in_fate before (Ends image filled last) span = closing_events before image filled last span
+in_fate before (Tail image) span = tail_events image span
+in_fate before Waits span = span
+in_fate before (Paired d) span = in_place (as_run d)
 
 -- the span of a piece
 abbrev pub span_of : List Event → Piece → List Event
 span_of es p = between p.start p.end es
 
-abbrev pub put : List Event → Piece → List Event
-put es p = in_fate p.fate (span_of es p)
+abbrev pub put : List Event → (before : List Event) → Piece → List Event
+put es before p = in_fate before p.fate (span_of es p)
+
+-- what comes in the place of pieces, behind these events
+abbrev pub written_from : List Event → (before : List Event) → List Piece → List Event
+written_from es before [] = []
+written_from es before (p ∷ ps) = let here = put es before p in here ++ written_from es (before ++ here) ps
 
 -- a run with its pairs has room for its markers
 abbrev pub HasRoomFor : Fate → Type 0

@@ -12,10 +12,10 @@ ghost use Rattle.mdinline_emphasis.specs.Places.{ArePlacesInside};
 ghost use Rattle.mdinline_emphasis.specs.Runs.{runs_in};
 ghost use Rattle.mdinline_emphasis.specs.Searches.{as_run};
 ghost use Rattle.mdinline_links.specs.Costs.{pay, to_pay, to_write};
-ghost use Rattle.mdinline_links.specs.Laid.{GoesOn, IsEnded, IsMade, IsRead, IsRunRead, piece_at, placed_at, with_fate, written_of};
+ghost use Rattle.mdinline_links.specs.Laid.{GoesOn, IsEnded, IsMade, IsRead, IsRunRead, piece_at, placed_at, with_fate};
 ghost use Rattle.mdinline_links.specs.declared.pieces.Fate.TheVariants.{Waits};
 ghost use Rattle.mdinline_links.specs.Linked.{with_links};
-ghost use Rattle.mdinline_links.specs.Pieces.{Fits};
+ghost use Rattle.mdinline_links.specs.Pieces.{Fits, written_from};
 
 use crate::pieces::{Fate, Piece, is_bracket, is_named, is_run, is_tail, span_end, written};
 use markdown_base::event::{Event, Name};
@@ -290,7 +290,7 @@ fn pieces_of<L: Ledger>(
     turns: &mut Turns<L>,
 ) -> Result<Vec<Piece>, AllocError>
     requires room { ArePlacesInside bytes.now events.now }
-    ensures links { IfOk result (λ pieces. written_of events.now pieces.items ≡ with_links bytes.now events.now) }
+    ensures links { IfOk result (λ pieces. written_from events.now [] pieces.items ≡ with_links bytes.now events.now) }
     ensures fit { IfOk result (λ pieces. AllByRecursion (Fits (length events.now)) pieces.items) }
     ensures paid { IfOk result (λ pieces. turns.new + to_write pieces.items ≤ turns.old + pay (runs_in bytes.now events.now) + 3 * length events.now) }
 {

@@ -1,13 +1,13 @@
 //! The outermost spans of a text, and what comes in the place of each.
 
 ghost use Rattle.std.specs.Prelude.{◌≡◌, ◌+◌, ◌≤◌, ◌<◌, ◌++◌, ◌∷◌, [], cond, drop, length, IfOk, IsTrue, OnOk};
-ghost use Rattle.std.specs.List.{AllByRecursion, between, flat_map};
+ghost use Rattle.std.specs.List.{AllByRecursion, between};
 ghost use Rattle.mdinline_emphasis.specs.Emphasis.{unlinked_event};
 ghost use Rattle.mdinline_emphasis.specs.Runs.{depth_after};
 ghost use Rattle.mdinline_links.specs.Costs.{ends_in, to_write};
 ghost use Rattle.mdinline_links.specs.declared.pieces.Fate.TheVariants.{Same};
 ghost use Rattle.mdinline_links.specs.Linked.{as_data, is_bracket, is_named, is_run, is_tail, last_place, span_at};
-ghost use Rattle.mdinline_links.specs.Pieces.{Fits, HasRoomFor, closing_events, in_fate, opening_events, put, tail_events, whole};
+ghost use Rattle.mdinline_links.specs.Pieces.{Fits, HasRoomFor, closing_events, in_fate, opening_events, put, tail_events, whole, written_from};
 
 use markdown_base::event::{Event, Kind, Name, Point};
 use mdconstructs_loop_counts::Turns;
@@ -192,7 +192,7 @@ fn push_opening(
     push_event(out, filled, Kind::Enter, Name::LabelText, end)
 }
 
-/// Adds the end of a label, with what is around it.
+/// Adds the end of a label, with what is around it. Its text ends where the events before it do.
 fn push_closing(
     out: &mut Vec<Event>,
     span: &[Event],
@@ -200,13 +200,14 @@ fn push_closing(
     filled: bool,
     last: bool,
 ) -> Result<(), AllocError>
-    ensures { OnOk result (out.new.items ≡ out.old.items ++ closing_events image filled last span.now) }
+    ensures { OnOk result (out.new.items ≡ out.old.items ++ closing_events out.old.items image filled last span.now) }
 {
     let [first, rest @ ..] = span else {
         return Ok(());
     };
     let end = last_place(first.point, rest);
-    push_event(out, filled, Kind::Exit, Name::LabelText, first.point)?;
+    let text_end = last_place(first.point, out.as_slice());
+    push_event(out, filled, Kind::Exit, Name::LabelText, text_end)?;
     out.extend_from_slice(span)?;
     push_event(out, true, Kind::Exit, Name::Label, end)?;
     push_event(out, last, Kind::Exit, whole(image), end)
@@ -237,7 +238,7 @@ fn push_fate<L: Ledger>(
     turns: &mut Turns<L>,
 ) -> Result<(), AllocError>
     requires room { HasRoomFor fate.now }
-    ensures written { OnOk result (out.new.items ≡ out.old.items ++ in_fate fate.now span.now) }
+    ensures written { OnOk result (out.new.items ≡ out.old.items ++ in_fate out.old.items fate.now span.now) }
     ensures turns { turns.new ≤ turns.old + ends_in fate.now }
 {
     match fate {
@@ -274,7 +275,7 @@ fn push_piece<L: Ledger>(
     requires fits { Fits (length events.now) piece.now }
     ensures order { IfOk result (λ new. new.0 ≤ new.1) }
     ensures inside { IfOk result (λ new. new.1 ≤ length events.now) }
-    ensures written { IfOk result (λ new. out.new.items ++ between new.0 new.1 events.now ≡ (out.old.items ++ between held.0 held.1 events.now) ++ put events.now piece.now) }
+    ensures written { IfOk result (λ new. out.new.items ++ between new.0 new.1 events.now ≡ (out.old.items ++ between held.0 held.1 events.now) ++ put events.now (out.old.items ++ between held.0 held.1 events.now) piece.now) }
     ensures turns { turns.new ≤ turns.old + ends_in piece.now.fate }
 {
     if goes_on(held.1, piece) {
@@ -293,7 +294,7 @@ pub(crate) fn written<L: Ledger>(
     turns: &mut Turns<L>,
 ) -> Result<Vec<Event>, AllocError>
     requires fit { AllByRecursion (Fits (length events.now)) pieces.now }
-    ensures written { IfOk result (λ out. out.items ≡ flat_map (put events.now) pieces.now) }
+    ensures written { IfOk result (λ out. out.items ≡ written_from events.now [] pieces.now) }
     ensures turns { turns.new ≤ turns.old + to_write pieces.now }
 {
     // (a link of one reference has ten events, and six come around them)

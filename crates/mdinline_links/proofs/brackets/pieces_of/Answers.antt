@@ -1,4 +1,4 @@
-use Rattle.std.proofs.Common.{◌≡◌, ◌+◌, ◌≤◌, ◌∙◌, ap, arith, length, rules, subst, sym, take}
+use Rattle.std.proofs.Common.{◌≡◌, ◌+◌, ◌≤◌, ◌∙◌, [], ap, arith, length, rules, subst, sym, take}
 use Rattle.std.specs.List.{AllByRecursion}
 use Rattle.mdinline_emphasis.specs.Runs.{runs_in}
 use Rattle.mdinline_links.proofs.Reached.{start_of}
@@ -6,9 +6,8 @@ use Rattle.mdinline_links.proofs.Costs.{all-paid, first-paid}
 use Rattle.mdinline_links.proofs.Places.{paired-many, placed-pairs}
 use Rattle.mdinline_links.proofs.Read.{first-reached, reached-fit, reached-many, reached-more, reached-owners, reached-written}
 use Rattle.mdinline_links.specs.Costs.{pay, to_write}
-use Rattle.mdinline_links.specs.Laid.{written_of}
 use Rattle.mdinline_links.specs.Linked.{outermost_spans}
-use Rattle.mdinline_links.specs.Pieces.{Fits}
+use Rattle.mdinline_links.specs.Pieces.{Fits, written_from}
 use Rattle.mdinline_links.proofs.brackets.pieces_of.Goals as goal
 
 pub loop-next-init : goal.loop-next-init
@@ -43,7 +42,7 @@ pub returns-clause-links : goal.returns-clause-links
 returns-clause-links g c =
     let l = c.loop-next in
     let end : length c.args.events.now ≤ l.next = search rules in
-    ap (written_of c.args.events.now) c.place_runs.ensures.pieces
+    ap (written_from c.args.events.now []) c.place_runs.ensures.pieces
     ∙ reached-written c.args.bytes.now c.args.events.now l.all l.left.items l.next l.invariant.1 c.pair_behind.new.runs.items c.in_ok-pair_behind.ensures.pairs end
 
 pub returns-clause-fit : goal.returns-clause-fit

@@ -16,4 +16,4 @@ returns-clause-written g c =
     ap (λ xs. c.push_fate.new.out.items ++ xs) (between_none es end)
     ∙ append-nil c.push_fate.new.out.items
     ∙ c.in_ok-push_fate.ensures.written
-    ∙ ap (λ ys. ys ++ put es c.args.piece.now) c.in_ok-extend_from_slice.ensures.items
+    ∙ ap (λ ys. ys ++ put es ys c.args.piece.now) c.in_ok-extend_from_slice.ensures.items

@@ -12,7 +12,7 @@ loop-next-preserved g c =
     let pairs = c.push_piece.ensures.turns in
     let inside = c.loop-next-test.true in
     record {
-      built = c.in_ok-held.ensures.written ∙ ap (λ xs. xs ++ put c.args.events.now c.index-pieces-next.result) c.loop-next.invariant.built
+      built = c.in_ok-held.ensures.written ∙ ap (λ xs. xs ++ put c.args.events.now xs c.index-pieces-next.result) c.loop-next.invariant.built
           ∙ written-more c.args.events.now c.args.pieces.now c.loop-next.next c.index-pieces-next.result inside c.index-pieces-next.is;
       order = c.in_ok-held.ensures.order;
       inside = c.in_ok-held.ensures.inside;
