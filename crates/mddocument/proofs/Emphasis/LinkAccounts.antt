@@ -222,14 +222,14 @@ module _ (bytes : List ℕ) where
   opens-front (x ∷ xs) ys some h = h
 
   text-over : (p m n q : List Seat) (e : Event) (es text : List Event) (f : Event) (fs : List Event) → 0 < length text → IsBalanced (e ∷ es) → IsBalanced text → Over p (e ∷ es) m → Over m text n → Over n (f ∷ fs) q
-      → Over p ((e ∷ es) ++ (spanning LabelText (last_place e.point es) f.point text ++ f ∷ fs)) q
+      → Over p ((e ∷ es) ++ (spanning LabelText (last_place e.point es) (last_place (last_place e.point es) text) text ++ f ∷ fs)) q
   text-over p m n q e es text f fs some b c h k l =
-      let exit = unlinked_event Exit LabelText f.point in
+      let exit = unlinked_event Exit LabelText (last_place (last_place e.point es) text) in
       let behind = text ++ exit ∷ f ∷ fs in
       let inside = over-both m n q text (exit ∷ f ∷ fs) c k (over-exit n q exit (f ∷ fs) refl l) in
       let same : (text ++ exit ∷ []) ++ f ∷ fs ≡ behind = append_assoc text (exit ∷ []) (f ∷ fs) in
       let spanned = over-enter m q (unlinked_event Enter LabelText (last_place e.point es)) behind refl (some-front text (exit ∷ f ∷ fs) some) (opens-front text (exit ∷ f ∷ fs) some (balanced-opens c)) inside in
-      over-both p m q (e ∷ es) (spanning LabelText (last_place e.point es) f.point text ++ f ∷ fs) b h
+      over-both p m q (e ∷ es) (spanning LabelText (last_place e.point es) (last_place (last_place e.point es) text) text ++ f ∷ fs) b h
       (subst (λ xs. Over m (unlinked_event Enter LabelText (last_place e.point es) ∷ xs) q) (sym same) spanned)
 
   -- ---- emphasis
