@@ -130,7 +130,7 @@ module _ (on : Constructs) where
   label-text-named [] close ps l h = no-events
   label-text-named (e ∷ es) [] ps l h = no-events
   label-text-named (e ∷ es) (f ∷ fs) [] l h = no-events
-  label-text-named (e ∷ es) (f ∷ fs) (p ∷ ps) l h = spanning-named LabelText (last_place e.point es) f.point (emphasised_parts (p ∷ ps)) l (parts-named (p ∷ ps) h)
+  label-text-named (e ∷ es) (f ∷ fs) (p ∷ ps) l h = spanning-named LabelText (last_place e.point es) (last_place (last_place e.point es) (emphasised_parts (p ∷ ps))) (emphasised_parts (p ∷ ps)) l (parts-named (p ∷ ps) h)
 
   -- what is made of a bracket has its name: an image's bracket makes an image, and another one is a link's
   whole-name : (opener : List Event) → Are opener → is_bracket opener ≡ true → May (cond (is_named LabelImage opener) Image Link)

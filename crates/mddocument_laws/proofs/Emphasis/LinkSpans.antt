@@ -118,7 +118,7 @@ label-spans : (opener close : List Event) (ps : List Part) → is_bracket opener
 label-spans [] close ps b c g up = absurd (false≢true b)
 label-spans (e ∷ es) [] ps b c g up = absurd (false≢true c)
 label-spans (e ∷ es) (f ∷ fs) [] b c g up = plain-spans [] tt
-label-spans (e ∷ es) (f ∷ fs) (p ∷ ps) b c g up = spanning-spans LabelText (last_place e.point es) f.point (emphasised_parts (p ∷ ps)) _ refl (parts-spans (p ∷ ps) g up)
+label-spans (e ∷ es) (f ∷ fs) (p ∷ ps) b c g up = spanning-spans LabelText (last_place e.point es) (last_place (last_place e.point es) (emphasised_parts (p ∷ ps))) (emphasised_parts (p ∷ ps)) _ refl (parts-spans (p ∷ ps) g up)
 
 made-spans : (opener : List Event) (ps : List Part) (close tail : List Event) → is_bracket opener ≡ true → is_named LabelEnd close ≡ true → ArePlain opener → ArePlain close → ArePlain tail
     → AreGood ps → AreAscending (runs_of_parts ps) → HaveSpans (made opener ps close tail) (spans_between ps ++ spans_of_runs (runs_of_parts ps))
