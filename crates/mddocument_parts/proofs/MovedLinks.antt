@@ -316,7 +316,11 @@ module _ (m : Moving) where
   text-moved (e ∷ es) (f ∷ fs) (p ∷ ps) =
       let start = last-moved e.point es in
       let inside = parts-moved (p ∷ ps) in
-      (λ i. spanning LabelText (start i) (m.places.to f.point) (inside i)) ∙ spanning-moved LabelText (last_place e.point es) f.point (emphasised_parts (p ∷ ps))
+      let at = last_place e.point es in
+      let text = emphasised_parts (p ∷ ps) in
+      (λ i. spanning LabelText (start i) (last_place (start i) (inside i)) (inside i))
+      ∙ ap (λ q. spanning LabelText (m.places.to at) q (moved_events m text)) (last-moved at text)
+      ∙ spanning-moved LabelText at (last_place at text) text
 
   made-moved : (opener : List Event) (between : List Part) (close tail : List Event)
       → made (moved_events m opener) (moved_parts between) (moved_events m close) (moved_events m tail) ≡ moved_events m (made opener between close tail)
