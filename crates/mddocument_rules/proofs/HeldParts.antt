@@ -72,7 +72,7 @@ module _ (is : Name → Bool) (apart : AreApart is) where
     label-text-holds [] close ps h = free [] tt
     label-text-holds (e ∷ es) [] ps h = free [] tt
     label-text-holds (e ∷ es) (f ∷ fs) [] h = free [] tt
-    label-text-holds (e ∷ es) (f ∷ fs) (p ∷ ps) h = spanning-holds LabelText (last_place e.point es) f.point (emphasised_parts (p ∷ ps)) apart.text_is (parts-hold (p ∷ ps) h)
+    label-text-holds (e ∷ es) (f ∷ fs) (p ∷ ps) h = spanning-holds LabelText (last_place e.point es) (last_place (last_place e.point es) (emphasised_parts (p ∷ ps))) (emphasised_parts (p ∷ ps)) apart.text_is (parts-hold (p ∷ ps) h)
 
     -- what is in a link or an image
     abbrev pub inside_made : (opener : List Event) → List Part → (close tail : List Event) → List Event

@@ -78,7 +78,7 @@ label-text-apart (e ∷ es) [] ps h = apart-none
 label-text-apart (e ∷ es) (f ∷ fs) [] h = apart-none
 label-text-apart (e ∷ es) (f ∷ fs) (p ∷ ps) h =
     let text = parts-stand (p ∷ ps) h in
-    apart-span LabelText (last_place e.point es) f.point (emphasised_parts (p ∷ ps)) refl text.0 (λ around. text.1 (LabelText ∷ around) refl)
+    apart-span LabelText (last_place e.point es) (last_place (last_place e.point es) (emphasised_parts (p ∷ ps))) (emphasised_parts (p ∷ ps)) refl text.0 (λ around. text.1 (LabelText ∷ around) refl)
 
 is-made : (opener : List Event) (ps : List Part) (close tail : List Event) → StandApart opener → ArePieces ps → StandApart close → StandApart tail → StandInTexts (made opener ps close tail)
 is-made opener ps close tail o t c l =

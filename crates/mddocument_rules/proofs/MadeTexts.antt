@@ -40,14 +40,15 @@ made-by-texts bytes e es part parts f fs tail opens closes tail_is text none res
     let close = f ∷ fs in
     let inner = emphasised_parts (part ∷ parts) in
     let start = last_place e.point es in
-    let spoken = spanning LabelText start f.point inner in
+    let stop = last_place start inner in
+    let spoken = spanning LabelText start stop inner in
     let own = opener ++ (spoken ++ close) in
     let end = last_place e.point (es ++ (spoken ++ close)) in
-    let own_is : IsBalanced own = IsBalanced-append opener (spoken ++ close) opens (IsBalanced-append spoken close (around-balanced LabelText start f.point inner text) closes) in
+    let own_is : IsBalanced own = IsBalanced-append opener (spoken ++ close) opens (IsBalanced-append spoken close (around-balanced LabelText start stop inner text) closes) in
     let label = spanning Label e.point end own in
     let whole : IsBalanced (label ++ tail) = IsBalanced-append label tail (around-balanced Label e.point end own own_is) tail_is in
     let cut = in-span Label e.point end own tail own_is in
-    let first : first_in LabelText own ≡ Some inner = first-behind LabelText opener (spoken ++ close) none ∙ first-text start f.point inner close text in
+    let first : first_in LabelText own ≡ Some inner = first-behind LabelText opener (spoken ++ close) none ∙ first-text start stop inner close text in
     let label_is : label_of bytes own tail ≡ normalised (as_written bytes inner) = (λ i. normalised (written bytes (option_or (string i) (first i)))) in
     let leads : target_behind bytes own tail ≡ target.Label (normalised (as_written bytes inner)) =
     ap (λ o. elim o as (λ _. Target) [ None ↦ target.Label (label_of bytes own tail) | Some r ↦ target.Parts (resource_parts bytes r) ]) resource ∙ ap (λ l. target.Label l) label_is in
