@@ -19,8 +19,9 @@ use Rattle.mdinline_labels.specs.declared.definitions.Definition.{Definition}
 use Rattle.mdinline_labels.specs.declared.definitions.Stretch.{Stretch}
 use Rattle.mdinline_labels.specs.Definitions.{end, end_of}
 use Rattle.mdinline_labels.specs.Tails.{begins_with}
-use Rattle.mdblock_definitions.specs.Definitions.{Place, StringLine, all_seats, between, byte_at, definition_marks, definitions_marks, destination_marks, ending_at, ending_marks, further_line, gap_marks, is_byte, leaf, line_marks, marked, parts_marks, places_of, seats_of, span, string, string_lines, text_byte, text_of}
+use Rattle.mdblock_definitions.specs.Definitions.{Place, StringLine, all_seats, before_prefixes, between, byte_at, definition_marks, definitions_marks, destination_marks, ending_at, ending_marks, further_line, gap_marks, is_byte, last_prefixes, leaf, line_marks, marked, parts_marks, places_of, seats_of, span, string, string_lines, text_byte, text_of}
 use Rattle.mdblock_definitions.proofs.LaidParts.{IsLaid, TitleIs}
+use Rattle.mdblock_definitions.proofs.StringEnds.{every-before, every-last, last-endings, seats-both as seats-both-of}
 
 -- ---- parts of a text
 
@@ -162,7 +163,15 @@ module _ (bytes : List ℕ) (P : List Mark → List Seat → Type 0) (kept : IsK
       by false = further-kept line.seats
 
   string-kept : (n : Name) (xs : List Place) → is_void n ≡ false → AllHold xs → Q (string bytes n xs) xs
-  string-kept n xs e h = kept.around n (seats_of xs) (line_marks bytes true (string_lines xs)) e (subst (P (line_marks bytes true (string_lines xs))) (strings-are xs) (lines-kept true (string_lines xs) (strings-hold xs h)))
+  string-kept n xs e h =
+      let inside = before_prefixes xs in
+      let behind = last_prefixes xs in
+      let lines = line_marks bytes true (string_lines inside) in
+      let there = every-before Holds (λ ending prefixes marks k. kept.none) xs h in
+      subst (P (string bytes n xs)) (seats-both-of xs)
+      (kept.both (span bytes n inside lines) (flat_map (ending_marks bytes) behind) (seats_of inside) (seats_of behind)
+      (kept.around n (seats_of inside) lines e (subst (P lines) (strings-are inside) (lines-kept true (string_lines inside) (strings-hold inside there))))
+      (endings-kept behind (last-endings xs) (every-last Holds (λ ending prefixes marks k. k) xs h)))
 
   -- ---- parts of a definition
 

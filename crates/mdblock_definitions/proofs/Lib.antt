@@ -46,8 +46,10 @@ pub mod MarksFits
 pub mod MarksLoop
 pub mod MarksParts
 pub mod MarksPlaces
+pub mod MarksStrings
 pub mod MarksText
 pub mod PlainDefinitions
+pub mod StringEnds
 -- skeleton
 pub mod PartSections
 pub mod PartTexts

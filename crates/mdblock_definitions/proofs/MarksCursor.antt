@@ -481,19 +481,6 @@ module _ (t : ℕ) (bytes : List ℕ) (stack : List Container) where
         ∙ append_assoc (old ++ enter ∷ []) (events_of inside) (exit ∷ []) ∙ append_assoc old (enter ∷ []) (events_of inside ++ exit ∷ [])
         ∙ ap (λ l. old ++ l) (span-events c to n m inside h g some w)
 
-    -- a line ending is written, and the prefixes of the next line
-    pub ending-written : (c : Cursor) → (n : Next (drop c.row xs) c.at) → (old mid new : List Event) (q : Point) → q ≡ point n.y.span.number 1 n.y.span.start 0
-        → mid ≡ old ++ (event_at Enter name.LineEnding c.at.place ∷ event_at Exit name.LineEnding q ∷ []) → new ≡ mid ++ events_of n.marks
-        → new ≡ old ++ events_of (flat_map (ending_marks bytes) (take 1 (left_at t bytes stack xs c)))
-    ending-written c n old mid new q at e f =
-        let next = point n.y.span.number 1 n.y.span.start 0 in
-        let last : q ≡ shown bytes n.ending.end = at ∙ sym (here t bytes next n.seats n.seats_at) ∙ ap (shown bytes) (sym n.ends) in
-        let leaf_is = leaf_marks bytes name.LineEnding (n.ending ∷ []) in
-        let first : mid ≡ old ++ events_of leaf_is = e ∙ (λ k. old ++ (event_at Enter name.LineEnding (n.first k) ∷ event_at Exit name.LineEnding (last k) ∷ [])) in
-        write-both old mid new leaf_is n.marks first f
-        ∙ ap (λ l. old ++ events_of l) (sym (append-nil (leaf_is ++ n.marks)))
-        ∙ ap (λ l. old ++ events_of (flat_map (ending_marks bytes) (take 1 l))) (sym n.left)
-
     -- ---- over the end of a line
 
     pub line-left : (c : Cursor) → IsCursor t bytes stack xs c → columns_left c.at.columns (drop c.row xs) ≡ prefix_len is_byte (left_at t bytes stack xs c)

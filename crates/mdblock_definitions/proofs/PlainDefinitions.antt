@@ -20,7 +20,8 @@ use Rattle.mdinline_labels.specs.declared.definitions.Definition.{Definition}
 use Rattle.mdinline_labels.specs.declared.definitions.Stretch.{Stretch}
 use Rattle.mdinline_labels.specs.Definitions.{end, end_of}
 use Rattle.mdinline_labels.specs.Tails.{begins_with}
-use Rattle.mdblock_definitions.specs.Definitions.{Place, StringLine, between, byte_at, definition_marks, definitions_marks, destination_marks, ending_at, ending_marks, further_line, gap_marks, is_byte, leaf, line_marks, marked, parts_marks, places_in, places_of, seats_of, string, string_lines, text_of}
+use Rattle.mdblock_definitions.specs.Definitions.{Place, StringLine, before_prefixes, between, byte_at, definition_marks, definitions_marks, destination_marks, ending_at, ending_marks, further_line, gap_marks, is_byte, last_prefixes, leaf, line_marks, marked, parts_marks, places_in, places_of, seats_of, string, string_lines, text_of}
+use Rattle.mdblock_definitions.proofs.StringEnds.{every-before, every-last}
 
 -- the prefixes behind a line ending begin none
 abbrev IsPlain : Place → Type 0
@@ -102,7 +103,13 @@ module _ (bytes : List ℕ) where
       (plain_append behind (line_marks bytes false lines) (plain-endings line.behind h.0) (plain-string-lines false lines h.1))
 
   plain-string : (n : Name) (ps : List Place) → ArePlain ps → NoChunk (string bytes n ps)
-  plain-string n ps h = plain_span bytes n (seats_of ps) (line_marks bytes true (string_lines ps)) (plain-string-lines true (string_lines ps) (plain-lines ps h))
+  plain-string n ps h =
+      let inside = before_prefixes ps in
+      let behind = last_prefixes ps in
+      let lines = line_marks bytes true (string_lines inside) in
+      plain_append (span_marks bytes n (seats_of inside) lines) (flat_map (ending_marks bytes) behind)
+      (plain_span bytes n (seats_of inside) lines (plain-string-lines true (string_lines inside) (plain-lines inside (every-before IsPlain (λ ending prefixes marks k. tt) ps h))))
+      (plain-endings behind (every-last IsPlain (λ ending prefixes marks k. k) ps h))
 
   plain-marked : (mark inside : Name) (ps : List Place) → ArePlain ps → NoChunk (marked bytes mark inside ps)
   plain-marked mark inside ps h =

@@ -17,6 +17,7 @@ use Rattle.mdblock_containers.specs.Rows.{Row}
 use Rattle.mdblock_containers.specs.Spans.{IsPlaced}
 use Rattle.mdblock_containers.specs.Stretches.{AreFurther, IsOutside}
 use Rattle.mdblock_definitions.specs.declared.marks.Cursor.{Cursor}
+use Rattle.mdblock_definitions.specs.declared.marks.Written.{Written}
 use Rattle.mdblock_definitions.specs.Definitions.{Place, gap_marks, is_byte, leaf, marked, places_in, seats_of, span, text_of}
 use Rattle.mdblock_definitions.specs.Seen.{row_by}
 
@@ -98,6 +99,19 @@ module _ (t : ℕ) (bytes : List ℕ) where
       pub at : IsCursor to
       pub left : left_at to ≡ drop n (left_at from)
       pub place : to.at.place ≡ end_after from.at.place (seats_of (take n (left_at from)))
+
+    -- A cursor is at the end of a line, and a line is behind that
+    pub record IsBeforeFeed (c : Cursor) : Type 0 where
+      pub cursor : IsCursor c
+      pub end : columns_left c.at.columns (drop c.row xs) ≡ 0
+      pub more : 0 < length (left_at c)
+
+    -- A string of so many bytes from a cursor on is written, without a line ending at its end
+    pub record EndsLines (from : Cursor) (size : ℕ) (w : Written) : Type 0 where
+      pub few : w.left ≤ 1
+      pub goes : Goes from (size - w.left) w.cursor
+      pub whole : w.left ≡ 0 → 1 ≤ prefix_len is_byte (drop (size - 1) (left_at from))
+      pub feed : w.left ≡ 1 → columns_left w.cursor.at.columns (drop w.cursor.row xs) ≡ 0
 
 -- The parts of definitions, from the places that are left before each
 module _ (bytes : List ℕ) where

@@ -62,6 +62,20 @@ string_lines (byte_at s ∷ places) = elim (string_lines places) [
   | line ∷ lines ↦ record line { seats = s ∷ line.seats } ∷ lines
 ]
 
+-- The places of a string: if its last line is empty, it ends with the line ending before that, in front of the prefixes
+abbrev pub before_prefixes : List Place → List Place
+before_prefixes [] = []
+before_prefixes (byte_at s ∷ places) = byte_at s ∷ before_prefixes places
+before_prefixes (ending_at ending prefixes marks ∷ []) = ending_at ending [] [] ∷ []
+before_prefixes (ending_at ending prefixes marks ∷ next ∷ places) = ending_at ending prefixes marks ∷ before_prefixes (next ∷ places)
+
+-- what is behind it: the prefixes of its last line, if that is empty
+abbrev pub last_prefixes : List Place → List Place
+last_prefixes [] = []
+last_prefixes (byte_at s ∷ places) = last_prefixes places
+last_prefixes (ending_at ending prefixes marks ∷ []) = ending_at [] prefixes marks ∷ []
+last_prefixes (ending_at ending prefixes marks ∷ next ∷ places) = last_prefixes (next ∷ places)
+
 module _ (bytes : List ℕ) where
   -- the text of lines, byte by byte: behind the prefixes of the first
   abbrev pub places_in : List Row → List Place
@@ -100,9 +114,11 @@ module _ (bytes : List ℕ) where
   line_marks is_first (line ∷ lines) =
       cond is_first (leaf_marks bytes name.Data line.seats) (further_line line.seats) ++ (flat_map ending_marks line.behind ++ line_marks false lines)
 
-  -- a string, if it is not empty
+  -- A string, if it is not empty: it ends before the prefixes of its last line, if that is empty
   abbrev pub string : Name → List Place → List Mark
-  string n places = span n places (line_marks true (string_lines places))
+  string n places =
+      let inside = before_prefixes places in
+      span n inside (line_marks true (string_lines inside)) ++ flat_map ending_marks (last_prefixes places)
 
   -- a string between two marks
   abbrev pub marked : (mark inside : Name) → List Place → List Mark

@@ -1,9 +1,10 @@
 //! The events of link reference definitions, from the places of their lines.
 
-ghost use Rattle.std.specs.Prelude.{◌≡◌, ◌≤◌, ◌<◌, ◌+◌, ◌*◌, ◌^◌, ◌++◌, ℕ, List, Some, IfOk, cond, drop, false, length, map, nat_lt, take, true};
+ghost use Rattle.std.specs.Prelude.{◌≡◌, ◌≤◌, ◌<◌, ◌+◌, ◌-◌, ◌*◌, ◌^◌, ◌++◌, ℕ, List, Some, IfOk, cond, drop, false, length, map, nat_lt, take, true};
 ghost use Rattle.markdown_base.specs.declared.event.Name.TheVariants.{DefinitionDestinationLiteral, DefinitionDestinationLiteralMarker, DefinitionDestinationRaw, DefinitionDestinationString};
 ghost use Rattle.std.specs.List.{flat_map, prefix_len};
-ghost use Rattle.markdown_base.specs.Virtual.{IsWithinLimit};
+ghost use Rattle.markdown_base.specs.Places.{shown};
+ghost use Rattle.markdown_base.specs.Virtual.{IsWithinLimit, end_after};
 ghost use Rattle.mdblock_lines.specs.Lines.{place_after};
 ghost use Rattle.mdblock_lines.specs.Containers.{Container as ContainerOf};
 ghost use Rattle.mdblock_containers.specs.PlaceEvents.{HasColumns};
@@ -14,13 +15,13 @@ ghost use Rattle.mdinline_labels.specs.Definitions.{definition_at, definitions a
 ghost use Rattle.mdinline_labels.specs.Tails.{begins_with};
 ghost use Rattle.mdblock_containers.specs.declared.spans.RowAt.{RowAt as RowAtOf};
 ghost use Rattle.mdblock_definitions.specs.Costs.{left_to_write, to_write};
-ghost use Rattle.mdblock_definitions.specs.Cursor.{AreLines, FitsDefinition, FitsDestination, FitsGap, FitsMarks, FitsTitle, Goes, HasColumn, HaveLines, IsBegin, IsCursor, IsHeld, columns_left, label_marks, left_at, title_length, title_marks};
-ghost use Rattle.mdblock_definitions.specs.Definitions.{between, definition_marks, definitions_marks, destination_marks, ending_marks, further_line, gap_marks, is_byte, leaf, line_marks, marked, parts_marks, places_in, seats_of, span, string, string_lines, text_of};
+ghost use Rattle.mdblock_definitions.specs.Cursor.{AreLines, EndsLines, IsBeforeFeed, FitsDefinition, FitsDestination, FitsGap, FitsMarks, FitsTitle, Goes, HasColumn, HaveLines, IsBegin, IsCursor, IsHeld, columns_left, label_marks, left_at, title_length, title_marks};
+ghost use Rattle.mdblock_definitions.specs.Definitions.{before_prefixes, between, definition_marks, definitions_marks, destination_marks, ending_marks, further_line, gap_marks, is_byte, last_prefixes, leaf, line_marks, marked, parts_marks, places_in, seats_of, span, string, string_lines, text_of};
 ghost use Rattle.mdblock_definitions.specs.Sections.{text_in};
 ghost use Rattle.mdblock_definitions.specs.Seen.{rows_by};
 
 use markdown_base::configuration::TabSize;
-use markdown_base::event::{Event, Name};
+use markdown_base::event::{Event, Name, Point};
 use mdblock_containers::going::{Open, first_of};
 use mdblock_containers::parts::{PartEnd, write_ending};
 use mdblock_containers::prefixes::At;
@@ -49,6 +50,18 @@ fn left_in(rows: &[RowAt], cursor: Cursor) -> usize
     ensures { result ≡ columns_left cursor.at.columns (drop cursor.row rows.now) }
 {
     rows[cursor.row].span.size - cursor.at.columns
+}
+
+/// How many of so many bytes are in the line of a cursor.
+fn first_in(rows: &[RowAt], cursor: Cursor, size: usize) -> usize
+    requires row { cursor.row < length rows.now }
+    requires column { HasColumn cursor.at.columns (drop cursor.row rows.now) }
+    ensures few { result ≤ size }
+    ensures fits { result ≤ columns_left cursor.at.columns (drop cursor.row rows.now) }
+    ensures full { result < size → result ≡ columns_left cursor.at.columns (drop cursor.row rows.now) }
+{
+    let left = left_in(rows, cursor);
+    if size < left { size } else { left }
 }
 
 /// A span over so many columns of a line, if there are any.
@@ -82,6 +95,51 @@ fn write_leaf<L: Ledger>(
     })
 }
 
+/// The line ending at the end of a line, and the place behind it.
+fn write_feed(events: &mut Vec<Event>, rows: &[RowAt], cursor: Cursor) -> Result<Point, AllocError>
+    requires row { cursor.row + 1 < length rows.now }
+    ensures events { IfOk result (λ _. (t : ℕ) → (bytes : List ℕ) → (stack : List ContainerOf) → IsBeforeFeed t bytes stack rows.now cursor → events.new.items ≡ events.old.items ++ events_of (flat_map (ending_marks bytes) (before_prefixes (take 1 (left_at t bytes stack rows.now cursor))))) }
+    ensures place { IfOk result (λ p. (t : ℕ) → (bytes : List ℕ) → (stack : List ContainerOf) → IsBeforeFeed t bytes stack rows.now cursor → p ≡ shown bytes (end_after cursor.at.place (seats_of (before_prefixes (take 1 (left_at t bytes stack rows.now cursor)))))) }
+{
+    let row = cursor.row + 1;
+    let next = &rows[row];
+    let behind = start_of(next.span);
+    let end = PartEnd {
+        is_blank: false,
+        place: cursor.at.place,
+        behind: Some(behind),
+    };
+    write_ending(events, end)?;
+    Ok(behind)
+}
+
+/// The prefixes of the line behind one, at whose end this is. `line` then holds the bytes of that.
+fn write_prefixes<L: Ledger>(
+    events: &mut Vec<Event>,
+    bytes: &[u8],
+    tab: TabSize,
+    stack: &[Open],
+    rows: &[RowAt],
+    cursor: Cursor,
+    line: &mut Vec<u8>,
+    turns: &mut Turns<L>,
+) -> Result<Cursor, AllocError>
+    requires cursor { IsCursor tab bytes.now (map open_of stack.now) rows.now cursor }
+    requires end { columns_left cursor.at.columns (drop cursor.row rows.now) ≡ 0 }
+    requires more { 0 < length (left_at tab bytes.now (map open_of stack.now) rows.now cursor) }
+    ensures events { IfOk result (λ _. events.new.items ≡ events.old.items ++ events_of (flat_map (ending_marks bytes.now) (last_prefixes (take 1 (left_at tab bytes.now (map open_of stack.now) rows.now cursor))))) }
+    ensures goes { IfOk result (λ c. Goes tab bytes.now (map open_of stack.now) rows.now cursor 1 c) }
+    ensures line { IfOk result (λ c. IsHeld tab bytes.now (drop c.row rows.now) line.new.items) }
+    ensures paid { IfOk result (λ c. turns.new + left_to_write rows.now c + 8 ≤ turns.old + left_to_write rows.now cursor) }
+    ensures turns { turns.new ≤ turns.old + left_to_write rows.now cursor }
+{
+    let row = cursor.row + 1;
+    let next = &rows[row];
+    let front = first_of(stack, next.row.many);
+    let at = prefixes_of(events, bytes, tab, front, next, line, turns)?;
+    Ok(Cursor { row, at })
+}
+
 /// A line ending at the end of a line, and the prefixes of the next. `line` then holds the bytes of that.
 fn write_line_ending<L: Ledger>(
     events: &mut Vec<Event>,
@@ -102,17 +160,9 @@ fn write_line_ending<L: Ledger>(
     ensures paid { IfOk result (λ c. turns.new + left_to_write rows.now c + 8 ≤ turns.old + left_to_write rows.now cursor) }
     ensures turns { turns.new ≤ turns.old + left_to_write rows.now cursor }
 {
-    let row = cursor.row + 1;
-    let next = &rows[row];
-    let end = PartEnd {
-        is_blank: false,
-        place: cursor.at.place,
-        behind: Some(start_of(next.span)),
-    };
-    write_ending(events, end)?;
-    let front = first_of(stack, next.row.many);
-    let at = prefixes_of(events, bytes, tab, front, next, line, turns)?;
-    Ok(Cursor { row, at })
+    write_feed(events, rows, cursor)?;
+    let next = write_prefixes(events, bytes, tab, stack, rows, cursor, line, turns)?;
+    Ok(next)
 }
 
 /// White space of so many bytes, with one line ending at most.
@@ -172,7 +222,16 @@ fn write_further<L: Ledger>(
     Ok(end)
 }
 
-/// So many bytes of a string, from its second line on. `line` holds the bytes of that.
+/// What is written of a string.
+#[derive(Clone, Copy)]
+struct Written {
+    /// Where it is written up to.
+    cursor: Cursor,
+    /// How many of its bytes are left: one, if it ends with a line ending.
+    left: usize,
+}
+
+/// So many bytes of a string, from its second line on, without a line ending at its end. `line` holds the bytes of that line.
 fn write_further_lines<L: Ledger>(
     events: &mut Vec<Event>,
     bytes: &[u8],
@@ -183,30 +242,34 @@ fn write_further_lines<L: Ledger>(
     size: usize,
     line: &mut Vec<u8>,
     turns: &mut Turns<L>,
-) -> Result<Cursor, AllocError>
+) -> Result<Written, AllocError>
     requires cursor { IsCursor tab bytes.now (map open_of stack.now) rows.now cursor }
     requires size { size ≤ length (left_at tab bytes.now (map open_of stack.now) rows.now cursor) }
+    requires some { 1 ≤ size }
     requires line { IsHeld tab bytes.now (drop cursor.row rows.now) line.old.items }
-    ensures events { IfOk result (λ _. events.new.items ≡ events.old.items ++ events_of (line_marks bytes.now false (string_lines (take size (left_at tab bytes.now (map open_of stack.now) rows.now cursor))))) }
-    ensures goes { IfOk result (λ c. Goes tab bytes.now (map open_of stack.now) rows.now cursor size c) }
-    ensures paid { IfOk result (λ c. turns.new + left_to_write rows.now c ≤ turns.old + left_to_write rows.now cursor + 1) }
+    ensures events { IfOk result (λ w. events.new.items ≡ events.old.items ++ events_of (line_marks bytes.now false (string_lines (take (size - w.left) (left_at tab bytes.now (map open_of stack.now) rows.now cursor))))) }
+    ensures ends { IfOk result (λ w. EndsLines tab bytes.now (map open_of stack.now) rows.now cursor size w) }
+    ensures paid { IfOk result (λ w. turns.new + left_to_write rows.now w.cursor ≤ turns.old + left_to_write rows.now cursor + 1) }
     ensures turns { turns.new ≤ turns.old + left_to_write rows.now cursor + 2 }
 {
     let mut here = cursor;
     let mut rest = size;
-    let mut columns = left_in(rows, here);
-    while rest > columns {
+    let mut columns = first_in(rows, here, rest);
+    while rest - columns > 1 {
         turns.add_one();
         let end = write_further(events, bytes, tab, here, columns, line.as_slice(), turns)?;
         here = write_line_ending(events, bytes, tab, stack, rows, end, line, turns)?;
         rest -= columns + 1;
-        columns = left_in(rows, here);
+        columns = first_in(rows, here, rest);
     }
-    let last = write_further(events, bytes, tab, here, rest, line.as_slice(), turns)?;
-    Ok(last)
+    let last = write_further(events, bytes, tab, here, columns, line.as_slice(), turns)?;
+    Ok(Written {
+        cursor: last,
+        left: rest - columns,
+    })
 }
 
-/// So many bytes of a string, line by line.
+/// So many bytes of a string, line by line, without a line ending at its end.
 fn write_lines<L: Ledger>(
     events: &mut Vec<Event>,
     bytes: &[u8],
@@ -217,27 +280,30 @@ fn write_lines<L: Ledger>(
     size: usize,
     line: &mut Vec<u8>,
     turns: &mut Turns<L>,
-) -> Result<Cursor, AllocError>
+) -> Result<Written, AllocError>
     requires cursor { IsCursor tab bytes.now (map open_of stack.now) rows.now cursor }
     requires size { size ≤ length (left_at tab bytes.now (map open_of stack.now) rows.now cursor) }
-    ensures events { IfOk result (λ _. events.new.items ≡ events.old.items ++ events_of (line_marks bytes.now true (string_lines (take size (left_at tab bytes.now (map open_of stack.now) rows.now cursor))))) }
-    ensures goes { IfOk result (λ c. Goes tab bytes.now (map open_of stack.now) rows.now cursor size c) }
-    ensures paid { IfOk result (λ c. turns.new + left_to_write rows.now c ≤ turns.old + left_to_write rows.now cursor + 1) }
+    requires some { 1 ≤ size }
+    ensures events { IfOk result (λ w. events.new.items ≡ events.old.items ++ events_of (line_marks bytes.now true (string_lines (take (size - w.left) (left_at tab bytes.now (map open_of stack.now) rows.now cursor))))) }
+    ensures ends { IfOk result (λ w. EndsLines tab bytes.now (map open_of stack.now) rows.now cursor size w) }
+    ensures paid { IfOk result (λ w. turns.new + left_to_write rows.now w.cursor ≤ turns.old + left_to_write rows.now cursor + 1) }
     ensures turns { turns.new ≤ turns.old + left_to_write rows.now cursor + 1 }
 {
-    let left = left_in(rows, cursor);
-    if size <= left {
-        let whole = write_leaf(events, bytes, tab, cursor, Name::Data, size, turns)?;
-        return Ok(whole);
+    let columns = first_in(rows, cursor, size);
+    let end = write_leaf(events, bytes, tab, cursor, Name::Data, columns, turns)?;
+    let rest = size - columns;
+    if rest <= 1 {
+        return Ok(Written {
+            cursor: end,
+            left: rest,
+        });
     }
-    let end = write_leaf(events, bytes, tab, cursor, Name::Data, left, turns)?;
     let next = write_line_ending(events, bytes, tab, stack, rows, end, line, turns)?;
-    let rest = size - left - 1;
-    let last = write_further_lines(events, bytes, tab, stack, rows, next, rest, line, turns)?;
+    let last = write_further_lines(events, bytes, tab, stack, rows, next, rest - 1, line, turns)?;
     Ok(last)
 }
 
-/// A string of so many bytes, if it is not empty.
+/// A string of so many bytes, if it is not empty. It ends before the prefixes of its last line, if that is empty.
 fn write_string<L: Ledger>(
     events: &mut Vec<Event>,
     bytes: &[u8],
@@ -261,9 +327,17 @@ fn write_string<L: Ledger>(
         return Ok(cursor);
     }
     enter(events, name, cursor.at.place)?;
-    let end = write_lines(events, bytes, tab, stack, rows, cursor, size, line, turns)?;
-    exit(events, name, end.at.place)?;
-    Ok(end)
+    let lines = write_lines(events, bytes, tab, stack, rows, cursor, size, line, turns)?;
+    let end = lines.cursor;
+    let left = lines.left;
+    if left == 0 {
+        exit(events, name, end.at.place)?;
+        return Ok(end);
+    }
+    let behind = write_feed(events, rows, end)?;
+    exit(events, name, behind)?;
+    let next = write_prefixes(events, bytes, tab, stack, rows, end, line, turns)?;
+    Ok(next)
 }
 
 /// A span of so many bytes: a mark, a string and a mark.

@@ -3,12 +3,13 @@ use Rattle.mdblock_containers.specs.SeatPlaces.{events_of}
 use Rattle.mdblock_containers.specs.Views.{open_of}
 use Rattle.mdblock_definitions.specs.Cursor.{Goes, IsHeld, left_at}
 use Rattle.mdblock_definitions.specs.Definitions.{Place, line_marks, string_lines}
-use Rattle.mdblock_definitions.proofs.MarksCursor.{behind-line, goes-nowhere, goes-on, has-columns, here-of, line-full, line-more, line-within, lines-last, lines-next}
+use Rattle.mdblock_definitions.proofs.MarksCursor.{behind-line, goes-nowhere, goes-on, has-columns, here-of, line-full, line-more, line-within, lines-next}
 use Rattle.mdblock_definitions.proofs.MarksCosts.{leaf-fits}
+use Rattle.mdblock_definitions.proofs.MarksStrings.{ends-here, lines-end}
 use Rattle.mdblock_definitions.proofs.marks.write_further_lines.Goals as goal
 
-pub loop-columns-init : goal.loop-columns-init
-loop-columns-init g c =
+pub loop-rest-init : goal.loop-rest-init
+loop-rest-init g c =
     let t = c.args.tab in
     let bytes = c.args.bytes.now in
     let stack = map open_of c.args.stack.now in
@@ -18,11 +19,14 @@ loop-columns-init g c =
       cursor = c.requires.cursor;
       left = c.requires.size;
       fewer = omega arith;
-      columns = c.left_in-columns.ensures;
+      some = c.requires.some;
+      few = c.first_in-columns.ensures.few;
+      fits = c.first_in-columns.ensures.fits;
+      full = c.first_in-columns.ensures.full;
       held = c.requires.line;
       goes = subst (λ (n : ℕ). Goes t bytes stack xs c.args.cursor n c.args.cursor) none (goes-nowhere t bytes stack xs c.args.cursor c.requires.cursor);
       paid = omega arith;
-      events = refl;
+      events = λ j w. refl;
     }
 
 pub write_further-requires : goal.write_further-requires
@@ -31,13 +35,13 @@ write_further-requires g c =
     let bytes = c.args.bytes.now in
     let stack = map open_of c.args.stack.now in
     let xs = c.args.rows.now in
-    let l = c.loop-columns in
-    let i = c.loop-columns.invariant in
+    let l = c.loop-rest in
+    let i = c.loop-rest.invariant in
     let here = here-of t bytes stack xs l.here i.cursor in
     let held = subst (IsHeld t bytes (drop l.here.row xs)) (sym c.as_slice.ensures.value) i.held in
     record {
-      columns = has-columns t bytes stack (drop l.here.row xs) l.here.at here l.columns (omega (arith, i.columns));
-      within = line-within t bytes stack (drop l.here.row xs) l.here.at here l.columns c.as_slice.result.now (omega (arith, i.columns)) held;
+      columns = has-columns t bytes stack (drop l.here.row xs) l.here.at here l.columns i.fits;
+      within = line-within t bytes stack (drop l.here.row xs) l.here.at here l.columns c.as_slice.result.now i.fits held;
     }
 
 pub write_line_ending-requires : goal.write_line_ending-requires
@@ -46,42 +50,48 @@ write_line_ending-requires g c =
     let bytes = c.args.bytes.now in
     let stack = map open_of c.args.stack.now in
     let xs = c.args.rows.now in
-    let l = c.loop-columns in
-    let i = c.loop-columns.invariant in
-    let f = c.in_ok-end.ensures.goes stack xs i.cursor (omega (arith, i.columns)) in
+    let l = c.loop-rest in
+    let i = c.loop-rest.invariant in
+    let f = c.in_ok-end.ensures.goes stack xs i.cursor i.fits in
+    let more : l.columns + 2 ≤ l.rest = omega (arith, c.loop-rest-test.true) in
     record {
       cursor = f.at;
-      end = line-full t bytes stack xs l.here c.in_ok-end.end l.columns i.cursor i.columns c.in_ok-end.ensures.row c.in_ok-end.ensures.column;
-      more = line-more t bytes stack xs l.here c.in_ok-end.end l.columns l.rest f (omega (arith, c.loop-columns-test.true)) i.left;
+      end = line-full t bytes stack xs l.here c.in_ok-end.end l.columns i.cursor (i.full (omega (arith, more))) c.in_ok-end.ensures.row c.in_ok-end.ensures.column;
+      more = line-more t bytes stack xs l.here c.in_ok-end.end l.columns l.rest f (omega (arith, more)) i.left;
     }
 
-pub loop-columns-preserved : goal.loop-columns-preserved
-loop-columns-preserved g c =
+pub loop-rest-preserved : goal.loop-rest-preserved
+loop-rest-preserved g c =
     let t = c.args.tab in
     let bytes = c.args.bytes.now in
     let stack = map open_of c.args.stack.now in
     let xs = c.args.rows.now in
-    let l = c.loop-columns in
-    let i = c.loop-columns.invariant in
+    let l = c.loop-rest in
+    let i = c.loop-rest.invariant in
     let end = c.in_ok-end.end in
     let next = c.in_ok-here.here in
-    let f = c.in_ok-end.ensures.goes stack xs i.cursor (omega (arith, i.columns)) in
+    let f = c.in_ok-end.ensures.goes stack xs i.cursor i.fits in
     let h = c.in_ok-here.ensures.goes in
+    let more : l.columns + 2 ≤ l.rest = omega (arith, c.loop-rest-test.true) in
     let m = l.rest - (l.columns + 1) in
-    let sum : c.args.size - l.rest + (l.columns + 1) ≡ c.args.size - m = omega (arith, i.fewer, c.loop-columns-test.true) in
+    let sum : c.args.size - l.rest + (l.columns + 1) ≡ c.args.size - m = omega (arith, i.fewer, more) in
     let held = subst (IsHeld t bytes (drop l.here.row xs)) (sym c.as_slice.ensures.value) i.held in
     let new = c.write_line_ending.new.events.items in
-    let written = lines-next t bytes stack xs l.here end next i.cursor false l.rest l.columns m i.columns (omega (arith, c.loop-columns-test.true)) i.left refl f h l.events.items c.write_further.new.events.items new
-    (new ++ events_of (line_marks bytes false (string_lines (take m (left_at t bytes stack xs next))))) (c.in_ok-end.ensures.events stack xs i.cursor (omega (arith, i.columns)) held) c.in_ok-here.ensures.events refl in
+    let written = λ (j : ℕ) (w : j ≤ 1).
+    lines-next t bytes stack xs l.here end next i.cursor false (l.rest - j) l.columns (m - j) (i.full (omega (arith, more))) (omega (arith, more, w)) (omega (arith, i.left)) (omega (arith, more, w)) f h l.events.items c.write_further.new.events.items new
+    (new ++ events_of (line_marks bytes false (string_lines (take (m - j) (left_at t bytes stack xs next))))) (c.in_ok-end.ensures.events stack xs i.cursor i.fits held) c.in_ok-here.ensures.events refl in
     record {
       cursor = h.at;
-      left = omega (arith, i.left, ap (λ (p : List Place). length p) (behind-line t bytes stack xs l.here end next l.columns f h), length-drop (l.columns + 1) (left_at t bytes stack xs l.here));
+      left = omega (arith, i.left, more, ap (λ (p : List Place). length p) (behind-line t bytes stack xs l.here end next l.columns f h), length-drop (l.columns + 1) (left_at t bytes stack xs l.here));
       fewer = omega (arith, i.fewer);
-      columns = c.left_in-columns-in-loop-columns.ensures;
+      some = omega (arith, more);
+      few = c.first_in-columns-in-loop-rest.ensures.few;
+      fits = c.first_in-columns-in-loop-rest.ensures.fits;
+      full = c.first_in-columns-in-loop-rest.ensures.full;
       held = c.in_ok-here.ensures.line;
       goes = subst (λ (n : ℕ). Goes t bytes stack xs c.args.cursor n next) sum (goes-on t bytes stack xs c.args.cursor l.here next (c.args.size - l.rest) (l.columns + 1) i.goes (goes-on t bytes stack xs l.here end next l.columns 1 f h));
-      paid = omega (arith, i.paid, c.add_one.ensures, c.write_further.ensures.turns, c.in_ok-end.ensures.paid xs (omega (arith, i.columns)), c.in_ok-here.ensures.paid);
-      events = written ∙ i.events;
+      paid = omega (arith, i.paid, c.add_one.ensures, c.write_further.ensures.turns, c.in_ok-end.ensures.paid xs i.fits, c.in_ok-here.ensures.paid);
+      events = λ j w. written j w ∙ i.events j w;
     }
 
 pub write_further-requires-2 : goal.write_further-requires-2
@@ -90,13 +100,13 @@ write_further-requires-2 g c =
     let bytes = c.args.bytes.now in
     let stack = map open_of c.args.stack.now in
     let xs = c.args.rows.now in
-    let l = c.loop-columns in
-    let i = c.loop-columns.invariant in
+    let l = c.loop-rest in
+    let i = c.loop-rest.invariant in
     let here = here-of t bytes stack xs l.here i.cursor in
     let held = subst (IsHeld t bytes (drop l.here.row xs)) (sym c.as_slice-2.ensures.value) i.held in
     record {
-      columns = has-columns t bytes stack (drop l.here.row xs) l.here.at here l.rest (omega (arith, i.columns, c.loop-columns-test.false));
-      within = line-within t bytes stack (drop l.here.row xs) l.here.at here l.rest c.as_slice-2.result.now (omega (arith, i.columns, c.loop-columns-test.false)) held;
+      columns = has-columns t bytes stack (drop l.here.row xs) l.here.at here l.columns i.fits;
+      within = line-within t bytes stack (drop l.here.row xs) l.here.at here l.columns c.as_slice-2.result.now i.fits held;
     }
 
 pub returns-clause-events : goal.returns-clause-events
@@ -105,23 +115,28 @@ returns-clause-events g c =
     let bytes = c.args.bytes.now in
     let stack = map open_of c.args.stack.now in
     let xs = c.args.rows.now in
-    let l = c.loop-columns in
-    let i = c.loop-columns.invariant in
+    let l = c.loop-rest in
+    let i = c.loop-rest.invariant in
     let held = subst (IsHeld t bytes (drop l.here.row xs)) (sym c.as_slice-2.ensures.value) i.held in
-    let w : l.rest ≤ _ = omega (arith, i.columns, c.loop-columns-test.false) in
-    lines-last t bytes stack xs l.here i.cursor false l.rest w l.events.items _ (c.in_ok-last.ensures.events stack xs i.cursor w held) ∙ i.events
+    let few : l.rest - l.columns ≤ 1 = omega (arith, c.loop-rest-test.false) in
+    lines-end t bytes stack xs l.here i.cursor false l.rest l.columns i.few i.fits l.events.items _ (c.in_ok-last.ensures.events stack xs i.cursor i.fits held) ∙ i.events (l.rest - l.columns) few
 
-pub returns-clause-goes : goal.returns-clause-goes
-returns-clause-goes g c =
+pub returns-clause-ends : goal.returns-clause-ends
+returns-clause-ends g c =
     let t = c.args.tab in
     let bytes = c.args.bytes.now in
     let stack = map open_of c.args.stack.now in
     let xs = c.args.rows.now in
-    let l = c.loop-columns in
-    let i = c.loop-columns.invariant in
-    let w : l.rest ≤ _ = omega (arith, i.columns, c.loop-columns-test.false) in
-    let sum : c.args.size - l.rest + l.rest ≡ c.args.size = omega (arith, i.fewer) in
-    subst (λ (n : ℕ). Goes t bytes stack xs c.args.cursor n c.in_ok-last.last) sum (goes-on t bytes stack xs c.args.cursor l.here c.in_ok-last.last (c.args.size - l.rest) l.rest i.goes (c.in_ok-last.ensures.goes stack xs i.cursor w))
+    let l = c.loop-rest in
+    let i = c.loop-rest.invariant in
+    let few : l.rest - l.columns ≤ 1 = omega (arith, c.loop-rest-test.false) in
+    let sum : c.args.size - l.rest + l.columns ≡ c.args.size - (l.rest - l.columns) = omega (arith, i.fewer, i.few) in
+    record {
+      few = few;
+      goes = subst (λ (n : ℕ). Goes t bytes stack xs c.args.cursor n c.in_ok-last.last) sum (goes-on t bytes stack xs c.args.cursor l.here c.in_ok-last.last (c.args.size - l.rest) l.columns i.goes (c.in_ok-last.ensures.goes stack xs i.cursor i.fits));
+      whole = λ left. ends-here t bytes stack xs l.here c.args.cursor c.args.size l.rest l.columns i.cursor i.goes i.some i.fewer (omega (arith, left, i.few)) i.fits;
+      feed = λ left. line-full t bytes stack xs l.here c.in_ok-last.last l.columns i.cursor (i.full (omega (arith, left))) c.in_ok-last.ensures.row c.in_ok-last.ensures.column;
+    }
 
 pub returns-in_err-end-clause-turns : goal.returns-in_err-end-clause-turns
 returns-in_err-end-clause-turns g c =
@@ -129,10 +144,9 @@ returns-in_err-end-clause-turns g c =
     let bytes = c.args.bytes.now in
     let stack = map open_of c.args.stack.now in
     let xs = c.args.rows.now in
-    let l = c.loop-columns in
-    let i = c.loop-columns.invariant in
-    let line = leaf-fits xs l.here l.columns (omega (arith, i.columns)) in
-    omega (arith, i.paid, c.add_one.ensures, c.write_further.ensures.turns, line)
+    let l = c.loop-rest in
+    let i = c.loop-rest.invariant in
+    omega (arith, i.paid, c.add_one.ensures, c.write_further.ensures.turns, leaf-fits xs l.here l.columns i.fits)
 
 pub returns-in_err-here-clause-turns : goal.returns-in_err-here-clause-turns
 returns-in_err-here-clause-turns g c =
@@ -140,9 +154,9 @@ returns-in_err-here-clause-turns g c =
     let bytes = c.args.bytes.now in
     let stack = map open_of c.args.stack.now in
     let xs = c.args.rows.now in
-    let l = c.loop-columns in
-    let i = c.loop-columns.invariant in
-    omega (arith, i.paid, c.add_one.ensures, c.write_further.ensures.turns, c.in_ok-end.ensures.paid xs (omega (arith, i.columns)), c.write_line_ending.ensures.turns)
+    let l = c.loop-rest in
+    let i = c.loop-rest.invariant in
+    omega (arith, i.paid, c.add_one.ensures, c.write_further.ensures.turns, c.in_ok-end.ensures.paid xs i.fits, c.write_line_ending.ensures.turns)
 
 pub returns-in_err-last-clause-turns : goal.returns-in_err-last-clause-turns
 returns-in_err-last-clause-turns g c =
@@ -150,9 +164,9 @@ returns-in_err-last-clause-turns g c =
     let bytes = c.args.bytes.now in
     let stack = map open_of c.args.stack.now in
     let xs = c.args.rows.now in
-    let l = c.loop-columns in
-    let i = c.loop-columns.invariant in
-    omega (arith, i.paid, c.write_further-2.ensures.turns, leaf-fits xs l.here l.rest (omega (arith, i.columns, c.loop-columns-test.false)))
+    let l = c.loop-rest in
+    let i = c.loop-rest.invariant in
+    omega (arith, i.paid, c.write_further-2.ensures.turns, leaf-fits xs l.here l.columns i.fits)
 
 pub returns-clause-paid : goal.returns-clause-paid
 returns-clause-paid g c =
@@ -160,9 +174,9 @@ returns-clause-paid g c =
     let bytes = c.args.bytes.now in
     let stack = map open_of c.args.stack.now in
     let xs = c.args.rows.now in
-    let l = c.loop-columns in
-    let i = c.loop-columns.invariant in
-    omega (arith, i.paid, c.write_further-2.ensures.turns, c.in_ok-last.ensures.paid xs (omega (arith, i.columns, c.loop-columns-test.false)))
+    let l = c.loop-rest in
+    let i = c.loop-rest.invariant in
+    omega (arith, i.paid, c.write_further-2.ensures.turns, c.in_ok-last.ensures.paid xs i.fits)
 
 pub returns-clause-turns : goal.returns-clause-turns
 returns-clause-turns g c =
@@ -170,6 +184,6 @@ returns-clause-turns g c =
     let bytes = c.args.bytes.now in
     let stack = map open_of c.args.stack.now in
     let xs = c.args.rows.now in
-    let l = c.loop-columns in
-    let i = c.loop-columns.invariant in
-    omega (arith, i.paid, c.write_further-2.ensures.turns, leaf-fits xs l.here l.rest (omega (arith, i.columns, c.loop-columns-test.false)))
+    let l = c.loop-rest in
+    let i = c.loop-rest.invariant in
+    omega (arith, i.paid, c.write_further-2.ensures.turns, leaf-fits xs l.here l.columns i.fits)
