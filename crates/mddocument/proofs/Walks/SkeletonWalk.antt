@@ -25,8 +25,9 @@ use Rattle.markdown_base.specs.declared.event.Kind.{Kind}
 use Rattle.markdown_base.specs.declared.event.Name.TheVariants as name
 use Rattle.mdinline_labels.specs.Definitions.{end_of as end_of_title}
 use Rattle.mdinline_labels.specs.Tails.{begins_with}
-use Rattle.mdblock_definitions.specs.Definitions.{Place, StringLine, byte_at, definitions_marks, destination_marks, ending_at, further_line, gap_marks, is_byte, line_marks, marked, places_in, places_of, seats_of, string, string_lines, text_of}
+use Rattle.mdblock_definitions.specs.Definitions.{Place, StringLine, before_prefixes, byte_at, definitions_marks, destination_marks, ending_at, further_line, gap_marks, is_byte, last_prefixes, line_marks, marked, places_in, places_of, seats_of, string, string_lines, text_of}
 use Rattle.mdblock_definitions.specs.Definitions as definitions
+use Rattle.mdblock_definitions.proofs.StringEnds.{every-before, every-last}
 use Rattle.mddocument.proofs.Walks.InnerTexts.{AnySeat, any-seats}
 use Rattle.mddocument.proofs.Walks.MarksWalk.{Walk, leafs, whites}
 
@@ -176,7 +177,10 @@ module _ {bytes : List ℕ} {Are : List Mark → Type 0} {May : Name → Type 0}
           w.both _ _ (cond_both is_first (leaf_marks bytes name.Data line.seats) (further_line bytes line.seats) Are (λ e. some-data line.seats h.0.seats) (λ e. further line.seats h.0.seats)) (w.both _ _ (endings line.behind h.0.behind) (of-lines false ls h.1))
 
       strings : (n : Name) (ps : List Place) → May n → PlacesAre ps → Are (string bytes n ps)
-      strings n ps other h = over n (seats_of ps) other (of-lines true (string_lines ps) (string-lines-are ps h))
+      strings n ps other h =
+          let inside = before_prefixes ps in
+          w.both _ _ (over n (seats_of inside) other (of-lines true (string_lines inside) (string-lines-are inside (every-before PlaceIs (λ ending further marks k. w.none) ps h))))
+          (endings (last_prefixes ps) (every-last PlaceIs (λ ending further marks k. k) ps h))
 
       marked-are : (sign inside : Name) (ps : List Place) → May sign → May inside → PlacesAre ps → Are (marked bytes sign inside ps)
       marked-are sign inside ps m i h =
