@@ -30,7 +30,8 @@ use Rattle.mdblock_containers.specs.Prefixes.{columns_of}
 use Rattle.mdblock_containers.specs.Rows.{Row, has_none, holds_ending, rest_of}
 use Rattle.mdblock_containers.specs.Skeleton.{Frame, Part, Piece, begin_of, begun_all, begun_marks, chunks_of, end_of, ending_marks, enters_of, exits, going_marks, inside_of, is_held, joined_pieces, last_of, list_name, piece_of, pieces_of, prefixes_marks, shared}
 use Rattle.mdblock_definitions.specs.Definitions as those
-use Rattle.mdblock_definitions.specs.Definitions.{Place, StringLine, all_seats, between, byte_at, definitions_marks, destination_marks, ending_at, ending_marks as place_ending_marks, further_line, gap_marks, is_byte, line_marks, marked, parts_marks, places_in, places_of, seats_of, string_lines, text_of}
+use Rattle.mdblock_definitions.proofs.StringEnds.{every-before, every-last}
+use Rattle.mdblock_definitions.specs.Definitions.{Place, StringLine, all_seats, before_prefixes, between, byte_at, definitions_marks, destination_marks, ending_at, ending_marks as place_ending_marks, further_line, gap_marks, is_byte, last_prefixes, line_marks, marked, parts_marks, places_in, places_of, seats_of, string_lines, text_of}
 use Rattle.mdblock_definitions.specs.Sections.{Inside, Section, defined, lines as lines_inside}
 use Rattle.mdblock_definitions.specs.Skeleton.{all_rows, behind_definitions, behind_marks, inside_marks, section_marks, sections_marks}
 use Rattle.mddocument.proofs.FlowTexts.Segments.{HasByte}
@@ -436,10 +437,31 @@ module _ (m : Shift) where
       by true = leaf m name.Data _ _ (whole m line.seats h.0.0)
       by false = further _ _ (whole m line.seats h.0.0)
 
+  -- where a string ends
+  before-there : (ys : List Place) → before_prefixes (map mplace ys) ≡ map mplace (before_prefixes ys)
+  before-there [] = refl
+  before-there (byte_at s ∷ ys) = ap (λ l. mplace (byte_at s) ∷ l) (before-there ys)
+  before-there (ending_at end prefixes marks ∷ []) = refl
+  before-there (ending_at end prefixes marks ∷ next ∷ ys) = ap (λ l. mplace (ending_at end prefixes marks) ∷ l) (before-there (next ∷ ys))
+
+  last-there : (ys : List Place) → last_prefixes (map mplace ys) ≡ map mplace (last_prefixes ys)
+  last-there [] = refl
+  last-there (byte_at s ∷ ys) = last-there ys
+  last-there (ending_at end prefixes marks ∷ []) = refl
+  last-there (ending_at end prefixes marks ∷ next ∷ ys) = last-there (next ∷ ys)
+
+  string-inside : (xs ys : List Place) → ArePlaces xs ys → ArePlaces (before_prefixes xs) (before_prefixes ys)
+  string-inside xs ys p = record { are = ap before_prefixes p.are ∙ before-there ys; ok = every-before IsPlaceOk (λ end prefixes marks h. (h.0, tt)) ys p.ok }
+
+  string-behind : (xs ys : List Place) → ArePlaces xs ys → ArePlaces (last_prefixes xs) (last_prefixes ys)
+  string-behind xs ys p = record { are = ap last_prefixes p.are ∙ last-there ys; ok = every-last IsPlaceOk (λ end prefixes marks h. (tt, h.1)) ys p.ok }
+
   string : (n : Name) (xs ys : List Place) → ArePlaces xs ys → those.string m.places.new n xs ≡ mk m (those.string m.places.old n ys)
   string n xs ys p =
-      let ls = lines-there ys p.ok in
-      span-of n xs ys _ _ p (ap (λ l. line_marks m.places.new true (string_lines l)) p.are ∙ ap (line_marks m.places.new true) ls.are ∙ line-marks true (string_lines ys) ls.ok)
+      let q = string-inside xs ys p in
+      let ls = lines-there (before_prefixes ys) q.ok in
+      two _ _ _ _ _ (span-of n _ _ _ _ q (ap (λ l. line_marks m.places.new true (string_lines l)) q.are ∙ ap (line_marks m.places.new true) ls.are ∙ line-marks true (string_lines (before_prefixes ys)) ls.ok))
+      (place-endings _ _ (string-behind xs ys p))
 
   between-marks : (n k : Name) (xs ys : List Place) → ArePlaces xs ys → marked m.places.new n k xs ≡ mk m (marked m.places.old n k ys)
   between-marks n k xs ys p =
