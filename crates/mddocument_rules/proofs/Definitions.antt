@@ -1,7 +1,8 @@
 -- Lists of marks that spans of free names keep: what is in prefixes and in definitions has such names.
 use Rattle.mddocument_rules.proofs.Prelude.{◌≡◌, ℕ, List, [], ◌++◌, true, refl, AllByRecursion, flat_map, Name, Seat, every-all, Definition, line_text, Mark, leaf_marks, span_marks, Container, Prefix, item, quote, Row, begun_marks, prefixes_marks, AnySeat, any-seats, Walk, leafs, AreInDefinition, MayPrefix, RowAt, definitions-are, places, prefixes}
 use Rattle.markdown_base.specs.declared.event.Name.TheVariants as name
-use Rattle.mdblock_definitions.specs.Definitions.{Place, between, definitions_marks, ending_marks, line_marks, parts_marks, places_in, string_lines}
+use Rattle.mdblock_definitions.specs.Definitions.{Place, before_prefixes, between, definitions_marks, ending_marks, line_marks, parts_marks, places_in, string_lines}
+use Rattle.mdblock_definitions.proofs.StringEnds.{every-before}
 use Rattle.mddocument.proofs.Walks.SkeletonWalk.{PlaceIs, begins, endings, of-lines, of-parts, some-places, string-lines-are}
 use Rattle.mddocument_rules.proofs.Places.{is_free}
 
@@ -69,6 +70,10 @@ module _ {bytes : List ℕ} {Are : List Mark → Type 0} (w : IsKept bytes Are) 
 
   pub lines-are : (ps : List Place) → EndingsAre ps → Are (line_marks bytes true (string_lines ps))
   lines-are ps h = of-lines w AnyContainer free-prefix AnySeat data-is true (string_lines ps) (string-lines-are w AnyContainer free-prefix AnySeat data-is ps h)
+
+  -- what is in a string
+  pub string-is : (ps : List Place) → EndingsAre ps → Are (line_marks bytes true (string_lines (before_prefixes ps)))
+  string-is ps h = lines-are (before_prefixes ps) (every-before EndingIs (λ ending prefixes marks k. w.none) ps h)
 
   -- What is in a definition
   pub parts-are : (q : Definition) (ps : List Place) → EndingsAre ps → Are (parts_marks bytes q ps)

@@ -8,12 +8,12 @@ use Rattle.markdown_edits.specs.OpenNames.{names_after, names_after_all}
 use Rattle.mdinline_link_strings.proofs.Kept.{data-balanced}
 use Rattle.mdinline_link_strings.specs.Strings.{in_string_after, is_data, is_string, line_as_string, seats_between, with_strings}
 use Rattle.mdblock_definitions.proofs.SectionSound.{document-sound}
-use Rattle.mdblock_definitions.specs.Definitions.{Place, between, gap_marks, line_marks, parts_marks, places_in, places_of, seats_of, string_lines, text_of}
+use Rattle.mdblock_definitions.specs.Definitions.{Place, before_prefixes, between, ending_marks, gap_marks, last_prefixes, line_marks, parts_marks, places_in, places_of, seats_of, string_lines, text_of}
 use Rattle.mdblock_definitions.specs.Sectioned.{AreSound, IsSound}
 use Rattle.mddocument_link_targets.proofs.SpanEnds.{spans-end}
 use Rattle.mddocument_link_targets.specs.Spans.{enters, first_in, inside}
 use Rattle.mddocument_rules.proofs.DefinitionEvents.{definitions-are-of-sections}
-use Rattle.mddocument_rules.proofs.Definitions.{EndingIs, EndingsAre, lines-are, rows-are}
+use Rattle.mddocument_rules.proofs.Definitions.{EndingIs, EndingsAre, rows-are, string-is}
 use Rattle.mddocument_rules.proofs.HeldSections.{bare, inner-kept}
 use Rattle.mddocument_rules.proofs.HeldSpans.{read-both}
 use Rattle.mddocument_rules.proofs.HeldStrings.{AreOutside, first-stays, read}
@@ -22,9 +22,9 @@ use Rattle.mddocument_rules.proofs.TextItems.{string-balanced}
 use Rattle.mddocument_rules.specs.ReferenceLaws.{LabelsAreOfSections, label_events_of_section, labels_of_definitions, parts_of_definitions, parts_of_section}
 
 -- marks one behind another
-in-a-row : (gap sign said close behind : List Mark) (e1 x1 e2 x2 : Mark)
-    → gap ++ ((e1 ∷ ((sign ++ ((e2 ∷ (said ++ x2 ∷ [])) ++ close)) ++ x1 ∷ [])) ++ behind) ≡ (gap ++ e1 ∷ sign) ++ e2 ∷ (said ++ x2 ∷ (close ++ x1 ∷ behind))
-in-a-row gap sign said close behind e1 x1 e2 x2 = simp append_assoc
+in-a-row : (gap sign said after close behind : List Mark) (e1 x1 e2 x2 : Mark)
+    → gap ++ ((e1 ∷ ((sign ++ (((e2 ∷ (said ++ x2 ∷ [])) ++ after) ++ close)) ++ x1 ∷ [])) ++ behind) ≡ (gap ++ e1 ∷ sign) ++ e2 ∷ (said ++ x2 ∷ (after ++ (close ++ x1 ∷ behind)))
+in-a-row gap sign said after close behind e1 x1 e2 x2 = simp append_assoc
 
 module _ (on : Constructs) (t : ℕ) (bytes : List ℕ) where
   abbrev line : Event → Event → List Event
@@ -100,7 +100,10 @@ module _ (on : Constructs) (t : ℕ) (bytes : List ℕ) where
     between_them = between 1 (length named - 1) named
 
     abbrev said : List Mark
-    said = line_marks bytes true (string_lines between_them)
+    said = line_marks bytes true (string_lines (before_prefixes between_them))
+
+    abbrev after : List Mark
+    after = flat_map (ending_marks bytes) (last_prefixes between_them)
 
     abbrev sign : List Mark
     sign = leaf_marks bytes name.DefinitionLabelMarker (seats_of (between 0 1 named))
@@ -113,7 +116,7 @@ module _ (on : Constructs) (t : ℕ) (bytes : List ℕ) where
 
     -- the marks of a definition, with virtual bytes of its label
     abbrev with_seats : List Seat → List Seat → List Mark
-    with_seats label letters = gap ++ (span_marks bytes name.DefinitionLabel label (sign ++ (span_marks bytes name.DefinitionLabelString letters said ++ close)) ++ behind_label bytes d all)
+    with_seats label letters = gap ++ (span_marks bytes name.DefinitionLabel label (sign ++ ((span_marks bytes name.DefinitionLabelString letters said ++ after) ++ close)) ++ behind_label bytes d all)
 
     letters-there : between_them ≡ take (d.label.size - 2) (drop (d.label.from + 1) xs)
     letters-there = letters-are bytes d xs is
@@ -121,9 +124,9 @@ module _ (on : Constructs) (t : ℕ) (bytes : List ℕ) where
     balanced : IsBalanced (bare said)
     balanced =
         let there = every-take (EndingIs (inner-kept bytes)) (d.label.size - 2) (drop (d.label.from + 1) xs) (every-drop (EndingIs (inner-kept bytes)) (d.label.from + 1) xs inner) in
-        (lines-are (inner-kept bytes) between_them (subst (EndingsAre (inner-kept bytes)) (sym letters-there) there)).balanced
+        (string-is (inner-kept bytes) between_them (subst (EndingsAre (inner-kept bytes)) (sym letters-there) there)).balanced
 
-    pub label-is-read : first_in name.DefinitionLabelString (with_strings on t bytes (bare (parts_marks bytes d all))) ≡ Some (read on t bytes true (bare (line_marks bytes true (string_lines (take (d.label.size - 2) (drop (d.label.from + 1) xs))))))
+    pub label-is-read : first_in name.DefinitionLabelString (with_strings on t bytes (bare (parts_marks bytes d all))) ≡ Some (read on t bytes true (bare (line_marks bytes true (string_lines (before_prefixes (take (d.label.size - 2) (drop (d.label.from + 1) xs)))))))
     label-is-read =
         let l = label-seat bytes d xs is in
         let m = letter-seat bytes d xs is in
@@ -134,9 +137,9 @@ module _ (on : Constructs) (t : ℕ) (bytes : List ℕ) where
         let e2 : Mark = (event bytes Enter name.DefinitionLabelString r.point, None) in
         let x2 : Mark = (event bytes Exit name.DefinitionLabelString (end_after r.end m.others), None) in
         let front = gap ++ e1 ∷ sign in
-        let tail = close ++ (x1 ∷ behind_label bytes d all) in
+        let tail = after ++ (close ++ (x1 ∷ behind_label bytes d all)) in
         let seats : parts_marks bytes d all ≡ with_seats (s ∷ l.others) (r ∷ m.others) = (λ i. with_seats (l.are i) (m.are i)) in
-        let flat : with_seats (s ∷ l.others) (r ∷ m.others) ≡ front ++ e2 ∷ (said ++ x2 ∷ tail) = in-a-row gap sign said close (behind_label bytes d all) e1 x1 e2 x2 in
+        let flat : with_seats (s ∷ l.others) (r ∷ m.others) ≡ front ++ e2 ∷ (said ++ x2 ∷ tail) = in-a-row gap sign said after close (behind_label bytes d all) e1 x1 e2 x2 in
         let events : bare (front ++ e2 ∷ (said ++ x2 ∷ tail)) ≡ bare front ++ e2.0 ∷ (bare said ++ x2.0 ∷ bare tail) =
         map-append (λ (k : Mark). k.0) front (e2 ∷ (said ++ x2 ∷ tail)) ∙ ap (λ q. bare front ++ e2.0 ∷ q) (map-append (λ (k : Mark). k.0) said (x2 ∷ tail)) in
         let outside : AreOutside (bare front) =
@@ -144,7 +147,7 @@ module _ (on : Constructs) (t : ℕ) (bytes : List ℕ) where
         (no-data-both bytes (e1 ∷ []) sign ((refl, refl), tt) (no-data-leaf bytes name.DefinitionLabelMarker (seats_of (between 0 1 named)) (refl, refl))) in
         ap (λ q. first_in name.DefinitionLabelString (with_strings on t bytes q)) (ap bare (seats ∙ flat) ∙ events)
         ∙ label-read (bare front) (bare said) (bare tail) r m.others outside balanced
-        ∙ ap (λ q. Some (read on t bytes true (bare (line_marks bytes true (string_lines q))))) letters-there
+        ∙ ap (λ q. Some (read on t bytes true (bare (line_marks bytes true (string_lines (before_prefixes q)))))) letters-there
 
   abbrev label_in : List Event → Option (List Event)
   label_in us = first_in name.DefinitionLabelString (with_strings on t bytes us)

@@ -10,7 +10,8 @@ use Rattle.mdblock_containers.proofs.SeatFacts.{lines_end}
 use Rattle.mdblock_definitions.proofs.Covered.{rows_of, sections-hold-lines}
 use Rattle.mdblock_definitions.proofs.DefinitionLines.{text-is}
 use Rattle.mdblock_definitions.proofs.SectionSound.{document-sound}
-use Rattle.mdblock_definitions.specs.Definitions.{Place, line_marks, places_in, string_lines, text_byte, text_of}
+use Rattle.mdblock_definitions.proofs.StringEnds.{text-before}
+use Rattle.mdblock_definitions.specs.Definitions.{Place, before_prefixes, line_marks, places_in, string_lines, text_byte, text_of}
 use Rattle.mdblock_definitions.specs.Sectioned.{AreSound, IsSound}
 use Rattle.mdblock_definitions.specs.Sections.{text_in}
 use Rattle.mdblock_definitions.specs.Skeleton.{labels_in, labels_of_section, written_labels}
@@ -28,7 +29,7 @@ use Rattle.mddocument_rules.proofs.HeldStrings.{read}
 use Rattle.mddocument_rules.proofs.LabelStrings.{labels-are-of-sections}
 use Rattle.mddocument_rules.proofs.LaidRows.{IsRow, RowsEnd, end-back, end-front, lines-placed, places-laid, rows-are, rows-end}
 use Rattle.mddocument_rules.proofs.SpokenDefinitions.{AreLabelled, section-labelled}
-use Rattle.mddocument_rules.proofs.WrittenPlaces.{AreLaid, AreLeft, laid-behind, label-said}
+use Rattle.mddocument_rules.proofs.WrittenPlaces.{AreLaid, AreLeft, laid-before, laid-behind, label-said}
 use Rattle.mddocument_rules.specs.ReferenceLaws.{DefinedIsDefined, LabelsAreWritten, definitions_in, label_events_of_section, labels_of_definitions}
 
 module _ (on : Constructs) (t : ℕ) (bytes : List ℕ) (some : 0 < t) where
@@ -44,13 +45,13 @@ module _ (on : Constructs) (t : ℕ) (bytes : List ℕ) (some : 0 < t) where
       let from = d.label.from + 1 in
       let ps = take n (drop from xs) in
       let qs = drop n (drop from xs) in
-      let marks = line_marks bytes true (string_lines ps) in
+      let marks = line_marks bytes true (string_lines (before_prefixes ps)) in
       let start = laid-behind t bytes from xs ss left laid in
       let behind : text_of qs ≡ drop n (drop from (text_of xs)) = sym (drop-map text_byte n (drop from xs)) ∙ ap (drop n) (sym (drop-map text_byte from xs)) in
-      let label = label-said t bytes on some ps qs start.0 start.1 (subst (λ l. AreLaid t bytes l start.0) (sym (take-append-drop n (drop from xs))) start.2) (ap (begins_with 93) behind ∙ h.0.label.close) in
+      let label = label-said t bytes on some (before_prefixes ps) qs start.0 start.1 (laid-before t bytes ps qs start.0 (subst (λ l. AreLaid t bytes l start.0) (sym (take-append-drop n (drop from xs))) start.2)) (ap (begins_with 93) behind ∙ h.0.label.close) in
       let gives : as_written bytes (read on t bytes true (bare marks)) ≡ label.text = ap (λ l. as_written bytes (read on t bytes true l)) (sym (append-nil (bare marks))) ∙ label.writes [] ∙ append-nil label.text in
       let same : text_of ps ≡ take n (drop from text) = sym (take-map text_byte n (drop from xs)) ∙ ap (take n) (sym (drop-map text_byte from xs)) ∙ ap (λ l. take n (drop from l)) (sym is) in
-      let one : said (bare marks) ≡ normalised (take n (drop from text)) = ap normalised gives ∙ alike-labels label.text (text_of ps) label.alike ∙ ap normalised same in
+      let one : said (bare marks) ≡ normalised (take n (drop from text)) = ap normalised gives ∙ alike-labels label.text (text_of (before_prefixes ps)) label.alike ∙ ap normalised (text-before ps ∙ same) in
       let next = laid-behind t bytes (d.size + 1) xs ss left laid in
       let more = of-definitions ds (drop (d.size + 1) xs) (drop (d.size + 1) text) next.0 (ap (drop (d.size + 1)) is ∙ drop-map text_byte (d.size + 1) xs) h.1 next.1 next.2 in
       (λ i. one i ∷ more i)

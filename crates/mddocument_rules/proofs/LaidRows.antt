@@ -1,5 +1,5 @@
 -- The places of lines of a document: their virtual bytes are some of the document's, and between two lines is some white space.
-use Rattle.mddocument_rules.proofs.Prelude.{◌≡◌, ◌∙◌, ℕ, suc, ◌==◌, true, false, cond, not, List, [], ◌∷◌, ◌++◌, append-nil, append_assoc, ap, drop, map, refl, subst, sym, take, false≢true, not-true, every-all, every-back, every-drop, inl, inr, AllByRecursion, Constructs, Seat, virtual, all_of, ending_of, line_text, leaf_marks, Container, Prefix, Row, has_none, prefixes_marks, Known, known_after, row_of, rows_from}
+use Rattle.mddocument_rules.proofs.Prelude.{◌≡◌, ◌∙◌, ℕ, suc, ◌==◌, true, false, cond, not, List, [], ◌∷◌, ◌++◌, append-nil, append_assoc, ap, drop, map, refl, subst, sym, take, false≢true, not-true, every-all, every-back, every-drop, inl, inr, AllByRecursion, Constructs, Seat, virtual, all_of, ending_of, line_text, Mark, leaf_marks, Container, Prefix, Row, has_none, prefixes_marks, Known, known_after, row_of, rows_from}
 use Rattle.std.proofs.lemmas.List.{take-append-drop}
 use Rattle.std.specs.Prelude.{◌<◌}
 use Rattle.markdown_base.specs.declared.event.Name.TheVariants as name
@@ -12,7 +12,7 @@ use Rattle.mdblock_containers.specs.Prefixes.{columns_of, going_on}
 use Rattle.mdblock_definitions.specs.Definitions.{Place, byte_at, ending_at, ending_marks, places_in}
 use Rattle.mddocument_rules.proofs.VirtualBytes.{IfFeed, NoFeeds, feeds-virtual}
 use Rattle.mddocument_rules.proofs.WrittenPlaces.{AreLaid, AreLeft}
-use Rattle.mddocument_rules.proofs.WrittenPrefixes.{IsGap, IsSomeGap, feed-gap, prefixes-gap}
+use Rattle.mddocument_rules.proofs.WrittenPrefixes.{IsGap, IsSomeGap, feed-gap, gap-none, prefixes-gap}
 use Rattle.mddocument_rules.proofs.WrittenStrings.{there-line}
 
 -- a line that has a line ending has one
@@ -73,13 +73,12 @@ module _ (t : ℕ) (bytes : List ℕ) where
         let gap = prefixes-gap bytes h.stack h.number text (ending_of q.line) rest here in
         subst (λ (p : List Prefix × List Seat). IsGap bytes (prefixes_marks bytes p.0 p.1)) (λ j. (sym h.went j, sym (line_front q.line h.whole) j)) gap
 
-    joint-is : (r q : Row) → IsRow r → IsRow q → (u : Seat) → ending_of r.line ≡ u ∷ [] → (u.byte == 10) ≡ true
-        → IsSomeGap bytes (ending_marks bytes (ending_at (ending_of r.line) (take (columns_of q.went_on) q.line) (prefixes_marks bytes q.went_on q.line)))
-    joint-is r q h k u is ends =
+    joint-is : (r : Row) → IsRow r → (u : Seat) → ending_of r.line ≡ u ∷ [] → (u.byte == 10) ≡ true → (ms : List Mark) → IsGap bytes ms → IsSomeGap bytes (leaf_marks bytes name.LineEnding (ending_of r.line) ++ ms)
+    joint-is r h u is ends ms gap =
         let text = line_text r.line in
         let all : AllByRecursion (IfFeed bytes) (h.before ++ (text ++ (u ∷ h.behind))) = subst (AllByRecursion (IfFeed bytes)) (row-is r h ∙ ap (λ l. h.before ++ (text ++ (l ++ h.behind))) is) (feeds-virtual bytes t) in
         let feed = (every-back (IfFeed bytes) text (u ∷ h.behind) (every-back (IfFeed bytes) h.before (text ++ (u ∷ h.behind)) all)).0 ends in
-        subst (λ l. IsSomeGap bytes (leaf_marks bytes name.LineEnding l ++ prefixes_marks bytes q.went_on q.line)) (sym is) (feed-gap bytes u (prefixes_marks bytes q.went_on q.line) feed (prefix-gap q k))
+        subst (λ l. IsSomeGap bytes (leaf_marks bytes name.LineEnding l ++ ms)) (sym is) (feed-gap bytes u ms feed gap)
 
     bytes-laid : (xs : List Seat) (ps : List Place) (w : List Seat) → NoFeeds bytes xs → AreLaid t bytes ps w → AreLaid t bytes (map byte_at xs ++ ps) (xs ++ w)
     bytes-laid [] ps w plain h = h
@@ -103,8 +102,9 @@ module _ (t : ℕ) (bytes : List ℕ) where
     places-laid (r ∷ q ∷ qs) h e =
         let u = one-ending r.line h.0.whole e.0 in
         let more = places-laid (q ∷ qs) h.1 e.1 in
+        let joint = joint-is r h.0 u.0 u.1 u.2 in
         let one = ending_at (ending_of r.line) (take (columns_of q.went_on) q.line) (prefixes_marks bytes q.went_on q.line) in
-        let laid : AreLaid t bytes (one ∷ places_in bytes (q ∷ qs)) (u.0 ∷ h.0.behind) = (u.2, joint-is r q h.0 h.1.0 u.0 u.1 u.2, more.0, more.1, more.2) in
+        let laid : AreLaid t bytes (one ∷ places_in bytes (q ∷ qs)) (u.0 ∷ h.0.behind) = (u.2, (joint (prefixes_marks bytes q.went_on q.line) (prefix-gap q h.1.0), joint [] (gap-none bytes)), more.0, more.1, more.2) in
         first-laid r h.0 (one ∷ places_in bytes (q ∷ qs)) (subst (λ l. AreLaid t bytes (one ∷ places_in bytes (q ∷ qs)) (l ++ h.0.behind)) (sym u.1) laid)
 
   -- ---- all lines of a document

@@ -17,7 +17,8 @@ use Rattle.mdinline_link_strings.specs.Strings.{is_string}
 use Rattle.mdblock_definitions.proofs.DefinitionLines.{text-is}
 use Rattle.mdblock_definitions.proofs.DefinitionsWithin.{definitions-one}
 use Rattle.mdblock_definitions.proofs.MarksText.{marked-end}
-use Rattle.mdblock_definitions.specs.Definitions.{Place, all_seats, between, byte_at, destination_marks, ending_at, ending_marks, gap_marks, is_byte, leaf, line_marks, marked, parts_marks, places_in, places_of, seats_of, span, string_lines, text_byte, text_of}
+use Rattle.mdblock_definitions.proofs.StringEnds.{text-before}
+use Rattle.mdblock_definitions.specs.Definitions.{Place, all_seats, before_prefixes, between, byte_at, destination_marks, ending_at, ending_marks, gap_marks, is_byte, last_prefixes, leaf, line_marks, marked, parts_marks, places_in, places_of, seats_of, span, string_lines, text_byte, text_of}
 use Rattle.mdblock_definitions.specs.Labelled.{IsInText}
 use Rattle.mdblock_definitions.specs.Sectioned.{AreSound, IsSound}
 use Rattle.mddocument_rules.proofs.HeldSections.{AreSpoken, HasSeat, IsSpoken, IsTold, bare}
@@ -237,11 +238,14 @@ module _ (bytes : List ℕ) where
         let t = take (d.label.size - 2) (drop (d.label.from + 1) (text_of xs)) in
         ap is_filled letters-say ∙ (and_parts (nat_le (characters t) 999) (is_filled t) (and_parts (has_no_bracket false t) (nat_le (characters t) 999 && is_filled t) is.label.label).1).1
 
-    pub letter-seat : Has (seats_of letters)
-    letter-seat = seat-filled letters filled
+    letter-there : Has (seats_of letters)
+    letter-there = seat-filled letters filled
+
+    pub letter-seat : Has (seats_of (before_prefixes letters))
+    letter-seat = seat-filled (before_prefixes letters) (ap is_filled (text-before letters) ∙ filled)
 
     pub label-seat : Has (seats_of label)
-    label-seat = seat-left 1 label (seat-taken (length label - 1 - 1) (drop 1 label) letter-seat)
+    label-seat = seat-left 1 label (seat-taken (length label - 1 - 1) (drop 1 label) letter-there)
 
     all-seat : Has (seats_of ys)
     all-seat = seat-left d.label.from ys (seat-taken (end d.label - d.label.from) (drop d.label.from ys) label-seat)
@@ -257,9 +261,11 @@ module _ (bytes : List ℕ) where
     quiet-parts =
         let sign = leaf_marks bytes name.DefinitionLabelMarker (seats_of (between 0 1 label)) in
         let close = leaf_marks bytes name.DefinitionLabelMarker (seats_of (drop (length label - 1) label)) in
-        let said = line_marks bytes true (string_lines letters) in
-        let text = span_marks bytes name.DefinitionLabelString (seats_of letters) said in
-        let inside = quiet-back sign (text ++ close) (no-data-leaf name.DefinitionLabelMarker (seats_of (between 0 1 label)) (refl, refl)) (quiet-front text close (quiet-string name.DefinitionLabelString (seats_of letters) said letter-seat refl)) in
+        let said = line_marks bytes true (string_lines (before_prefixes letters)) in
+        let string = span_marks bytes name.DefinitionLabelString (seats_of (before_prefixes letters)) said in
+        let behind = flat_map (ending_marks bytes) (last_prefixes letters) in
+        let text = string ++ behind in
+        let inside = quiet-back sign (text ++ close) (no-data-leaf name.DefinitionLabelMarker (seats_of (between 0 1 label)) (refl, refl)) (quiet-front text close (quiet-front string behind (quiet-string name.DefinitionLabelString (seats_of (before_prefixes letters)) said letter-seat refl))) in
         let whole = span_marks bytes name.DefinitionLabel (seats_of label) (sign ++ (text ++ close)) in
         quiet-back (gap_marks bytes (between 0 d.label.from ys)) (whole ++ behind_label bytes d ys) (gap-no-data (between 0 d.label.from ys) before-bytes)
         (quiet-front whole (behind_label bytes d ys) (quiet-span name.DefinitionLabel (seats_of label) (sign ++ (text ++ close)) label-seat (refl, refl) inside))

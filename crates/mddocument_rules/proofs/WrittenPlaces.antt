@@ -6,7 +6,7 @@ use Rattle.std.proofs.lemmas.List.{take-append-drop}
 use Rattle.std.specs.Prelude.{◌<◌}
 use Rattle.markdown_base.specs.declared.event.Name.TheVariants as name
 use Rattle.mdblock_leaf_blocks.specs.LeafBlocks.{bytes_of}
-use Rattle.mdblock_definitions.specs.Definitions.{Place, StringLine, byte_at, ending_at, ending_marks, further_line, line_marks, string_lines, text_of}
+use Rattle.mdblock_definitions.specs.Definitions.{Place, StringLine, before_prefixes, byte_at, ending_at, ending_marks, further_line, line_marks, string_lines, text_of}
 use Rattle.mdinline_labels.specs.Labels.{is_label_white}
 use Rattle.mdinline_labels.specs.Tails.{begins_with}
 use Rattle.mddocument_link_targets.specs.Strings.{as_written}
@@ -101,7 +101,7 @@ module _ (t : ℕ) (bytes : List ℕ) where
   AreLaid (byte_at s ∷ ps) [] = ⊥
   AreLaid (byte_at s ∷ ps) (r ∷ rs) = (r ≡ s) × ((s.byte == 10) ≡ false) × AreLaid ps rs
   AreLaid (ending_at ending prefixes marks ∷ ps) [] = ⊥
-  AreLaid (ending_at ending prefixes marks ∷ ps) (r ∷ rs) = ((r.byte == 10) ≡ true) × IsSomeGap bytes (ending_marks bytes (ending_at ending prefixes marks)) × (more : List Seat) × AreLeft more × AreLaid ps more
+  AreLaid (ending_at ending prefixes marks ∷ ps) (r ∷ rs) = ((r.byte == 10) ≡ true) × (IsSomeGap bytes (ending_marks bytes (ending_at ending prefixes marks)) × IsSomeGap bytes (ending_marks bytes (ending_at ending [] []))) × (more : List Seat) × AreLeft more × AreLaid ps more
 
   -- so it is of what is left of them
   pub laid-behind : (n : ℕ) (ps : List Place) (ss : List Seat) → AreLeft ss → AreLaid ps ss → (more : List Seat) × AreLeft more × AreLaid (drop n ps) more
@@ -111,6 +111,16 @@ module _ (t : ℕ) (bytes : List ℕ) where
   laid-behind (suc n) (byte_at s ∷ ps) (r ∷ rs) left h = laid-behind n ps rs (left-back (r ∷ []) rs left) h.2
   laid-behind (suc n) (ending_at ending prefixes marks ∷ ps) [] left h = absurd h
   laid-behind (suc n) (ending_at ending prefixes marks ∷ ps) (r ∷ rs) left h = laid-behind n ps h.2 h.3 h.4
+
+  -- so are the places of a string, before its last prefixes
+  pub laid-before : (ps qs : List Place) (ss : List Seat) → AreLaid (ps ++ qs) ss → AreLaid (before_prefixes ps ++ qs) ss
+  laid-before [] qs ss h = h
+  laid-before (byte_at s ∷ ps) qs [] h = absurd h
+  laid-before (byte_at s ∷ ps) qs (r ∷ rs) h = (h.0, h.1, laid-before ps qs rs h.2)
+  laid-before (ending_at ending prefixes marks ∷ []) qs [] h = absurd h
+  laid-before (ending_at ending prefixes marks ∷ []) qs (r ∷ rs) h = (h.0, (h.1.1, h.1.1), h.2, h.3, h.4)
+  laid-before (ending_at ending prefixes marks ∷ next ∷ ps) qs [] h = absurd h
+  laid-before (ending_at ending prefixes marks ∷ next ∷ ps) qs (r ∷ rs) h = (h.0, h.1, h.2, h.3, laid-before (next ∷ ps) qs h.2 h.4)
 
   -- the first line of places before a bracket
   record FirstIs (ps : List Place) (ss : List Seat) : Type 0 where
@@ -167,7 +177,7 @@ module _ (t : ℕ) (bytes : List ℕ) where
     behind-is (ending_at ending prefixes marks ∷ ps) qs [] left h e = absurd h
     behind-is (ending_at ending prefixes marks ∷ ps) qs (r ∷ rs) left h e =
         let one = ending_at ending prefixes marks in
-        let joint = h.1 in
+        let joint = h.1.0 in
         let more = behind-is ps qs h.2 h.3 h.4 e in
         let first = first-there ps qs h.2 h.3 h.4 e in
         let seats = first_of ps in

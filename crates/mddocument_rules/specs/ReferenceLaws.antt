@@ -9,7 +9,7 @@ use Rattle.markdown_tokenizer.specs.Text.{Given, IsDocument, IsText, Text}
 use Rattle.markdown_children.specs.Chains.{begins}
 use Rattle.mdblock_leaf_blocks.specs.LeafEvents.{Mark}
 use Rattle.mdblock_definitions.specs.Blocks.{labels_of}
-use Rattle.mdblock_definitions.specs.Definitions.{Place, line_marks, parts_marks, places_in, string_lines}
+use Rattle.mdblock_definitions.specs.Definitions.{Place, before_prefixes, line_marks, parts_marks, places_in, string_lines}
 use Rattle.mdblock_definitions.specs.Sections.{Section, defined, lines}
 use Rattle.mdblock_definitions.specs.Skeleton.{all_rows, sections_in_seats}
 use Rattle.mdinline_emphasis.specs.Runs.{runs_in}
@@ -53,11 +53,12 @@ DefinitionsAreOfSections =
     (g : Given) → IsDocument g → let on = g.options.constructs in
     definitions_in (document_events g) ≡ map (with_strings on g.tab g.bytes) (flat_map (parts_of_section g.bytes) (sections_in_seats on (virtual g.tab g.bytes)))
 
--- the events between the brackets of labels: of each line its data, and between two lines the line ending and the prefixes of the next
+-- the events between the brackets of labels: of each line its data, and between two lines the line ending and the prefixes of the next,
+-- if that is not an empty last one
 abbrev pub labels_of_definitions : (bytes : List ℕ) → List Definition → List Place → List (List Event)
 labels_of_definitions bytes [] places = []
 labels_of_definitions bytes (d ∷ ds) places =
-    map (λ (m : Mark). m.0) (line_marks bytes true (string_lines (take (d.label.size - 2) (drop (d.label.from + 1) places)))) ∷ labels_of_definitions bytes ds (drop (d.size + 1) places)
+    map (λ (m : Mark). m.0) (line_marks bytes true (string_lines (before_prefixes (take (d.label.size - 2) (drop (d.label.from + 1) places))))) ∷ labels_of_definitions bytes ds (drop (d.size + 1) places)
 
 abbrev pub label_events_of_section : (bytes : List ℕ) → Section → List (List Event)
 label_events_of_section bytes s = elim s.inside [
