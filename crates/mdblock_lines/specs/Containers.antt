@@ -15,9 +15,15 @@ pub record Item : Type 0 where
   pub digits : ℕ
   pub is_empty : Bool
 
--- A container: a block quote, by the number of its first line, or an item
+-- A block quote: the number of its first line, and whether its markers are near, so that at most three columns of white space come before each, in its
+-- further lines as in its first. "A block quote marker, optionally preceded by up to three spaces of indentation" (CommonMark, 5.1)
+pub record Quote : Type 0 where
+  pub line : ℕ
+  pub is_near : Bool
+
+-- A container: a block quote, or an item
 pub data Container : Type 0 where
-  quote : (line : ℕ) → Container
+  quote : Quote → Container
   item : Item → Container
 
 -- A container that goes on or begins in a line, and the columns of its prefix there
@@ -31,7 +37,7 @@ quote_size t = suc (indent t) + min 1 (indent (drop 1 (unindented t)))
 
 -- how a container goes on with a line's rest, if it does. A blank line goes on with an item, but not with one that began empty in the line before
 abbrev pub goes_on : Container → (number : ℕ) → List ℕ → Option ℕ
-goes_on (quote line) number t = cond (nat_le (indent t) 3 && begins_with 62 (unindented t)) (Some (quote_size t)) None
+goes_on (quote q) number t = cond (begins_with 62 (unindented t) && not (q.is_near && nat_le 4 (indent t))) (Some (quote_size t)) None
 goes_on (item i) number t =
     cond (is_blank_line t) (cond (i.is_empty && (number == suc i.line)) None (Some (min i.size (indent t))))
     (cond (nat_le i.size (indent t)) (Some i.size) None)
@@ -80,10 +86,11 @@ may_begin_item in_paragraph r =
 
 -- The constructs that are on
 module _ (on : Constructs) where
-  -- the container that begins with a line's rest, if one does. A thematic break comes first
+  -- the container that begins with a line's rest, if one does. A thematic break comes first. Without indented code none is too far to the right, and so
+  -- are no markers of a quote that begins
   abbrev pub begins : (number : ℕ) → (in_paragraph : Bool) → List ℕ → Option Prefix
   begins number in_paragraph t =
       let r = unindented t in
       cond ((on.code_indented && nat_le 4 (indent t)) || (is_blank_line t || (on.thematic_break && is_thematic_break r))) None
-      (cond (on.block_quote && begins_with 62 r) (Some (record { container = quote number; size = quote_size t }))
+      (cond (on.block_quote && begins_with 62 r) (Some (record { container = quote (record { line = number; is_near = on.code_indented }); size = quote_size t }))
       (cond (on.list_item && may_begin_item in_paragraph r) (Some (item_at number t)) None))

@@ -49,17 +49,21 @@ unfenced_kind on r = elim (html_if_on on r) [
   | None ↦ cond (on.thematic_break && lines.is_thematic_break r) lines.thematic_break lines.text
 ]
 
+-- a block quote
+abbrev pub quote_of : Container → nested.Quote
+quote_of c = record { line = c.line; is_near = c.is_near }
+
 -- a container, in a list that begins in this line
 abbrev pub container_of : (list : ℕ) → Container → nested.Container
-container_of list c = cond c.is_quote (nested.quote c.line) (nested.item (record { line = c.line; list = list; size = c.size; marker = c.marker; digits = c.digits; is_empty = c.is_blank }))
+container_of list c = cond c.is_quote (nested.quote (quote_of c)) (nested.item (record { line = c.line; list = list; size = c.size; marker = c.marker; digits = c.digits; is_empty = c.is_blank }))
 
 -- a container that begins, and the columns of its prefix
 abbrev pub prefix_of : (list : ℕ) → Prefix → nested.Prefix
 prefix_of list p = record { container = container_of list p.container; size = p.size }
 
 -- `begins` and `may_begin_item` by their parts
-abbrev pub quote_prefix : (number : ℕ) → List ℕ → nested.Prefix
-quote_prefix number t = record { container = nested.quote number; size = nested.quote_size t }
+abbrev pub quote_prefix : (is_near : Bool) → (number : ℕ) → List ℕ → nested.Prefix
+quote_prefix is_near number t = record { container = nested.quote (record { line = number; is_near = is_near }); size = nested.quote_size t }
 
 abbrev pub is_marker_behind : (n b : ℕ) → Bool
 is_marker_behind n b = cond (n == 0) ((b == 42) || ((b == 43) || (b == 45))) (nat_le n 9 && ((b == 46) || (b == 41)))

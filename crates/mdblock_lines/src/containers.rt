@@ -15,6 +15,8 @@ use std::sync::ledger::Ledger;
 pub struct Container {
     /// It is a block quote.
     pub is_quote: bool,
+    /// Of a block quote: at most three columns of white space come before each of its markers.
+    pub is_near: bool,
     /// The number of the line that begins it.
     pub line: usize,
     /// Of an item: how many columns of white space a line needs to go on with it.
@@ -76,18 +78,18 @@ pub fn goes_on(c: &Container, number: usize, t: &[u8], columns: usize) -> Option
     ensures { (list : ℕ) → result ≡ goes_on (container_of list c.now) number t.now }
 {
     if c.is_quote {
-        quote_goes_on(t, columns)
+        quote_goes_on(c.is_near, t, columns)
     } else {
         item_goes_on(c, number, t, columns)
     }
 }
 
-fn quote_goes_on(t: &[u8], columns: usize) -> Option<usize>
+fn quote_goes_on(is_near: bool, t: &[u8], columns: usize) -> Option<usize>
     requires columns { columns ≡ indent t.now }
     requires within { columns ≤ length t.now }
-    ensures { (line : ℕ) → (number : ℕ) → result ≡ goes_on (quote line) number t.now }
+    ensures { (line : ℕ) → (number : ℕ) → result ≡ goes_on (quote (record { line = line; is_near = is_near })) number t.now }
 {
-    if columns > 3 || columns == t.len() || t[columns] != b'>' {
+    if columns == t.len() || t[columns] != b'>' || is_near && columns >= 4 {
         return None;
     }
     Some(quote_size(t, columns))
@@ -259,6 +261,7 @@ fn item_of(
     let is_blank = is_all(after, white);
     let container = Container {
         is_quote: false,
+        is_near: false,
         line: number,
         size,
         marker,
@@ -271,15 +274,16 @@ fn item_of(
     }
 }
 
-/// The block quote that begins behind the white space.
-fn quote_at(number: usize, t: &[u8], columns: usize) -> Prefix
+/// The block quote that begins behind the white space, whose markers are near or need not be.
+fn quote_at(is_near: bool, number: usize, t: &[u8], columns: usize) -> Prefix
     requires columns { columns ≡ indent t.now }
     requires within { columns ≤ length t.now }
     requires inside { columns < length t.now }
-    ensures { prefix_of number result ≡ quote_prefix number t.now }
+    ensures { prefix_of number result ≡ quote_prefix is_near number t.now }
 {
     let container = Container {
         is_quote: true,
+        is_near,
         line: number,
         size: 0,
         marker: b'>',
@@ -313,7 +317,7 @@ pub fn begins<L: Ledger>(
         return None;
     }
     if is_quote_at(on, t, columns) {
-        return Some(quote_at(number, t, columns));
+        return Some(quote_at(on.code_indented, number, t, columns));
     }
     if on.list_item {
         item_at(number, t, columns, in_paragraph, turns)
