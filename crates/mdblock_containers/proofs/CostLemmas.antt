@@ -39,7 +39,7 @@ began_sizes n (item i ∷ cs) h = (h.0.1.sized, began_sizes n cs h.1)
 
 -- a container goes on with a column, if one is left
 pub some_size : (c : Container) (number : ℕ) (t : List ℕ) (n : ℕ) → HasSize c → 0 < length t → goes_on c number t ≡ Some n → 1 ≤ n
-some_size (quote line) number t n s h e = by (nat_le (indent t) 3 && begins_with 62 (unindented t)) e
+some_size (quote q) number t n s h e = by (begins_with 62 (unindented t) && not (q.is_near && nat_le 4 (indent t))) e
   where
     by : (a : Bool) → cond a (Some (quote_size t)) None ≡ Some n → 1 ≤ n
     by true q = let same : quote_size t ≡ n = cc in omega arith

@@ -55,7 +55,7 @@ take_front (x ∷ xs) ys (suc k) e = let rest = take_front xs ys k (omega (arith
 -- ---- frames that containers enter
 
 abbrev pub entered : Container → List Frame
-entered (quote line) = record { name = name.BlockQuote; line = line } ∷ []
+entered (quote q) = record { name = name.BlockQuote; line = q.line } ∷ []
 entered (item i) = cond (i.list == i.line) (record { name = list_name i; line = i.list } ∷ []) [] ++ record { name = name.ListItem; line = i.line } ∷ []
 
 abbrev pub all_entered : List Prefix → List Frame
@@ -79,7 +79,7 @@ begun_entered n (p ∷ ps) h = by p.container h.0 (each_entered n ps h.1)
     by : (c : Container) → BeginsIn n c → flat_map frames_of (containers_of ps) ≡ all_entered ps
         → frames_of c ++ flat_map frames_of (containers_of ps)
         ≡ (elim c as (λ _. List Frame) [ quote line ↦ [] | item i ↦ cond (nat_lt i.list i.line) (record { name = list_name i; line = i.list } ∷ []) [] ]) ++ (entered c ++ all_entered ps)
-    by (quote line) k rest = ap (λ (l : List Frame). record { name = name.BlockQuote; line = line } ∷ l) rest
+    by (quote q) k rest = ap (λ (l : List Frame). record { name = name.BlockQuote; line = q.line } ∷ l) rest
     by (item i) k rest = choose (nat_lt i.list i.line) (i.list == i.line) tests
       where
         later : i.list ≤ i.line
@@ -101,7 +101,7 @@ shared_entered n [] xs h old = shared_none xs
 shared_entered n (p ∷ ps) xs h old = by p.container h.0
   where
     by : (c : Container) → BeginsIn n c → shared xs (entered c ++ all_entered ps) ≡ 0
-    by (quote line) k = shared_apart n xs (record { name = name.BlockQuote; line = line }) (all_entered ps) old k
+    by (quote q) k = shared_apart n xs (record { name = name.BlockQuote; line = q.line }) (all_entered ps) old k
     by (item i) k = choose (i.list == i.line) refl
       where
         choose : (x : Bool) → (i.list == i.line) ≡ x → shared xs ((cond x (record { name = list_name i; line = i.list } ∷ []) [] ++ record { name = name.ListItem; line = i.line } ∷ []) ++ all_entered ps) ≡ 0
@@ -423,7 +423,7 @@ front_one f x fs ys zs e = (fs, ap (λ l. head_or f l ∷ fs) e)
 pub short_front : (xs ys : List Frame) (c : Container) → length xs ≤ 1 → IsFront xs (frames_of c ++ ys) → IsFront xs (frames_of c)
 short_front [] ys c h front = front_none (frames_of c)
 short_front (x ∷ y ∷ xs) ys c h front = absurd (omega (arith, h))
-short_front (x ∷ []) ys (quote line) h front = front_one (record { name = name.BlockQuote; line = line }) x [] ys front.0 front.1
+short_front (x ∷ []) ys (quote q) h front = front_one (record { name = name.BlockQuote; line = q.line }) x [] ys front.0 front.1
 short_front (x ∷ []) ys (item i) h front = front_one (record { name = list_name i; line = i.list }) x (record { name = name.ListItem; line = i.line } ∷ []) ys front.0 front.1
 
 pub front_every : (P : Frame → Type 0) (xs ys : List Frame) → IsFront xs ys → AllByRecursion P ys → AllByRecursion P xs

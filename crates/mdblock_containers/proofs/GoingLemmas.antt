@@ -42,9 +42,9 @@ quote_within t e =
 
 -- a container goes on with no more than is there
 pub goes_on_within : (c : Container) (number : ℕ) (t : List ℕ) (n : ℕ) → goes_on c number t ≡ Some n → n ≤ length t
-goes_on_within (quote line) number t n e = by (nat_le (indent t) 3) (begins_with 62 (unindented t)) refl e
+goes_on_within (quote q) number t n e = by (begins_with 62 (unindented t)) (not (q.is_near && nat_le 4 (indent t))) refl e
   where
-    by : (a b : Bool) → begins_with 62 (unindented t) ≡ b → cond (a && b) (Some (quote_size t)) None ≡ Some n → n ≤ length t
+    by : (a b : Bool) → begins_with 62 (unindented t) ≡ a → cond (a && b) (Some (quote_size t)) None ≡ Some n → n ≤ length t
     by true true s q = let w = quote_within t s in let same : quote_size t ≡ n = cc in omega arith
     by true false s q = absurd (cc)
     by false b s q = absurd (cc)
@@ -166,7 +166,7 @@ begins_within on number in_paragraph t q e =
     by ((on.code_indented && nat_le 4 (indent t)) || (is_blank_line t || (on.thematic_break && is_thematic_break (unindented t)))) on.block_quote (begins_with 62 (unindented t)) on.list_item (is_marker (unindented t)) _ refl refl e
   where
     by : (past b x l m rest : Bool) → begins_with 62 (unindented t) ≡ x → is_marker (unindented t) ≡ m
-        → cond past None (cond (b && x) (Some (record { container = quote number; size = quote_size t })) (cond (l && (m && rest)) (Some (item_at number t)) None)) ≡ Some q → (1 ≤ q.size) × (q.size ≤ length t)
+        → cond past None (cond (b && x) (Some (record { container = quote (record { line = number; is_near = on.code_indented }); size = quote_size t })) (cond (l && (m && rest)) (Some (item_at number t)) None)) ≡ Some q → (1 ≤ q.size) × (q.size ≤ length t)
     by true b x l m rest ex em h = absurd (cc)
     by false true true l m rest ex em h = let w = quote_within t ex in let size : quote_size t ≡ q.size = ap size_or h in (omega arith, omega arith)
     by false true false l m rest ex em h = item_case number t q l m rest em h
@@ -184,7 +184,7 @@ pub begins_front : (on : Constructs) (number : ℕ) (in_paragraph : Bool) (t : L
 begins_front on number in_paragraph t q e =
     by ((on.code_indented && nat_le 4 (indent t)) || (is_blank_line t || (on.thematic_break && is_thematic_break (unindented t)))) (on.block_quote && begins_with 62 (unindented t)) (on.list_item && may_begin_item in_paragraph (unindented t)) e
   where
-    by : (past b l : Bool) → cond past None (cond b (Some (record { container = quote number; size = quote_size t })) (cond l (Some (item_at number t)) None)) ≡ Some q → indent t + 1 ≤ q.size
+    by : (past b l : Bool) → cond past None (cond b (Some (record { container = quote (record { line = number; is_near = on.code_indented }); size = quote_size t })) (cond l (Some (item_at number t)) None)) ≡ Some q → indent t + 1 ≤ q.size
     by true b l h = absurd (cc)
     by false true l h = let size : quote_size t ≡ q.size = ap size_or h in omega arith
     by false false true h = let size : (item_at number t).size ≡ q.size = ap size_or h in let front = item_front number t in omega arith

@@ -8,6 +8,7 @@ use Rattle.std.proofs.lemmas.Bool.Decides.{nat_tests}
 use Rattle.std.proofs.lemmas.List.{drop_all, get_or-drop, get_or-take, get_or_default}
 use Rattle.std.proofs.lemmas.List.Sums.{sum_by-cons}
 use Rattle.mdblock_lines.specs.Containers.{Container, Item, Prefix, goes_on, item, quote}
+use Rattle.mdblock_lines.specs.Views.{quote_of}
 use Rattle.mdblock_containers.specs.declared.going.Open.{Open}
 use Rattle.mdblock_containers.specs.Over.{AreBefore, AreOver, GoesOver}
 use Rattle.mdblock_containers.specs.Prefixes.{columns_of, going_on}
@@ -32,7 +33,7 @@ went_over o number m h e n le = by o.container.is_quote e
     i : Item
     i = record { line = o.container.line; list = o.list; size = o.container.size; marker = o.container.marker; digits = o.container.digits; is_empty = o.container.is_blank }
 
-    by : (b : Bool) → Some m ≡ goes_on (cond b (quote o.container.line) (item i)) number [] → goes_on (cond b (quote o.container.line) (item i)) n [] ≡ Some 0
+    by : (b : Bool) → Some m ≡ goes_on (cond b (quote (quote_of o.container)) (item i)) number [] → goes_on (cond b (quote (quote_of o.container)) (item i)) n [] ≡ Some 0
     by true q = absurd (cc)
     by false q = item_over o.container.size o.container.line number n o.container.is_blank (number == suc o.container.line) (n == suc o.container.line) m h le refl refl q
 
@@ -119,7 +120,7 @@ began_before n [] h k d w = absurd (omega (arith, w))
 began_before n (x ∷ xs) h zero d w = by x.container.is_quote h.0
   where
     by : (b : Bool)
-        → BeganBefore n (cond b (quote x.container.line) (item (record { line = x.container.line; list = x.list; size = x.container.size; marker = x.container.marker; digits = x.container.digits; is_empty = x.container.is_blank }))) → x.container.line < n
+        → BeganBefore n (cond b (quote (quote_of x.container)) (item (record { line = x.container.line; list = x.list; size = x.container.size; marker = x.container.marker; digits = x.container.digits; is_empty = x.container.is_blank }))) → x.container.line < n
     by true q = q
     by false q = q.0
 began_before n (x ∷ xs) h (suc k) d w = began_before n xs h.1 k d (omega (arith, w))

@@ -6,6 +6,7 @@ use Rattle.std.proofs.lemmas.Bool.{cases_lt, false≢true}
 use Rattle.std.proofs.lemmas.Bool.Decides.{nat_tests}
 use Rattle.std.proofs.lemmas.List.{get_or_default, get_or-take, length-map, length-reverse, length-take-le, map-append, reverse-append, reverse-reverse, take-map, take_all, take_more}
 use Rattle.mdblock_lines.specs.Containers.{Container, quote, item}
+use Rattle.mdblock_lines.specs.Views.{quote_of}
 use Rattle.mdblock_containers.specs.declared.going.Open.{Open}
 use Rattle.mdblock_containers.specs.Over.{AreEarlier, is_earlier}
 use Rattle.mdblock_containers.specs.Parts.{stands_in}
@@ -17,7 +18,7 @@ pub earlier_is : (number : ℕ) (o : Open) → is_earlier number (open_of o) ≡
 earlier_is number o = by o.container.is_quote
   where
     by : (b : Bool)
-        → is_earlier number (cond b (quote o.container.line) (item (record { line = o.container.line; list = o.list; size = o.container.size; marker = o.container.marker; digits = o.container.digits; is_empty = o.container.is_blank })))
+        → is_earlier number (cond b (quote (quote_of o.container)) (item (record { line = o.container.line; list = o.list; size = o.container.size; marker = o.container.marker; digits = o.container.digits; is_empty = o.container.is_blank })))
         ≡ (not b && nat_lt o.container.line number)
     by true = refl
     by false = refl
@@ -58,7 +59,7 @@ module _ (stack : List Open) (many number : ℕ) (d : Open) where
       le = let s : length (inner n) ≡ n = inner_size n (omega arith) in grind (arith, nat_tests)
 
       by : (b : Bool) → (not b && nat_lt (get_or stack n d).container.line number) ≡ true
-          → left_in many number (cond b (quote (get_or stack n d).container.line) (item (record { line = (get_or stack n d).container.line; list = (get_or stack n d).list; size = (get_or stack n d).container.size; marker = (get_or stack n d).container.marker; digits = (get_or stack n d).container.digits; is_empty = (get_or stack n d).container.is_blank })) ∷ inner n)
+          → left_in many number (cond b (quote (quote_of (get_or stack n d).container)) (item (record { line = (get_or stack n d).container.line; list = (get_or stack n d).list; size = (get_or stack n d).container.size; marker = (get_or stack n d).container.marker; digits = (get_or stack n d).container.digits; is_empty = (get_or stack n d).container.is_blank })) ∷ inner n)
           ≡ left_in many number (inner n)
       by true q = absurd (false≢true q)
       by false q = (λ k. cond (le k && q k) (left_in many number (inner n)) (item (record { line = (get_or stack n d).container.line; list = (get_or stack n d).list; size = (get_or stack n d).container.size; marker = (get_or stack n d).container.marker; digits = (get_or stack n d).container.digits; is_empty = (get_or stack n d).container.is_blank }) ∷ inner n))
@@ -107,8 +108,8 @@ module _ (stack : List Open) (many number : ℕ) (d : Open) where
       both b q false r = refl
 
       by : (b : Bool) → (many ≤ n → (not b && nat_lt (get_or stack n d).container.line number) ≡ false)
-          → left_in many number (cond b (quote (get_or stack n d).container.line) (item (record { line = (get_or stack n d).container.line; list = (get_or stack n d).list; size = (get_or stack n d).container.size; marker = (get_or stack n d).container.marker; digits = (get_or stack n d).container.digits; is_empty = (get_or stack n d).container.is_blank })) ∷ inner n)
-          ≡ cond b (quote (get_or stack n d).container.line) (item (record { line = (get_or stack n d).container.line; list = (get_or stack n d).list; size = (get_or stack n d).container.size; marker = (get_or stack n d).container.marker; digits = (get_or stack n d).container.digits; is_empty = (get_or stack n d).container.is_blank })) ∷ inner n
+          → left_in many number (cond b (quote (quote_of (get_or stack n d).container)) (item (record { line = (get_or stack n d).container.line; list = (get_or stack n d).list; size = (get_or stack n d).container.size; marker = (get_or stack n d).container.marker; digits = (get_or stack n d).container.digits; is_empty = (get_or stack n d).container.is_blank })) ∷ inner n)
+          ≡ cond b (quote (quote_of (get_or stack n d).container)) (item (record { line = (get_or stack n d).container.line; list = (get_or stack n d).list; size = (get_or stack n d).container.size; marker = (get_or stack n d).container.marker; digits = (get_or stack n d).container.digits; is_empty = (get_or stack n d).container.is_blank })) ∷ inner n
       by true q = refl
       by false q = last _ (nat_le many (length (inner n))) (nat_lt (get_or stack n d).container.line number) (both (nat_lt (get_or stack n d).container.line number) q (nat_le many (length (inner n))) refl)
 

@@ -1,6 +1,6 @@
 -- Lemmas on prefixes of a line, one written behind the other.
 use Rattle.std.proofs.Common.{◌≡◌, ℕ, zero, suc, ◌+◌, ◌-◌, ◌<◌, ◌≤◌, Bool, true, false, cond, List, [], ◌∷◌, ◌++◌, length, take, drop, map, min, get_or, length-drop, length-take, refl, sym, ap, ◌∙◌, subst, arith, append_assoc, zero-add}
-use Rattle.std.specs.Prelude.{◌==◌, ◌&&◌, nat_le, Option, Some, None}
+use Rattle.std.specs.Prelude.{◌==◌, ◌&&◌, not, nat_le, Option, Some, None}
 use Rattle.std.specs.List.{prefix_len}
 use Rattle.std.proofs.lemmas.List.{append-nil, drop-drop, drop_more, drop-map, take-map, map-append, length-map}
 use Rattle.std.proofs.lemmas.List.Sums.{sum_by-cons}
@@ -17,9 +17,9 @@ use Rattle.mdblock_leaf_blocks.specs.LeafEvents.{Mark}
 use Rattle.mdblock_leaf_blocks.specs.LineKinds.{indent, unindented, begins_with}
 use Rattle.mdblock_lines.specs.declared.containers.Container.{Container as CodeContainer}
 use Rattle.mdblock_lines.specs.declared.containers.Prefix.{Prefix as CodePrefix}
-use Rattle.mdblock_lines.specs.Containers.{Container, quote, item, Prefix, goes_on, quote_size}
+use Rattle.mdblock_lines.specs.Containers.{Container, quote, item, Prefix, goes_on, quote_size, Quote}
 use Rattle.mdblock_lines.specs.Lines.{next_place, place_after}
-use Rattle.mdblock_lines.specs.Views.{container_of, prefix_of}
+use Rattle.mdblock_lines.specs.Views.{container_of, prefix_of, quote_of}
 use Rattle.mdblock_containers.specs.declared.going.Open.{Open}
 use Rattle.mdblock_containers.specs.Prefixes.{going_on, columns_of}
 use Rattle.mdblock_containers.specs.PlaceEvents.{event_at}
@@ -41,12 +41,12 @@ prefix_take p (suc n) (x ∷ xs) = by (p x) (prefix_take p n xs)
     by true e = omega arith
     by false e = omega arith
 
-pub quote_goes : (line number : ℕ) (t : List ℕ) (size : ℕ) → goes_on (quote line) number t ≡ Some size → indent (take size t) + 1 ≤ length (take size t)
-quote_goes line number t size e =
-    let w : size ≤ length t = goes_on_within (quote line) number t size e in
+pub quote_goes : (quoted : Quote) (number : ℕ) (t : List ℕ) (size : ℕ) → goes_on (quote quoted) number t ≡ Some size → indent (take size t) + 1 ≤ length (take size t)
+quote_goes quoted number t size e =
+    let w : size ≤ length t = goes_on_within (quote quoted) number t size e in
     let n : length (take size t) ≡ min size (length t) = length-take size t in
     let f : indent (take size t) ≤ indent t = prefix_take is_white size t in
-    let s : suc (indent t) ≤ size = by (nat_le (indent t) 3) (begins_with 62 (unindented t)) e in
+    let s : suc (indent t) ≤ size = by (begins_with 62 (unindented t)) (not (quoted.is_near && nat_le 4 (indent t))) e in
     omega arith
   where
     by : (a b : Bool) → cond (a && b) (Some (quote_size t)) None ≡ Some size → suc (indent t) ≤ size
@@ -57,9 +57,9 @@ quote_goes line number t size e =
 -- the prefix with which a quote goes on has its marker
 pub quote_fits : (list number : ℕ) (c : CodeContainer) (t part : List ℕ) (size : ℕ) → Some size ≡ goes_on (container_of list c) number t → part ≡ take size t → c.is_quote ≡ true → indent part + 1 ≤ length part
 quote_fits list number c t part size e p q =
-    let same : goes_on (container_of list c) number t ≡ goes_on (quote c.line) number t =
-    ap (λ b. goes_on (cond b (quote c.line) (item (record { line = c.line; list = list; size = c.size; marker = c.marker; digits = c.digits; is_empty = c.is_blank }))) number t) q in
-    subst (λ (l : List ℕ). indent l + 1 ≤ length l) (sym p) (quote_goes c.line number t size (sym (e ∙ same)))
+    let same : goes_on (container_of list c) number t ≡ goes_on (quote (quote_of c)) number t =
+    ap (λ b. goes_on (cond b (quote (quote_of c)) (item (record { line = c.line; list = list; size = c.size; marker = c.marker; digits = c.digits; is_empty = c.is_blank }))) number t) q in
+    subst (λ (l : List ℕ). indent l + 1 ≤ length l) (sym p) (quote_goes (quote_of c) number t size (sym (e ∙ same)))
 
 module _ (t : ℕ) (bytes : List ℕ) where
   pub seats_take : (p : Point) (ss : List Seat) (n : ℕ) → AreSeatsAt t bytes p ss → AreSeatsAt t bytes p (take n ss)

@@ -52,12 +52,12 @@ pub record ItemIs (i : Item) : Type 0 where
 
 -- a container began in a line before this one
 abbrev pub BeganBefore : ℕ → Container → Type 0
-BeganBefore n (quote line) = line < n
+BeganBefore n (quote q) = q.line < n
 BeganBefore n (item i) = (i.line < n) × ItemIs i
 
 -- a container begins in this line
 abbrev pub BeginsIn : ℕ → Container → Type 0
-BeginsIn n (quote line) = line ≡ n
+BeginsIn n (quote q) = q.line ≡ n
 BeginsIn n (item i) = (i.line ≡ n) × ItemIs i
 
 -- and its list, if it is an item
@@ -97,7 +97,7 @@ module _ (on : Constructs) (n : ℕ) where
       by ((on.code_indented && nat_le 4 (indent t)) || (is_blank_line t || (on.thematic_break && is_thematic_break (unindented t)))) (on.block_quote && begins_with 62 (unindented t)) on.list_item (is_marker (unindented t)) _ refl e
     where
       by : (past q l m rest : Bool) → is_marker (unindented t) ≡ m
-          → cond past None (cond q (Some (record { container = quote n; size = quote_size t })) (cond (l && (m && rest)) (Some (item_at n t)) None)) ≡ Some p → BeginsIn n p.container × BeginsList p.container
+          → cond past None (cond q (Some (record { container = quote (record { line = n; is_near = on.code_indented }); size = quote_size t })) (cond (l && (m && rest)) (Some (item_at n t)) None)) ≡ Some p → BeginsIn n p.container × BeginsList p.container
       by true q l m rest em h = absurd (false≢true (ap is_some h))
       by false true l m rest em h = subst (λ (x : Option Prefix). BeginsIn n (unwrap_or x p).container × BeginsList (unwrap_or x p).container) h (refl, tt)
       by false false true true true em h =

@@ -12,7 +12,7 @@ use Rattle.mdblock_lines.specs.declared.containers.Container.{Container as CodeC
 use Rattle.mdblock_lines.specs.declared.containers.Prefix.{Prefix as CodePrefix}
 use Rattle.mdblock_lines.specs.Containers.{Container, quote, item, Item, Prefix, goes_on, begins, digits, is_marker, item_at, may_begin_item, padding, quote_size}
 use Rattle.mdblock_lines.specs.Lines.{is_in_line, line_at}
-use Rattle.mdblock_lines.specs.Views.{container_of, prefix_of}
+use Rattle.mdblock_lines.specs.Views.{container_of, prefix_of, quote_of}
 use Rattle.mdblock_containers.specs.declared.spans.RowAt.{RowAt}
 use Rattle.mdblock_containers.specs.Ahead.{AreRows}
 use Rattle.mdblock_containers.specs.Parts.{open_behind}
@@ -45,7 +45,7 @@ pub begins_fitting : (on : Constructs) (number : ℕ) (in_paragraph : Bool) (t :
 begins_fitting on number in_paragraph t q e =
     by ((on.code_indented && nat_le 4 (indent t)) || (is_blank_line t || (on.thematic_break && is_thematic_break (unindented t)))) (on.block_quote && begins_with 62 (unindented t)) (on.list_item && may_begin_item in_paragraph (unindented t)) e
   where
-    quote_is : IsFitting (quote number) (quote_size t) (take (quote_size t) t)
+    quote_is : IsFitting (quote (record { line = number; is_near = on.code_indented })) (quote_size t) (take (quote_size t) t)
     quote_is = let f : indent (take (quote_size t) t) ≤ indent t = prefix_take is_white (quote_size t) t in omega arith
 
     item_is : IsFitting (item_at number t).container (item_at number t).size (take (item_at number t).size t)
@@ -59,9 +59,9 @@ begins_fitting on number in_paragraph t q e =
         size true = omega arith
         size false = omega arith
 
-    by : (a b c : Bool) → cond a None (cond b (Some (record { container = quote number; size = quote_size t })) (cond c (Some (item_at number t)) None)) ≡ Some q → IsFitting q.container q.size (take q.size t)
+    by : (a b c : Bool) → cond a None (cond b (Some (record { container = quote (record { line = number; is_near = on.code_indented }); size = quote_size t })) (cond c (Some (item_at number t)) None)) ≡ Some q → IsFitting q.container q.size (take q.size t)
     by true b c r = absurd (cc)
-    by false true c r = let same : record { container = quote number; size = quote_size t } ≡ q = cc in subst (λ (p : Prefix). IsFitting p.container p.size (take p.size t)) same quote_is
+    by false true c r = let same : record { container = quote (record { line = number; is_near = on.code_indented }); size = quote_size t } ≡ q = cc in subst (λ (p : Prefix). IsFitting p.container p.size (take p.size t)) same quote_is
     by false false true r = let same : item_at number t ≡ q = cc in subst (λ (p : Prefix). IsFitting p.container p.size (take p.size t)) same item_is
     by false false false r = absurd (cc)
 
@@ -94,7 +94,7 @@ pub one_inside : (list : ℕ) (p : CodePrefix) (t : List ℕ) → p.size ≤ len
 one_inside list p t w h = record { within = w; of_quote = λ e. subst (λ (b : Bool). IsFitting (by b) p.size (take p.size t)) e h; of_item = λ e. subst (λ (b : Bool). IsFitting (by b) p.size (take p.size t)) e h }
   where
     by : Bool → Container
-    by b = cond b (quote p.container.line) (item (record { line = p.container.line; list = list; size = p.container.size; marker = p.container.marker; digits = p.container.digits; is_empty = p.container.is_blank }))
+    by b = cond b (quote (quote_of p.container)) (item (record { line = p.container.line; list = list; size = p.container.size; marker = p.container.marker; digits = p.container.digits; is_empty = p.container.is_blank }))
 
 pub same_inside : (number : ℕ) (xs : List CodePrefix) (t : List ℕ) → AreFitting (map (prefix_of number) xs) t → AreInside xs t
 same_inside number [] t h = tt

@@ -13,8 +13,8 @@ use Rattle.mdblock_leaf_blocks.specs.LeafBlocks.{bytes_of}
 use Rattle.mdblock_leaf_blocks.specs.LeafEvents.{Mark, leaf_marks, span_marks, white}
 use Rattle.mdblock_leaf_blocks.specs.LineKinds.{indent}
 use Rattle.mdblock_lines.specs.declared.containers.Container.{Container as CodeContainer}
-use Rattle.mdblock_lines.specs.Containers.{Item, quote, item}
-use Rattle.mdblock_lines.specs.Views.{container_of}
+use Rattle.mdblock_lines.specs.Containers.{Item, quote, item, Quote}
+use Rattle.mdblock_lines.specs.Views.{container_of, quote_of}
 use Rattle.mdblock_lines.specs.Lines.{next_place, place_after}
 use Rattle.mdblock_containers.specs.Skeleton.{going_marks, begun_marks}
 use Rattle.mdblock_containers.specs.PlaceEvents.{event_at, span_at, quote_prefix_at, item_prefix_at}
@@ -67,8 +67,8 @@ module _ (t : ℕ) (bytes : List ℕ) where
       (λ k. event_at Enter m (first k) ∷ (events_of inside ++ event_at Exit m (last k) ∷ [])) ∙ ap (λ l. event bytes Enter m s.point ∷ l) (sym (map-append (λ (x : Mark). x.0) inside ((event bytes Exit m (end_after s.end ss), None) ∷ [])))
 
   -- The prefix of a quote
-  pub quote_is_marks : (line : ℕ) (p : Point) (ss : List Seat) → AreSeatsAt t bytes p ss → indent (bytes_of ss) + 1 ≤ length ss → quote_prefix_at t bytes p (bytes_of ss) ≡ events_of (going_marks bytes (quote line) ss)
-  quote_is_marks line p ss h w =
+  pub quote_is_marks : (quoted : Quote) (p : Point) (ss : List Seat) → AreSeatsAt t bytes p ss → indent (bytes_of ss) + 1 ≤ length ss → quote_prefix_at t bytes p (bytes_of ss) ≡ events_of (going_marks bytes (quote quoted) ss)
+  quote_is_marks quoted p ss h w =
       let n = indent (bytes_of ss) in
       let size : length (bytes_of ss) ≡ length ss = length-map ss (λ (s : Seat). s.byte) in
       let q = place_after t bytes p n in
@@ -98,10 +98,10 @@ module _ (t : ℕ) (bytes : List ℕ) where
   going_is_marks list c p ss text h e w = by c.is_quote refl
     where
       by : (b : Bool) → c.is_quote ≡ b
-          → cond b (quote_prefix_at t bytes p text) (span_at t bytes name.SpaceOrTab p (length text)) ≡ events_of (going_marks bytes (cond b (quote c.line) (item (record { line = c.line; list = list; size = c.size; marker = c.marker; digits = c.digits; is_empty = c.is_blank }))) ss)
+          → cond b (quote_prefix_at t bytes p text) (span_at t bytes name.SpaceOrTab p (length text)) ≡ events_of (going_marks bytes (cond b (quote (quote_of c)) (item (record { line = c.line; list = list; size = c.size; marker = c.marker; digits = c.digits; is_empty = c.is_blank }))) ss)
       by true q =
           let m : indent (bytes_of ss) + 1 ≤ length (bytes_of ss) = subst (λ (l : List ℕ). indent l + 1 ≤ length l) e (w q) in
-          ap (quote_prefix_at t bytes p) e ∙ quote_is_marks c.line p ss h (omega (arith, m, length-map ss (λ (s : Seat). s.byte)))
+          ap (quote_prefix_at t bytes p) e ∙ quote_is_marks (quote_of c) p ss h (omega (arith, m, length-map ss (λ (s : Seat). s.byte)))
       by false q =
           let size : length text ≡ length ss = ap (λ (l : List ℕ). length l) e ∙ length-map ss (λ (s : Seat). s.byte) in
           ap (span_at t bytes name.SpaceOrTab p) size ∙ span_is_all name.SpaceOrTab p ss h
@@ -149,10 +149,10 @@ module _ (t : ℕ) (bytes : List ℕ) where
     where
       by : (b : Bool) → c.is_quote ≡ b
           → cond b (quote_prefix_at t bytes p text) (item_prefix_at t bytes c.digits p text)
-          ≡ events_of (begun_marks bytes (cond b (quote c.line) (item (record { line = c.line; list = list; size = c.size; marker = c.marker; digits = c.digits; is_empty = c.is_blank }))) ss)
+          ≡ events_of (begun_marks bytes (cond b (quote (quote_of c)) (item (record { line = c.line; list = list; size = c.size; marker = c.marker; digits = c.digits; is_empty = c.is_blank }))) ss)
       by true q =
           let m : indent (bytes_of ss) + 1 ≤ length (bytes_of ss) = subst (λ (l : List ℕ). indent l + 1 ≤ length l) e (w q) in
-          ap (quote_prefix_at t bytes p) e ∙ quote_is_marks c.line p ss h (omega (arith, m, length-map ss (λ (s : Seat). s.byte)))
+          ap (quote_prefix_at t bytes p) e ∙ quote_is_marks (quote_of c) p ss h (omega (arith, m, length-map ss (λ (s : Seat). s.byte)))
       by false q =
           let m : indent (bytes_of ss) + c.digits + 1 ≤ length (bytes_of ss) = subst (λ (l : List ℕ). indent l + c.digits + 1 ≤ length l) e (v q) in
           let i : Item = record { line = c.line; list = list; size = c.size; marker = c.marker; digits = c.digits; is_empty = c.is_blank } in

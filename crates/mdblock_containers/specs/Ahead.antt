@@ -17,7 +17,7 @@ AreRows (x ∷ xs) (r ∷ rs) = IsRow x.span.number x.row r × AreRows xs rs
 
 -- the list of a container that is an item and not the first of it
 abbrev pub frame_before : Container → Option Frame
-frame_before (quote line) = None
+frame_before (quote q) = None
 frame_before (item i) = cond (nat_lt i.list i.line) (Some (record { name = list_name i; line = i.list })) None
 
 abbrev pub frame_begun : List Prefix → Option Frame

@@ -8,7 +8,7 @@ use Rattle.mdblock_containers.specs.Skeleton.{going_on_at}
 
 -- a line needs columns of white space to go on with an item
 abbrev pub HasSize : Container → Type 0
-HasSize (quote line) = Unit {0}
+HasSize (quote q) = Unit {0}
 HasSize (item i) = 1 ≤ i.size
 
 abbrev pub HaveSizes : List Container → Type 0

@@ -18,7 +18,7 @@ AreBefore number stack = (k : ℕ) (d : Open) → k < length stack → (slice_in
 
 -- an item began in a line before this one
 abbrev pub is_earlier : (number : ℕ) → Container → Bool
-is_earlier number (quote line) = false
+is_earlier number (quote q) = false
 is_earlier number (item i) = nat_lt i.line number
 
 -- those from one on up to another are such items

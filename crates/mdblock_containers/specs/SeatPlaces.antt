@@ -25,7 +25,7 @@ module _ (t : ℕ) (bytes : List ℕ) where
 
 -- a container begins at a place: its list, if it is the first item; itself
 abbrev pub enters_at : Container → Point → List Event
-enters_at (quote line) place = event_at Enter name.BlockQuote place ∷ []
+enters_at (quote q) place = event_at Enter name.BlockQuote place ∷ []
 enters_at (item i) place = cond (i.list == i.line) (event_at Enter (list_name i) place ∷ []) [] ++ event_at Enter name.ListItem place ∷ []
 
 -- prefixes with which containers begin in a line: each has its white space, its number and its marker

@@ -24,7 +24,7 @@ use Rattle.mdblock_containers.specs.Rows.{Row, rows, holds_ending, has_none}
 -- many containers go on
 abbrev pub left_in : (many number : ℕ) → List Container → List Container
 left_in many number [] = []
-left_in many number (quote line ∷ cs) = quote line ∷ cs
+left_in many number (quote q ∷ cs) = quote q ∷ cs
 left_in many number (item i ∷ cs) = cond (nat_le many (length cs) && nat_lt i.line number) (left_in many number cs) (item i ∷ cs)
 
 -- how many containers go on at the next line that is not left blank
@@ -42,14 +42,14 @@ list_name i = cond (nat_le 1 i.digits) name.ListOrdered name.ListUnordered
 
 -- an item stands in its list
 abbrev pub frames_of : Container → List Frame
-frames_of (quote line) = record { name = name.BlockQuote; line = line } ∷ []
+frames_of (quote q) = record { name = name.BlockQuote; line = q.line } ∷ []
 frames_of (item i) = record { name = list_name i; line = i.list } ∷ record { name = name.ListItem; line = i.line } ∷ []
 
 -- the list that goes on at the next line that is not left blank: its first new container is no first item
 abbrev pub list_begun : List Prefix → List Frame
 list_begun [] = []
 list_begun (p ∷ ps) = elim p.container [
-  | quote line ↦ []
+  | quote q ↦ []
   | item i ↦ cond (nat_lt i.list i.line) (record { name = list_name i; line = i.list } ∷ []) []
 ]
 
@@ -114,13 +114,13 @@ shared (f ∷ fs) (g ∷ gs) = cond (same_name f.name g.name && (f.line == g.lin
 module _ (bytes : List ℕ) where
   -- the events of a prefix over its virtual bytes, where its container goes on and where it begins
   abbrev pub going_marks : Container → List Seat → List Mark
-  going_marks (quote line) seats =
+  going_marks (quote q) seats =
       let n = indent (bytes_of seats) in
       white bytes (take n seats) ++ span_marks bytes name.BlockQuotePrefix (drop n seats) (leaf_marks bytes name.BlockQuoteMarker (take 1 (drop n seats)) ++ white bytes (drop (suc n) seats))
   going_marks (item i) seats = white bytes seats
 
   abbrev pub begun_marks : Container → List Seat → List Mark
-  begun_marks (quote line) seats = going_marks (quote line) seats
+  begun_marks (quote q) seats = going_marks (quote q) seats
   begun_marks (item i) seats =
       let n = indent (bytes_of seats) in
       white bytes (take n seats)
@@ -133,7 +133,7 @@ module _ (bytes : List ℕ) where
 
   -- a container begins: its list, if it is the first item; itself; its prefix
   abbrev pub enters_of : Container → Point → List Mark
-  enters_of (quote line) place = (event bytes Enter name.BlockQuote place, None) ∷ []
+  enters_of (quote q) place = (event bytes Enter name.BlockQuote place, None) ∷ []
   enters_of (item i) place = cond (i.list == i.line) ((event bytes Enter (list_name i) place, None) ∷ []) [] ++ (event bytes Enter name.ListItem place, None) ∷ []
 
   abbrev pub begun_all : List Prefix → List Seat → List Mark

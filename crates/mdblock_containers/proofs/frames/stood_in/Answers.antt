@@ -7,7 +7,7 @@ use Rattle.mdblock_containers.proofs.frames.stood_in.Goals as goal
 
 -- what the code reads where there is nothing
 abbrev no : Open
-no = record { container = record { is_quote = false; line = 0; size = 0; marker = 0; digits = 0; is_blank = false }; list = 0 }
+no = record { container = record { is_quote = false; is_near = false; line = 0; size = 0; marker = 0; digits = 0; is_blank = false }; list = 0 }
 
 pub bounds-stack-containers : goal.bounds-stack-containers
 bounds-stack-containers g c =

@@ -7,7 +7,7 @@ use Rattle.mdblock_containers.proofs.parts.standing.Goals as goal
 
 pub loop-n-init : goal.loop-n-init
 loop-n-init g c =
-    let no : Open = record { container = record { is_quote = false; line = 0; size = 0; marker = 0; digits = 0; is_blank = false }; list = 0 } in
+    let no : Open = record { container = record { is_quote = false; is_near = false; line = 0; size = 0; marker = 0; digits = 0; is_blank = false }; list = 0 } in
     let size : c.first_asked-n.result ≡ min (length c.args.stack.now) (max c.args.passed c.args.many) = c.first_asked-n.ensures in
     let is = first_asked_is c.args.stack.now c.args.many c.args.number no c.first_asked-n.result c.args.passed size c.requires in
     record { within = omega (arith, size); least = omega (arith, size); most = omega (arith, size); asked = omega (arith, size); turns = omega (arith, size); passed = is.1; same = is.0 }
@@ -29,7 +29,7 @@ returns-else-is_earlier_item-clause-value g c =
 
 pub returns-after-loop-n-clause-value : goal.returns-after-loop-n-clause-value
 returns-after-loop-n-clause-value g c =
-    stands_end c.args.stack.now c.args.many c.args.number (record { container = record { is_quote = false; line = 0; size = 0; marker = 0; digits = 0; is_blank = false }; list = 0 }) c.args.is_blank c.loop-n.n c.if-not-is_blank.false c.loop-n.invariant.within
+    stands_end c.args.stack.now c.args.many c.args.number (record { container = record { is_quote = false; is_near = false; line = 0; size = 0; marker = 0; digits = 0; is_blank = false }; list = 0 }) c.args.is_blank c.loop-n.n c.if-not-is_blank.false c.loop-n.invariant.within
     (λ m. absurd (omega (arith, m))) c.loop-n.invariant.same
 
 pub returns-then-not-is_blank-clause-passed : goal.returns-then-not-is_blank-clause-passed

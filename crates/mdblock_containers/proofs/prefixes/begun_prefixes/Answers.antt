@@ -8,7 +8,7 @@ use Rattle.mdblock_containers.proofs.WritingLemmas.{columns_behind, place_chain}
 use Rattle.mdblock_containers.proofs.prefixes.begun_prefixes.Goals as goal
 
 abbrev none : Prefix
-none = record { container = record { is_quote = false; line = 0; size = 0; marker = 0; digits = 0; is_blank = false }; size = 0 }
+none = record { container = record { is_quote = false; is_near = false; line = 0; size = 0; marker = 0; digits = 0; is_blank = false }; size = 0 }
 
 pub front-text-requires : goal.front-text-requires
 front-text-requires g c =
