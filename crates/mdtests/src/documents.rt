@@ -165,6 +165,46 @@ const STRUCK: &[(&[u8], &str)] = &[
     ),
 ];
 
+/// Documents, and how each is read without indented code and with it. Without it a quote's marker may stand behind any white space, in its first line
+/// and in its further ones. With it no marker stands behind four columns: they begin code, or text that goes on with a paragraph (CommonMark, 4.4, 4.8,
+/// 5.1).
+const FAR: &[(&[u8], &str, &str)] = &[
+    (
+        b"> a\n    > b",
+        "BlockQuote[BlockQuotePrefix[BlockQuoteMarker\">\" SpaceOrTab\" \"] Paragraph[Data\"a\" LineEnding\"%0A\" \
+        SpaceOrTab\"    \" BlockQuotePrefix[BlockQuoteMarker\">\" SpaceOrTab\" \"] Data\"b\"]]",
+        "BlockQuote[BlockQuotePrefix[BlockQuoteMarker\">\" SpaceOrTab\" \"] Paragraph[Data\"a\" LineEnding\"%0A\" SpaceOrTab\"    \" Data\"> b\"]]",
+    ),
+    (
+        b"    > a\n    > b",
+        "BlockQuote[SpaceOrTab\"    \" BlockQuotePrefix[BlockQuoteMarker\">\" SpaceOrTab\" \"] Paragraph[Data\"a\" LineEnding\"%0A\" \
+        SpaceOrTab\"    \" BlockQuotePrefix[BlockQuoteMarker\">\" SpaceOrTab\" \"] Data\"b\"]]",
+        "CodeIndented[SpaceOrTab\"    \" CodeFlowChunk\"> a\" LineEnding\"%0A\" SpaceOrTab\"    \" CodeFlowChunk\"> b\"]",
+    ),
+    (
+        b"> # a\n    > b",
+        "BlockQuote[BlockQuotePrefix[BlockQuoteMarker\">\" SpaceOrTab\" \"] HeadingAtx[HeadingAtxSequence\"#\" SpaceOrTab\" \" \
+        HeadingAtxText[Data\"a\"]] LineEnding\"%0A\" SpaceOrTab\"    \" BlockQuotePrefix[BlockQuoteMarker\">\" SpaceOrTab\" \"] Paragraph[Data\"b\"]]",
+        "BlockQuote[BlockQuotePrefix[BlockQuoteMarker\">\" SpaceOrTab\" \"] HeadingAtx[HeadingAtxSequence\"#\" SpaceOrTab\" \" \
+        HeadingAtxText[Data\"a\"]]] LineEnding\"%0A\" CodeIndented[SpaceOrTab\"    \" CodeFlowChunk\"> b\"]",
+    ),
+];
+
+/// Quotes go on where their markers stand as far to the right as their first one may.
+#[test]
+fn quotes_go_on_as_far_as_they_begin(rt: HostRuntime) {
+    let alloc = rt.alloc();
+    let on = Constructs::default();
+    let off = Constructs {
+        code_indented: false,
+        ..on
+    };
+    for row in FAR {
+        assert_shown(&rt, nested_with(alloc, row.0, off), row.1);
+        assert_shown(&rt, nested_with(alloc, row.0, on), row.2);
+    }
+}
+
 /// Tildes are read by their option alone: without it they are data, and with it whether emphasis is on or not.
 #[test]
 fn documents_are_read_as_their_options_say(rt: HostRuntime) {

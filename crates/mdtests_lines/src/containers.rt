@@ -34,6 +34,7 @@ use std::sync::ledger::{Blank, Ledger};
 /// A quote that the first line begins.
 const QUOTE: Container = Container {
     is_quote: true,
+    is_near: true,
     line: 1,
     size: 0,
     marker: b'>',
@@ -44,6 +45,7 @@ const QUOTE: Container = Container {
 /// An item that the first line begins, with `- ` before its text.
 const ITEM: Container = Container {
     is_quote: false,
+    is_near: false,
     line: 1,
     size: 2,
     marker: b'-',

@@ -124,6 +124,7 @@ const UNDER: &[(&[u8], Option<u8>, bool)] = &[
 /// A quote that the first line begins.
 const QUOTE: Container = Container {
     is_quote: true,
+    is_near: true,
     line: 1,
     size: 0,
     marker: b'>',
@@ -131,9 +132,25 @@ const QUOTE: Container = Container {
     is_blank: false,
 };
 
-/// Whether a quote goes on with its marker alone.
+/// A quote without indented code.
+const FAR_QUOTE: Container = Container {
+    is_quote: true,
+    is_near: false,
+    line: 1,
+    size: 0,
+    marker: b'>',
+    digits: 0,
+    is_blank: false,
+};
+
+/// Whether a quote goes on with its marker alone, behind three columns of white space at most if its markers are near.
 fn quotes_go_on() -> bool {
-    goes_on(&QUOTE, 2, b"> a", 0) == Some(2) && goes_on(&QUOTE, 2, b"a", 0).is_none()
+    goes_on(&QUOTE, 2, b"> a", 0) == Some(2)
+        && goes_on(&QUOTE, 2, b"a", 0).is_none()
+        && goes_on(&QUOTE, 2, b"   > a", 3) == Some(5)
+        && goes_on(&QUOTE, 2, b"    > a", 4).is_none()
+        && goes_on(&FAR_QUOTE, 2, b"    > a", 4) == Some(6)
+        && goes_on(&FAR_QUOTE, 2, b"    a", 4).is_none()
 }
 
 /// The index of a line's ending, counted from nothing.
