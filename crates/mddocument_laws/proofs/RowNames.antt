@@ -69,8 +69,8 @@ module _ (other : Constructs) where
     begin-on number in_paragraph t =
         let r = unindented t in
         cond_both ((on.code_indented && nat_le 4 (indent t)) || (is_blank_line t || (on.thematic_break && is_thematic_break r))) None
-        (cond (on.block_quote && begins_with 62 r) (Some (record { container = quote number; size = quote_size t })) (cond (on.list_item && may_begin_item in_paragraph r) (Some (item_at number t)) None)) IfOn (λ e. tt)
-        (λ e. cond_both (on.block_quote && begins_with 62 r) (Some (record { container = quote number; size = quote_size t })) (cond (on.list_item && may_begin_item in_paragraph r) (Some (item_at number t)) None) IfOn
+        (cond (on.block_quote && begins_with 62 r) (Some (record { container = quote (record { line = number; is_near = on.code_indented }); size = quote_size t })) (cond (on.list_item && may_begin_item in_paragraph r) (Some (item_at number t)) None)) IfOn (λ e. tt)
+        (λ e. cond_both (on.block_quote && begins_with 62 r) (Some (record { container = quote (record { line = number; is_near = on.code_indented }); size = quote_size t })) (cond (on.list_item && may_begin_item in_paragraph r) (Some (item_at number t)) None) IfOn
         (λ q. still.quotes (and_parts on.block_quote (begins_with 62 r) q).0)
         (λ q. cond_both (on.list_item && may_begin_item in_paragraph r) (Some (item_at number t)) None IfOn (λ i. still.items (and_parts on.list_item (may_begin_item in_paragraph r) i).0) (λ i. tt)))
 

@@ -38,7 +38,7 @@ use Rattle.mddocument_parts.specs.MovedSections.{MarksOfBoth, SectionsOfBoth, mo
 module _ (P : ℕ → Type 0) where
   -- the lines of a container are such
   abbrev pub NumbersOf : Container → Type 0
-  NumbersOf (quote line) = P line
+  NumbersOf (quote q) = P q.line
   NumbersOf (item i) = P i.line × P i.list
 
   abbrev All : List Container → Type 0
@@ -73,7 +73,7 @@ module _ (P : ℕ → Type 0) where
       (on.list_item && may_begin_item p (unindented t))
     where
       by : ((n : ℕ) → AllIn (beginning on bound number false (drop n t))) → (b c d : Bool)
-          → AllIn (elim (cond b None (cond c (Some (record { container = quote number; size = quote_size t })) (cond d (Some (item_at number t)) None))) [ None ↦ [] | Some p ↦ p ∷ beginning on bound number false (drop p.size t) ])
+          → AllIn (elim (cond b None (cond c (Some (record { container = quote (record { line = number; is_near = on.code_indented }); size = quote_size t })) (cond d (Some (item_at number t)) None))) [ None ↦ [] | Some p ↦ p ∷ beginning on bound number false (drop p.size t) ])
       by more true c d = tt
       by more false true d = (h, more (quote_size t))
       by more false false true = ((h, h), more (item_at number t).size)
@@ -320,7 +320,7 @@ new-lists on (suc bound) number in_paragraph t =
     first : Option Prefix → List Frame
     first o = list_begun (elim o [ None ↦ [] | Some p ↦ p ∷ beginning on bound number false (drop p.size t) ])
 
-    by : (b c d : Bool) → first (cond b None (cond c (Some (record { container = quote number; size = quote_size t })) (cond d (Some (item_at number t)) None))) ≡ []
+    by : (b c d : Bool) → first (cond b None (cond c (Some (record { container = quote (record { line = number; is_near = on.code_indented }); size = quote_size t })) (cond d (Some (item_at number t)) None))) ≡ []
     by true c d = refl
     by false true d = refl
     by false false true =

@@ -82,14 +82,14 @@ module _ (l : ℕ) where
     begins-moved : (number n2 : ℕ) (in_paragraph : Bool) (t : List ℕ) → n2 ≡ number + l → begins on n2 in_paragraph t ≡ option_map mp (begins on number in_paragraph t)
     begins-moved number n2 in_paragraph t e =
         let r = unindented t in
-        let first : Option Prefix = Some (mp (record { container = quote number; size = quote_size t })) in
+        let first : Option Prefix = Some (mp (record { container = quote (record { line = number; is_near = on.code_indented }); size = quote_size t })) in
         (λ i. cond ((on.code_indented && nat_le 4 (indent t)) || (is_blank_line t || (on.thematic_break && is_thematic_break r))) None
-        (cond (on.block_quote && begins_with 62 r) (Some (record { container = quote (e i); size = quote_size t }))
+        (cond (on.block_quote && begins_with 62 r) (Some (record { container = quote (record { line = e i; is_near = on.code_indented }); size = quote_size t }))
         (cond (on.list_item && may_begin_item in_paragraph r) (Some (item_at (e i) t)) None)))
         ∙ by ((on.code_indented && nat_le 4 (indent t)) || (is_blank_line t || (on.thematic_break && is_thematic_break r))) (on.block_quote && begins_with 62 r) (on.list_item && may_begin_item in_paragraph r)
       where
-        by : (b c d : Bool) → cond b None (cond c (Some (record { container = quote (number + l); size = quote_size t })) (cond d (Some (item_at (number + l) t)) None))
-            ≡ option_map mp (cond b None (cond c (Some (record { container = quote number; size = quote_size t })) (cond d (Some (item_at number t)) None)))
+        by : (b c d : Bool) → cond b None (cond c (Some (record { container = quote (record { line = number + l; is_near = on.code_indented }); size = quote_size t })) (cond d (Some (item_at (number + l) t)) None))
+            ≡ option_map mp (cond b None (cond c (Some (record { container = quote (record { line = number; is_near = on.code_indented }); size = quote_size t })) (cond d (Some (item_at number t)) None)))
         by true c d = refl
         by false true d = refl
         by false false true = refl

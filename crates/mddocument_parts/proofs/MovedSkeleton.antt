@@ -66,7 +66,7 @@ module _ (m : Shift) where
 
   -- ---- lines, parts and sections
   abbrev pub mc : Container → Container
-  mc (quote line) = quote (m.number line)
+  mc (quote q) = quote (record q { line = m.number q.line })
   mc (item i) = item (record i { line = m.number i.line; list = m.number i.list })
 
   abbrev pub mp : Prefix → Prefix

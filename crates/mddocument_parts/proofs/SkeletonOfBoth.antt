@@ -187,7 +187,7 @@ module _ (m : Shift) (to-is : (p : Point) → m.places.to p ≡ p) (number-is : 
   line-is line = map-same _ (λ (s : Seat). (let p = to-is s.point in let q = to-is s.end in (λ i. let r : Seat = record { byte = s.byte; point = p i; end = q i } in r))) line
 
   container-is : (c : Container) → mc m c ≡ c
-  container-is (quote line) = ap quote (number-is line)
+  container-is (quote q) = let a = number-is q.line in (λ j. quote (record q { line = a j }))
   container-is (item i) = let a = number-is i.line in let b = number-is i.list in (λ j. item (record i { line = a j; list = b j }))
 
   prefix-is : (p : Prefix) → mp m p ≡ p

@@ -19,7 +19,7 @@ is_closed _ = false
 
 -- the first container that begins goes on with a list, in the place of an item that ended
 abbrev pub joins_list : (ended : List Container) → (begun : List Prefix) → Bool
-joins_list (item old ∷ cs) (p ∷ ps) = elim p.container [ quote line ↦ false | item new ↦ old.marker == new.marker ]
+joins_list (item old ∷ cs) (p ∷ ps) = elim p.container [ quote q ↦ false | item new ↦ old.marker == new.marker ]
 joins_list _ _ = false
 
 -- The constructs that are on
@@ -46,7 +46,7 @@ module _ (on : Constructs) where
 -- ---- so many lines further on
 module _ (lines : ℕ) where
   abbrev pub moved_container : Container → Container
-  moved_container (quote line) = quote (line + lines)
+  moved_container (quote q) = quote (record q { line = q.line + lines })
   moved_container (item i) = item (record i { line = i.line + lines; list = i.list + lines })
 
   abbrev pub moved_prefix : Prefix → Prefix

@@ -15,7 +15,7 @@ module _ (on : Constructs) (quotes : on.block_quote ≡ false) (items : on.list_
       let r = unindented t in
       let other = (on.code_indented && nat_le 4 (indent t)) || (is_blank_line t || (on.thematic_break && is_thematic_break r)) in
       (λ i. cond other None
-      (cond (quotes i && begins_with 62 r) (Some (record { container = quote number; size = quote_size t }))
+      (cond (quotes i && begins_with 62 r) (Some (record { container = quote (record { line = number; is_near = on.code_indented }); size = quote_size t }))
       (cond (items i && may_begin_item in_paragraph r) (Some (item_at number t)) None)))
       ∙ cond-same other None
 
