@@ -64,6 +64,7 @@ pub mod ItemKinds
 -- lists
 pub mod BegunPlaces
 pub mod Markers
+pub mod NearQuotes
 pub mod Neighbours
 pub mod OpenRows
 pub mod ListItems

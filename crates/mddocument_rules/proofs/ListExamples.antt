@@ -44,7 +44,7 @@ rows_of d = rows default_parse_options.constructs (lines_in (virtual 4 d))
 -- of the container at a depth, the line in which it began, or its list; and its marker
 abbrev shown : Option Container → List ℕ
 shown None = []
-shown (Some (quote line)) = line ∷ []
+shown (Some (quote q)) = q.line ∷ []
 shown (Some (item i)) = i.list ∷ i.marker ∷ []
 
 -- what is open before a line at the depth of what begins in it, and what begins there

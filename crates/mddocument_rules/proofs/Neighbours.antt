@@ -5,18 +5,19 @@ use Rattle.std.proofs.lemmas.Bool.Decides.{nat_tests}
 use Rattle.std.proofs.lemmas.List.{drop-drop}
 use Rattle.std.proofs.lemmas.List.Sums.{sum_by-cons}
 use Rattle.std.proofs.lemmas.Option.{none-some, same_Some, slice_get_within}
-use Rattle.std.specs.Prelude.{◌==◌, ◌&&◌, ◌||◌, ◌↔◌, nat_le, nat_lt, slice_get}
+use Rattle.std.specs.Prelude.{◌==◌, ◌&&◌, ◌||◌, ◌↔◌, not, nat_le, nat_lt, slice_get}
 use Rattle.markdown_base.proofs.Common.{every-get}
 use Rattle.markdown_base.proofs.Facts.Lists.{get-take}
 use Rattle.markdown_base.specs.declared.configuration.Constructs.{Constructs}
 use Rattle.mdblock_leaf_blocks.specs.LeafBlocks.{Line, text_of}
 use Rattle.mdblock_leaf_blocks.specs.LineKinds.{begins_with, indent, is_blank_line, is_thematic_break, unindented}
-use Rattle.mdblock_lines.specs.Containers.{Container, Item, Prefix, begins, goes_on, item, item_at, may_begin_item, quote, quote_size}
+use Rattle.mdblock_lines.specs.Containers.{Container, Item, Prefix, begins, goes_on, item, item_at, may_begin_item, quote, quote_size, Quote}
 use Rattle.mdblock_containers.proofs.RowFacts.{BeganBefore, BeginsIn, BeginsList}
 use Rattle.mdblock_containers.specs.Prefixes.{columns_of, containers_of, going_on, in_place_of}
 use Rattle.mdblock_containers.specs.Rows.{Row}
 use Rattle.mdblock_definitions.specs.Rows.{Known, row_of}
 use Rattle.mddocument_rules.proofs.BegunPlaces.{begins-at, begins-first, begun-first, in_paragraph, left}
+use Rattle.mddocument_rules.proofs.NearQuotes.{IsNear}
 use Rattle.mddocument_rules.proofs.OpenRows.{GoesOn, read-behind}
 use Rattle.mddocument_rules.specs.ListLaws.{EndsBlank, NeighboursDiffer, QuotesAreApart}
 
@@ -74,31 +75,28 @@ is_quote (quote line) = true
 is_quote (item i) = false
 
 -- a quote that begins would go on: no more white space is before it
-would-go : (on : Constructs) (n : ℕ) (in_text : Bool) (t : List ℕ) (p : Prefix) (line second : ℕ) → on.code_indented ≡ true → begins on n in_text t ≡ Some p → quote second ≡ p.container → goes_on (quote line) n t ≡ None → ⊥
-would-go on n in_text t p line second code e is stop =
-    by on.code_indented (nat_le 4 (indent t)) (is_blank_line t || (on.thematic_break && is_thematic_break (unindented t))) on.block_quote (begins_with 62 (unindented t)) (on.list_item && may_begin_item in_text (unindented t)) (nat_le (indent t) 3) code tests e stop
+would-go : (on : Constructs) (n : ℕ) (in_text : Bool) (t : List ℕ) (p : Prefix) (first second : Quote) → first.is_near ≡ on.code_indented → begins on n in_text t ≡ Some p → quote second ≡ p.container → goes_on (quote first) n t ≡ None → ⊥
+would-go on n in_text t p first second near e is stop =
+    by (on.code_indented && nat_le 4 (indent t)) (is_blank_line t || (on.thematic_break && is_thematic_break (unindented t))) on.block_quote (begins_with 62 (unindented t)) (on.list_item && may_begin_item in_text (unindented t)) e
+    (ap (λ b. cond (begins_with 62 (unindented t) && not (b && nat_le 4 (indent t))) (Some (quote_size t)) None) (sym near) ∙ stop)
   where
-    tests : nat_le (indent t) 3 ≡ false → nat_le 4 (indent t) ≡ true
-    tests f = grind (arith, nat_tests)
+    by : (far other quoted sign listed : Bool)
+        → cond (far || other) None (cond (quoted && sign) (Some (record { container = quote (record { line = n; is_near = on.code_indented }); size = quote_size t })) (cond listed (Some (item_at n t)) None)) ≡ Some p
+        → cond (sign && not far) (Some (quote_size t)) None ≡ None → ⊥
+    by true other quoted sign listed e s = none-some p e
+    by false true quoted sign listed e s = none-some p e
+    by false false quoted true listed e s = none-some (quote_size t) (sym s)
+    by false false true false true e s = false≢true (ap (λ (q : Prefix). is_quote q.container) (same_Some (item_at n t) p e) ∙ ap is_quote (sym is))
+    by false false false false true e s = false≢true (ap (λ (q : Prefix). is_quote q.container) (same_Some (item_at n t) p e) ∙ ap is_quote (sym is))
+    by false false true false false e s = none-some p e
+    by false false false false false e s = none-some p e
 
-    by : (coded far other quoted sign listed near : Bool) → coded ≡ true → (near ≡ false → far ≡ true)
-        → cond ((coded && far) || other) None (cond (quoted && sign) (Some (record { container = quote n; size = quote_size t })) (cond listed (Some (item_at n t)) None)) ≡ Some p → cond (near && sign) (Some (quote_size t)) None ≡ None → ⊥
-    by false far other quoted sign listed near c f e s = false≢true c
-    by true true other quoted sign listed near c f e s = none-some p e
-    by true false true quoted sign listed near c f e s = none-some p e
-    by true false false quoted sign listed false c f e s = false≢true (f refl)
-    by true false false quoted true listed true c f e s = none-some (quote_size t) (sym s)
-    by true false false true false true true c f e s = false≢true (ap (λ (q : Prefix). is_quote q.container) (same_Some (item_at n t) p e) ∙ ap is_quote (sym is))
-    by true false false false false true true c f e s = false≢true (ap (λ (q : Prefix). is_quote q.container) (same_Some (item_at n t) p e) ∙ ap is_quote (sym is))
-    by true false false true false false true c f e s = none-some p e
-    by true false false false false false true c f e s = none-some p e
-
-quote-place : (line : ℕ) (c : Container) → in_place_of (quote line) c ≡ c
-quote-place line (quote m) = refl
-quote-place line (item i) = refl
+quote-place : (q : Quote) (c : Container) → in_place_of (quote q) c ≡ c
+quote-place q (quote r) = refl
+quote-place q (item i) = refl
 
 -- where a quote begins in the place of one, all that went on so far goes on
-module _ (on : Constructs) (k : Known) (n : ℕ) (l : Line) (first second : ℕ) (code : on.code_indented ≡ true) where
+module _ (on : Constructs) (k : Known) (n : ℕ) (l : Line) (first second : Quote) (near : first.is_near ≡ on.code_indented) where
   abbrev r : Row
   r = row_of on k n l
 
@@ -106,7 +104,7 @@ module _ (on : Constructs) (k : Known) (n : ℕ) (l : Line) (first second : ℕ)
   stops stood begun less =
       let b = begun-first on k n l (quote first) (quote second) stood begun in
       let stays : slice_get (take k.before.depth k.before.stack) (length r.went_on) ≡ Some (quote first) = get-take k.before.depth k.before.stack (length r.went_on) less ∙ stood in
-      would-go on n (in_paragraph on k n l) (left on k n l) b.0 first second code (begins-first on k n l b.0 b.1) (b.2 ∙ quote-place first b.0.container) (stops-at (take k.before.depth k.before.stack) n (text_of l) (quote first) stays)
+      would-go on n (in_paragraph on k n l) (left on k n l) b.0 first second near (begins-first on k n l b.0 b.1) (b.2 ∙ quote-place first b.0.container) (stops-at (take k.before.depth k.before.stack) n (text_of l) (quote first) stays)
 
   all-go : slice_get k.before.stack (length r.went_on) ≡ Some (quote first) → slice_get (containers_of r.begun) 0 ≡ Some (quote second) → k.before.depth ≤ length r.went_on
   all-go stood begun = by (nat_lt (length r.went_on) k.before.depth) refl
@@ -127,10 +125,11 @@ module _ (on : Constructs) (k : Known) (n : ℕ) (l : Line) (first second : ℕ)
       record { front = z.front; blank = z.blank; is_last = z.is_last; is_blank = z.is_blank; outside = omega (arith, depth, goes) }
 
 pub quotes-are-apart : QuotesAreApart
-quotes-are-apart on ls first second b code =
+quotes-are-apart on ls first second b =
     let at = read-behind on ls b.before b.row b.behind b.lines in
     let k = at.known in
     let r = row_of on k at.number at.line in
     let stood : slice_get k.before.stack (length r.went_on) ≡ Some (quote first) = (λ x. slice_get (at.behind.stack x) (length (sym at.is x).went_on)) ∙ b.ended in
     let begun : slice_get (containers_of r.begun) 0 ≡ Some (quote second) = (λ x. slice_get (containers_of (sym at.is x).begun) 0) ∙ b.begins in
-    subst (λ (y : Row). EndsBlank (length y.went_on) b.before) (sym at.is) (blank-before on k at.number at.line first second code b.before at.behind.depth stood begun)
+    let near : first.is_near ≡ on.code_indented = every-get (IsNear on) k.before.stack (length r.went_on) (quote first) at.near stood in
+    subst (λ (y : Row). EndsBlank (length y.went_on) b.before) (sym at.is) (blank-before on k at.number at.line first second near b.before at.behind.depth stood begun)

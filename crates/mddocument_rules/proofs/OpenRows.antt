@@ -16,6 +16,8 @@ use Rattle.mdblock_definitions.proofs.KnownRows.{changed-stack}
 use Rattle.mdblock_definitions.specs.Rows.{Known, known_after, row_of, rows, rows_from}
 use Rattle.mdblock_text_lines.specs.BlankLines.{containers_in}
 use Rattle.mddocument_rules.specs.ListLaws.{still_open}
+use Rattle.mddocument_rules.proofs.NearQuotes.{AreNear, open-near}
+use Rattle.mddocument_rules.specs.ListLaws.{containers_in, still_open}
 
 -- The last line is blank: as many containers go on behind it as went on with it
 pub record IsBlankLast (b : Before) (before : List Row) : Type 0 where
@@ -69,18 +71,19 @@ pub record IsReadBehind (on : Constructs) (before : List Row) (r : Row) : Type 0
   pub line : Line
   pub is : r ≡ row_of on known number line
   pub behind : IsBehind before known number
+  pub near : AreNear on known.before.stack
 
 module _ (on : Constructs) where
-  reach : (done : List Row) (k : Known) (n : ℕ) (ls : List Line) → IsBehind done k n → (before : List Row) (r : Row) (rest : List Row) → rows_from on k n ls ≡ before ++ r ∷ rest → IsReadBehind on (done ++ before) r
-  reach done k n [] h [] r rest e = absurd (false≢true (sym (ap has_none e)))
-  reach done k n [] h (b ∷ before) r rest e = absurd (false≢true (sym (ap has_none e)))
-  reach done k n (l ∷ ls) h [] r rest e =
+  reach : (done : List Row) (k : Known) (n : ℕ) (ls : List Line) → IsBehind done k n → AreNear on k.before.stack → (before : List Row) (r : Row) (rest : List Row) → rows_from on k n ls ≡ before ++ r ∷ rest → IsReadBehind on (done ++ before) r
+  reach done k n [] h near [] r rest e = absurd (false≢true (sym (ap has_none e)))
+  reach done k n [] h near (b ∷ before) r rest e = absurd (false≢true (sym (ap has_none e)))
+  reach done k n (l ∷ ls) h near [] r rest e =
       let same = head_same (row_of on k n l) r (rows_from on (known_after on k (row_of on k n l)) (suc n) ls) rest e in
-      subst (λ d. IsReadBehind on d r) (sym (append-nil done)) (record { known = k; number = n; line = l; is = sym same.0; behind = h })
-  reach done k n (l ∷ ls) h (b ∷ before) r rest e =
+      subst (λ d. IsReadBehind on d r) (sym (append-nil done)) (record { known = k; number = n; line = l; is = sym same.0; behind = h; near = near })
+  reach done k n (l ∷ ls) h near (b ∷ before) r rest e =
       let x = row_of on k n l in
       let same = head_same x b (rows_from on (known_after on k x) (suc n) ls) (before ++ r ∷ rest) e in
-      let more = reach (done ++ x ∷ []) (known_after on k x) (suc n) ls (behind-next on k n l done h) before r rest same.1 in
+      let more = reach (done ++ x ∷ []) (known_after on k x) (suc n) ls (behind-next on k n l done h) (open-near on k n l near) before r rest same.1 in
       subst (λ d. IsReadBehind on d r) (append_assoc done (x ∷ []) before ∙ ap (λ y. done ++ y ∷ before) same.0) more
 
   -- before the first line
@@ -88,4 +91,4 @@ module _ (on : Constructs) where
   first-behind = record { stack = refl; old = tt; depth = inl refl; number = refl }
 
   pub read-behind : (ls : List Line) (before : List Row) (r : Row) (rest : List Row) → rows on ls ≡ before ++ r ∷ rest → IsReadBehind on before r
-  read-behind ls before r rest e = reach [] (record { before = nothing_known on; text = [] }) 1 ls first-behind before r rest e
+  read-behind ls before r rest e = reach [] (record { before = nothing_known on; text = [] }) 1 ls first-behind tt before r rest e

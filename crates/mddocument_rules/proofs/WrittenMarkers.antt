@@ -202,9 +202,9 @@ module _ (bytes : List ℕ) where
       by ((on.code_indented && nat_le 4 (indent t)) || (is_blank_line t || (on.thematic_break && is_thematic_break (unindented t)))) (on.block_quote && begins_with 62 (unindented t)) on.list_item (is_marker (unindented t)) _ refl h
     where
       by : (past q l m rest : Bool) → is_marker (unindented t) ≡ m
-          → cond past None (cond q (Some (record { container = quote n; size = quote_size t })) (cond (l && (m && rest)) (Some (item_at n t)) None)) ≡ Some p → IsWritten p.container z
+          → cond past None (cond q (Some (record { container = quote (record { line = n; is_near = on.code_indented }); size = quote_size t })) (cond (l && (m && rest)) (Some (item_at n t)) None)) ≡ Some p → IsWritten p.container z
       by true q l m rest em h = absurd (none-some p h)
-      by false true l m rest em h = subst (λ (x : Prefix). IsWritten x.container z) (same_Some (record { container = quote n; size = quote_size t }) p h) tt
+      by false true l m rest em h = subst (λ (x : Prefix). IsWritten x.container z) (same_Some (record { container = quote (record { line = n; is_near = on.code_indented }); size = quote_size t }) p h) tt
       by false false true true true em h =
           let same : item_at n t ≡ p = same_Some (item_at n t) p h in
           subst (λ (x : Prefix). IsWritten x.container z) same (at-written n t z em (e ∙ ap (λ (x : Prefix). take x.size t) (sym same)) are)

@@ -1,13 +1,13 @@
 -- What is written between two lines: white space alone, as a line ending is, and the prefixes of a line but for the markers of block quotes.
 use Rattle.mddocument_rules.proofs.Prelude.{◌≡◌, ◌∙◌, ℕ, zero, suc, ◌+◌, ◌==◌, Bool, true, false, cond, List, [], ◌∷◌, ◌++◌, append_assoc, None, Option, Some, ap, arith, drop, flat_map, length, refl, subst, sym, take, or_left, every-append, every-drop, AllByRecursion, ◌&&◌, ◌||◌, nat_le, Event, Exit, Name, Seat, end_after, same_name, event, Mark, leaf_marks, span_marks, white, indent, Container, Item, Prefix, item, quote, going_marks, prefixes_marks}
 use Rattle.std.proofs.lemmas.List.{drop-append-le, drop-drop, drop-map, drop-take, length-map, map-append, take-append-drop, take-append-le, take-map}
-use Rattle.std.specs.Prelude.{◌≤◌, min}
+use Rattle.std.specs.Prelude.{◌≤◌, min, not}
 use Rattle.markdown_base.proofs.Common.{every-map, every-take}
 use Rattle.markdown_base.specs.declared.event.Name.TheVariants as name
 use Rattle.mdconstructs_tables.specs.Breaks.{is_white}
 use Rattle.mdblock_leaf_blocks.specs.LeafBlocks.{bytes_of}
 use Rattle.mdblock_leaf_blocks.specs.LineKinds.{begins_with, is_blank_line, unindented}
-use Rattle.mdblock_lines.specs.Containers.{goes_on, quote_size}
+use Rattle.mdblock_lines.specs.Containers.{Quote, goes_on, quote_size}
 use Rattle.mdblock_containers.proofs.GoingLemmas.{goes_on_within}
 use Rattle.mdblock_containers.specs.Prefixes.{going_on}
 use Rattle.mdinline_labels.specs.Labels.{is_label_white}
@@ -65,12 +65,12 @@ item-blank i number n ss e = front-blank n ss (by (is_blank_line t) (i.is_empty 
     by false b true s q = let same : i.size ≡ n = cc in let le : i.size ≤ indent t = grind (arith) in omega (arith, same, le)
     by false b false s q = absurd (cc)
 
-quote-sized : (line number n : ℕ) (t : List ℕ) → goes_on (quote line) number t ≡ Some n → quote_size t ≡ n
-quote-sized line number n t e = by (nat_le (indent t) 3 && begins_with 62 (unindented t)) e
+quote-sized : (q : Quote) (number n : ℕ) (t : List ℕ) → goes_on (quote q) number t ≡ Some n → quote_size t ≡ n
+quote-sized q number n t e = by (begins_with 62 (unindented t) && not (q.is_near && nat_le 4 (indent t))) e
   where
     by : (a : Bool) → cond a (Some (quote_size t)) None ≡ Some n → quote_size t ≡ n
-    by true q = cc
-    by false q = absurd (cc)
+    by true h = cc
+    by false h = absurd (cc)
 
 module _ (bytes : List ℕ) where
   -- virtual bytes in a row, without line endings, and what is behind them
@@ -153,11 +153,11 @@ module _ (bytes : List ℕ) where
   -- the prefix of a container that goes on
   going-gap : (c : Container) (number n : ℕ) (ss rest : List Seat) → goes_on c number (bytes_of ss) ≡ Some n → AreInLine ss rest → IsGap (going_marks bytes c (take n ss))
   going-gap (item i) number n ss rest e h = gap-white (take n ss) (drop n ss ++ rest) (line-front n ss rest h) (item-blank i number n ss e)
-  going-gap (quote line) number n ss rest e h =
+  going-gap (quote q) number n ss rest e h =
       let part = take n ss in
       let behind = drop n ss ++ rest in
       let k = indent (bytes_of part) in
-      let is : IsQuoted part = subst (λ j. IsQuoted (take j ss)) (quote-sized line number n (bytes_of ss) e) (quoted ss) in
+      let is : IsQuoted part = subst (λ j. IsQuoted (take j ss)) (quote-sized q number n (bytes_of ss) e) (quoted ss) in
       let here = line-front n ss rest h in
       gap-both (white bytes (take k part)) (span_marks bytes name.BlockQuotePrefix (drop k part) (leaf_marks bytes name.BlockQuoteMarker (take 1 (drop k part)) ++ white bytes (drop (suc k) part)))
       (gap-white (take k part) (drop k part ++ behind) (line-front k part behind here) is.0) (marked-gap (drop k part) (drop (suc k) part) (gap-white (drop (suc k) part) behind (line-back (suc k) part behind here) is.1))

@@ -2,7 +2,7 @@
 use Rattle.std.specs.Prelude.{◌≡◌, ◌≤◌, ◌↔◌, ℕ, ◌-◌, true, List, [], ◌∷◌, ◌++◌, fold, length, slice_get, Some}
 use Rattle.markdown_base.specs.declared.configuration.Constructs.{Constructs}
 use Rattle.mdblock_leaf_blocks.specs.LeafBlocks.{Line}
-use Rattle.mdblock_lines.specs.Containers.{Container, Item, item, quote}
+use Rattle.mdblock_lines.specs.Containers.{Container, Item, Quote, item, quote}
 use Rattle.mdblock_containers.specs.Parts.{open_behind}
 use Rattle.mdblock_containers.specs.Prefixes.{containers_of}
 use Rattle.mdblock_containers.specs.Rows.{Row}
@@ -65,8 +65,6 @@ pub record EndsBlank (depth : ℕ) (before : List Row) : Type 0 where
   pub outside : length blank.went_on ≤ depth
 
 -- "A document cannot contain two block quotes in a row unless there is a blank line between them" (5.1): the line before the second is blank, and not
--- in the first. (Without indented code a quote may begin behind more white space than it goes on with)
+-- in the first.
 abbrev pub QuotesAreApart : Type 0
-QuotesAreApart =
-    (on : Constructs) (ls : List Line) (first second : ℕ) (b : BeginsBehind (rows on ls) (quote first) (quote second)) → on.code_indented ≡ true
-    → EndsBlank (length b.row.went_on) b.before
+QuotesAreApart = (on : Constructs) (ls : List Line) (first second : Quote) (b : BeginsBehind (rows on ls) (quote first) (quote second)) → EndsBlank (length b.row.went_on) b.before

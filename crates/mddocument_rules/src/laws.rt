@@ -55,7 +55,7 @@ pub fn lists_are_of_one_type()
     ensures neighbours { NeighboursDiffer }
 {}
 
-/// Between two block quotes in a row is a blank line, if indented code is on.
+/// Between two block quotes in a row is a blank line.
 pub fn quotes_are_apart()
     ensures { QuotesAreApart }
 {}
