@@ -15,9 +15,8 @@ use Rattle.mdblock_definitions.proofs.KnownReads.{known-reads}
 use Rattle.mdblock_definitions.proofs.KnownRows.{changed-stack}
 use Rattle.mdblock_definitions.specs.Rows.{Known, known_after, row_of, rows, rows_from}
 use Rattle.mdblock_text_lines.specs.BlankLines.{containers_in}
-use Rattle.mddocument_rules.specs.ListLaws.{still_open}
 use Rattle.mddocument_rules.proofs.NearQuotes.{AreNear, open-near}
-use Rattle.mddocument_rules.specs.ListLaws.{containers_in, still_open}
+use Rattle.mddocument_rules.specs.ListLaws.{still_open}
 
 -- The last line is blank: as many containers go on behind it as went on with it
 pub record IsBlankLast (b : Before) (before : List Row) : Type 0 where
