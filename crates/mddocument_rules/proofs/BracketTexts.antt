@@ -6,9 +6,11 @@ use Rattle.std.proofs.lemmas.List.Folds.{list_any-append}
 use Rattle.std.specs.List.{list_any}
 use Rattle.markdown_base.specs.declared.event.Name.TheVariants.{AttentionSequence, LabelEnd, LabelImage, LabelLink, LabelMarker, Reference, Resource}
 use Rattle.mdinline_emphasis.specs.Runs.{is_sequence}
+use Rattle.mdinline_links.proofs.Between.{fail-runs, no-run-named}
 use Rattle.mdinline_links.proofs.Plain.{part-plain}
 use Rattle.mdinline_links.specs.Linked.{Part, SoFar, Waiting, added, ended, failed, is_bracket, is_named, is_run, is_tail, linked_from, opened, part_of, taken}
 use Rattle.mdinline_machine.specs.Brackets.{Bracket, before_link}
+use Rattle.mddocument_laws.proofs.Emphasis.RunsApart.{bracket-no-run, tail-no-run}
 use Rattle.mddocument_rules.proofs.LinkedFlat.{AreRead, IsStep, named-is, tail-stays}
 use Rattle.mddocument_rules.specs.BracketLaws.{SpansAround, folded, parts_of, runs_left}
 
@@ -24,27 +26,9 @@ pub runs-both : (xs ys : List (List Event)) (rs : List Run) → runs_left (xs ++
 runs-both [] ys rs = refl
 runs-both (x ∷ xs) ys rs = runs-both xs ys (part_of x rs).1
 
--- a span with another name is no run, and takes none
-no-run : (n : Name) → same_name n AttentionSequence ≡ false → (span : List Event) → is_named n span ≡ true → is_run span ≡ false
-no-run n other [] is = refl
-no-run n other (e ∷ []) is = refl
-no-run n other (e ∷ f ∷ []) is =
-    false_from_ne_true (is_sequence e f)
-    (λ run. false≢true (sym (named-is n (e ∷ f ∷ []) is AttentionSequence other) ∙ (and_parts (is_enter e.kind && same_name e.name AttentionSequence) (not (is_enter f.kind) && same_name f.name AttentionSequence) run).0))
-no-run n other (e ∷ f ∷ g ∷ es) is = refl
-
-bracket-no-run : (span : List Event) → is_bracket span ≡ true → is_run span ≡ false
-bracket-no-run span is = elim (or_cases (is_named LabelLink span) (is_named LabelImage span) is) [ inl link ↦ no-run LabelLink refl span link | inr image ↦ no-run LabelImage refl span image ]
-
-tail-no-run : (span : List Event) → is_tail span ≡ true → is_run span ≡ false
-tail-no-run span is = elim (or_cases (is_named Resource span) (is_named Reference span) is) [ inl resource ↦ no-run Resource refl span resource | inr reference ↦ no-run Reference refl span reference ]
-
+-- a span that is no run takes none
 none-taken : (done : List (List Event)) (span : List Event) (rs : List Run) → is_run span ≡ false → runs_left (done ++ span ∷ []) rs ≡ runs_left done rs
 none-taken done span rs plain = runs-both done (span ∷ []) rs ∙ ap (λ (p : Part × List Run). p.1) (part-plain span (runs_left done rs) plain)
-
-failed-runs : (span : List Event) (ws : List Waiting) (z : SoFar) → (failed span ws z).runs ≡ z.runs
-failed-runs span [] z = refl
-failed-runs span (w ∷ ws) z = refl
 
 ended-runs : (span tail : List Event) (ws : List Waiting) (z : SoFar) → (ended span tail ws z).runs ≡ z.runs
 ended-runs span tail [] z = refl
@@ -151,11 +135,11 @@ module _ (runs : List Run) where
       cond_both (is_bracket span) (opened span z) (cond (is_named LabelMarker span) (failed span z.waiting z) (added span z)) (Left (done ++ span ∷ []))
       (λ is. left ∙ sym (none-taken done span runs (bracket-no-run span is)))
       (λ no. cond_both (is_named LabelMarker span) (failed span z.waiting z) (added span z) (Left (done ++ span ∷ []))
-      (λ is. failed-runs span z.waiting z ∙ left ∙ sym (none-taken done span runs (no-run LabelMarker refl span is)))
+      (λ is. fail-runs span z.waiting z ∙ left ∙ sym (none-taken done span runs (no-run-named LabelMarker refl span is)))
       (λ is. ap (λ rs. (part_of span rs).1) left ∙ sym (runs-both done (span ∷ []) runs)))
 
   ended-left : (done : List (List Event)) (span tail : List Event) (z : SoFar) → is_named LabelEnd span ≡ true → Left done z → Left (done ++ span ∷ []) (ended span tail z.waiting z)
-  ended-left done span tail z is left = ended-runs span tail z.waiting z ∙ left ∙ sym (none-taken done span runs (no-run LabelEnd refl span is))
+  ended-left done span tail z is left = ended-runs span tail z.waiting z ∙ left ∙ sym (none-taken done span runs (no-run-named LabelEnd refl span is))
 
   tailed-left : (done : List (List Event)) (span next : List Event) (z : SoFar) → is_named LabelEnd span ≡ true → is_tail next ≡ true → Left done z → Left (done ++ span ∷ next ∷ []) (ended span next z.waiting z)
   tailed-left done span next z is tail left =

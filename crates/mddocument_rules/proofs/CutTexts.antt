@@ -8,7 +8,6 @@ use Rattle.std.specs.List.{prefix_len}
 use Rattle.std.specs.Prelude.{◌≤◌}
 use Rattle.markdown_base.specs.declared.event.Name.TheVariants.{SpaceOrTab}
 use Rattle.markdown_base.specs.Events.{span as balanced_span}
-use Rattle.mdconstructs_machines.specs.Spans.{span}
 use Rattle.mdconstructs_tables.specs.Breaks.{is_white}
 use Rattle.mdinline_constructs.proofs.WhiteSpaces.Cuts.{white-run-cut}
 use Rattle.mdinline_constructs.specs.WhiteSpace.{white_space}
@@ -16,11 +15,10 @@ use Rattle.mdinline_emphasis.specs.Runs.{depth_after}
 use Rattle.mdinline_links.proofs.Plain.{front-first}
 use Rattle.mdinline_links.proofs.Spans.{span-joins}
 use Rattle.mdinline_links.specs.Linked.{outermost_spans, span_at, spans_in}
-use Rattle.mdinline_machine.proofs.InlineBuilt.{items-built}
+use Rattle.mdinline_machine.proofs.InlineBuilt.{balance-kept, items-built}
 use Rattle.mdinline_machine.specs.Brackets.{Memory, after_item, nothing_read}
 use Rattle.mdinline_machine.specs.InlineEvents.{inline_item_at, inline_items}
 use Rattle.mdinline_text_machine.proofs.DeepSpans.Atoms.{IsCut, cut-append, cut-none}
-use Rattle.mdinline_text_machine.proofs.Texts.Built.{IsKeptBySpans}
 use Rattle.mdinline_text_machine.specs.Construct.{Found, makes, plain}
 use Rattle.mdinline_text_machine.specs.Items.{item_length}
 use Rattle.mdinline_text_machine.specs.Parts.{bytes_of, cut_remembering}
@@ -110,20 +108,18 @@ single-span e f inner en ex b = ap (λ (q : List Event × List Event). q.0 ∷ s
 front-and-more : (n : ℕ) (l inside ahead : List Seat) → drop n l ≡ inside ++ ahead → l ≡ (take n l ++ inside) ++ ahead
 front-and-more n l inside ahead e = sym (take-append-drop n l) ∙ ap (λ k. take n l ++ k) e ∙ sym (append_assoc (take n l) inside ahead)
 
+-- the first item, or another where there is none
+pub first_item : Found → List (Found × List Seat) → Found
+first_item other [] = other
+first_item other (j ∷ js) = j.0
+
 module _ (bytes : List ℕ) where
-  pub balanced-span : (n : Name) (seats : List Seat) (es : List Event) → IsBalanced es → IsBalanced (span bytes n seats es)
-  balanced-span n [] es h = h
-  balanced-span n (s ∷ ss) es h = balanced_span (event bytes Enter n s.point) (event bytes Exit n (end_after s.end ss)) es [] refl refl refl refl h empty
-
-  balance-kept : IsKeptBySpans bytes IsBalanced
-  balance-kept = record { none = empty; both = IsBalanced-append; alone = λ n seats. balanced-span n seats [] empty; around = λ n seats es other h. balanced-span n seats es h }
-
   module _ (on : Constructs) (defined : List ℕ → Bool) where
     abbrev cut_from : ℕ → Memory → List Seat → List (Found × List Seat)
     cut_from bound m seats = cut_remembering (after_item bytes) (inline_item_at on defined bytes) item_length bound m seats
 
     one-balanced : (m : Memory) (s : Seat) (ss : List Seat) → let f = inline_item_at on defined bytes m (bytes_of (s ∷ ss)) in IsBalanced (f.events bytes (take f.size (s ∷ ss)))
-    one-balanced m s ss = let f = inline_item_at on defined bytes m (bytes_of (s ∷ ss)) in subst IsBalanced (append-nil (f.events bytes (take f.size (s ∷ ss)))) (items-built bytes IsBalanced balance-kept on defined bytes 1 m (s ∷ ss))
+    one-balanced m s ss = let f = inline_item_at on defined bytes m (bytes_of (s ∷ ss)) in subst IsBalanced (append-nil (f.events bytes (take f.size (s ∷ ss)))) (items-built bytes IsBalanced (balance-kept bytes) on defined bytes 1 m (s ∷ ss))
 
     -- what was read of some items from the front: it is balanced, and it cuts the virtual bytes up to those that are left
     pub record IsReadUpTo (m : Memory) (seats : List Seat) (front : List (Found × List Seat)) : Type 0 where
@@ -165,7 +161,7 @@ module _ (bytes : List ℕ) where
           inside = l ++ h.inside;
           are = front-and-more n seats h.inside (remembered bytes m front).ahead h.are;
           cut = cut-append bytes (white-run-cut bytes seats) h.cut;
-          balanced = IsBalanced-append ((white_space n).events bytes l) (flat_map (item_events bytes) front) (balance-kept.alone SpaceOrTab l) h.balanced;
+          balanced = IsBalanced-append ((white_space n).events bytes l) (flat_map (item_events bytes) front) ((balance-kept bytes).alone SpaceOrTab l) h.balanced;
         })
 
     -- an item behind others that is of a bracket or an end is cut from what is left
@@ -192,12 +188,8 @@ module _ (bytes : List ℕ) where
         → IsHere (remembered bytes (nothing_read seats) front) i
     item-here seats [] i rest e k =
         let n = prefix_len is_white (bytes_of seats) in
-        let first : white_space n ≡ i.0 = ap (λ (l : List (Found × List Seat)). first_of l) e in
+        let first : white_space n ≡ i.0 = ap (λ (l : List (Found × List Seat)). first_item (white_space 0) l) e in
         absurd (let no : plain ≡ makes = ap (λ (f : Found). f.mark) first ∙ k in cc)
-      where
-        first_of : List (Found × List Seat) → Found
-        first_of [] = white_space 0
-        first_of (j ∷ js) = j.0
     item-here seats (j ∷ front) i rest e k =
         let n = prefix_len is_white (bytes_of seats) in
         let m = after_item bytes (nothing_read seats) (white_space n) in

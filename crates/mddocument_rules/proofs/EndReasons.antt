@@ -14,6 +14,7 @@ use Rattle.mdinline_text_machine.specs.Bytes.{has_byte_at, is_line_feed}
 use Rattle.mdinline_text_machine.specs.Construct.{Found, Grammar, makes, or_else, plain}
 use Rattle.mdinline_text_machine.specs.Items.{item_length}
 use Rattle.mdinline_text_machine.specs.Parts.{bytes_of, cut_remembering}
+use Rattle.mddocument_rules.proofs.CutTexts.{first_item}
 use Rattle.mddocument_rules.proofs.QuietItems.{IsPlain, IsPlainAndQuiet, constructs-quiet}
 use Rattle.mddocument_rules.specs.BracketLaws.{EndsAreReferences, IsTail, MakesOfBracket, remembered}
 
@@ -131,11 +132,7 @@ module _ (defined : List ℕ → Bool) (bytes : List ℕ) where
 
 pub ends-are-references : EndsAreReferences
 ends-are-references defined on bytes seats [] i rest e k =
-    absurd (let first : white_space (prefix_len is_white (bytes_of seats)) ≡ i.0 = ap (λ (l : List (Found × List Seat)). first_of l) e in let no : plain ≡ makes = ap (λ (f : Found). f.mark) first ∙ k in cc)
-  where
-    first_of : List (Found × List Seat) → Found
-    first_of [] = lone_end
-    first_of (j ∷ js) = j.0
+    absurd (let first : white_space (prefix_len is_white (bytes_of seats)) ≡ i.0 = ap (λ (l : List (Found × List Seat)). first_item lone_end l) e in let no : plain ≡ makes = ap (λ (f : Found). f.mark) first ∙ k in cc)
 ends-are-references defined on bytes seats (j ∷ front) i rest e k =
     let n = prefix_len is_white (bytes_of seats) in
     let m = after_item bytes (nothing_read seats) (white_space n) in

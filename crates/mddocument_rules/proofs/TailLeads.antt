@@ -16,6 +16,7 @@ use Rattle.mdinline_labels.specs.Tails.{begins_with, destination_size, gap}
 use Rattle.mdinline_link_tails.proofs.Resources.Cuts.{string-cut}
 use Rattle.mdinline_link_tails.specs.Resource.{in_marks, in_resource, resource, resource_grammar, string_events, unmarked}
 use Rattle.mdinline_links.specs.Linked.{is_tail, outermost_spans}
+use Rattle.mdinline_machine.proofs.InlineBuilt.{span-balanced}
 use Rattle.mdinline_machine.specs.Brackets.{are_brackets, bytes_before, collapsed_reference, is_defined_label, is_open_bracket, is_wanted_at, no_tail, own_tail, spanned_bytes}
 use Rattle.mdinline_text_machine.specs.Construct.{Found}
 use Rattle.mdinline_text_machine.specs.Parts.{bytes_of}
@@ -25,7 +26,7 @@ use Rattle.mddocument_link_targets.specs.declared.targets.Target.TheVariants as 
 use Rattle.mddocument_link_targets.specs.Spans.{first_in, inside as span_inside}
 use Rattle.mddocument_link_targets.specs.Strings.{as_written}
 use Rattle.mddocument_link_targets.specs.Targets.{target_behind}
-use Rattle.mddocument_rules.proofs.CutTexts.{balanced-span, single-span}
+use Rattle.mddocument_rules.proofs.CutTexts.{single-span}
 use Rattle.mddocument_rules.proofs.MadeTexts.{made-by-labels}
 use Rattle.mddocument_rules.proofs.WrittenTexts.{AreUnmarked, IsUnmarked, front-same, lined-end, written-spans}
 
@@ -73,14 +74,14 @@ resource-sized text r is =
 
 module _ (bytes : List ℕ) where
   balance-kept : IsKeptInside bytes AnyName IsBalanced
-  balance-kept = record { none = empty; both = IsBalanced-append; span_around = λ n seats es any h. balanced-span bytes n seats es h }
+  balance-kept = record { none = empty; both = IsBalanced-append; span_around = λ n seats es any h. span-balanced bytes n seats es h }
 
   -- what is between the marks of a tail, with the marks
   marked-balanced : (mark : Name) (inside : List Event) (seats : List Seat) → IsBalanced inside → IsBalanced (leaf bytes mark (take 1 seats) ++ (inside ++ leaf bytes mark (drop (length seats - 1) seats)))
   marked-balanced mark inside seats h =
       let first = leaf bytes mark (take 1 seats) in
       let last = leaf bytes mark (drop (length seats - 1) seats) in
-      IsBalanced-append first (inside ++ last) (balanced-span bytes mark (take 1 seats) [] empty) (IsBalanced-append inside last h (balanced-span bytes mark (drop (length seats - 1) seats) [] empty))
+      IsBalanced-append first (inside ++ last) (span-balanced bytes mark (take 1 seats) [] empty) (IsBalanced-append inside last h (span-balanced bytes mark (drop (length seats - 1) seats) [] empty))
 
   -- A tail is nothing, or one span
   abbrev pub IsOne : List Event → Type 0
@@ -95,7 +96,7 @@ module _ (bytes : List ℕ) where
       let seats = u ∷ us in
       let within = marked-balanced mark inside seats h in
       record {
-        balanced = balanced-span bytes n seats (leaf bytes mark (take 1 seats) ++ (inside ++ leaf bytes mark (drop (length seats - 1) seats))) within;
+        balanced = span-balanced bytes n seats (leaf bytes mark (take 1 seats) ++ (inside ++ leaf bytes mark (drop (length seats - 1) seats))) within;
         one = inr (single-span (event bytes Enter n u.point) (event bytes Exit n (end_after u.end us)) (leaf bytes mark (take 1 seats) ++ (inside ++ leaf bytes mark (drop (length seats - 1) seats))) refl refl within, is);
       }
 
@@ -197,7 +198,7 @@ module _ (bytes : List ℕ) where
         let label = label_string bytes (unmarked bytes seats) in
         subst (λ k. HasLabel defined ((full_reference n).events bytes (take k (u ∷ us)))) next
         (record {
-          whole = marked-whole name.Reference name.ReferenceMarker label u (take (n + 1) us) (balanced-span bytes name.ReferenceString (unmarked bytes seats) (string_events bytes (unmarked bytes seats)) (strings-of bytes AnyName IsBalanced balance-kept any-names (unmarked bytes seats))) refl;
+          whole = marked-whole name.Reference name.ReferenceMarker label u (take (n + 1) us) (span-balanced bytes name.ReferenceString (unmarked bytes seats) (string_events bytes (unmarked bytes seats)) (strings-of bytes AnyName IsBalanced balance-kept any-names (unmarked bytes seats))) refl;
           text = as_written bytes events;
           leads = λ own. made-by-labels bytes own n u (take (n + 1) us) some_inside ∙ ap (λ l. target.Label (normalised (as_written bytes (string_events bytes l)))) between_is;
           is = ap defined (sym same) ∙ (and_parts (is_label (spanned_bytes (bytes_before bytes rest) events)) (defined (spanned_bytes (bytes_before bytes rest) events)) asked).1;

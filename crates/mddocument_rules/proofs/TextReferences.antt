@@ -15,6 +15,7 @@ use Rattle.mdinline_full_references.specs.FullReference.{full_reference, label_t
 use Rattle.mdinline_links.proofs.Between.{spans-go}
 use Rattle.mdinline_links.proofs.Spans.{spans-balanced}
 use Rattle.mdinline_links.specs.Linked.{SoFar, ended, emphasised_parts, linked_from, made, outermost_spans}
+use Rattle.mdinline_machine.proofs.InlineBuilt.{span-balanced}
 use Rattle.mdinline_machine.specs.Brackets.{Bracket, Memory, is_wanted_at, label_end, nothing_read, own_tail}
 use Rattle.mdinline_machine.specs.InlineEvents.{inline_events, inline_items, read_events}
 use Rattle.mdinline_text_machine.proofs.Paragraphs.ChainEvents.{is-text}
@@ -28,7 +29,7 @@ use Rattle.mddocument.specs.DocumentEvents.{document_events, is_defined_in}
 use Rattle.mddocument.specs.FlowTexts.{inline_seat_events}
 use Rattle.mddocument_link_targets.specs.Strings.{as_written}
 use Rattle.mddocument_link_targets.specs.Targets.{definition_of}
-use Rattle.mddocument_rules.proofs.CutTexts.{balanced-span, item-here, spans-both, text-read}
+use Rattle.mddocument_rules.proofs.CutTexts.{item-here, spans-both, text-read}
 use Rattle.mddocument_rules.proofs.EndReasons.{ends-are-references}
 use Rattle.mddocument_rules.proofs.FoldReferences.{AreKnown, BeginsNoTail, Holds, IsWaiting, all-lead, calm-begins, calm-have, fold-both, holds-calm, holds-ended, known-have, known-texts, known-unlinked}
 use Rattle.mddocument_rules.proofs.ItemKinds.{IsKnown, IsSorted, items-sorted}
@@ -64,7 +65,7 @@ module _ (t : ℕ) (bytes : List ℕ) (defined : List ℕ → Bool) (on : Constr
   close s = span bytes LabelEnd (s ∷ []) (leaf bytes LabelMarker (s ∷ []))
 
   close-balanced : (s : Seat) → IsBalanced (close s)
-  close-balanced s = balanced-span bytes LabelEnd (s ∷ []) (leaf bytes LabelMarker (s ∷ [])) (balanced-span bytes LabelMarker (s ∷ []) [] empty)
+  close-balanced s = span-balanced bytes LabelEnd (s ∷ []) (leaf bytes LabelMarker (s ∷ [])) (span-balanced bytes LabelMarker (s ∷ []) [] empty)
 
   close-spans : (s : Seat) → outermost_spans (close s) ≡ close s ∷ []
   close-spans s = refl

@@ -21,7 +21,7 @@ use Rattle.mdinline_links.specs.Places.{Anywhere}
 -- ---- spans that are no runs
 
 -- a span with another name is no run
-no-run-named : (name : Name) → same_name name AttentionSequence ≡ false → (span : List Event) → is_named name span ≡ true → is_run span ≡ false
+pub no-run-named : (name : Name) → same_name name AttentionSequence ≡ false → (span : List Event) → is_named name span ≡ true → is_run span ≡ false
 no-run-named name h [] is = refl
 no-run-named name h (e ∷ []) is = refl
 no-run-named name h (e ∷ f ∷ []) is =
@@ -40,6 +40,11 @@ no-run-either n m h k span is = elim (cases_Bool (is_named n span)) [
   | inl a ↦ no-run-named n h span a
   | inr a ↦ no-run-named m k span (sym (ap (λ t. t || is_named m span) a) ∙ is)
 ]
+
+-- nor does one that fails take runs
+pub fail-runs : (span : List Event) (ws : List Waiting) (z : SoFar) → (failed span ws z).runs ≡ z.runs
+fail-runs span [] z = refl
+fail-runs span (w ∷ ws) z = refl
 
 -- so no run is taken for it
 none-taken : (span : List Event) (rs : List Run) → is_run span ≡ false → (part_of span rs).1 ≡ rs
@@ -176,10 +181,6 @@ module _ (Q : Type 0) (B : Q → List Event → Q → Type 0) (R : Q → Run →
       waits = a.2;
       behind = parts-one a.0 a.1 q w.before (events (made w.opener z.behind span tail)) a.3 (made-between a.1 m k l q w.opener z.behind span tail a.4.0 b s t);
     }
-
-    fail-runs : (span : List Event) (ws : List Waiting) (z : SoFar) → (failed span ws z).runs ≡ z.runs
-    fail-runs span [] z = refl
-    fail-runs span (w ∷ ws) z = refl
 
     is-taken : (p m q : Q) (span : List Event) (z : SoFar) → IsSpan m span q → IsPart Q B R m (part_of span z.runs).0 q → IsSoFar p z m → Goes p (taken span z) (part_of span z.runs).1 q
     is-taken p m q span z s part h =

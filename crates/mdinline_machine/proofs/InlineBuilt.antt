@@ -73,11 +73,11 @@ module _ (bytes : List ℕ) (P : List Event → Type 0) (kept : IsKeptBySpans by
         (items-built (length seats) q (drop n seats))
 
 module _ (bytes : List ℕ) where
-  span-balanced : (name : Name) (seats : List Seat) (es : List Event) → IsBalanced es → IsBalanced (span bytes name seats es)
+  pub span-balanced : (name : Name) (seats : List Seat) (es : List Event) → IsBalanced es → IsBalanced (span bytes name seats es)
   span-balanced name [] es h = h
   span-balanced name (s ∷ ss) es h = balanced_span (event bytes Enter name s.point) (event bytes Exit name (end_after s.end ss)) es [] refl refl refl refl h empty
 
-  balance-kept : IsKeptBySpans bytes IsBalanced
+  pub balance-kept : IsKeptBySpans bytes IsBalanced
   balance-kept = record {
     none = empty;
     both = IsBalanced-append;

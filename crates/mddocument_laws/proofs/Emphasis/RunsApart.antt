@@ -200,13 +200,13 @@ part-added span z (r ∷ rs) is some =
 is-added : (span : List Event) (z : SoFar) → runs_at span ≤ length z.runs → IsStep span z (added span z)
 is-added span z some = part-added span z z.runs refl some
 
-bracket-no-run : (span : List Event) → is_bracket span ≡ true → is_run span ≡ false
+pub bracket-no-run : (span : List Event) → is_bracket span ≡ true → is_run span ≡ false
 bracket-no-run span h = elim (or_cases (is_named LabelLink span) (is_named LabelImage span) h) [
   | inl link ↦ named-no-run span LabelLink refl link
   | inr image ↦ named-no-run span LabelImage refl image
 ]
 
-tail-no-run : (span : List Event) → is_tail span ≡ true → is_run span ≡ false
+pub tail-no-run : (span : List Event) → is_tail span ≡ true → is_run span ≡ false
 tail-no-run span h = elim (or_cases (is_named Resource span) (is_named Reference span) h) [
   | inl resource ↦ named-no-run span Resource refl resource
   | inr reference ↦ named-no-run span Reference refl reference
