@@ -18,7 +18,7 @@ frames_behind (row ∷ behind) = cond row.is_left_blank (frames_behind behind) (
 
 -- a line has a container's marker: that of each quote, and of an item that begins in it
 abbrev pub has_marker : (number : ℕ) → Container → Bool
-has_marker number (quote line) = true
+has_marker number (quote q) = true
 has_marker number (item i) = i.line == number
 
 -- its containers up to the last whose marker it has

@@ -5,5 +5,5 @@ use Rattle.mdblock_lines.specs.Containers.{Container, item, quote}
 -- the marker of the first of open containers, if it is a list item
 abbrev pub first_marker : List Container → Option ℕ
 first_marker [] = None
-first_marker (quote line ∷ cs) = None
+first_marker (quote q ∷ cs) = None
 first_marker (item i ∷ cs) = Some i.marker

@@ -29,7 +29,7 @@ use Rattle.mddocument_rules.specs.MarkerLaws.{item_marker}
 
 -- ---- what is around, by spans of containers
 abbrev pub container_marker : Container → Option Marker
-container_marker (quote line) = None
+container_marker (quote q) = None
 container_marker (item i) = marker_of i.marker
 
 -- the marker of a list that stands in so many containers and begins in the line of this number
@@ -108,7 +108,7 @@ module _ (rs : List Row) where
       pub goes : (i.list == i.line) ≡ false → IsIn bytes around (marker_of i.marker)
 
     abbrev pub Begins : (d : ℕ) (around : List (Option Marker)) → Container → List Seat → Type 0
-    Begins d around (quote line) seats = Unit {0}
+    Begins d around (quote q) seats = Unit {0}
     Begins d around (item i) seats = ItemBegins d around i seats
 
     abbrev pub AllBegin : (d : ℕ) (around : List (Option Marker)) → List Prefix → List Seat → Type 0
@@ -119,7 +119,7 @@ module _ (rs : List Row) where
     list-is i = cond_both (nat_le 1 i.digits) name.ListOrdered name.ListUnordered (λ n. (is_wanted list_names n ≡ true) × (same_name n name.ListItem ≡ false)) (λ e. (refl, refl)) (λ e. (refl, refl))
 
     one-begins : (c : Container) (place : Point) (d : ℕ) (around : List (Option Marker)) (seats : List Seat) (ys : List Mark) → Begins d around c seats → MarksAre bytes (within d around (entered c)) ys → MarksAre bytes around (enters_of bytes c place ++ (begun_marks bytes c seats ++ ys))
-    one-begins (quote line) place d around seats ys b h = enters-plain bytes name.BlockQuote place around (begun_marks bytes (quote line) seats ++ ys) (refl, refl) ((begins-plain bytes (quote line) seats).passes (None ∷ around) ys h)
+    one-begins (quote q) place d around seats ys b h = enters-plain bytes name.BlockQuote place around (begun_marks bytes (quote q) seats ++ ys) (refl, refl) ((begins-plain bytes (quote q) seats).passes (None ∷ around) ys h)
     one-begins (item i) place d around seats ys b h = by (i.list == i.line) refl h
       where
         rest : List Mark

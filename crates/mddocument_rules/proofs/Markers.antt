@@ -77,8 +77,8 @@ module _ (rs : List Row) where
     placed : (d : ℕ) (i : Item) (old new : Container) → slice_get (containers_in r) d ≡ Some (item i) → slice_get k.before.stack d ≡ Some old → BeginsIn n new × BeginsList new → item i ≡ in_place_of old new → IsOfItsList rs d i
     placed d i (item old) (item new) h at begins e = in-place d i old new h at begins (old.marker == new.marker) refl e
     placed d i (item old) (quote m) h at begins e = absurd (cc)
-    placed d i (quote line) (quote m) h at begins e = absurd (cc)
-    placed d i (quote line) (item new) h at begins e =
+    placed d i (quote q) (quote m) h at begins e = absurd (cc)
+    placed d i (quote q) (item new) h at begins e =
         let same : new ≡ i = cc in
         let is = subst (λ (y : Item). (y.line ≡ n) × (y.list ≡ y.line)) same (begins.0.0, begins.1) in
         begins-list d i h is.0 is.1

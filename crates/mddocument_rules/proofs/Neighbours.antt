@@ -71,7 +71,7 @@ stops-at (d ∷ cs) n t c h = by (goes_on d n t) refl h (λ u. stops-at cs n u c
         ap (λ (u : List ℕ). goes_on c n u) (ap (λ (m : ℕ). drop m t) all ∙ sym (drop-drop (columns_of ps) s t)) ∙ rest (drop s t) h
 
 abbrev is_quote : Container → Bool
-is_quote (quote line) = true
+is_quote (quote q) = true
 is_quote (item i) = false
 
 -- a quote that begins would go on: no more white space is before it

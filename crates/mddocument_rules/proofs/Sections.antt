@@ -184,7 +184,7 @@ module _ (bytes : List ℕ) where
 
   -- ---- gaps
   enters-apart : (c : Container) (place : Point) → Apart (enters_of bytes c place)
-  enters-apart (quote line) place = apart-mark _
+  enters-apart (quote q) place = apart-mark _
   enters-apart (item i) place = apart-both _ _ (cond_both (i.list == i.line) _ [] Apart (λ e. apart-mark _) (λ e. apart-none)) (apart-mark _)
 
   begun-apart : (ps : List Prefix) (seats : List Seat) → Apart (begun_all bytes ps seats)

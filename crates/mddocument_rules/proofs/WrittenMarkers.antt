@@ -130,7 +130,7 @@ marker-at t h =
 module _ (bytes : List ℕ) where
   -- the marker of an item that begins is that of its prefix, and its list may have it
   abbrev pub IsWritten : Container → List Seat → Type 0
-  IsWritten (quote line) seats = Unit {0}
+  IsWritten (quote q) seats = Unit {0}
   IsWritten (item i) seats =
       ((j : ℕ) (previous : Option ℕ) (ys : List Mark) → item_marker bytes (chained_from j previous (begun_marks bytes (item i) seats ++ ys)) ≡ marker_of i.marker)
       × (marks (list_name i) (marker_of i.marker) ≡ true)
@@ -233,8 +233,8 @@ module _ (bytes : List ℕ) where
       by true h = h
       by false h = h
   place-written (item old) (quote m) z h = tt
-  place-written (quote line) (quote m) z h = tt
-  place-written (quote line) (item i) z h = h
+  place-written (quote q) (quote m) z h = tt
+  place-written (quote q) (item i) z h = h
 
   listed-written : (x : Bool) (cs : List Container) (ps : List Prefix) (seats : List Seat) → AreWritten ps seats → AreWritten (cond x [] (with_list cs ps)) seats
   listed-written true cs ps seats h = tt
