@@ -72,8 +72,8 @@ list_of_begun : (ps : List Prefix) → list_begun ps ≡ frames_in (frame_begun 
 list_of_begun [] = refl
 list_of_begun (p ∷ ps) = by p.container
   where
-    by : (c : Container) → (elim c as (λ x. List Span) [ quote line ↦ [] | item i ↦ cond (nat_lt i.list i.line) (record { name = list_name i; line = i.list } ∷ []) [] ]) ≡ frames_in (frame_before c)
-    by (quote line) = refl
+    by : (c : Container) → (elim c as (λ x. List Span) [ quote q ↦ [] | item i ↦ cond (nat_lt i.list i.line) (record { name = list_name i; line = i.list } ∷ []) [] ]) ≡ frames_in (frame_before c)
+    by (quote q) = refl
     by (item i) = list_of_item i (nat_lt i.list i.line)
 
 pub list_ahead : (rows : List Row) → list_at rows ≡ frames_in (frame_ahead rows)

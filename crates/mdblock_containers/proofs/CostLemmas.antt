@@ -34,7 +34,7 @@ use Rattle.mdblock_containers.proofs.RowFacts.{BeganBefore, begun_sizes, columns
 
 pub began_sizes : (n : ℕ) (cs : List Container) → AllByRecursion (BeganBefore n) cs → HaveSizes cs
 began_sizes n [] h = tt
-began_sizes n (quote line ∷ cs) h = (tt, began_sizes n cs h.1)
+began_sizes n (quote q ∷ cs) h = (tt, began_sizes n cs h.1)
 began_sizes n (item i ∷ cs) h = (h.0.1.sized, began_sizes n cs h.1)
 
 -- a container goes on with a column, if one is left
@@ -320,7 +320,7 @@ begun_paid on number in_paragraph t rest at columns t0 t1 t2 (Some p) er ec one 
 
 pub spans_few : (cs : List Container) → length (flat_map frames_of cs) ≤ 2 * length cs
 spans_few [] = omega arith
-spans_few (quote line ∷ cs) = let more = spans_few cs in let one : length (flat_map frames_of (quote line ∷ cs)) ≡ suc (length (flat_map frames_of cs)) = refl in omega (arith, more, one)
+spans_few (quote q ∷ cs) = let more = spans_few cs in let one : length (flat_map frames_of (quote q ∷ cs)) ≡ suc (length (flat_map frames_of cs)) = refl in omega (arith, more, one)
 spans_few (item i ∷ cs) = let more = spans_few cs in let one : length (flat_map frames_of (item i ∷ cs)) ≡ suc (suc (length (flat_map frames_of cs))) = refl in omega (arith, more, one)
 
 pub list_few : (o : Option CodeFrame) → length (frames_in o) ≤ 1

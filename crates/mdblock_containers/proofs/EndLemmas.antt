@@ -132,7 +132,7 @@ HaveColumns (p ∷ ps) = (0 < p.size) × HaveColumns ps
 
 module _ (bytes : List ℕ) where
   pub plain_enters : (c : Container) (p : Point) → NoChunk (enters_of bytes c p)
-  plain_enters (quote line) p = tt
+  plain_enters (quote q) p = tt
   plain_enters (item i) p = by (i.list == i.line)
     where
       by : (b : Bool) → NoChunk (cond b ((event_at Enter (list_name i) (shown bytes p), None) ∷ []) [] ++ (event_at Enter name.ListItem (shown bytes p), None) ∷ [])
@@ -140,7 +140,7 @@ module _ (bytes : List ℕ) where
       by false = tt
 
   pub plain_begun_one : (c : Container) (ss : List Seat) → NoChunk (begun_marks bytes c ss)
-  plain_begun_one (quote line) ss = plain_going bytes (quote line) ss
+  plain_begun_one (quote q) ss = plain_going bytes (quote q) ss
   plain_begun_one (item i) ss =
       let n = indent (bytes_of ss) in
       plain_append (white bytes (take n ss)) _ (plain_span bytes name.SpaceOrTab (take n ss) [] tt)

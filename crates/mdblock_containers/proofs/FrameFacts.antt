@@ -64,7 +64,7 @@ all_entered (p ∷ ps) = entered p.container ++ all_entered ps
 
 -- with its list, if it begins that
 pub enters_all : (n : ℕ) (c : Container) → BeginsIn n c × BeginsList c → frames_of c ≡ entered c
-enters_all n (quote line) h = refl
+enters_all n (quote q) h = refl
 enters_all n (item i) h = ap (λ b. cond b (record { name = list_name i; line = i.list } ∷ []) [] ++ record { name = name.ListItem; line = i.line } ∷ []) (sym (eq-eqb i.list i.line h.1))
 
 pub each_entered : (n : ℕ) (ps : List Prefix) → AllByRecursion (λ (q : Prefix). BeginsIn n q.container × BeginsList q.container) ps → flat_map frames_of (containers_of ps) ≡ all_entered ps
@@ -78,7 +78,7 @@ begun_entered n (p ∷ ps) h = by p.container h.0 (each_entered n ps h.1)
   where
     by : (c : Container) → BeginsIn n c → flat_map frames_of (containers_of ps) ≡ all_entered ps
         → frames_of c ++ flat_map frames_of (containers_of ps)
-        ≡ (elim c as (λ _. List Frame) [ quote line ↦ [] | item i ↦ cond (nat_lt i.list i.line) (record { name = list_name i; line = i.list } ∷ []) [] ]) ++ (entered c ++ all_entered ps)
+        ≡ (elim c as (λ _. List Frame) [ quote q ↦ [] | item i ↦ cond (nat_lt i.list i.line) (record { name = list_name i; line = i.list } ∷ []) [] ]) ++ (entered c ++ all_entered ps)
     by (quote q) k rest = ap (λ (l : List Frame). record { name = name.BlockQuote; line = q.line } ∷ l) rest
     by (item i) k rest = choose (nat_lt i.list i.line) (i.list == i.line) tests
       where
@@ -128,12 +128,12 @@ turns n before after kept begun h old front e =
 -- containers from the innermost on, but for items among the first that do not go on
 abbrev pub keep : ℕ → List Container → List Container
 keep g [] = []
-keep g (quote line ∷ cs) = quote line ∷ cs
+keep g (quote q ∷ cs) = quote q ∷ cs
 keep g (item i ∷ cs) = cond (nat_le g (length cs)) (keep g cs) (item i ∷ cs)
 
 pub left_is_keep : (g n : ℕ) (cs : List Container) → AllByRecursion (BeganBefore n) cs → left_in g n cs ≡ keep g cs
 left_is_keep g n [] h = refl
-left_is_keep g n (quote line ∷ cs) h = refl
+left_is_keep g n (quote q ∷ cs) h = refl
 left_is_keep g n (item i ∷ cs) h =
     let less = h.0.0 in
     let before : nat_lt i.line n ≡ true = grind (arith, nat_tests) in
@@ -149,7 +149,7 @@ IsBack xs ys = (ws : List Container) × (ys ≡ ws ++ xs)
 
 pub keep_back : (g : ℕ) (cs : List Container) → IsBack (keep g cs) cs
 keep_back g [] = ([], refl)
-keep_back g (quote line ∷ cs) = ([], refl)
+keep_back g (quote q ∷ cs) = ([], refl)
 keep_back g (item i ∷ cs) = by (nat_le g (length cs)) (keep_back g cs)
   where
     by : (x : Bool) → IsBack (keep g cs) cs → IsBack (cond x (keep g cs) (item i ∷ cs)) (item i ∷ cs)
@@ -158,7 +158,7 @@ keep_back g (item i ∷ cs) = by (nat_le g (length cs)) (keep_back g cs)
 
 pub keep_more : (g : ℕ) (zs cs : List Container) → IsBack (keep g cs) (keep g (zs ++ cs))
 keep_more g [] cs = ([], refl)
-keep_more g (quote line ∷ zs) cs = let back = keep_back g cs in (quote line ∷ (zs ++ back.0), ap (λ l. quote line ∷ (zs ++ l)) back.1 ∙ ap (λ l. quote line ∷ l) (sym (append_assoc zs back.0 (keep g cs))))
+keep_more g (quote q ∷ zs) cs = let back = keep_back g cs in (quote q ∷ (zs ++ back.0), ap (λ l. quote q ∷ (zs ++ l)) back.1 ∙ ap (λ l. quote q ∷ l) (sym (append_assoc zs back.0 (keep g cs))))
 keep_more g (item i ∷ zs) cs = by (nat_le g (length (zs ++ cs))) (keep_more g zs cs)
   where
     by : (x : Bool) → IsBack (keep g cs) (keep g (zs ++ cs)) → IsBack (keep g cs) (cond x (keep g (zs ++ cs)) (item i ∷ (zs ++ cs)))
@@ -167,7 +167,7 @@ keep_more g (item i ∷ zs) cs = by (nat_le g (length (zs ++ cs))) (keep_more g 
 
 pub keep_long : (g : ℕ) (cs : List Container) → g ≤ length cs → g ≤ length (keep g cs)
 keep_long g [] h = h
-keep_long g (quote line ∷ cs) h = h
+keep_long g (quote q ∷ cs) h = h
 keep_long g (item i ∷ cs) h = by (keep_long g cs) (nat_le g (length cs)) refl
   where
     by : (g ≤ length cs → g ≤ length (keep g cs)) → (x : Bool) → nat_le g (length cs) ≡ x → g ≤ length (cond x (keep g cs) (item i ∷ cs))
@@ -202,15 +202,15 @@ front_take xs ys h = ap (take (length xs)) h.1 ∙ (take_front xs h.0 (length xs
 -- ---- lines of containers
 
 pub began_more : (n : ℕ) (c : Container) → BeganBefore n c → BeganBefore (suc n) c
-began_more n (quote line) h = omega (arith, h)
+began_more n (quote q) h = omega (arith, h)
 began_more n (item i) h = let less = h.0 in (omega (arith, less), h.1)
 
 pub began_later : (n m : ℕ) → n ≤ m → (c : Container) → BeganBefore n c → BeganBefore m c
-began_later n m le (quote line) h = omega (arith, h, le)
+began_later n m le (quote q) h = omega (arith, h, le)
 began_later n m le (item i) h = let less = h.0 in (omega (arith, less, le), h.1)
 
 pub begins_before : (n : ℕ) (c : Container) → BeginsIn n c → BeganBefore (suc n) c
-begins_before n (quote line) h = omega (arith, h)
+begins_before n (quote q) h = omega (arith, h)
 begins_before n (item i) h = let is = h.0 in (omega (arith, is), h.1)
 
 pub begun_before : (n : ℕ) (ps : List Prefix) → BeginHere n ps → AllByRecursion (BeganBefore (suc n)) (containers_of ps)
@@ -222,7 +222,7 @@ begun_before n (p ∷ ps) h = (begins_before n p.container h.0, rest ps h.1)
     rest (q ∷ qs) k = (begins_before n q.container k.0.0, rest qs k.1)
 
 pub frames_before : (n : ℕ) (c : Container) → BeganBefore n c → AllByRecursion (λ (f : Frame). f.line < n) (frames_of c)
-frames_before n (quote line) h = (h, tt)
+frames_before n (quote q) h = (h, tt)
 frames_before n (item i) h = let less = h.0 in let list = h.1.list in (omega (arith, less, list), (less, tt))
 
 pub all_before : (n : ℕ) (cs : List Container) → AllByRecursion (BeganBefore n) cs → AllByRecursion (λ (f : Frame). f.line < n) (flat_map frames_of cs)
@@ -252,7 +252,7 @@ standing_other r behind other =
 
 pub left_begun : (g n : ℕ) (zs cs : List Container) → AllByRecursion (BeginsIn n) zs → has_none zs ≡ false → left_in g n (zs ++ cs) ≡ zs ++ cs
 left_begun g n [] cs h e = absurd (false≢true (sym e))
-left_begun g n (quote line ∷ zs) cs h e = refl
+left_begun g n (quote q ∷ zs) cs h e = refl
 left_begun g n (item i ∷ zs) cs h e =
     let is = h.0.0 in
     let here : nat_lt i.line n ≡ false = grind (arith, nat_tests) in
@@ -409,8 +409,8 @@ short_list (p ∷ ps) = by p.container
     one f true = omega arith
     one f false = omega arith
 
-    by : (c : Container) → length (elim c as (λ _. List Frame) [ quote line ↦ [] | item i ↦ cond (nat_lt i.list i.line) (record { name = list_name i; line = i.list } ∷ []) [] ]) ≤ 1
-    by (quote line) = omega arith
+    by : (c : Container) → length (elim c as (λ _. List Frame) [ quote q ↦ [] | item i ↦ cond (nat_lt i.list i.line) (record { name = list_name i; line = i.list } ∷ []) [] ]) ≤ 1
+    by (quote q) = omega arith
     by (item i) = one (record { name = list_name i; line = i.list }) (nat_lt i.list i.line)
 
 abbrev pub head_or : Frame → List Frame → Frame

@@ -129,7 +129,7 @@ module _ (bytes : List ℕ) where
   plain_span n (s ∷ ss) inside h = plain_append inside _ h tt
 
   pub plain_going : (c : Container) (ss : List Seat) → NoChunk (going_marks bytes c ss)
-  plain_going (quote line) ss =
+  plain_going (quote q) ss =
       let n = indent (bytes_of ss) in
       plain_append (white bytes (take n ss)) _ (plain_span name.SpaceOrTab (take n ss) [] tt)
       (plain_span name.BlockQuotePrefix (drop n ss) _ (plain_append (leaf_marks bytes name.BlockQuoteMarker (take 1 (drop n ss))) _ (plain_span name.BlockQuoteMarker (take 1 (drop n ss)) [] tt) (plain_span name.SpaceOrTab (drop (suc n) ss) [] tt)))
@@ -140,7 +140,7 @@ module _ (bytes : List ℕ) where
   plain_prefixes (p ∷ ps) ss = plain_append (going_marks bytes p.container (take p.size ss)) _ (plain_going p.container (take p.size ss)) (plain_prefixes ps (drop p.size ss))
 
   pub going_empty : (c : Container) → going_marks bytes c [] ≡ []
-  going_empty (quote line) = refl
+  going_empty (quote q) = refl
   going_empty (item i) = refl
 
   pub columns_more : (p : Prefix) (ps : List Prefix) → columns_of (p ∷ ps) ≡ p.size + columns_of ps
@@ -163,7 +163,7 @@ module _ (bytes : List ℕ) where
   none_right (x ∷ xs) ys e = refl
 
   pub going_some : (c : Container) (ss : List Seat) → 0 < length ss → has_none (going_marks bytes c ss) ≡ false
-  going_some (quote line) ss h = by (indent (bytes_of ss))
+  going_some (quote q) ss h = by (indent (bytes_of ss))
     where
       inside : ℕ → List Mark
       inside n = leaf_marks bytes name.BlockQuoteMarker (take 1 (drop n ss)) ++ white bytes (drop (suc n) ss)

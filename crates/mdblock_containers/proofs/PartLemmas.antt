@@ -128,7 +128,7 @@ module _ (stack : List Open) (many number : ℕ) (d : Open) where
 
 -- later lines
 pub later_one : (number n : ℕ) (c : Container) → number ≤ n → is_earlier number c ≡ true → is_earlier n c ≡ true
-later_one number n (quote line) h e = absurd (false≢true e)
+later_one number n (quote q) h e = absurd (false≢true e)
 later_one number n (item i) h e = grind (arith, nat_tests)
 
 pub earlier_later : (number n from to : ℕ) (stack : List Container) → number ≤ n → AreEarlier number from to stack → AreEarlier n from to stack

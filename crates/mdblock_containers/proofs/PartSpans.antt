@@ -155,7 +155,7 @@ module _ (t : ℕ) (bytes : List ℕ) where
     }
 
     pub enters_are : (c : Container) → enters_of bytes c x ≡ enter_marks (entered c)
-    enters_are (quote line) = refl
+    enters_are (quote q) = refl
     enters_are (item i) = by (i.list == i.line)
       where
         by : (b : Bool) → cond b (enter_mark (list_name i) ∷ []) [] ++ enter_mark name.ListItem ∷ [] ≡ enter_marks (cond b (record { name = list_name i; line = i.list } ∷ []) [] ++ record { name = name.ListItem; line = i.line } ∷ [])

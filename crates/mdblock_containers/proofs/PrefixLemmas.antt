@@ -101,7 +101,7 @@ going_none bytes before all ps seats e h = sym (ap (λ l. before ++ events_of (p
 -- nothing is left of the line: items go on with no columns
 pub nothing_marks : (bytes : List ℕ) (cs : List Container) (number : ℕ) → (prefixes_marks bytes (going_on cs number []) [] ≡ []) × (columns_of (going_on cs number []) ≡ 0)
 nothing_marks bytes [] number = (refl, refl)
-nothing_marks bytes (quote line ∷ cs) number = (refl, refl)
+nothing_marks bytes (quote q ∷ cs) number = (refl, refl)
 nothing_marks bytes (item i ∷ cs) number = by (i.is_empty && (number == suc i.line)) (min i.size 0) (min-zero i.size) (nothing_marks bytes cs number)
   where
     by : (b : Bool) (n : ℕ) → n ≡ 0 → (prefixes_marks bytes (going_on cs number []) [] ≡ []) × (columns_of (going_on cs number []) ≡ 0)
@@ -123,7 +123,7 @@ going_nothing bytes cs number before all t seats e f h =
 
 -- a container begins at a place that is shown at itself
 pub enters_shown : (bytes : List ℕ) (c : Container) (p : Point) → shown bytes p ≡ p → events_of (enters_of bytes c p) ≡ enters_at c p
-enters_shown bytes (quote line) p e = λ k. event_at Enter name.BlockQuote (e k) ∷ []
+enters_shown bytes (quote q) p e = λ k. event_at Enter name.BlockQuote (e k) ∷ []
 enters_shown bytes (item i) p e = by (i.list == i.line)
   where
     by : (b : Bool) → events_of (cond b ((event_at Enter (list_name i) (shown bytes p), None) ∷ []) [] ++ (event_at Enter name.ListItem (shown bytes p), None) ∷ []) ≡ cond b (event_at Enter (list_name i) p ∷ []) [] ++ event_at Enter name.ListItem p ∷ []

@@ -53,14 +53,14 @@ module _ (bytes : List ℕ) where
   -- ---- one prefix
 
   pub going_unlinked : (c : Container) (ss : List Seat) → Unlinked (going_marks bytes c ss)
-  going_unlinked (quote line) ss =
+  going_unlinked (quote q) ss =
       let n = indent (bytes_of ss) in
       unlinked_both (white bytes (take n ss)) _ (leaf_unlinked name.SpaceOrTab (take n ss))
       (span_unlinked name.BlockQuotePrefix (drop n ss) _ (unlinked_both (leaf_marks bytes name.BlockQuoteMarker (take 1 (drop n ss))) _ (leaf_unlinked name.BlockQuoteMarker (take 1 (drop n ss))) (leaf_unlinked name.SpaceOrTab (drop (suc n) ss))))
   going_unlinked (item i) ss = leaf_unlinked name.SpaceOrTab ss
 
   pub begun_unlinked : (c : Container) (ss : List Seat) → Unlinked (begun_marks bytes c ss)
-  begun_unlinked (quote line) ss = going_unlinked (quote line) ss
+  begun_unlinked (quote q) ss = going_unlinked (quote q) ss
   begun_unlinked (item i) ss =
       let n = indent (bytes_of ss) in
       unlinked_both (white bytes (take n ss)) _ (leaf_unlinked name.SpaceOrTab (take n ss))
@@ -70,7 +70,7 @@ module _ (bytes : List ℕ) where
 
   pub going_none : (c : Container) (ss : List Seat) → has_none (going_marks bytes c ss) ≡ has_none ss
   going_none (item i) ss = leaf_none name.SpaceOrTab ss
-  going_none (quote line) ss =
+  going_none (quote q) ss =
       let n = indent (bytes_of ss) in
       let inside = leaf_marks bytes name.BlockQuoteMarker (take 1 (drop n ss)) ++ white bytes (drop (suc n) ss) in
       none_both (white bytes (take n ss)) (span_marks bytes name.BlockQuotePrefix (drop n ss) inside)
@@ -91,7 +91,7 @@ module _ (bytes : List ℕ) where
 
   module _ (P : List Mark → List Seat → Type 0) (kept : IsKeptBySpans bytes P) where
     pub going_kept : (c : Container) (ss : List Seat) → IsWhole ss → P (going_marks bytes c ss) ss
-    going_kept (quote line) ss w =
+    going_kept (quote q) ss w =
         let n = indent (bytes_of ss) in
         let one : suc n ≡ n + 1 = omega arith in
         over bytes P kept ss (take-append-drop n ss)
@@ -102,7 +102,7 @@ module _ (bytes : List ℕ) where
     going_kept (item i) ss w = spans-leaf bytes P kept name.SpaceOrTab ss w
 
     pub begun_kept : (c : Container) (ss : List Seat) → IsWhole ss → P (begun_marks bytes c ss) ss
-    begun_kept (quote line) ss w = going_kept (quote line) ss w
+    begun_kept (quote q) ss w = going_kept (quote q) ss w
     begun_kept (item i) ss w =
         let n = indent (bytes_of ss) in
         let d = i.digits in

@@ -62,7 +62,7 @@ BeginsIn n (item i) = (i.line ≡ n) × ItemIs i
 
 -- and its list, if it is an item
 abbrev pub BeginsList : Container → Type 0
-BeginsList (quote line) = Unit {0}
+BeginsList (quote q) = Unit {0}
 BeginsList (item i) = i.list ≡ i.line
 
 -- of containers that begin in this line, only the first may stand in a list that began before
@@ -185,8 +185,8 @@ module _ (n : ℕ) where
   none_listed [] h = (tt, refl)
   none_listed (p ∷ ps) h = ((h.0.0, h.1), by p.container h.0)
     where
-      by : (c : Container) → BeginsIn n c × BeginsList c → (elim c as (λ _. List Frame) [ quote line ↦ [] | item i ↦ cond (nat_lt i.list i.line) (record { name = list_name i; line = i.list } ∷ []) [] ]) ≡ []
-      by (quote line) k = refl
+      by : (c : Container) → BeginsIn n c × BeginsList c → (elim c as (λ _. List Frame) [ quote q ↦ [] | item i ↦ cond (nat_lt i.list i.line) (record { name = list_name i; line = i.list } ∷ []) [] ]) ≡ []
+      by (quote q) k = refl
       by (item i) k = let is = k.1 in let none : nat_lt i.list i.line ≡ false = grind (arith, nat_tests) in ap (λ b. cond b (record { name = list_name i; line = i.list } ∷ []) []) none
 
   -- what begins in a line, and the list that it is in, among containers that ended
@@ -201,16 +201,16 @@ module _ (n : ℕ) where
 
       by : (new : Container) → BeginsIn n new × BeginsList new
           → BeginHere n (record { container = in_place_of (item old) new; size = p.size } ∷ ps) × IsFront (list_begun (record { container = in_place_of (item old) new; size = p.size } ∷ ps)) (flat_map frames_of (item old ∷ cs))
-      by (quote line) m = ((m.0, k.1), front_none (flat_map frames_of (item old ∷ cs)))
+      by (quote q) m = ((m.0, k.1), front_none (flat_map frames_of (item old ∷ cs)))
       by (item new) m =
           let s = same_list old new h.0 m.0 m.1 (old.marker == new.marker) refl in
           ((s.0, k.1), front_trans _ (frames_of (item old)) (flat_map frames_of (item old ∷ cs)) s.1 (front_append (frames_of (item old)) (flat_map frames_of cs)))
-  listed (quote line ∷ cs) (p ∷ ps) h k = by p.container k.0
+  listed (quote q ∷ cs) (p ∷ ps) h k = by p.container k.0
     where
       by : (new : Container) → BeginsIn n new × BeginsList new
-          → BeginHere n (record { container = in_place_of (quote line) new; size = p.size } ∷ ps) × IsFront (list_begun (record { container = in_place_of (quote line) new; size = p.size } ∷ ps)) (flat_map frames_of (quote line ∷ cs))
-      by (quote more) m = ((m.0, k.1), front_none (flat_map frames_of (quote line ∷ cs)))
-      by (item new) m = let none = none_listed (record { container = item new; size = p.size } ∷ ps) (m, k.1) in (none.0, (flat_map frames_of (quote line ∷ cs), ap (λ (l : List Frame). l ++ flat_map frames_of (quote line ∷ cs)) (sym none.1)))
+          → BeginHere n (record { container = in_place_of (quote q) new; size = p.size } ∷ ps) × IsFront (list_begun (record { container = in_place_of (quote q) new; size = p.size } ∷ ps)) (flat_map frames_of (quote q ∷ cs))
+      by (quote more) m = ((m.0, k.1), front_none (flat_map frames_of (quote q ∷ cs)))
+      by (item new) m = let none = none_listed (record { container = item new; size = p.size } ∷ ps) (m, k.1) in (none.0, (flat_map frames_of (quote q ∷ cs), ap (λ (l : List Frame). l ++ flat_map frames_of (quote q ∷ cs)) (sym none.1)))
 
 -- ---- a line
 

@@ -34,7 +34,7 @@ use Rattle.mdblock_containers.proofs.RowFacts.{BeganBefore}
 -- ---- prefixes with which containers begin have their bytes
 
 abbrev pub IsFitting : Container → (size : ℕ) → List ℕ → Type 0
-IsFitting (quote line) size u = indent u + 1 ≤ size
+IsFitting (quote q) size u = indent u + 1 ≤ size
 IsFitting (item i) size u = indent u + i.digits + 1 ≤ size
 
 abbrev pub AreFitting : List Prefix → List ℕ → Type 0

@@ -77,7 +77,7 @@ module _ (bytes : List ℕ) where
       ((λ enter void. absurd (false≢true (sym e ∙ void))), refl, tight_more inside ((event bytes Exit n (end_after s.end ss), None) ∷ []) h (exit_tight n (end_after s.end ss)))
 
   pub going_tight : (c : Container) (ss : List Seat) → Tight (going_marks bytes c ss)
-  going_tight (quote line) ss =
+  going_tight (quote q) ss =
       let n = indent (bytes_of ss) in
       let marker = leaf_marks bytes name.BlockQuoteMarker (take 1 (drop n ss)) in
       let behind = white bytes (drop (suc n) ss) in
@@ -87,7 +87,7 @@ module _ (bytes : List ℕ) where
   going_tight (item i) ss = leaf_tight name.SpaceOrTab ss
 
   pub begun_tight : (c : Container) (ss : List Seat) → Tight (begun_marks bytes c ss)
-  begun_tight (quote line) ss = going_tight (quote line) ss
+  begun_tight (quote q) ss = going_tight (quote q) ss
   begun_tight (item i) ss =
       let n = indent (bytes_of ss) in
       let value = leaf_marks bytes name.ListItemValue (take i.digits (drop n ss)) in
@@ -111,7 +111,7 @@ module _ (bytes : List ℕ) where
       by false = refl
 
   pub enters_tight : (c : Container) (p : Point) → Tight (enters_of bytes c p)
-  enters_tight (quote line) p = enter_tight name.BlockQuote p [] refl tt
+  enters_tight (quote q) p = enter_tight name.BlockQuote p [] refl tt
   enters_tight (item i) p = by (i.list == i.line)
     where
       by : (x : Bool) → Tight (cond x ((event bytes Enter (list_name i) p, None) ∷ []) [] ++ (event bytes Enter name.ListItem p, None) ∷ [])

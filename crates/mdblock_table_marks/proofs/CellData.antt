@@ -132,7 +132,7 @@ module _ (bytes : List ℕ) where
 
   -- ---- prefixes
   going : (c : Container) (ss : List Seat) → Good (going_marks bytes c ss)
-  going (quote line) ss =
+  going (quote q) ss =
       let n = indent (bytes_of ss) in
       let marker = leaf_marks bytes name.BlockQuoteMarker (take 1 (drop n ss)) in
       both (white bytes (take n ss)) (span_marks bytes name.BlockQuotePrefix (drop n ss) (marker ++ white bytes (drop (suc n) ss))) (alone name.SpaceOrTab (take n ss) refl)

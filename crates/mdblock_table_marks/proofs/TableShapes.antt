@@ -36,14 +36,14 @@ use Rattle.mdblock_table_marks.proofs.TableSpans.{PrefixHolds, tables-kept}
 
 module _ (bytes : List ℕ) (P : List Mark → List Seat → Type 0) (kept : IsKeptByAnySpans bytes P) where
   going-holds : (c : Container) (ss : List Seat) → P (going_marks bytes c ss) ss
-  going-holds (quote line) ss =
+  going-holds (quote q) ss =
       let n = indent (bytes_of ss) in
       let inside = drop n ss in
       let marker = leaf_marks bytes name.BlockQuoteMarker (take 1 inside) in
       let space = white bytes (drop (suc n) ss) in
       let one : suc n ≡ n + 1 = omega arith in
       let whole : take 1 inside ++ drop (suc n) ss ≡ inside = ap (λ k. take 1 inside ++ drop k ss) one ∙ next_part n 1 ss in
-      subst (P (going_marks bytes (quote line) ss)) (take-append-drop n ss)
+      subst (P (going_marks bytes (quote q) ss)) (take-append-drop n ss)
       (kept.both (white bytes (take n ss)) (span_marks bytes name.BlockQuotePrefix inside (marker ++ space)) (take n ss) inside (kept.alone name.SpaceOrTab (take n ss))
       (kept.around name.BlockQuotePrefix inside (marker ++ space) refl
       (subst (P (marker ++ space)) whole (kept.both marker space (take 1 inside) (drop (suc n) ss) (kept.alone name.BlockQuoteMarker (take 1 inside)) (kept.alone name.SpaceOrTab (drop (suc n) ss))))))

@@ -31,9 +31,9 @@ use Rattle.mdblock_text_lines.specs.BlankLines.{containers_in, frames_at, frames
 
 -- one more around them stays, if one more goes on
 keep-last : (g : ℕ) (zs : List Container) (c : Container) → keep (suc g) (zs ++ c ∷ []) ≡ keep g zs ++ c ∷ []
-keep-last g [] (quote line) = refl
+keep-last g [] (quote q) = refl
 keep-last g [] (item i) = let far : nat_le (suc g) 0 ≡ false = grind (arith, nat_tests) in ap (λ b. cond b [] (item i ∷ [])) far
-keep-last g (quote line ∷ zs) c = refl
+keep-last g (quote q ∷ zs) c = refl
 keep-last g (item i ∷ zs) c = by (nat_le (suc g) (length (zs ++ c ∷ []))) (nat_le g (length zs)) refl refl (keep-last g zs c)
   where
     size : length (zs ++ c ∷ []) ≡ length zs + 1
@@ -55,7 +55,7 @@ keep-last g (item i ∷ zs) c = by (nat_le (suc g) (length (zs ++ c ∷ []))) (n
 -- if none goes on, it stays where others stay, and if it is a quote
 keep-none : (zs : List Container) (c : Container) → keep 0 (zs ++ c ∷ []) ≡ cond (has_none (keep 0 zs)) (keep 0 (c ∷ [])) (keep 0 zs ++ c ∷ [])
 keep-none [] c = refl
-keep-none (quote line ∷ zs) c = refl
+keep-none (quote q ∷ zs) c = refl
 keep-none (item i ∷ zs) c =
     let all : nat_le 0 (length (zs ++ c ∷ [])) ≡ true = grind (arith, nat_tests) in
     let same : nat_le 0 (length zs) ≡ true = grind (arith, nat_tests) in
@@ -72,7 +72,7 @@ module _ (n : ℕ) where
   no-mark i h = let less = h.0 in ne_eqb i.line n (λ e. omega (arith, less, e))
 
   one-marked : (c : Container) (ks : List Container) → BeganBefore n c → reverse (cond (has_none ks) (keep 0 (c ∷ [])) (ks ++ c ∷ [])) ≡ cond (has_none (reverse ks) && not (has_marker n c)) [] (c ∷ reverse ks)
-  one-marked (quote line) [] h = refl
+  one-marked (quote q) [] h = refl
   one-marked (item i) [] h = ap (λ b. cond (not b) [] (item i ∷ [])) (sym (no-mark i h))
   one-marked c (k ∷ ks) h = reverse-append (k ∷ ks) (c ∷ []) ∙ ap (λ b. cond (b && not (has_marker n c)) [] (c ∷ reverse (k ∷ ks))) (sym (none_reverse k ks))
 
@@ -114,7 +114,7 @@ module _ (n : ℕ) where
 
   -- a line has the markers of all containers up to those that begin in it
   begun-mark : (c : Container) → BeginsIn n c → has_marker n c ≡ true
-  begun-mark (quote line) h = refl
+  begun-mark (quote q) h = refl
   begun-mark (item i) h = eq-eqb i.line n h.0
 
   all-marked : (cs : List Container) → AllByRecursion (BeginsIn n) cs → marked n cs ≡ cs
@@ -141,7 +141,7 @@ module _ (n : ℕ) where
 -- each container has one at least
 some-frames : (cs : List Container) → length cs ≤ length (flat_map frames_of cs)
 some-frames [] = omega arith
-some-frames (quote line ∷ cs) = let more = some-frames cs in omega (arith, more)
+some-frames (quote q ∷ cs) = let more = some-frames cs in omega (arith, more)
 some-frames (item i ∷ cs) = let more = some-frames cs in omega (arith, more)
 
 -- The longer of both: the spans in which the lines around stand, with a list that goes on; or those of containers up to the last marker
@@ -212,8 +212,8 @@ begun-list (p ∷ ps) = by p.container
     one i true = inr (i, refl)
     one i false = inl refl
 
-    by : (c : Container) → IsOneList (elim c as (λ _. List Frame) [ quote line ↦ [] | item i ↦ cond (nat_lt i.list i.line) (record { name = list_name i; line = i.list } ∷ []) [] ])
-    by (quote line) = inl refl
+    by : (c : Container) → IsOneList (elim c as (λ _. List Frame) [ quote q ↦ [] | item i ↦ cond (nat_lt i.list i.line) (record { name = list_name i; line = i.list } ∷ []) [] ])
+    by (quote q) = inl refl
     by (item i) = one i (nat_lt i.list i.line)
 
 list-is : (rs : List Row) → IsOneList (list_at rs)
@@ -231,11 +231,11 @@ list-short xs (inr t) = let size = ap (λ (l : List Frame). length l) t.1 in ome
 -- no container has it alone
 none-stands : (xs : List Frame) (ds : List Container) → IsOneList xs → standing xs ds ≡ []
 none-stands xs [] h = refl
-none-stands xs (quote line ∷ ds) (inl e) = ap (λ (fs : List Frame). standing fs (quote line ∷ ds)) e
+none-stands xs (quote q ∷ ds) (inl e) = ap (λ (fs : List Frame). standing fs (quote q ∷ ds)) e
 none-stands xs (item j ∷ ds) (inl e) = ap (λ (fs : List Frame). standing fs (item j ∷ ds)) e
-none-stands xs (quote line ∷ ds) (inr (i, e)) = ap (λ (fs : List Frame). standing fs (quote line ∷ ds)) e ∙ by (nat_le 1 i.digits)
+none-stands xs (quote q ∷ ds) (inr (i, e)) = ap (λ (fs : List Frame). standing fs (quote q ∷ ds)) e ∙ by (nat_le 1 i.digits)
   where
-    by : (b : Bool) → let f : Frame = record { name = cond b name.ListOrdered name.ListUnordered; line = i.list } in standing (f ∷ []) (quote line ∷ ds) ≡ []
+    by : (b : Bool) → let f : Frame = record { name = cond b name.ListOrdered name.ListUnordered; line = i.list } in standing (f ∷ []) (quote q ∷ ds) ≡ []
     by true = refl
     by false = refl
 none-stands xs (item j ∷ ds) (inr (i, e)) = ap (λ (fs : List Frame). standing fs (item j ∷ ds)) e ∙ by (same_name (list_name j) (list_name i) && (j.list == i.list))

@@ -72,7 +72,7 @@ module _ (g : Given) (some : 0 < g.tab) (Q : List Seat → Type 0) where
   unlinked-run ((e, Some c) ∷ xs) ys h = absurd h
 
   enters-unlinked : (c : Container) (p : Point) → Unlinked (enters_of bytes c p)
-  enters-unlinked (quote line) p = (refl, tt)
+  enters-unlinked (quote q) p = (refl, tt)
   enters-unlinked (item i) p = by (i.list == i.line)
     where
       by : (b : Bool) → Unlinked (cond b ((event bytes Enter (list_name i) p, None) ∷ []) [] ++ (event bytes Enter name.ListItem p, None) ∷ [])

@@ -21,7 +21,7 @@ module _ (other : Constructs) where
 
   -- ---- containers
   abbrev pub IsOn : Container → Type 0
-  IsOn (quote line) = other.block_quote ≡ true
+  IsOn (quote q) = other.block_quote ≡ true
   IsOn (item i) = other.list_item ≡ true
 
   abbrev pub AreOn : List Container → Type 0
@@ -43,8 +43,8 @@ module _ (other : Constructs) where
       by more (Some n) = (h.0, more n)
 
   in-place : (c new : Container) → IsOn new → IsOn (in_place_of c new)
-  in-place (quote line) new h = h
-  in-place (item old) (quote line) h = h
+  in-place (quote q) new h = h
+  in-place (item old) (quote q) h = h
   in-place (item old) (item new) h = h
 
   listed-on : (ended : List Container) (ps : List Prefix) → PrefixesAreOn ps → PrefixesAreOn (with_list ended ps)
@@ -121,7 +121,7 @@ module _ (other : Constructs) where
   list-on i h = cond_both (nat_le 1 i.digits) ListOrdered ListUnordered May (λ e. h) (λ e. h)
 
   frames-of-on : (c : Container) → IsOn c → FramesAreOn (frames_of c)
-  frames-of-on (quote line) h = (h, tt)
+  frames-of-on (quote q) h = (h, tt)
   frames-of-on (item i) h = (list-on i h, (h, tt))
 
   frames-on : (cs : List Container) → AreOn cs → FramesAreOn (flat_map frames_of cs)
@@ -132,8 +132,8 @@ module _ (other : Constructs) where
   list-begun-on [] h = tt
   list-begun-on (p ∷ ps) h = by p.container h.0
     where
-      by : (c : Container) → IsOn c → FramesAreOn (elim c [ quote line ↦ [] | item i ↦ cond (nat_lt i.list i.line) (record { name = list_name i; line = i.list } ∷ []) [] ])
-      by (quote line) h = tt
+      by : (c : Container) → IsOn c → FramesAreOn (elim c [ quote q ↦ [] | item i ↦ cond (nat_lt i.list i.line) (record { name = list_name i; line = i.list } ∷ []) [] ])
+      by (quote q) h = tt
       by (item i) h = cond_both (nat_lt i.list i.line) (record { name = list_name i; line = i.list } ∷ []) [] FramesAreOn (λ e. (list-on i h, tt)) (λ e. tt)
 
   list-at-on : (behind : List Row) → RowsAreOn behind → FramesAreOn (list_at behind)
@@ -142,7 +142,7 @@ module _ (other : Constructs) where
 
   left-on : (many number : ℕ) (cs : List Container) → AreOn cs → AreOn (left_in many number cs)
   left-on many number [] h = tt
-  left-on many number (quote line ∷ cs) h = h
+  left-on many number (quote q ∷ cs) h = h
   left-on many number (item i ∷ cs) h = cond_both (nat_le many (length cs) && nat_lt i.line number) (left_in many number cs) (item i ∷ cs) AreOn (λ e. left-on many number cs h.1) (λ e. h)
 
   standing-on : (row : Row) (behind : List Row) → RowIsOn row → AreOn (standing row behind)

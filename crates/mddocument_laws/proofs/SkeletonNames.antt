@@ -20,7 +20,7 @@ module _ (other : Constructs) (bytes : List ℕ) where
 
   -- ---- what containers, lines and sections have names of
   holds : (c : Container) → IsOn other c → MayHold May c
-  holds (quote line) h = (h, h, h)
+  holds (quote q) h = (h, h, h)
   holds (item i) h = (list-on other i h, h, h, h, h)
 
   all-hold : (ps : List Prefix) → PrefixesAreOn other ps → PrefixesMay May ps

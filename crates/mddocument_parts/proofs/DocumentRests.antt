@@ -40,8 +40,8 @@ no-list (c ∷ cs) [] h = refl
 no-list (c ∷ cs) (p ∷ ps) h = ap (λ d. (let q : Prefix = record { container = d; size = p.size } in q) ∷ ps) (same c p.container h)
   where
     same : (c d : Container) → joins_list (c ∷ cs) ((let q : Prefix = record { container = in_place_of c d; size = p.size } in q) ∷ ps) ≡ false → in_place_of c d ≡ d
-    same (quote line) d h = refl
-    same (item old) (quote line) h = refl
+    same (quote q) d h = refl
+    same (item old) (quote q) h = refl
     same (item old) (item i) h = by (old.marker == i.marker) refl h
       where
         by : (b : Bool) → (old.marker == i.marker) ≡ b → joins_list (item old ∷ cs) ((let q : Prefix = record { container = item (cond b (record i { list = old.list }) i); size = p.size } in q) ∷ ps) ≡ false
@@ -257,13 +257,13 @@ module _ (on : Constructs) where
   -- ---- moved
   joins-moved : (l : ℕ) (cs : List Container) (ps : List Prefix) → joins_list (map (moved_container l) cs) (map (moved_prefix l) ps) ≡ joins_list cs ps
   joins-moved l [] ps = refl
-  joins-moved l (quote line ∷ cs) [] = refl
-  joins-moved l (quote line ∷ cs) (p ∷ ps) = refl
+  joins-moved l (quote q ∷ cs) [] = refl
+  joins-moved l (quote q ∷ cs) (p ∷ ps) = refl
   joins-moved l (item old ∷ cs) [] = refl
   joins-moved l (item old ∷ cs) (p ∷ ps) = by p.container
     where
       by : (c : Container) → joins_list (item old ∷ cs) ((let q : Prefix = record { container = moved_container l c; size = 0 } in q) ∷ ps) ≡ joins_list (item old ∷ cs) ((let q : Prefix = record { container = c; size = 0 } in q) ∷ ps)
-      by (quote line) = refl
+      by (quote q) = refl
       by (item i) = refl
 
   anew-moved : (l n : ℕ) (k : Known) (number n2 : ℕ) (line : Line) → n2 ≡ number + l → begins_anew on (moved_known l k) n2 (moved_line l n line) ≡ begins_anew on k number line

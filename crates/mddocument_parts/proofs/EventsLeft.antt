@@ -350,7 +350,7 @@ list-other : (i : Item) → IsOther (list_name i)
 list-other i = cond_both (nat_le 1 i.digits) name.ListOrdered name.ListUnordered IsOther (λ e. refl) (λ e. refl)
 
 entered-other : (c : Container) → AreOther (entered c)
-entered-other (quote line) = (refl, tt)
+entered-other (quote q) = (refl, tt)
 entered-other (item i) =
     every-append (λ (f : Frame). IsOther f.name) (cond (i.list == i.line) (record { name = list_name i; line = i.list } ∷ []) []) (record { name = name.ListItem; line = i.line } ∷ [])
     (cond_both (i.list == i.line) (record { name = list_name i; line = i.list } ∷ []) [] AreOther (λ e. (list-other i, tt)) (λ e. tt)) (refl, tt)
@@ -366,7 +366,7 @@ turned-other fs gs ps turn h =
 
 -- each container's spans are other ones
 holds-other : (c : Container) → MayHold IsOther c
-holds-other (quote line) = (refl, refl, refl)
+holds-other (quote q) = (refl, refl, refl)
 holds-other (item i) = (list-other i, refl, refl, refl, refl)
 
 all-hold : (ps : List Prefix) → PrefixesMay IsOther ps

@@ -80,8 +80,8 @@ module _ (P : ℕ → Type 0) where
       by more false false false = tt
 
   placed : (old new : Container) → NumbersOf old → NumbersOf new → NumbersOf (in_place_of old new)
-  placed (quote line) new h k = k
-  placed (item old) (quote line) h k = k
+  placed (quote q) new h k = k
+  placed (item old) (quote q) h k = k
   placed (item old) (item i) h k = by (old.marker == i.marker)
     where
       by : (b : Bool) → NumbersOf (item (cond b (record i { list = old.list }) i))
@@ -133,7 +133,7 @@ module _ (P : ℕ → Type 0) where
   -- ---- frames
   left-is : (many number : ℕ) (cs : List Container) → All cs → All (left_in many number cs)
   left-is many number [] h = tt
-  left-is many number (quote line ∷ cs) h = h
+  left-is many number (quote q ∷ cs) h = h
   left-is many number (item i ∷ cs) h = by (nat_le many (length cs) && nat_lt i.line number) (left-is many number cs h.1)
     where
       by : (b : Bool) → All (left_in many number cs) → All (cond b (left_in many number cs) (item i ∷ cs))
@@ -152,7 +152,7 @@ module _ (P : ℕ → Type 0) where
 
   frames-of : (cs : List Container) → All cs → AllByRecursion FrameIs (flat_map frames_of cs)
   frames-of [] h = tt
-  frames-of (quote line ∷ cs) h = (h.0, frames-of cs h.1)
+  frames-of (quote q ∷ cs) h = (h.0, frames-of cs h.1)
   frames-of (item i ∷ cs) h = (h.0.1, (h.0.0, frames-of cs h.1))
 
   begun-is : (ps : List Prefix) → AllIn ps → AllByRecursion FrameIs (list_begun ps)
@@ -160,7 +160,7 @@ module _ (P : ℕ → Type 0) where
   begun-is (p ∷ ps) h = by p.container h.0
     where
       by : (c : Container) → NumbersOf c → AllByRecursion FrameIs (list_begun ((let q : Prefix = record { container = c; size = 0 } in q) ∷ []))
-      by (quote line) m = tt
+      by (quote q) m = tt
       by (item i) m = two (nat_lt i.list i.line)
         where
           two : (b : Bool) → AllByRecursion FrameIs (cond b ((let f : Frame = record { name = list_name i; line = i.list } in f) ∷ []) [])

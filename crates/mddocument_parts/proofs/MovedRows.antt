@@ -47,7 +47,7 @@ module _ (l : ℕ) where
   same-number number n2 line e = grind (arith, nat_tests)
 
   goes-moved : (c : Container) (number n2 : ℕ) (t : List ℕ) → n2 ≡ number + l → goes_on (mc c) n2 t ≡ goes_on c number t
-  goes-moved (quote line) number n2 t e = refl
+  goes-moved (quote q) number n2 t e = refl
   goes-moved (item i) number n2 t e =
       let same = same-number number n2 i.line e in
       (λ j. cond (is_blank_line t) (cond (i.is_empty && same j) None (Some (min i.size (indent t)))) (cond (nat_le i.size (indent t)) (Some i.size) None))
@@ -65,8 +65,8 @@ module _ (l : ℕ) where
 
   -- ---- containers that begin
   place-moved : (old new : Container) → in_place_of (mc old) (mc new) ≡ mc (in_place_of old new)
-  place-moved (quote line) new = refl
-  place-moved (item old) (quote line) = refl
+  place-moved (quote q) new = refl
+  place-moved (item old) (quote q) = refl
   place-moved (item old) (item new) = by (old.marker == new.marker)
     where
       by : (b : Bool) → let there : Item = record new { line = new.line + l; list = old.list + l } in let here : Item = record new { line = new.line + l; list = new.list + l } in item (cond b there here) ≡ mc (item (cond b (record new { list = old.list }) new))

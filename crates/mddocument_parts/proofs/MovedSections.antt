@@ -44,7 +44,7 @@ module _ (l n : ℕ) where
 
   left-moved : (many number : ℕ) (cs : List Container) → left_in many (number + l) (map mc cs) ≡ map mc (left_in many number cs)
   left-moved many number [] = refl
-  left-moved many number (quote line ∷ cs) = refl
+  left-moved many number (quote q ∷ cs) = refl
   left-moved many number (item i ∷ cs) =
       (λ j. cond (nat_le many (length-map cs mc j) && less-moved i.line number j) (left-moved many number cs j) (mc (item i) ∷ map mc cs))
       ∙ cond-of (map mc) (nat_le many (length cs) && nat_lt i.line number) (left_in many number cs) (item i ∷ cs)
@@ -58,7 +58,7 @@ module _ (l n : ℕ) where
   begun-moved (p ∷ ps) = by p.container
     where
       by : (c : Container) → list_begun ((let q : Prefix = record { container = mc c; size = 0 } in q) ∷ []) ≡ map mf (list_begun ((let q : Prefix = record { container = c; size = 0 } in q) ∷ []))
-      by (quote line) = refl
+      by (quote q) = refl
       by (item i) =
           let frame : Frame = record { name = list_name i; line = i.list } in
           (λ j. cond (less-moved i.list i.line j) (mf frame ∷ []) []) ∙ cond-of (map mf) (nat_lt i.list i.line) (frame ∷ []) []
@@ -80,7 +80,7 @@ module _ (l n : ℕ) where
       ∙ cond-of (map mc) row.is_blank (reverse (left_in many row.number (reverse all))) all
 
   frames-of-moved : (c : Container) → frames_of (mc c) ≡ map mf (frames_of c)
-  frames-of-moved (quote line) = refl
+  frames-of-moved (quote q) = refl
   frames-of-moved (item i) = refl
 
   frames-moved : (row : Row) (behind : List Row) → frames_at (mr row) (mrs behind) ≡ map mf (frames_at row behind)

@@ -163,14 +163,14 @@ module _ (m : Shift) where
   begins s (x ∷ r) p h = (ap begin_of p.is, p.ok.0.0)
 
   going : (c : Container) (s r : List Seat) → Moved m s r → going_marks m.places.new (mc m c) s ≡ mk m (going_marks m.places.old c r)
-  going (quote line) s r p =
+  going (quote q) s r p =
       let e = ap indent (bs m s r p) in
       two _ _ _ _ _ (whites m _ _ (tk m s r _ _ e p))
       (span m None name.BlockQuotePrefix _ _ _ _ (dr m s r _ _ e p) (two _ _ _ _ _ (leaf m name.BlockQuoteMarker _ _ (tk m _ _ 1 1 refl (dr m s r _ _ e p))) (whites m _ _ (dr m s r _ _ (ap suc e) p))))
   going (item i) s r p = whites m s r p
 
   begun : (c : Container) (s r : List Seat) → Moved m s r → begun_marks m.places.new (mc m c) s ≡ mk m (begun_marks m.places.old c r)
-  begun (quote line) s r p = going (quote line) s r p
+  begun (quote q) s r p = going (quote q) s r p
   begun (item i) s r p =
       let e = ap indent (bs m s r p) in
       two _ _ _ _ _ (whites m _ _ (tk m s r _ _ e p))
@@ -183,7 +183,7 @@ module _ (m : Shift) where
   prefixes (p ∷ ps) s r q = two _ _ _ _ _ (going p.container _ _ (tk m s r p.size p.size refl q)) (prefixes ps _ _ (dr m s r p.size p.size refl q))
 
   enters : (c : Container) (p : Point) → IsOk m p → enters_of m.places.new (mc m c) (m.places.to p) ≡ mk m (enters_of m.places.old c p)
-  enters (quote line) p k = let e = event-moved m Enter name.BlockQuote p k in (λ i. (e i, None) ∷ [])
+  enters (quote q) p k = let e = event-moved m Enter name.BlockQuote p k in (λ i. (e i, None) ∷ [])
   enters (item i) p k =
       let list = event-moved m Enter (list_name i) p k in
       let this = event-moved m Enter name.ListItem p k in

@@ -306,7 +306,7 @@ module _ (a b : List ℕ) (h : begins_line b a ≡ true) where
 
   container-goes : (c : Container) → moved_container (line_endings a) c ≡ mc goes c
   unfolding goes
-  container-goes (quote line) = refl
+  container-goes (quote q) = refl
   container-goes (item i) = refl
 
   prefix-goes : (p : Prefix) → moved_prefix (line_endings a) p ≡ mp goes p

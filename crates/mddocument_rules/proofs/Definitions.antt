@@ -21,7 +21,7 @@ abbrev AnyContainer : Container → Type 0
 AnyContainer c = Unit {0}
 
 pub free-prefix : (c : Container) → AnyContainer c → MayPrefix FreeName c
-free-prefix (quote line) a = (refl, refl)
+free-prefix (quote q) a = (refl, refl)
 free-prefix (item i) a = (refl, refl, refl)
 
 any-prefixes : (ps : List Prefix) → AllByRecursion (λ (p : Prefix). AnyContainer p.container) ps

@@ -39,7 +39,7 @@ list-is : (i : Item) → is_wanted list_names (list_name i) ≡ true
 list-is i = cond_both (nat_le 1 i.digits) name.ListOrdered name.ListUnordered (λ n. is_wanted list_names n ≡ true) (λ e. refl) (λ e. refl)
 
 one-stacked : (c : Container) (around : List Name) → Roomy around → Stacked around (frames_of c) × Roomy (within around (frames_of c))
-one-stacked (quote line) around h = ((h, tt), refl)
+one-stacked (quote q) around h = ((h, tt), refl)
 one-stacked (item i) around h = ((list-stands i around h, (list-is i, tt)), refl)
 
 pub containers-stacked : (cs : List Container) (around : List Name) → Roomy around → Stacked around (flat_map frames_of cs) × Roomy (within around (flat_map frames_of cs))
@@ -53,8 +53,8 @@ begun-stacked : (ps : List Prefix) (around : List Name) → Roomy around → Sta
 begun-stacked [] around h = tt
 begun-stacked (p ∷ ps) around h = by p.container
   where
-    by : (c : Container) → Stacked around (elim c [ quote line ↦ [] | item i ↦ cond (nat_lt i.list i.line) (record { name = list_name i; line = i.list } ∷ []) [] ])
-    by (quote line) = tt
+    by : (c : Container) → Stacked around (elim c [ quote q ↦ [] | item i ↦ cond (nat_lt i.list i.line) (record { name = list_name i; line = i.list } ∷ []) [] ])
+    by (quote q) = tt
     by (item i) = cond_both (nat_lt i.list i.line) (record { name = list_name i; line = i.list } ∷ []) [] (Stacked around) (λ e. (list-stands i around h, tt)) (λ e. tt)
 
 list-stacked : (rs : List Row) (around : List Name) → Roomy around → Stacked around (list_at rs)
@@ -134,7 +134,7 @@ module _ (bytes : List ℕ) where
   }
 
   pub goings : (c : Container) (seats : List Seat) → Anywhere (going_marks bytes c seats)
-  goings (quote line) seats =
+  goings (quote q) seats =
       let n = indent (bytes_of seats) in
       let one : drop (suc n) seats ≡ drop 1 (drop n seats) = drop-one n seats in
       anywhere-both (white bytes (take n seats)) (span_marks bytes name.BlockQuotePrefix (drop n seats) (leaf_marks bytes name.BlockQuoteMarker (take 1 (drop n seats)) ++ white bytes (drop (suc n) seats))) (spaces (take n seats))
@@ -152,7 +152,7 @@ module _ (bytes : List ℕ) where
 
   -- ---- containers that begin
   one-begins : (c : Container) (place : Point) (around : List Name) (ys : List Mark) → Stacked around (entered c) → (NotInList (within around (entered c)) → MarksStand (within around (entered c)) ys) → MarksStand around (enters_of bytes c place ++ ys)
-  one-begins (quote line) place around ys h k = ((h.0, tt), k refl)
+  one-begins (quote q) place around ys h k = ((h.0, tt), k refl)
   one-begins (item i) place around ys h k = by (i.list == i.line) h k
     where
       by : (b : Bool) → Stacked around (item_frames i b) → (NotInList (within around (item_frames i b)) → MarksStand (within around (item_frames i b)) ys)

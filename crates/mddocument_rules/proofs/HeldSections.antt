@@ -231,7 +231,7 @@ module _ (bytes : List ℕ) where
   list-other false = refl
 
   enters-lack : (c : Container) (place : Point) → Lacks (enters_of bytes c place)
-  enters-lack (quote line) place = lacks-mark (event bytes Enter name.BlockQuote place) refl
+  enters-lack (quote q) place = lacks-mark (event bytes Enter name.BlockQuote place) refl
   enters-lack (item i) place =
       lacks-both (cond (i.list == i.line) ((event bytes Enter (list_name i) place, None) ∷ []) []) ((event bytes Enter name.ListItem place, None) ∷ [])
       (cond_both (i.list == i.line) ((event bytes Enter (list_name i) place, None) ∷ []) [] Lacks (λ e. lacks-mark (event bytes Enter (list_name i) place) (list-other (nat_le 1 i.digits))) (λ e. lacks-none)) (lacks-mark (event bytes Enter name.ListItem place) refl)
@@ -246,7 +246,7 @@ module _ (bytes : List ℕ) where
   FrameIs f = is_definition f.name ≡ false
 
   entered-other : (c : Container) → AllByRecursion FrameIs (entered c)
-  entered-other (quote line) = (refl, tt)
+  entered-other (quote q) = (refl, tt)
   entered-other (item i) =
       every-append FrameIs (cond (i.list == i.line) (record { name = list_name i; line = i.list } ∷ []) []) (record { name = name.ListItem; line = i.line } ∷ [])
       (cond_both (i.list == i.line) (record { name = list_name i; line = i.list } ∷ []) [] (AllByRecursion FrameIs) (λ e. (list-other (nat_le 1 i.digits), tt)) (λ e. tt)) (refl, tt)

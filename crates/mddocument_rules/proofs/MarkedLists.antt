@@ -72,11 +72,11 @@ module _ (rs : List Row) (bytes : List ℕ) where
 
   -- ---- how many containers spans are
   deep-one : (d : ℕ) (c : Container) → deep rs d (frames_of c) ≡ suc d
-  deep-one d (quote line) = refl
+  deep-one d (quote q) = refl
   deep-one d (item i) = ap (λ b. deep rs (cond b d (suc d)) (record { name = name.ListItem; line = i.line } ∷ [])) (list-is rs bytes i).0
 
   deep-entered : (d : ℕ) (c : Container) → deep rs d (entered c) ≡ suc d
-  deep-entered d (quote line) = refl
+  deep-entered d (quote q) = refl
   deep-entered d (item i) = by (i.list == i.line)
     where
       by : (x : Bool) → deep rs d (cond x (record { name = list_name i; line = i.list } ∷ []) [] ++ record { name = name.ListItem; line = i.line } ∷ []) ≡ suc d
@@ -93,8 +93,8 @@ module _ (rs : List Row) (bytes : List ℕ) where
   deep-list d [] = refl
   deep-list d (p ∷ ps) = by p.container
     where
-      by : (c : Container) → deep rs d (elim c as (λ _. List Frame) [ quote line ↦ [] | item i ↦ cond (nat_lt i.list i.line) (record { name = list_name i; line = i.list } ∷ []) [] ]) ≡ d
-      by (quote line) = refl
+      by : (c : Container) → deep rs d (elim c as (λ _. List Frame) [ quote q ↦ [] | item i ↦ cond (nat_lt i.list i.line) (record { name = list_name i; line = i.list } ∷ []) [] ]) ≡ d
+      by (quote q) = refl
       by (item i) = cond_both (nat_lt i.list i.line) (record { name = list_name i; line = i.list } ∷ []) [] (λ fs. deep rs d fs ≡ d) (λ e. ap (λ b. cond b d (suc d)) (list-is rs bytes i).0) (λ e. refl)
 
   -- ---- what begins in a line
@@ -114,7 +114,7 @@ module _ (rs : List Row) (bytes : List ℕ) where
 
   begins-own : (n d : ℕ) (around : List (Option Marker)) (c : Container) (size : ℕ) (ps : List Prefix) (seats : List Seat) → AreWritten bytes (record { container = c; size = size } ∷ ps) seats → BeginsIn n c × BeginsList c
       → AreListed d (record { container = c; size = size } ∷ ps) → Begins rs bytes d around c (take size seats)
-  begins-own n d around (quote line) size ps seats w b h = tt
+  begins-own n d around (quote q) size ps seats w b h = tt
   begins-own n d around (item i) size ps seats w b h = record {
     written = w.0.0;
     named = w.0.1;
@@ -148,7 +148,7 @@ module _ (rs : List Row) (bytes : List ℕ) where
 
   first-begins : (n : ℕ) (went : List Container) (c : Container) (size : ℕ) (ps : List Prefix) (seats : List Seat) → BeginsIn n c → AreWritten bytes (record { container = c; size = size } ∷ ps) seats → AreListed (length went) (record { container = c; size = size } ∷ ps)
       → let kept = flat_map frames_of went ++ list_begun (record { container = c; size = size } ∷ ps) in Begins rs bytes (deep rs 0 kept) (within rs 0 [] kept) c (take size seats)
-  first-begins n went (quote line) size ps seats b w h = tt
+  first-begins n went (quote q) size ps seats b w h = tt
   first-begins n went (item i) size ps seats b w h = record {
     written = w.0.0;
     named = w.0.1;

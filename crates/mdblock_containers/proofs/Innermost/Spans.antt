@@ -73,7 +73,7 @@ module _ (bytes : List ℕ) where
   enter_spans e (m ∷ ms) s ss enters h = record { begins = enters; account = λ events more rest. enter-more bytes e m.0 (bare ms ++ events) ((s ∷ ss) ++ more) enters h.begins (h.account events more rest) }
 
   pub container_spans : (c : Container) (p : Point) (ms : List Mark) (s : Seat) (ss : List Seat) → AreSpans bytes ms (s ∷ ss) → AreSpans bytes (enters_of bytes c p ++ ms) (s ∷ ss)
-  container_spans (quote line) p ms s ss h = enter_spans (event bytes Enter name.BlockQuote p) ms s ss refl h
+  container_spans (quote q) p ms s ss h = enter_spans (event bytes Enter name.BlockQuote p) ms s ss refl h
   container_spans (item i) p ms s ss h = by (i.list == i.line)
     where
       by : (b : Bool) → AreSpans bytes ((cond b ((event bytes Enter (list_name i) p, None) ∷ []) [] ++ (event bytes Enter name.ListItem p, None) ∷ []) ++ ms) (s ∷ ss)

@@ -35,15 +35,15 @@ use Rattle.mddocument.proofs.Walks.MarksWalk.{Walk, leafs, whites}
 module _ (May : Name → Type 0) where
   -- the names of a container's prefix
   abbrev pub MayPrefix : Container → Type 0
-  MayPrefix (quote line) = May name.BlockQuotePrefix × May name.BlockQuoteMarker
+  MayPrefix (quote q) = May name.BlockQuotePrefix × May name.BlockQuoteMarker
   MayPrefix (item i) = May name.ListItemPrefix × May name.ListItemValue × May name.ListItemMarker
 
   abbrev pub MayHold : Container → Type 0
-  MayHold (quote line) = May name.BlockQuote × May name.BlockQuotePrefix × May name.BlockQuoteMarker
+  MayHold (quote q) = May name.BlockQuote × May name.BlockQuotePrefix × May name.BlockQuoteMarker
   MayHold (item i) = May (list_name i) × May name.ListItem × May name.ListItemPrefix × May name.ListItemValue × May name.ListItemMarker
 
   prefix-may : (c : Container) → MayHold c → MayPrefix c
-  prefix-may (quote line) m = (m.1, m.2)
+  prefix-may (quote q) m = (m.1, m.2)
   prefix-may (item i) m = (m.2, m.3, m.4)
 
   abbrev pub PrefixesMay : List Prefix → Type 0
@@ -106,11 +106,11 @@ module _ {bytes : List ℕ} {Are : List Mark → Type 0} {May : Name → Type 0}
 
   -- ---- prefixes
   pub goings : (c : Container) (seats : List Seat) → MayPrefix May c → Are (going_marks bytes c seats)
-  goings (quote line) seats m = w.both _ _ (spaces _) (over name.BlockQuotePrefix _ m.0 (w.both _ _ (bare name.BlockQuoteMarker _ m.1) (spaces _)))
+  goings (quote q) seats m = w.both _ _ (spaces _) (over name.BlockQuotePrefix _ m.0 (w.both _ _ (bare name.BlockQuoteMarker _ m.1) (spaces _)))
   goings (item i) seats m = spaces seats
 
   pub begins : (c : Container) (seats : List Seat) → MayPrefix May c → Are (begun_marks bytes c seats)
-  begins (quote line) seats m = goings (quote line) seats m
+  begins (quote q) seats m = goings (quote q) seats m
   begins (item i) seats m = w.both _ _ (spaces _) (over name.ListItemPrefix _ m.0 (w.both _ _ (bare name.ListItemValue _ m.1) (w.both _ _ (bare name.ListItemMarker _ m.2) (spaces _))))
 
   -- where containers that are so have such names in their prefixes
@@ -261,7 +261,7 @@ module _ (bytes : List ℕ) (Are : List Mark → Type 0) (May : Name → Type 0)
   held ps seats m = prefixes w (MayHold May) (prefix-may May) ps seats m
 
   enters : (c : Container) (place : Point) → MayHold May c → Are (enters_of bytes c place)
-  enters (quote line) place m = mark Enter name.BlockQuote place m.0
+  enters (quote q) place m = mark Enter name.BlockQuote place m.0
   enters (item i) place m =
       w.both _ _ (cond_both (i.list == i.line) ((event bytes Enter (list_name i) place, None) ∷ []) [] Are (λ e. mark Enter (list_name i) place m.0) (λ e. w.none)) (mark Enter name.ListItem place m.1)
 
