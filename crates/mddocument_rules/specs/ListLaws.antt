@@ -65,6 +65,6 @@ pub record EndsBlank (depth : ℕ) (before : List Row) : Type 0 where
   pub outside : length blank.went_on ≤ depth
 
 -- "A document cannot contain two block quotes in a row unless there is a blank line between them" (5.1): the line before the second is blank, and not
--- in the first.
+-- in the first
 abbrev pub QuotesAreApart : Type 0
 QuotesAreApart = (on : Constructs) (ls : List Line) (first second : Quote) (b : BeginsBehind (rows on ls) (quote first) (quote second)) → EndsBlank (length b.row.went_on) b.before
