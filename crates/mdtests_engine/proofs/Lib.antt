@@ -1,1 +1,3 @@
+-- machines
+pub mod Found
 mod Prelude

@@ -1,0 +1,10 @@
+-- tables
+pub mod Behind
+pub mod Starved
+pub mod Laws
+pub mod Looping
+pub mod Replacing
+pub mod Marks
+pub mod Over
+-- machines
+pub mod Found

@@ -1,3 +1,0 @@
--- tests
-pub mod Found
-mod Prelude

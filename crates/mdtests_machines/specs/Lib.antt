@@ -1,2 +1,0 @@
--- tests
-pub mod Found
