@@ -632,9 +632,9 @@ definitions_in_containers =
       document = codes "> [a\n> ]: /b\n";
       events = (BlockQuote, 0, 0) ∷ (BlockQuotePrefix, 0, 0) ∷ (BlockQuoteMarker, 0, 0) ∷ (BlockQuoteMarker, 1, 0) ∷ (SpaceOrTab, 1, 0) ∷
           (SpaceOrTab, 2, 0) ∷ (BlockQuotePrefix, 2, 0) ∷ (Definition, 2, 0) ∷ (DefinitionLabel, 2, 0) ∷ (DefinitionLabelMarker, 2, 0) ∷
-          (DefinitionLabelMarker, 3, 0) ∷ (DefinitionLabelString, 3, 0) ∷ (Data, 3, 0) ∷ (Data, 4, 0) ∷ (LineEnding, 4, 0) ∷ (LineEnding, 5, 0) ∷ (BlockQuotePrefix, 5, 0) ∷
-          (BlockQuoteMarker, 5, 0) ∷ (BlockQuoteMarker, 6, 0) ∷ (SpaceOrTab, 6, 0) ∷ (SpaceOrTab, 7, 0) ∷ (BlockQuotePrefix, 7, 0) ∷
-          (DefinitionLabelString, 7, 0) ∷ (DefinitionLabelMarker, 7, 0) ∷ (DefinitionLabelMarker, 8, 0) ∷ (DefinitionLabel, 8, 0) ∷
+          (DefinitionLabelMarker, 3, 0) ∷ (DefinitionLabelString, 3, 0) ∷ (Data, 3, 0) ∷ (Data, 4, 0) ∷ (LineEnding, 4, 0) ∷ (LineEnding, 5, 0) ∷
+          (DefinitionLabelString, 5, 0) ∷ (BlockQuotePrefix, 5, 0) ∷ (BlockQuoteMarker, 5, 0) ∷ (BlockQuoteMarker, 6, 0) ∷ (SpaceOrTab, 6, 0) ∷
+          (SpaceOrTab, 7, 0) ∷ (BlockQuotePrefix, 7, 0) ∷ (DefinitionLabelMarker, 7, 0) ∷ (DefinitionLabelMarker, 8, 0) ∷ (DefinitionLabel, 8, 0) ∷
           (DefinitionMarker, 8, 0) ∷ (DefinitionMarker, 9, 0) ∷ (SpaceOrTab, 9, 0) ∷ (SpaceOrTab, 10, 0) ∷ (DefinitionDestination, 10, 0) ∷
           (DefinitionDestinationRaw, 10, 0) ∷ (DefinitionDestinationString, 10, 0) ∷ (Data, 10, 0) ∷ (Data, 12, 0) ∷
           (DefinitionDestinationString, 12, 0) ∷ (DefinitionDestinationRaw, 12, 0) ∷ (DefinitionDestination, 12, 0) ∷ (Definition, 12, 0) ∷
