@@ -14,7 +14,7 @@ import docs  # noqa: E402
 import usage  # noqa: E402
 
 FROM = "crates/mdexamples"
-TESTS = "crates/mdtests/src/examples.rt"
+TESTS = "crates/mdtests_examples/src/examples.rt"
 LIB = """//! A machine of headings.
 #![tactic(auto)]
 

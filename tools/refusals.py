@@ -22,11 +22,11 @@ CRATES = os.path.join(os.path.dirname(os.path.abspath(__file__)), "../crates")
 # What the names of the tests begin with that have to pass, and of those that compare without showing.
 PASSES = (
     "mdtests_engine::no_memory::",
-    "mdtests_engine::without_memory::",
-    "mdtests_programs::calls::memory_is_no_fault_of_the_reader",
-    "mdtests_programs::program::html_memory_is_no_fault_of_the_reader",
+    "mdtests_machines::no_memory::",
+    "mdtests_program::calls::memory_is_no_fault_of_the_reader",
+    "mdtests_html::program::memory_is_no_fault_of_the_reader",
 )
-SILENT = ("mdtests_programs::calls::", "mdtests_programs::written::", "mdtests_programs::program::")
+SILENT = ("mdtests_program::calls::", "mdtests_program::written::", "mdtests_html::program::")
 REFUSED = re.compile(r"Error: AllocError|Error: Memory$|left: .*out of memory|\bmemory\b", re.M)
 
 

@@ -63,7 +63,7 @@ def tests_of(row):
     if row.who == CASES:
         return "mdcases", CASES
     if row.who == "refusals":
-        return "mdtests_programs", MEMORY
+        return "mdtests_program", MEMORY
     return row.who.split("::")[0], row.who.split("::")[-1]
 
 

@@ -1,4 +1,4 @@
-//! Tests of whole documents and of the examples, as a caller sees them, and the surface of the libraries.
+//! Tests of whole documents, as a caller sees them, and the surface of the libraries.
 #![tactic(auto)]
 
 // tests: of documents, edits and lists, and public paths
@@ -11,14 +11,6 @@ mod lists;
 #[cfg(test)]
 mod sections;
 #[cfg(test)]
-mod surface;
-
-// examples: a program's worth of calls, kept tokenizers, the linter; how events are shown
-#[cfg(test)]
-mod examples;
-#[cfg(test)]
-mod kept;
-#[cfg(test)]
-mod linter;
-#[cfg(test)]
 mod shown;
+#[cfg(test)]
+mod surface;

@@ -3,7 +3,7 @@
 //!
 //! Each call that takes memory and returns something is made with ample memory, and what it returns is compared. Of `mdtests_engine`, clones
 //! are in `values`, `cuts_every` and what is of slices and locations in `places`. `run` and `read_text` are in `machines` of
-//! `mdtests_engine`; `read_document`, `read_leaf_blocks` and what else reads documents are in `documents`, and `read_inline_text` is called by `mdcases`. The
+//! `mdtests_machines`; `read_document`, `read_leaf_blocks` and what else reads documents are in `documents`, and `read_inline_text` is called by `mdcases`. The
 //! rest is in the module of its name, or for `Tokenizer` in `tokenizer`, and in `driven` and `pushed` of `mdtests_base`.
 
 use markdown::configuration::{CompileOptions, Constructs, Options, ParseOptions, TabSize};

@@ -1,3 +1,1 @@
--- machines
-pub mod Found
 mod Prelude

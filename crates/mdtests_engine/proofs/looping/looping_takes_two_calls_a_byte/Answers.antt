@@ -1,5 +1,0 @@
-use Rattle.mdtests_engine.proofs.Prelude.{arith, refl}
-use Rattle.mdtests_engine.proofs.looping.looping_takes_two_calls_a_byte.Goals as goal
-
-pub returns : goal.returns
-returns c = record { starts = λ g. refl; cost = λ g text flag. omega arith }

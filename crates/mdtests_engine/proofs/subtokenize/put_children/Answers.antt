@@ -1,5 +1,0 @@
-use Rattle.mdtests_engine.proofs.Prelude.{IsWithinLimit, sym, subst, ParseOptions}
-use Rattle.mdtests_engine.proofs.subtokenize.put_children.Goals as goal
-
-pub ready-requires : goal.ready-requires
-ready-requires g c = record { limit = subst (λ (o : ParseOptions). IsWithinLimit o.tab_size c.args.bytes.now) (sym c.default-options.ensures) c.requires.limit }

@@ -1,4 +1,0 @@
-use Rattle.mdtests_plain.proofs.containers.begun_in.Given as goal
-
-abbrev pub ghosts-begun_from : goal.ghosts-begun_from
-ghosts-begun_from a = record { name = a.blank.name; parts = a.blank.parts }

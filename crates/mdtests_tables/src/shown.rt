@@ -1,0 +1,10 @@
+//! What was made, as tests compare it. So the code that owns a text, and ends a test as memory runs out, is proved once, and not in each test.
+
+use std::alloc::AllocError;
+use std::process::Abort;
+
+/// Asserts that a text was made, and is this one.
+pub(crate) fn assert_shown(rt: &impl Abort, made: Result<String, AllocError>, want: &str) {
+    let made = made.expect(rt, "memory");
+    assert_eq!(rt; made.as_str(), want);
+}
