@@ -109,7 +109,7 @@ front-and-more : (n : ℕ) (l inside ahead : List Seat) → drop n l ≡ inside 
 front-and-more n l inside ahead e = sym (take-append-drop n l) ∙ ap (λ k. take n l ++ k) e ∙ sym (append_assoc (take n l) inside ahead)
 
 -- the first item, or another where there is none
-pub first_item : Found → List (Found × List Seat) → Found
+abbrev pub first_item : Found → List (Found × List Seat) → Found
 first_item other [] = other
 first_item other (j ∷ js) = j.0
 

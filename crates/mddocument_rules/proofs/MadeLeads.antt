@@ -31,7 +31,10 @@ module _ (Q : Type 0) (B : Q → List Event → Q → Type 0) (R : Q → Run →
 
 text-balanced : (o f : Event) (os fs : List Event) (ps : List Part) → IsBalanced (emphasised_parts ps) → IsBalanced (label_text (o ∷ os) (f ∷ fs) ps)
 text-balanced o f os fs [] b = empty
-text-balanced o f os fs (p ∷ ps) b = around-balanced LabelText (last_place o.point os) f.point (emphasised_parts (p ∷ ps)) b
+text-balanced o f os fs (p ∷ ps) b =
+    let start = last_place o.point os in
+    let text = emphasised_parts (p ∷ ps) in
+    around-balanced LabelText start (last_place start text) text b
 
 module _ (bytes : List ℕ) (defined : List ℕ → Bool) where
   abbrev pub Held : List Part → Type 0
