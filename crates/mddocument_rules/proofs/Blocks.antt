@@ -1,20 +1,22 @@
 -- The blocks of a document stand where they may: leaf blocks take the place of chunks, which stand where blocks may.
-use Rattle.mddocument_rules.proofs.Prelude.{◌≡◌, ◌∙◌, ℕ, ◌+◌, List, [], ◌∷◌, true, false, Option, Some, None, map, sym, ap, subst, false_from_ne_true, false≢true, AllByRecursion, between, option_and_then, option_map, Constructs, Event, Name, IsBalanced, relinked, with_ends, Seat, virtual, content_at, content_of, next_of, is_wanted, Given, IsDocument, Fits, chunk, some_content, begins, fitting_starts, IsReady, lines_in, flow_events, list_names, blocks-are-those, document_blocks, document_skeleton, rows, sections, holds_blocks, BlocksStand}
+use Rattle.mddocument_rules.proofs.Prelude.{◌≡◌, ◌∙◌, ℕ, ◌+◌, List, [], ◌∷◌, true, false, Option, Some, None, map, refl, sym, ap, subst, false_from_ne_true, false≢true, AllByRecursion, between, option_and_then, option_map, Constructs, Event, Name, IsBalanced, relinked, with_ends, Seat, virtual, content_at, content_of, next_of, is_wanted, Given, IsDocument, Fits, chunk, some_content, begins, fitting_starts, IsReady, lines_in, flow_events, every-all, Row, list_names, blocks-are-those, document_blocks, document_skeleton, rows, sections, holds_blocks, BlocksStand}
 use Rattle.markdown_base.specs.declared.event.Content.TheVariants as content
 use Rattle.markdown_base.specs.declared.event.Link.{Link}
 use Rattle.mdinline_text_machine.proofs.Paragraphs.ChainEvents.{all-begin, is-text}
 use Rattle.mdinline_text_machine.specs.ChainTexts.{chain_text}
 use Rattle.mdblock_leaf_blocks.proofs.Marks.BlocksFormed.{blocks-are-formed}
+use Rattle.mdblock_definitions.proofs.Covered.{rows_of}
 use Rattle.mdblock_definitions.proofs.SectionsReady.{document-goes, marks}
 use Rattle.mddocument.proofs.InContainers.Blocks.{blocks_at, content-ready, shown, shown-is}
 use Rattle.mddocument.proofs.InContainers.Skeletons.{skeleton-laws}
 use Rattle.mddocument_laws.proofs.FlowNames.{flow-named-by}
 use Rattle.mddocument_laws.proofs.Named.{weaker}
 use Rattle.mddocument_laws.specs.Names.{may_be_named}
-use Rattle.mddocument_rules.proofs.Gaps.{AllFree, IsFree, gap-free}
+use Rattle.mddocument_rules.proofs.Definitions.{prefixes-are}
+use Rattle.mddocument_rules.proofs.Gaps.{AllFree, IsFree, IsFreeName, all-free, between-kept, gap-ok}
 use Rattle.mddocument_rules.proofs.LeafBlocks.{flow-stands}
 use Rattle.mddocument_rules.proofs.Places.{ChunkFits, NotInList, Stands, StandsAs, blocks-apart, by-wanted, free-inside, free-may, walks-stand}
-use Rattle.mddocument_rules.proofs.Sections.{sections-gapped}
+use Rattle.mddocument_rules.proofs.SectionGaps.{sections-gapped}
 use Rattle.mddocument_rules.proofs.Skeletons.{skeleton-walks}
 use Rattle.mddocument_rules.proofs.Walk.{Walks, free-walks, low-stays}
 use Rattle.mddocument_rules.proofs.Weave.{IsChild, children-walk}
@@ -63,7 +65,11 @@ module _ (g : Given) (is : IsDocument g) where
       subst (ChunkFits around) as_content h.1
 
   gap : (k d : ℕ) → Fits (Some content.Content) bare k → next_of bare k ≡ Some d → (around within : List Name) → Roomy around → Walks Stands around (between (k + 2) d bare) → NotInList within → Walks Stands within (between (k + 2) d bare)
-  gap k d at next around within r w ok = free-stand (bare-ready.gaps k d at next).balanced (gap-free (marks g is) (document-goes g is).runs (sections-gapped g.bytes (sections g.options.constructs (rows g.options.constructs (lines_in (virtual g.tab g.bytes))))) k d next) within ok
+  gap k d at next around within r w ok =
+      let on = g.options.constructs in
+      let ss = sections on (rows on (lines_in (virtual g.tab g.bytes))) in
+      let free = sections-gapped g.bytes IsFreeName (λ p es. refl) (λ (row : Row). Unit {0}) (λ row u. prefixes-are (between-kept g.bytes) row.went_on row.line) ss (every-all (λ (row : Row). Unit {0}) (λ row. tt) (rows_of ss)) in
+      free-stand (bare-ready.gaps k d at next).balanced (all-free (between (k + 2) d bare) (gap-ok IsFreeName (λ e j i previous ms h. h) (marks g is) (document-goes g is).runs free k d next)) within ok
 
   abbrev Child : List Event → Type 0
   Child es = IsChild Stands stands-relinked Roomy NotInList es

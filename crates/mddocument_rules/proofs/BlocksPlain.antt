@@ -20,38 +20,48 @@ use Rattle.mddocument_laws.specs.Names.{may_be_named}
 use Rattle.markdown_edits.proofs.Balanced.{same_name-true}
 use Rattle.mddocument_rules.proofs.FlatLinks.{is_link}
 use Rattle.mddocument_rules.proofs.Places.{by-wanted}
+use Rattle.mddocument_rules.specs.SegmentLaws.{leading_names}
 
-abbrev IsOther : Name → Type 0
-IsOther n = is_wanted inline_names n ≡ false
+-- constructs of inline text are off
+abbrev pub without : Constructs → Constructs
+without on = record on { attention = false; autolink = false; code_text = false; gfm_strikethrough = false; hard_break_escape = false; hard_break_trailing = false; html_text = false; label_end = false }
 
--- ---- the blocks
--- neither containers and definitions nor leaf blocks depend on whether constructs of inline text are on
-module _ (on : Constructs) where
-  abbrev without : Constructs
-  without = record on { attention = false; autolink = false; code_text = false; gfm_strikethrough = false; hard_break_escape = false; hard_break_trailing = false; html_text = false; label_end = false }
+-- ---- the blocks, and names that no span has where constructs of inline text are off
+-- neither containers and definitions nor leaf blocks depend on whether they are on
+module _ (names : List Name) (off : (on : Constructs) → AllByRecursion (λ (m : Name). may_be_named (without on) m ≡ true → ⊥) names) where
+  abbrev IsOther : Name → Type 0
+  IsOther n = is_wanted names n ≡ false
 
-  other-name : (n : Name) → may_be_named without n ≡ true → IsOther n
-  other-name n may =
-      let no = λ (f : false ≡ true). false≢true f in
-      false_from_ne_true (is_wanted inline_names n) (λ e. by-wanted (λ m. may_be_named without m ≡ true → ⊥) inline_names n (no, (no, (no, (no, (no, (no, (no, (no, (no, (no, tt)))))))))) e may)
+  other-name : (on : Constructs) (n : Name) → may_be_named (without on) n ≡ true → IsOther n
+  other-name on n may = false_from_ne_true (is_wanted names n) (λ e. by-wanted (λ m. may_be_named (without on) m ≡ true → ⊥) names n (off on) e may)
 
-  skeleton-other : (bytes : List ℕ) (seats : List Seat) → Named IsOther (skeleton on bytes seats)
-  skeleton-other bytes seats =
-      let still : AreStillOn on without = record { quotes = λ h. h; items = λ h. h; definitions = λ h. h } in
-      weaker (λ n h. other-name n (plain-may without n (bare-plain without n h))) (skeleton on bytes seats) (skeleton-named-by without bytes on still seats)
+  skeleton-other : (on : Constructs) (bytes : List ℕ) (seats : List Seat) → Named IsOther (skeleton on bytes seats)
+  skeleton-other on bytes seats =
+      let still : AreStillOn on (without on) = record { quotes = λ h. h; items = λ h. h; definitions = λ h. h } in
+      weaker (λ n h. other-name on n (plain-may (without on) n (bare-plain (without on) n h))) (skeleton on bytes seats) (skeleton-named-by (without on) bytes on still seats)
 
-  flow-other : (is_text : Line → Bool) (bytes : List ℕ) (seats : List Seat) → Named IsOther (flow_events on is_text bytes seats)
-  flow-other is_text bytes seats = weaker other-name (flow_events on is_text bytes seats) (told-named-by on without (λ block h. h) is_text bytes seats)
+  flow-other : (on : Constructs) (is_text : Line → Bool) (bytes : List ℕ) (seats : List Seat) → Named IsOther (flow_events on is_text bytes seats)
+  flow-other on is_text bytes seats = weaker (other-name on) (flow_events on is_text bytes seats) (told-named-by on (without on) (λ block h. h) is_text bytes seats)
 
-blocks-named : (g : Given) → Named IsOther (document_blocks g)
-blocks-named g =
-    let on = g.options.constructs in
-    let is_text = has_number (text_lines on (virtual g.tab g.bytes)) in
-    let bare = document_skeleton g in
-    children-named IsOther (Some Content) bare (λ c. flow_events on is_text g.bytes (text_from g bare c).seats) (subst (Named IsOther) (sym (skeleton-is-that g)) (skeleton-other on g.bytes (virtual g.tab g.bytes))) (λ c. flow-other on is_text g.bytes (text_from g bare c).seats)
+  pub blocks-named : (g : Given) → Named IsOther (document_blocks g)
+  blocks-named g =
+      let on = g.options.constructs in
+      let is_text = has_number (text_lines on (virtual g.tab g.bytes)) in
+      let bare = document_skeleton g in
+      children-named IsOther (Some Content) bare (λ c. flow_events on is_text g.bytes (text_from g bare c).seats) (subst (Named IsOther) (sym (skeleton-is-that g)) (skeleton-other on g.bytes (virtual g.tab g.bytes))) (λ c. flow-other on is_text g.bytes (text_from g bare c).seats)
+
+not-on : false ≡ true → ⊥
+not-on f = false≢true f
+
+inline-named : (g : Given) → Named (λ n. is_wanted inline_names n ≡ false) (document_blocks g)
+inline-named = blocks-named inline_names (λ on. (not-on, (not-on, (not-on, (not-on, (not-on, (not-on, (not-on, (not-on, (not-on, (not-on, tt)))))))))))
 
 pub blocks-not-inline : (g : Given) → AllByRecursion (λ (e : Event). is_wanted inline_names e.name ≡ false) (document_blocks g)
-blocks-not-inline g = (blocks-named g).all
+blocks-not-inline g = (inline-named g).all
+
+-- nor have they names by which it is found where a link leads
+pub blocks-minor : (g : Given) → AllByRecursion (λ (e : Event). is_wanted leading_names e.name ≡ false) (document_blocks g)
+blocks-minor g = (blocks-named leading_names (λ on. (not-on, (not-on, (not-on, (not-on, (not-on, tt)))))) g).all
 
 pub blocks-linkless : (g : Given) → AreOther is_link (document_blocks g)
-blocks-linkless g = (weaker (λ n h. false_from_ne_true (is_link n) (λ e. false≢true (sym h ∙ subst (λ m. is_wanted inline_names m ≡ true) (sym (same_name-true n name.Link e)) refl))) (document_blocks g) (blocks-named g)).all
+blocks-linkless g = (weaker (λ n h. false_from_ne_true (is_link n) (λ e. false≢true (sym h ∙ subst (λ m. is_wanted inline_names m ≡ true) (sym (same_name-true n name.Link e)) refl))) (document_blocks g) (inline-named g)).all

@@ -15,6 +15,7 @@ pub mod LeafBlocks
 pub mod Links
 pub mod Passes
 pub mod Places
+pub mod SectionGaps
 pub mod Sections
 pub mod Skeletons
 mod StandingExamples
