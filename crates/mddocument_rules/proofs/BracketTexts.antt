@@ -1,17 +1,16 @@
 -- What the fold has behind the last bracket that waits: the outermost spans that were read behind it, if no bracket is among them.
-use Rattle.mddocument_rules.proofs.Prelude.{◌≡◌, ◌∙◌, ◌⊎◌, ℕ, ◌+◌, true, false, cond, List, [], ◌∷◌, ◌++◌, append-nil, append_assoc, and_parts, ap, arith, drop, false_from_ne_true, flat_map, inl, inr, length, map, refl, subst, sym, cond_both, false≢true, or_cases, or_right, AllByRecursion, ◌&&◌, ◌||◌, not, Event, Name, Run, is_enter, same_name}
+use Rattle.mddocument_rules.proofs.Prelude.{◌≡◌, ◌∙◌, ◌⊎◌, ℕ, ◌+◌, true, false, cond, List, [], ◌∷◌, ◌++◌, append-nil, append_assoc, ap, arith, drop, flat_map, inl, inr, length, map, refl, subst, sym, cond_both, false≢true, or_right, AllByRecursion, ◌||◌, Event, Run}
 use Rattle.std.proofs.lemmas.Grind.{flat_map-append}
 use Rattle.std.proofs.lemmas.List.{length-append}
 use Rattle.std.proofs.lemmas.List.Folds.{list_any-append}
 use Rattle.std.specs.List.{list_any}
-use Rattle.markdown_base.specs.declared.event.Name.TheVariants.{AttentionSequence, LabelEnd, LabelImage, LabelLink, LabelMarker, Reference, Resource}
-use Rattle.mdinline_emphasis.specs.Runs.{is_sequence}
+use Rattle.markdown_base.specs.declared.event.Name.TheVariants.{LabelEnd, LabelMarker}
 use Rattle.mdinline_links.proofs.Between.{fail-runs, no-run-named}
 use Rattle.mdinline_links.proofs.Plain.{part-plain}
 use Rattle.mdinline_links.specs.Linked.{Part, SoFar, Waiting, added, ended, failed, is_bracket, is_named, is_run, is_tail, linked_from, opened, part_of, taken}
 use Rattle.mdinline_machine.specs.Brackets.{Bracket, before_link}
 use Rattle.mddocument_laws.proofs.Emphasis.RunsApart.{bracket-no-run, tail-no-run}
-use Rattle.mddocument_rules.proofs.LinkedFlat.{AreRead, IsStep, named-is, tail-stays}
+use Rattle.mddocument_rules.proofs.LinkedFlat.{AreRead, IsStep, tail-stays}
 use Rattle.mddocument_rules.specs.BracketLaws.{SpansAround, folded, parts_of, runs_left}
 
 -- ---- spans

@@ -1,6 +1,6 @@
 -- What is read of the first items of a text: its outermost spans come first among those of the text, and its innermost spans cut the virtual bytes up to those that
 -- are left.
-use Rattle.mddocument_rules.proofs.Prelude.{◌≡◌, ◌∙◌, ℕ, zero, suc, ◌-◌, ◌==◌, Bool, cond, List, [], ◌∷◌, ◌++◌, append-nil, append_assoc, ap, arith, drop, flat_map, length, refl, subst, sym, take, Constructs, Event, Enter, Exit, Kind, IsBalanced, empty, IsBalanced-append, Name, Seat, end_after, event}
+use Rattle.mddocument_rules.proofs.Prelude.{◌≡◌, ◌∙◌, ℕ, zero, suc, ◌-◌, ◌==◌, Bool, cond, List, [], ◌∷◌, ◌++◌, append-nil, append_assoc, ap, arith, drop, flat_map, length, refl, subst, sym, take, Constructs, Event, Enter, Exit, Kind, IsBalanced, empty, IsBalanced-append, Seat}
 use Rattle.std.proofs.lemmas.Grind.{flat_map-append}
 use Rattle.std.proofs.lemmas.List.{length-append, take-append-drop}
 use Rattle.std.proofs.Math.Dec.{eqb-suc-zero}

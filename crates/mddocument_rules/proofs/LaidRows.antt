@@ -9,7 +9,7 @@ use Rattle.mdblock_leaf_blocks.proofs.Lines.WholeLines.{IsWhole}
 use Rattle.mdblock_leaf_blocks.specs.LeafBlocks.{Line, text_of as line_bytes}
 use Rattle.mdblock_containers.proofs.SeatFacts.{LinesEnd, line_front}
 use Rattle.mdblock_containers.specs.Prefixes.{columns_of, going_on}
-use Rattle.mdblock_definitions.specs.Definitions.{Place, byte_at, ending_at, ending_marks, places_in}
+use Rattle.mdblock_definitions.specs.Definitions.{Place, byte_at, ending_at, places_in}
 use Rattle.mddocument_rules.proofs.VirtualBytes.{IfFeed, NoFeeds, feeds-virtual}
 use Rattle.mddocument_rules.proofs.WrittenPlaces.{AreLaid, AreLeft}
 use Rattle.mddocument_rules.proofs.WrittenPrefixes.{IsGap, IsSomeGap, feed-gap, gap-none, prefixes-gap}
@@ -65,7 +65,7 @@ module _ (t : ℕ) (bytes : List ℕ) where
 
   -- between two lines
   module _ (some : 0 < t) where
-    prefix-gap : (q : Row) → IsRow q → IsGap bytes (prefixes_marks bytes q.went_on q.line)
+    pub prefix-gap : (q : Row) → IsRow q → IsGap bytes (prefixes_marks bytes q.went_on q.line)
     prefix-gap q h =
         let text = line_text q.line in
         let rest = ending_of q.line ++ h.behind in

@@ -58,6 +58,16 @@ pub mod TailLeads
 pub mod TextReferences
 pub mod ReferenceStrings
 pub mod Reworked
+pub mod AddedSpace
+pub mod LeadSegments
+pub mod ApartLinks
+pub mod SpacedRuns
+pub mod SpacedChains
+pub mod TextsLead
+pub mod StringsLead
+pub mod WhiteGaps
+pub mod TextGaps
+pub mod DefinedReferences
 pub mod CutTexts
 pub mod WrittenTexts
 pub mod QuietItems

@@ -1,5 +1,5 @@
 -- Links and images as they are made: one leads to a destination if its tail has a resource, and else to a label; if that is defined, the events of the link lead well.
-use Rattle.mddocument_rules.proofs.Prelude.{◌≡◌, ◌∙◌, ℕ, Bool, true, cond, List, [], ◌∷◌, ◌++◌, None, Some, ap, and_parts, false≢true, sym, ◌&&◌, Enter, Event, Exit, IsBalanced, IsBalanced-append, Run, empty, unlinked_event}
+use Rattle.mddocument_rules.proofs.Prelude.{◌≡◌, ◌∙◌, ℕ, Bool, true, cond, List, [], ◌∷◌, ◌++◌, None, Some, ap, and_parts, false≢true, refl, sym, ◌&&◌, Enter, Event, Exit, IsBalanced, IsBalanced-append, Run, empty, unlinked_event}
 use Rattle.markdown_base.specs.declared.event.Name.TheVariants.{Image, Label, LabelImage, LabelText, Link, Resource, ReferenceString}
 use Rattle.mdinline_labels.specs.Labels.{is_label, normalised}
 use Rattle.mdinline_links.proofs.Kept.{AreParts as AreKeptParts, parts-emphasised}
@@ -83,7 +83,7 @@ module _ (bytes : List ℕ) (defined : List ℕ → Bool) where
         let whole = inside-holds is_reference references-apart (Lead bytes defined) (lead-both bytes defined) (lead-free bytes defined) (o ∷ os) ps (f ∷ fs) tail opener held close tailed in
         let more = os ++ (label_text (o ∷ os) (f ∷ fs) ps ++ f ∷ fs) in
         let end = last_place o.point more in
-        lead-around bytes defined name (unlinked_event Enter Label o.point) ((own ++ unlinked_event Exit Label end ∷ []) ++ tail) link-balanced leads whole
+        lead-around bytes defined name (unlinked_event Enter Label o.point) ((own ++ unlinked_event Exit Label end ∷ []) ++ tail) refl link-balanced leads whole
 
   -- with neither a resource nor a label behind it, to its own text
   pub by-text : (o f : Event) (os fs : List Event) (ps : List Part) (tail : List Event) (opens : IsBalanced (o ∷ os)) (closes : IsBalanced (f ∷ fs)) (text : IsBalanced (emphasised_parts ps)) (tail_is : IsBalanced tail)

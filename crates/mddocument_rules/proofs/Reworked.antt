@@ -42,7 +42,7 @@ minor-enters : (n : Name) → is_wanted leading_names n ≡ true → (es : List 
 minor-enters n k es h = every-map (λ (e : Event). is_wanted leading_names e.name ≡ false) (λ (e : Event). enters n e ≡ false) (λ e m. ap (λ b. is_enter e.kind && b) (minor-other e.name n m k) ∙ and-false (is_enter e.kind)) es h
 
 -- balanced events are passed over
-passed : (depth : ℕ) {xs : List Event} (zs : List Event) → IsBalanced xs → size_from depth (xs ++ zs) ≡ length xs + size_from depth zs
+pub passed : (depth : ℕ) {xs : List Event} (zs : List Event) → IsBalanced xs → size_from depth (xs ++ zs) ≡ length xs + size_from depth zs
 passed depth zs empty = omega arith
 passed depth {xs} zs (balanced_span e f us vs is enters exits same bu bv) =
     let whole : xs ++ zs ≡ e ∷ (us ++ f ∷ (vs ++ zs)) = ap (λ l. l ++ zs) is ∙ ap (λ l. e ∷ l) (append_assoc us (f ∷ vs) zs) in
@@ -53,65 +53,46 @@ passed depth {xs} zs (balanced_span e f us vs is enters exits same bu bv) =
     let outer = passed depth zs bv in
     omega (arith, long, first, inner, last, outer)
 
-minor-enters-none : (e : Event) → is_wanted leading_names e.name ≡ false → enters_link e ≡ false
+pub minor-enters-none : (e : Event) → is_wanted leading_names e.name ≡ false → enters_link e ≡ false
 minor-enters-none e m =
     (λ i. (is_enter e.kind && minor-other e.name name.Link m refl i) || (is_enter e.kind && minor-other e.name name.Image m refl i)) ∙ (λ i. and-false (is_enter e.kind) i || and-false (is_enter e.kind) i)
 
 -- the first segment is no other events
-abbrev BeginsWithOne : List Segment → Type 0
+abbrev pub BeginsWithOne : List Segment → Type 0
 BeginsWithOne [] = Unit {0}
 BeginsWithOne (one e ∷ s) = Unit {0}
 BeginsWithOne (instead xs ys ∷ s) = ⊥
 
-begins-front : (a b : List Segment) → BeginsWithOne (a ++ b) → BeginsWithOne a
+pub begins-front : (a b : List Segment) → BeginsWithOne (a ++ b) → BeginsWithOne a
 begins-front [] b h = tt
 begins-front (one e ∷ a) b h = tt
 begins-front (instead xs ys ∷ a) b h = h
 
-module _ (bytes : List ℕ) where
-  abbrev Are : List Segment → Type 0
-  Are s = AreAlike bytes s
+-- Kinds of segments, by which a link leads to the same label without them: in each is what is in parts of it; other events are whole spans of minor names, and so
+-- are those that they stand in place of; and with them and without them what is written is one label
+abbrev pub AreMinorSpans : List Event → Type 0
+AreMinorSpans es = IsBalanced es × AreMinor es
 
-  are-front : (a b : List Segment) → Are (a ++ b) → Are a
-  are-front [] b h = tt
-  are-front (one e ∷ a) b h = are-front a b h
-  are-front (instead xs ys ∷ a) b h = (h.0, are-front a b h.1)
+pub record IsKind (bytes : List ℕ) (Are : List Segment → Type 0) : Type 0 where
+  pub front : (a b : List Segment) → Are (a ++ b) → Are a
+  pub back : (a b : List Segment) → Are (a ++ b) → Are b
+  pub old_spans : (xs ys : List Event) (s : List Segment) → Are (instead xs ys ∷ s) → AreMinorSpans xs
+  pub new_spans : (xs ys : List Event) (s : List Segment) → Are (instead xs ys ∷ s) → AreMinorSpans ys
+  pub labels : (s : List Segment) → Are s → normalised (as_written bytes (new_events s)) ≡ normalised (as_written bytes (old_events s))
 
-  are-back : (a b : List Segment) → Are (a ++ b) → Are b
-  are-back [] b h = h
-  are-back (one e ∷ a) b h = are-back a b h
-  are-back (instead xs ys ∷ a) b h = are-back a b h.1
-
-  -- ---- what is written
-  enter-gives : (e : Event) (xs ys : List Event) → BeginsWithAnEnter xs → given_at bytes AsWritten e (xs ++ ys) ≡ []
-  enter-gives e [] ys o = absurd o
-  enter-gives e (x ∷ xs) ys o =
-      ap (λ (k : Kind). cond (is_enter e.kind && not (is_enter k)) (given bytes AsWritten e.name e.point.index x.point.index) []) o ∙ ap (λ b. cond b (given bytes AsWritten e.name e.point.index x.point.index) []) (and-false (is_enter e.kind))
-
-  given-same : (e : Event) (s : List Segment) → Are s → given_at bytes AsWritten e (new_events s) ≡ given_at bytes AsWritten e (old_events s)
-  given-same e [] h = refl
-  given-same e (one f ∷ s) h = refl
-  given-same e (instead xs ys ∷ s) h = enter-gives e ys (new_events s) h.0.new_are.begins ∙ sym (enter-gives e xs (old_events s) h.0.old_are.begins)
-
-  pub written-alike : (s : List Segment) → Are s → Alike (as_written bytes (new_events s)) (as_written bytes (old_events s))
-  written-alike [] h = alike-none
-  written-alike (one e ∷ s) h =
-      subst (λ l. Alike (l ++ as_written bytes (new_events s)) (given_at bytes AsWritten e (old_events s) ++ as_written bytes (old_events s))) (sym (given-same e s h))
-      (alike-both (given_at bytes AsWritten e (old_events s)) (given_at bytes AsWritten e (old_events s)) (as_written bytes (new_events s)) (as_written bytes (old_events s)) (alike-same (given_at bytes AsWritten e (old_events s))) (written-alike s h))
-  written-alike (instead xs ys ∷ s) h =
-      let p = h.0 in
-      subst (λ l. Alike l (as_written bytes (xs ++ old_events s))) (sym (p.new_are.gives (new_events s)))
-      (subst (Alike (p.new_text ++ as_written bytes (new_events s))) (sym (p.old_are.gives (old_events s))) (alike-both p.new_text p.old_text (as_written bytes (new_events s)) (as_written bytes (old_events s)) p.alike (written-alike s h.1)))
+module _ (bytes : List ℕ) (Are : List Segment → Type 0) (kind : IsKind bytes Are) where
+  pub behind-first : (x : Segment) (s : List Segment) → Are (x ∷ s) → Are s
+  behind-first x s h = kind.back (x ∷ []) s h
 
   -- ---- what is in a span
   -- segments up to the exit of the span that is open, by how many are
-  record Cut (depth : ℕ) (s : List Segment) : Type 0 where
-    front : List Segment
-    rest : List Segment
-    are : s ≡ front ++ rest
-    old_size : size_from depth (old_events s) ≡ length (old_events front)
-    new_size : size_from depth (new_events s) ≡ length (new_events front)
-    ends : (rest ≡ []) ⊎ ((x : Event) × (back : List Segment) × (rest ≡ one x ∷ back) × (x.kind ≡ Exit))
+  pub record Cut (depth : ℕ) (s : List Segment) : Type 0 where
+    pub front : List Segment
+    pub rest : List Segment
+    pub are : s ≡ front ++ rest
+    pub old_size : size_from depth (old_events s) ≡ length (old_events front)
+    pub new_size : size_from depth (new_events s) ≡ length (new_events front)
+    pub ends : (rest ≡ []) ⊎ ((x : Event) × (back : List Segment) × (rest ≡ one x ∷ back) × (x.kind ≡ Exit))
 
   cut-more : (d k : ℕ) (e : Event) (s : List Segment) → ((es : List Event) → size_from d (e ∷ es) ≡ suc (size_from k es)) → Cut k s → Cut d (one e ∷ s)
   cut-more d k e s step c = record {
@@ -123,18 +104,18 @@ module _ (bytes : List ℕ) where
     ends = c.ends;
   }
 
-  cut : (d : ℕ) (s : List Segment) → Are s → Cut d s
+  pub cut : (d : ℕ) (s : List Segment) → Are s → Cut d s
   cut d [] h = record { front = []; rest = []; are = refl; old_size = refl; new_size = refl; ends = inl refl }
   cut d (instead xs ys ∷ s) h =
-      let c = cut d s h.1 in
-      let o = passed d (old_events s) h.0.old_are.balanced in
-      let n = passed d (new_events s) h.0.new_are.balanced in
+      let c = cut d s (behind-first (instead xs ys) s h) in
+      let o = passed d (old_events s) (kind.old_spans xs ys s h).0 in
+      let n = passed d (new_events s) (kind.new_spans xs ys s h).0 in
       let old_long = length-append xs (old_events c.front) in
       let new_long = length-append ys (new_events c.front) in
       let os = c.old_size in
       let ns = c.new_size in
       record { front = instead xs ys ∷ c.front; rest = c.rest; are = ap (λ l. instead xs ys ∷ l) c.are; old_size = omega (arith, o, os, old_long); new_size = omega (arith, n, ns, new_long); ends = c.ends }
-  cut d (one e ∷ s) h = by e.kind refl d (λ k. cut k s h)
+  cut d (one e ∷ s) h = by e.kind refl d (λ k. cut k s (behind-first (one e) s h))
     where
       by : (k : Kind) → e.kind ≡ k → (d : ℕ) → ((k : ℕ) → Cut k s) → Cut d (one e ∷ s)
       by Enter en d more = cut-more d (suc d) e s (λ es. at_enter d e es en) (more (suc d))
@@ -143,16 +124,16 @@ module _ (bytes : List ℕ) where
 
   -- what is in it, and behind it
   record Halves (s : List Segment) : Type 0 where
-    front : List Segment
-    rest : List Segment
-    are : s ≡ front ++ rest
-    back : List Segment
-    first : Are front
-    last : Are back
-    old_front : inside (old_events s) ≡ old_events front
-    new_front : inside (new_events s) ≡ new_events front
-    old_back : behind (old_events s) ≡ old_events back
-    new_back : behind (new_events s) ≡ new_events back
+    pub front : List Segment
+    pub rest : List Segment
+    pub are : s ≡ front ++ rest
+    pub back : List Segment
+    pub first : Are front
+    pub last : Are back
+    pub old_front : inside (old_events s) ≡ old_events front
+    pub new_front : inside (new_events s) ≡ new_events front
+    pub old_back : behind (old_events s) ≡ old_events back
+    pub new_back : behind (new_events s) ≡ new_events back
 
   halves : (s : List Segment) → Are s → Halves s
   halves s h = by (cut 0 s h)
@@ -168,15 +149,15 @@ module _ (bytes : List ℕ) where
           let o : old_events s ≡ old_events c.front ++ old_events c.rest = ap old_events c.are ∙ old-both c.front c.rest in
           let n : new_events s ≡ new_events c.front ++ new_events c.rest = ap new_events c.are ∙ new-both c.front c.rest in
           let whole = subst Are c.are h in
-          let all = are-back c.front c.rest whole in
+          let all = kind.back c.front c.rest whole in
           elim c.ends [
             | inl none ↦ record {
               front = c.front;
               rest = c.rest;
               are = c.are;
               back = [];
-              first = are-front c.front c.rest whole;
-              last = tt;
+              first = kind.front c.front c.rest whole;
+              last = subst Are none all;
               old_front = front-is (old_events s) (old_events c.front) (old_events c.rest) o c.old_size;
               new_front = front-is (new_events s) (new_events c.front) (new_events c.rest) n c.new_size;
               old_back = back-is (old_events s) (old_events c.front) (old_events c.rest) o c.old_size ∙ ap (λ l. drop 1 (old_events l)) none;
@@ -187,8 +168,8 @@ module _ (bytes : List ℕ) where
               rest = c.rest;
               are = c.are;
               back = e.1;
-              first = are-front c.front c.rest whole;
-              last = subst Are e.2 all;
+              first = kind.front c.front c.rest whole;
+              last = behind-first (one e.0) e.1 (subst Are e.2 all);
               old_front = front-is (old_events s) (old_events c.front) (old_events c.rest) o c.old_size;
               new_front = front-is (new_events s) (new_events c.front) (new_events c.rest) n c.new_size;
               old_back = back-is (old_events s) (old_events c.front) (old_events c.rest) o c.old_size ∙ ap (λ l. drop 1 (old_events l)) e.2;
@@ -203,22 +184,23 @@ module _ (bytes : List ℕ) where
   firsts : (n : Name) → is_wanted leading_names n ≡ true → (s : List Segment) → Are s → Firsts (first_in n (old_events s)) (first_in n (new_events s))
   firsts n k [] h = inl (refl, refl)
   firsts n k (instead xs ys ∷ s) h =
-      subst (λ a. Firsts a (first_in n (ys ++ new_events s))) (sym (first-behind n xs (old_events s) (minor-enters n k xs h.0.old_are.named)))
-      (subst (Firsts (first_in n (old_events s))) (sym (first-behind n ys (new_events s) (minor-enters n k ys h.0.new_are.named))) (firsts n k s h.1))
+      subst (λ a. Firsts a (first_in n (ys ++ new_events s))) (sym (first-behind n xs (old_events s) (minor-enters n k xs (kind.old_spans xs ys s h).1)))
+      (subst (Firsts (first_in n (old_events s))) (sym (first-behind n ys (new_events s) (minor-enters n k ys (kind.new_spans xs ys s h).1))) (firsts n k s (behind-first (instead xs ys) s h)))
   firsts n k (one e ∷ s) h =
-      let t = halves s h in
+      let more = behind-first (one e) s h in
+      let t = halves s more in
       elim (enters n e) as (λ b. Firsts (cond b (Some (inside (old_events s))) (first_in n (old_events s))) (cond b (Some (inside (new_events s))) (first_in n (new_events s)))) [
         | true ↦ inr (t.front, t.first, ap Some t.old_front, ap Some t.new_front)
-        | false ↦ firsts n k s h
+        | false ↦ firsts n k s more
       ]
 
   -- ---- where a link leads
   or-written : (a b c d : Option (List Event)) → Firsts a b → Firsts c d → normalised (written bytes (option_or b d)) ≡ normalised (written bytes (option_or a c))
   or-written a b c d (inr (s, are, first, second)) h =
-      (λ i. normalised (written bytes (option_or (second i) d))) ∙ alike-labels (as_written bytes (new_events s)) (as_written bytes (old_events s)) (written-alike s are) ∙ sym (λ i. normalised (written bytes (option_or (first i) c)))
+      (λ i. normalised (written bytes (option_or (second i) d))) ∙ kind.labels s are ∙ sym (λ i. normalised (written bytes (option_or (first i) c)))
   or-written a b c d (inl none) (inl nothing) = (λ i. normalised (written bytes (option_or (none.1 i) (nothing.1 i)))) ∙ sym (λ i. normalised (written bytes (option_or (none.0 i) (nothing.0 i))))
   or-written a b c d (inl none) (inr (s, are, first, second)) =
-      (λ i. normalised (written bytes (option_or (none.1 i) (second i)))) ∙ alike-labels (as_written bytes (new_events s)) (as_written bytes (old_events s)) (written-alike s are) ∙ sym (λ i. normalised (written bytes (option_or (none.0 i) (first i))))
+      (λ i. normalised (written bytes (option_or (none.1 i) (second i)))) ∙ kind.labels s are ∙ sym (λ i. normalised (written bytes (option_or (none.0 i) (first i))))
 
   -- to the same label, if to one
   same-label : (e : Event) (s : List Segment) → Are s → (label : List ℕ) → target_in bytes (e ∷ new_events s) ≡ target.Label label → target_in bytes (e ∷ old_events s) ≡ target.Label label
@@ -262,9 +244,9 @@ module _ (bytes : List ℕ) where
   put-behind [] zs i t is = (i, is)
   put-behind (x ∷ xs) zs i t is = let more = put-behind xs zs i t is in (suc more.0, more.1)
 
-  front-label : (a : List Segment) → Are a → BeginsWithOne a → (label : List ℕ) → target_in bytes (new_events a) ≡ target.Label label → target_in bytes (old_events a) ≡ target.Label label
+  pub front-label : (a : List Segment) → Are a → BeginsWithOne a → (label : List ℕ) → target_in bytes (new_events a) ≡ target.Label label → target_in bytes (old_events a) ≡ target.Label label
   front-label [] are first label leads = leads
-  front-label (one e ∷ a) are first label leads = same-label e a are label leads
+  front-label (one e ∷ a) are first label leads = same-label e a (behind-first (one e) a are) label leads
   front-label (instead xs ys ∷ a) are first label leads = absurd first
 
   -- one that is entered there
@@ -279,12 +261,12 @@ module _ (bytes : List ℕ) where
             ap Some (ap (target_in bytes) t.old_front ∙ there)
       ] begins
 
-  none-begins : (e : Event) (s : List Segment) → NoneBeginLinks (one e ∷ s) → enters_link e ≡ true → BeginsWithOne s
+  pub none-begins : (e : Event) (s : List Segment) → NoneBeginLinks (one e ∷ s) → enters_link e ≡ true → BeginsWithOne s
   none-begins e [] h is = tt
   none-begins e (one f ∷ s) h is = tt
   none-begins e (instead xs ys ∷ s) h is = absurd (false≢true (sym h.0 ∙ is))
 
-  none-behind : (e : Event) (s : List Segment) → NoneBeginLinks (one e ∷ s) → NoneBeginLinks s
+  pub none-behind : (e : Event) (s : List Segment) → NoneBeginLinks (one e ∷ s) → NoneBeginLinks s
   none-behind e [] h = tt
   none-behind e (one f ∷ s) h = h
   none-behind e (instead xs ys ∷ s) h = h.1
@@ -292,15 +274,60 @@ module _ (bytes : List ℕ) where
   all-links : (s : List Segment) (at : ℕ) (label : List ℕ) → Are s → NoneBeginLinks s → target_of bytes (new_events s) at ≡ Some (target.Label label) → (i : ℕ) × (target_of bytes (old_events s) i ≡ Some (target.Label label))
   all-links [] zero label h none is = absurd (none-some (target.Label label) is)
   all-links [] (suc at) label h none is = absurd (none-some (target.Label label) is)
-  all-links (one e ∷ s) zero label h none is = (0, first-link e s label h (none-begins e s none) is)
-  all-links (one e ∷ s) (suc at) label h none is = let more = all-links s at label h (none-behind e s none) is in (suc more.0, more.1)
+  all-links (one e ∷ s) zero label h none is = (0, first-link e s label (behind-first (one e) s h) (none-begins e s none) is)
+  all-links (one e ∷ s) (suc at) label h none is = let more = all-links s at label (behind-first (one e) s h) (none-behind e s none) is in (suc more.0, more.1)
   all-links (instead xs ys ∷ s) at label h none is =
-      let there = skipped ys (new_events s) at (target.Label label) h.0.new_are.named is in
-      let more = all-links s there.0 label h.1 none there.1 in
+      let there = skipped ys (new_events s) at (target.Label label) (kind.new_spans xs ys s h).1 is in
+      let more = all-links s there.0 label (behind-first (instead xs ys) s h) none there.1 in
       put-behind xs (old_events s) more.0 (target.Label label) more.1
 
+-- ---- events that stand in place of others that are written alike
+module _ (bytes : List ℕ) where
+  abbrev Alikes : List Segment → Type 0
+  Alikes s = AreAlike bytes s
+
+  are-front : (a b : List Segment) → Alikes (a ++ b) → Alikes a
+  are-front [] b h = tt
+  are-front (one e ∷ a) b h = are-front a b h
+  are-front (instead xs ys ∷ a) b h = (h.0, are-front a b h.1)
+
+  are-back : (a b : List Segment) → Alikes (a ++ b) → Alikes b
+  are-back [] b h = h
+  are-back (one e ∷ a) b h = are-back a b h
+  are-back (instead xs ys ∷ a) b h = are-back a b h.1
+
+  -- ---- what is written
+  pub enter-gives : (e : Event) (xs ys : List Event) → BeginsWithAnEnter xs → given_at bytes AsWritten e (xs ++ ys) ≡ []
+  enter-gives e [] ys o = absurd o
+  enter-gives e (x ∷ xs) ys o =
+      ap (λ (k : Kind). cond (is_enter e.kind && not (is_enter k)) (given bytes AsWritten e.name e.point.index x.point.index) []) o ∙ ap (λ b. cond b (given bytes AsWritten e.name e.point.index x.point.index) []) (and-false (is_enter e.kind))
+
+  given-same : (e : Event) (s : List Segment) → Alikes s → given_at bytes AsWritten e (new_events s) ≡ given_at bytes AsWritten e (old_events s)
+  given-same e [] h = refl
+  given-same e (one f ∷ s) h = refl
+  given-same e (instead xs ys ∷ s) h = enter-gives e ys (new_events s) h.0.new_are.begins ∙ sym (enter-gives e xs (old_events s) h.0.old_are.begins)
+
+  pub written-alike : (s : List Segment) → Alikes s → Alike (as_written bytes (new_events s)) (as_written bytes (old_events s))
+  written-alike [] h = alike-none
+  written-alike (one e ∷ s) h =
+      subst (λ l. Alike (l ++ as_written bytes (new_events s)) (given_at bytes AsWritten e (old_events s) ++ as_written bytes (old_events s))) (sym (given-same e s h))
+      (alike-both (given_at bytes AsWritten e (old_events s)) (given_at bytes AsWritten e (old_events s)) (as_written bytes (new_events s)) (as_written bytes (old_events s)) (alike-same (given_at bytes AsWritten e (old_events s))) (written-alike s h))
+  written-alike (instead xs ys ∷ s) h =
+      let p = h.0 in
+      subst (λ l. Alike l (as_written bytes (xs ++ old_events s))) (sym (p.new_are.gives (new_events s)))
+      (subst (Alike (p.new_text ++ as_written bytes (new_events s))) (sym (p.old_are.gives (old_events s))) (alike-both p.new_text p.old_text (as_written bytes (new_events s)) (as_written bytes (old_events s)) p.alike (written-alike s h.1)))
+
+  pub alike-kind : IsKind bytes Alikes
+  alike-kind = record {
+    front = are-front;
+    back = are-back;
+    old_spans = λ xs ys s h. (h.0.old_are.balanced, h.0.old_are.named);
+    new_spans = λ xs ys s h. (h.0.new_are.balanced, h.0.new_are.named);
+    labels = λ s h. alike-labels (as_written bytes (new_events s)) (as_written bytes (old_events s)) (written-alike s h);
+  }
+
 pub all-links-lead-alike : AllLinksLeadAlike
-all-links-lead-alike bytes s at label are none is = all-links bytes s at label are none is
+all-links-lead-alike bytes s at label are none is = all-links bytes (Alikes bytes) (alike-kind bytes) s at label are none is
 
 pub links-lead-alike : LinksLeadAlike
-links-lead-alike bytes e s label are leads = same-label bytes e s are label leads
+links-lead-alike bytes e s label are leads = same-label bytes (Alikes bytes) (alike-kind bytes) e s are label leads

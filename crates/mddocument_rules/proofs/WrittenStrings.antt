@@ -79,7 +79,7 @@ module _ (bytes : List ℕ) where
       there-holds IsUnmarked string_grammars on text (string_part text) (escape-free text, (reference-free text, tt))
       (elim (has_byte_at text 0 is_line_feed) as (λ t. IsUnmarked (cond t (part line_ending) (string_data text))) [ true ↦ λ seats. leafs name.LineEnding seats refl | false ↦ λ seats. leafs name.Data seats refl ])
 
-  string-free : (on : Constructs) (seats : List Seat) → AreNoMarkers (string_seat_events on bytes seats)
+  pub string-free : (on : Constructs) (seats : List Seat) → AreNoMarkers (string_seat_events on bytes seats)
   string-free on seats = each-item bytes AreNoMarkers tt both on (item-free on) _ seats
 
   -- so its innermost spans are plain

@@ -62,7 +62,7 @@ module _ (bytes : List ℕ) where
     Follows = Course AcrossGap t bytes
 
     -- a stretch of one line is written as its virtual bytes are
-    stretch-written : (p : Point) (s : Seat) (ss more : List Seat) → OneLine (s ∷ ss) → Follows p (s ∷ (ss ++ more))
+    pub stretch-written : (p : Point) (s : Seat) (ss more : List Seat) → OneLine (s ∷ ss) → Follows p (s ∷ (ss ++ more))
         → slice_range bytes (shown bytes s.point).index (shown bytes (end_after s.end ss)).index ≡ flat_map of_seat (s ∷ ss)
     stretch-written p s [] more one course = sym (append-nil (of_seat s))
     stretch-written p s (r ∷ rs) more one course =

@@ -5,7 +5,7 @@ ghost use Rattle.mddocument_rules.specs.DefinitionLaws.{DefinitionsOfDocumentsAr
 ghost use Rattle.mddocument_rules.specs.LinkLaws.{MadeByLabels, MadeByTexts, RunsAreWritten};
 ghost use Rattle.mddocument_rules.specs.ListLaws.{ItemsHaveTheMarker, ListsHaveOneMarker, NeighboursDiffer, QuotesAreApart};
 ghost use Rattle.mddocument_rules.specs.MarkerLaws.{ListsAreNamedByMarkers, ListsAreOfOneType};
-ghost use Rattle.mddocument_rules.specs.ReferenceLaws.{DefinedIsDefined, DefinitionsAreOfSections, DefinitionsHaveLabels, LabelsAreOfSections, LabelsAreWritten, OwnLabelsAreWritten, ReferenceLabelsStay, ReferencesOfChainsAreDefined, ReferencesOfTextsAreDefined};
+ghost use Rattle.mddocument_rules.specs.ReferenceLaws.{DefinedIsDefined, DefinitionsAreOfSections, DefinitionsHaveLabels, LabelsAreOfSections, LabelsAreWritten, OwnLabelsAreWritten, ReferenceLabelsStay, ReferencesAreDefined, ReferencesOfChainsAreDefined, ReferencesOfTextsAreDefined};
 ghost use Rattle.mddocument_rules.specs.SegmentLaws.{AllLinksLeadAlike, LinksLeadAlike};
 ghost use Rattle.mddocument_rules.specs.StandingLaws.{BlocksStand, LeafBlocksStand, NoLinkInALink, SkeletonsStand, SpansStand};
 ghost use Rattle.mddocument_rules.specs.TextLaws.{EmphasisStands, InlineTextStands, LinksStand, NoLinkInALinkOfText};
@@ -127,6 +127,12 @@ pub fn references_of_texts_are_defined()
     ensures strings { ReferenceLabelsStay }
     ensures texts { ReferencesOfTextsAreDefined }
     ensures chains { ReferencesOfChainsAreDefined }
+{}
+
+/// Each reference in a document has a definition in it: a link or an image without a resource leads to a label that a link reference definition among the
+/// document's events has, whatever the document's bytes and its constructs, in whatever containers its text stands, and with its strings read.
+pub fn references_are_defined()
+    ensures { ReferencesAreDefined }
 {}
 
 /// Where some events stand in place of others that are written alike, where labels are compared, a link leads to the same label: neither prefixes between the lines
