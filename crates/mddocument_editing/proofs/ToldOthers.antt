@@ -1,5 +1,5 @@
 -- Sections of which something is new: which are told, in order and each once.
-use Rattle.mddocument_editing.proofs.Prelude.{◌≡◌, ℕ, zero, suc, ◌+◌, ◌<◌, ◌≤◌, ◌==◌, Bool, true, false, List, [], ◌∷◌, ◌++◌, length, Option, Some, None, cond, get_or, take, drop, refl, sym, ap, ◌∙◌, subst, arith, inl, inr, append-nil, append_assoc, drop-drop, drop_more, length-drop, length-take-le, map-append, take_more, eq-eqb, ne_eqb, false≢true, is_some, AllByRecursion, IfNone, IfSome, Contains, Contains-append_left, Contains-append_right, Event, ascend_from, bytes_of_sections, AreReread, HasEvents, HasSaids, read_again, Reread, Section}
+use Rattle.mddocument_editing.proofs.Prelude.{◌≡◌, ℕ, zero, suc, ◌+◌, ◌<◌, ◌≤◌, ◌==◌, Bool, true, false, List, [], ◌∷◌, ◌++◌, length, Option, Some, None, cond, get_or, take, drop, refl, sym, ap, ◌∙◌, subst, arith, inl, inr, append-nil, append_assoc, drop-drop, drop_more, length-drop, length-take-le, map-append, take_more, eq-eqb, ne_eqb, false≢true, is_some, AllByRecursion, IfNone, IfSome, Contains, Contains-append_left, Contains-append_right, Event, ascend_from, bytes_of_sections, AreReread, HasEvents, read_again, Reread, Section}
 use Rattle.std.specs.Prelude.{option_map, option_to_list}
 use Rattle.mddocument_link_targets.specs.declared.targets.Parts.{Parts}
 use Rattle.mddocument_editing.specs.declared.edit.Other.{Other}
@@ -8,6 +8,7 @@ use Rattle.mddocument_editing.specs.declared.edit.Why.TheVariants as why
 use Rattle.mddocument_editing.specs.Edits.{numbers_of}
 use Rattle.mddocument_editing.specs.Leading.{targets_in}
 use Rattle.mddocument_editing.specs.Told.{AreTold, Goes, HasTargets, IsNew, IsToldAs, IsToldNext, left_behind, read_next, visits}
+use Rattle.mddocument_editing.proofs.Stays.{stays-iff}
 use Rattle.mddocument_editing.proofs.Visits.{IsNext, next-is, was_not, was_read}
 
 -- what is told of it is appended
@@ -33,9 +34,9 @@ module _ (read : List ℕ → List Event) (old new : List ℕ → Option Parts) 
   told-one n s ss rs (was_read found differs) None is os told = absurd (false≢true (sym is.0 ∙ ap is_some found))
   told-one n s ss rs (was_read found differs) (Some why.Events) is os told = inr (why.Events, (os, (refl, (differs, told))))
   told-one n s ss rs (was_read found differs) (Some why.Targets) is os told = absurd (false≢true (sym is.0 ∙ ap is_some found))
-  told-one n s ss rs (was_not found has knows) None is os told = inl ((has, is.1), told)
+  told-one n s ss rs (was_not found has knows) None is os told = inl ((has, (stays-iff old new s knows).0 is.1), told)
   told-one n s ss rs (was_not found has knows) (Some why.Events) is os told = absurd (false≢true (sym (ap is_some found) ∙ is))
-  told-one n s ss rs (was_not found has knows) (Some why.Targets) is os told = inr (why.Targets, (os, (refl, ((has, is.1), told))))
+  told-one n s ss rs (was_not found has knows) (Some why.Targets) is os told = inr (why.Targets, (os, (refl, ((has, λ same. is.1 ((stays-iff old new s knows).1 same)), told))))
 
   -- what is told of sections that are gone over, behind what was told before
   pub told-all : (n : ℕ) (ss : List Section) (rs : List Reread) (before after : List Other) → AreReread read n ss rs → Goes (IsToldNext old new) (visits n ss rs) before after

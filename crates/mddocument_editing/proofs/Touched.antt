@@ -50,26 +50,26 @@ module _ (read : List ℕ → List Event) where
   pub own-are : (n : ℕ) (ss : List Section) (rs : List Reread) → rs ≡ [] → AreReread read n ss rs → own_saids ss ≡ all_saids read (bytes_of_sections ss)
   own-are n [] rs none are = refl
   own-are n (s ∷ ss) rs none (inl is) =
-      ap (λ ds. ds ++ own_saids ss) (is.0.1 ∙ ap (saids s.part.bytes.items) (sym is.0.0))
+      ap (λ ds. ds ++ own_saids ss) (ap (λ l. l.saids) is.0.1 ∙ ap (saids s.part.bytes.items) (sym is.0.0))
       ∙ ap (λ ds. saids s.part.bytes.items (read s.part.bytes.items) ++ ds) (own-are (n + 1) ss rs none is.1)
   own-are n (s ∷ ss) rs none (inr is) = absurd (cc (none, is.1.0))
 
   -- of a label that is not touched they say now what they said
-  now-own : (label : List ℕ) (s : Section) (ss : List Section) → said_of (saids s.part.bytes.items (read s.part.bytes.items)) label ≡ said_of s.saids label
+  now-own : (label : List ℕ) (s : Section) (ss : List Section) → said_of (saids s.part.bytes.items (read s.part.bytes.items)) label ≡ said_of s.linking.saids label
       → said_of (all_saids read (bytes_of_sections ss)) label ≡ said_of (own_saids ss) label → said_of (all_saids read (bytes_of_sections (s ∷ ss))) label ≡ said_of (own_saids (s ∷ ss)) label
   now-own label s ss here more =
       let now = saids s.part.bytes.items (read s.part.bytes.items) in
       let rest = all_saids read (bytes_of_sections ss) in
       said-append label now rest
       ∙ ap (λ p. option_or p (said_of rest label)) here
-      ∙ ap (option_or (said_of s.saids label)) more
-      ∙ sym (said-append label s.saids (own_saids ss))
+      ∙ ap (option_or (said_of s.linking.saids label)) more
+      ∙ sym (said-append label s.linking.saids (own_saids ss))
 
   pub untouched-same : (label : List ℕ) (n : ℕ) (ss : List Section) (rs : List Reread) → AreReread read n ss rs → AllByRecursion (IsUntouched read label) ss
       → said_of (all_saids read (bytes_of_sections ss)) label ≡ said_of (own_saids ss) label
   untouched-same label n [] rs are all = refl
   untouched-same label n (s ∷ ss) rs (inl is) all =
-      now-own label s ss (ap (λ ds. said_of ds label) (ap (saids s.part.bytes.items) is.0.0 ∙ sym is.0.1)) (untouched-same label (n + 1) ss rs is.1 all.1)
+      now-own label s ss (ap (λ ds. said_of ds label) (ap (saids s.part.bytes.items) is.0.0 ∙ sym (ap (λ l. l.saids) is.0.1))) (untouched-same label (n + 1) ss rs is.1 all.1)
   untouched-same label n (s ∷ ss) rs (inr is) all =
       let none = all.0 is.1.1.0 in
       now-own label s ss (none.1 ∙ sym none.0) (untouched-same label (n + 1) ss is.0 is.1.1.1 all.1)
@@ -82,7 +82,7 @@ module _ (read : List ℕ → List Event) where
       (both.0, (λ differs. absurd (differs has)))
   untouched-one label n s rs before after (was_read found differs) is none =
       let both = neither-defined label before (saids_again s (read_next n rs)) (ap (λ ds. said_of ds label) (sym is) ∙ none) in
-      let again = neither-defined label s.saids (saids s.part.bytes.items (read s.part.bytes.items)) (ap (λ f. said_of (saids_again s f) label) (sym found) ∙ both.1) in
+      let again = neither-defined label s.linking.saids (saids s.part.bytes.items (read s.part.bytes.items)) (ap (λ f. said_of (saids_again s f) label) (sym found) ∙ both.1) in
       (both.0, (λ _. again))
 
   -- sections that are gone over
@@ -112,7 +112,7 @@ module _ (t : List ℕ → Option Parts) (read : List ℕ → List Event) where
         more.old label is
         ∙ ap (λ p. option_or p (said_of (own_saids ys) label)) (one.old label is)
         ∙ or-assoc (said_of a.olds.items label) (said_of (own_saids xs) label) (said_of (own_saids ys) label)
-        ∙ ap (option_or (said_of a.olds.items label)) (sym (said-append label (own_saids xs) (own_saids ys)) ∙ ap (λ ds. said_of ds label) (sym (flat_map-append (λ section. section.saids) xs ys)));
+        ∙ ap (option_or (said_of a.olds.items label)) (sym (said-append label (own_saids xs) (own_saids ys)) ∙ ap (λ ds. said_of ds label) (sym (flat_map-append (λ section. section.linking.saids) xs ys)));
     new = λ label is.
         let first = all_saids read (bytes_of_sections xs) in
         let last = all_saids read (bytes_of_sections ys) in
@@ -130,23 +130,23 @@ module _ (t : List ℕ → Option Parts) (read : List ℕ → List Event) where
     abbrev now : List Said
     now = saids s.part.bytes.items (read s.part.bytes.items)
 
-    alone-own : (label : List ℕ) → said_of (own_saids (s ∷ [])) label ≡ said_of s.saids label
-    alone-own label = ap (λ ds. said_of ds label) (append-nil s.saids)
+    alone-own : (label : List ℕ) → said_of (own_saids (s ∷ [])) label ≡ said_of s.linking.saids label
+    alone-own label = ap (λ ds. said_of ds label) (append-nil s.linking.saids)
 
     alone-now : (label : List ℕ) → said_of (all_saids read (bytes_of_sections (s ∷ []))) label ≡ said_of now label
     alone-now label = ap (λ ds. said_of ds label) (append-nil now)
 
     -- of labels that are not touched it says now what it said
-    equal-here : (label : List ℕ) → t label ≡ None → said_of now label ≡ said_of s.saids label
+    equal-here : (label : List ℕ) → t label ≡ None → said_of now label ≡ said_of s.linking.saids label
     equal-here label none = by next
       where
-        by : IsNext read n s rs → said_of now label ≡ said_of s.saids label
-        by (was_not found has knows) = ap (λ ds. said_of ds label) (ap (saids s.part.bytes.items) has ∙ sym knows)
+        by : IsNext read n s rs → said_of now label ≡ said_of s.linking.saids label
+        by (was_not found has knows) = ap (λ ds. said_of ds label) (ap (saids s.part.bytes.items) has ∙ sym (ap (λ l. l.saids) knows))
         by (was_read found differs) = let both = untouched label none differs in both.1 ∙ sym both.0
 
     near-one : ArePushed t (record { number = n; section = s; found = read_next n rs }) a b → AreNear t read (s ∷ []) a b
     near-one (inl is) =
-        let same_now : s.saids ≡ now = sym (ap (saids_now s) is.1.0) ∙ read-now read n s rs next in
+        let same_now : s.linking.saids ≡ now = sym (ap (saids_now s) is.1.0) ∙ read-now read n s rs next in
         record {
           old = λ label touched.
               ap (λ ds. said_of ds label) is.0.0
@@ -158,7 +158,7 @@ module _ (t : List ℕ → Option Parts) (read : List ℕ → List Event) where
         }
     near-one (inr is) =
         let new_is : b.news.items ≡ a.news.items ++ now = is.1 ∙ ap (λ ds. a.news.items ++ ds) (read-now read n s rs next) in
-        let old_said : (label : List ℕ) → said_of b.olds.items label ≡ option_or (said_of a.olds.items label) (said_of s.saids label) = λ label. ap (λ ds. said_of ds label) is.0 ∙ said-append label a.olds.items s.saids in
+        let old_said : (label : List ℕ) → said_of b.olds.items label ≡ option_or (said_of a.olds.items label) (said_of s.linking.saids label) = λ label. ap (λ ds. said_of ds label) is.0 ∙ said-append label a.olds.items s.linking.saids in
         let new_said : (label : List ℕ) → said_of b.news.items label ≡ option_or (said_of a.news.items label) (said_of now label) = λ label. ap (λ ds. said_of ds label) new_is ∙ said-append label a.news.items now in
         record {
           old = λ label touched. old_said label ∙ ap (option_or (said_of a.olds.items label)) (sym (alone-own label));

@@ -1,5 +1,5 @@
 -- Sections that are gone over: which was read again, and a step for each.
-use Rattle.mddocument_editing.proofs.Prelude.{◌≡◌, ℕ, ◌+◌, ◌<◌, ◌≤◌, ◌==◌, Bool, cond, List, [], ◌∷◌, length, Option, Some, None, drop, refl, sym, ap, ◌∙◌, subst, arith, inl, inr, eq-eqb, ne_eqb, Event, AreReread, HasEvents, HasSaids, read_again, Reread, Section}
+use Rattle.mddocument_editing.proofs.Prelude.{◌≡◌, ℕ, ◌+◌, ◌<◌, ◌≤◌, ◌==◌, Bool, cond, List, [], ◌∷◌, length, Option, Some, None, drop, refl, sym, ap, ◌∙◌, subst, arith, inl, inr, eq-eqb, ne_eqb, Event, AreReread, HasEvents, HasLinking, read_again, Reread, Section}
 use Rattle.std.specs.Iterator.{YieldsFirstBy}
 use Rattle.mddocument_editing.specs.Said.{saids}
 use Rattle.mddocument_editing.specs.Told.{Goes, Visited, left_behind, read_next, saids_now, visit_of, visits_of}
@@ -42,7 +42,7 @@ module _ (read : List ℕ → List Event) where
   -- A section was read again, or it was not
   pub data IsNext (n : ℕ) (s : Section) (rs : List Reread) : Type 0 where
     was_read : read_next n rs ≡ Some (read_again read n s) → ¬ HasEvents read s → IsNext n s rs
-    was_not : read_next n rs ≡ None → HasEvents read s → HasSaids s → IsNext n s rs
+    was_not : read_next n rs ≡ None → HasEvents read s → HasLinking s → IsNext n s rs
 
   -- of the first of sections it is so; and those behind it that were read again are left
   pub next-is : (n : ℕ) (s : Section) (ss : List Section) (rs : List Reread) → AreReread read n (s ∷ ss) rs → IsNext n s rs × AreReread read (n + 1) ss (left_behind (read_next n rs) rs)
@@ -59,4 +59,4 @@ module _ (read : List ℕ → List Event) where
   -- the definitions that it has now
   pub read-now : (n : ℕ) (s : Section) (rs : List Reread) → IsNext n s rs → saids_now s (read_next n rs) ≡ saids s.part.bytes.items (read s.part.bytes.items)
   read-now n s rs (was_read found differs) = ap (saids_now s) found
-  read-now n s rs (was_not found has knows) = ap (saids_now s) found ∙ knows ∙ ap (saids s.part.bytes.items) (sym has)
+  read-now n s rs (was_not found has knows) = ap (saids_now s) found ∙ ap (λ l. l.saids) knows ∙ ap (saids s.part.bytes.items) (sym has)

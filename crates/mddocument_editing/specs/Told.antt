@@ -16,7 +16,7 @@ use Rattle.mddocument_editing.specs.declared.told.Visit.{Visit}
 use Rattle.mddocument_editing.specs.Kept.{bytes_of_sections}
 use Rattle.mddocument_editing.specs.Leading.{targets_in}
 use Rattle.mddocument_editing.specs.Put.{HasEvents}
-use Rattle.mddocument_editing.specs.Said.{said_of, saids}
+use Rattle.mddocument_editing.specs.Said.{LeadAsBefore, said_of, saids}
 
 -- ---- sections that are gone over, each with what it was read as, if it was read again
 
@@ -60,21 +60,21 @@ all_saids read sections = flat_map (λ section. saids section (read section)) se
 
 -- the definitions of sections, as they have them
 abbrev pub own_saids : List Section → List Said
-own_saids sections = flat_map (λ section. section.saids) sections
+own_saids sections = flat_map (λ section. section.linking.saids) sections
 
 -- a section that has other events defined a label neither by those that it had nor by these
 abbrev pub IsUntouched : (read : List ℕ → List Event) → (label : List ℕ) → Section → Type 0
-IsUntouched read label s = ¬ HasEvents read s → (said_of s.saids label ≡ None) × (said_of (saids s.part.bytes.items (read s.part.bytes.items)) label ≡ None)
+IsUntouched read label s = ¬ HasEvents read s → (said_of s.linking.saids label ≡ None) × (said_of (saids s.part.bytes.items (read s.part.bytes.items)) label ≡ None)
 
 -- the definitions of a section, its own or those of what was found when it was read again
 abbrev pub saids_now : Section → (found : Option Reread) → List Said
-saids_now s None = s.saids
-saids_now s (Some r) = r.saids
+saids_now s None = s.linking.saids
+saids_now s (Some r) = r.linking.saids
 
 -- those that it had and those that it has, if it was read again
 abbrev pub saids_again : Section → (found : Option Reread) → List Said
 saids_again s None = []
-saids_again s (Some r) = s.saids ++ r.saids
+saids_again s (Some r) = s.linking.saids ++ r.linking.saids
 
 -- they are appended
 abbrev pub IsAgain : Visited → (before after : List Said) → Type 0
@@ -85,8 +85,8 @@ module _ (touched : List ℕ → Option Parts) where
   abbrev pub ArePushed : Visited → (before after : Saids) → Type 0
   ArePushed v before after =
       (((after.olds.items ≡ before.olds.items) × (after.news.items ≡ before.news.items))
-      × ((v.found ≡ None) × ((label : List ℕ) → is_some (touched label) ≡ true → said_of v.section.saids label ≡ None)))
-      ⊎ ((after.olds.items ≡ before.olds.items ++ v.section.saids) × (after.news.items ≡ before.news.items ++ saids_now v.section v.found))
+      × ((v.found ≡ None) × ((label : List ℕ) → is_some (touched label) ≡ true → said_of v.section.linking.saids label ≡ None)))
+      ⊎ ((after.olds.items ≡ before.olds.items ++ v.section.linking.saids) × (after.news.items ≡ before.news.items ++ saids_now v.section v.found))
 
   -- The definitions of sections are appended, as far as touched labels ask for them: as they were, and as they are. Others are the same in both
   pub record AreNear (read : List ℕ → List Event) (sections : List Section) (before after : Saids) : Type 0 where
@@ -125,9 +125,9 @@ module _ (read : List ℕ → List Event) (old new : List ℕ → Option Parts) 
 module _ (old new : List ℕ → Option Parts) where
   -- what is told of a section, which was read again or was not
   abbrev pub IsToldAs : Section → (is_read : Bool) → Option Why → Type 0
-  IsToldAs s is_read None = (is_read ≡ false) × (targets_in new s.part.bytes.items s.events ≡ targets_in old s.part.bytes.items s.events)
+  IsToldAs s is_read None = (is_read ≡ false) × LeadAsBefore old new s.linking.labels
   IsToldAs s is_read (Some why.Events) = is_read ≡ true
-  IsToldAs s is_read (Some why.Targets) = (is_read ≡ false) × ¬ (targets_in new s.part.bytes.items s.events ≡ targets_in old s.part.bytes.items s.events)
+  IsToldAs s is_read (Some why.Targets) = (is_read ≡ false) × ¬ LeadAsBefore old new s.linking.labels
 
   -- it is appended
   abbrev pub IsToldNext : Visited → (before after : List Other) → Type 0

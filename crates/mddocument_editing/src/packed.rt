@@ -109,27 +109,6 @@ impl Packed {
     {
         unpack(&self.events[index])
     }
-
-    /// Whether a link or an image is entered.
-    pub(crate) fn has_link(&self) -> bool
-        ensures { result ≡ list_any enters_link self.now }
-    {
-        any_link(self.events.as_slice())
-    }
-}
-
-/// Whether an event enters a link or an image.
-fn enters_link(event: &PackedEvent) -> bool
-    ensures { result ≡ enters_link (unpacked event.now) }
-{
-    event.kind == Kind::Enter && (event.name == Name::Link || event.name == Name::Image)
-}
-
-/// Whether a link or an image is entered.
-fn any_link(events: &[PackedEvent]) -> bool
-    ensures { result ≡ list_any (λ event. enters_link (unpacked event)) events.now }
-{
-    events.iter().any(enters_link)
 }
 
 /// Whether a place fits.

@@ -13,7 +13,7 @@ ghost use Rattle.mddocument_editing.specs.FirstRest.{items_of};
 ghost use Rattle.mddocument_editing.specs.InBrackets.{AreAllNear};
 ghost use Rattle.mddocument_editing.specs.Kept.{ArePackable, IsKept, IsLabelled, IsPackable, IsRecut, IsRead, bytes_of_parts, bytes_of_sections, divided_of, recut_document};
 ghost use Rattle.mddocument_editing.specs.Leading.{first_said};
-ghost use Rattle.mddocument_editing.specs.Said.{saids};
+ghost use Rattle.mddocument_editing.specs.Said.{linking};
 ghost use Rattle.mddocument_editing.specs.Put.{AreReread, HasEvents, IsReadDocument, looks_up};
 ghost use Rattle.mddocument_editing.specs.Told.{AreToldAround};
 ghost use Rattle.mddocument_editing.specs.Trims.{AreTrimmed};
@@ -134,7 +134,7 @@ fn new_events(
     requires read { IsReadDocument options.now (defines old.now) section.now }
     requires near { AreAllNear old.now machine.now.labels near.now }
     ensures none { IfOk result (λ found. IfNone found (HasEvents (events_by options.now (defines machine.now.labels)) section.now)) }
-    ensures some { IfOk result (λ found. IfSome found (λ read. ((read.events ≡ events_by options.now (defines machine.now.labels) section.now.part.bytes.items) × (read.saids ≡ saids section.now.part.bytes.items read.events)) × ¬ HasEvents (events_by options.now (defines machine.now.labels)) section.now)) }
+    ensures some { IfOk result (λ found. IfSome found (λ read. ((read.events ≡ events_by options.now (defines machine.now.labels) section.now.part.bytes.items) × (read.linking ≡ linking section.now.part.bytes.items read.events)) × ¬ HasEvents (events_by options.now (defines machine.now.labels)) section.now)) }
     ensures fits { IsPackable options.now (defines machine.now.labels) section.now.part.bytes.items → ¬ IsErrOf result PackError.TooLong }
 {
     let asks = looks_up(alloc, old, &machine.labels, near, section)?;
@@ -156,13 +156,13 @@ fn push_found(
     found: Option<Read>,
 ) -> Result<(), AllocError>
     ensures none { OnOk result (IfNone found (others.new.items ≡ others.old.items)) }
-    ensures some { OnOk result (IfSome found (λ read. others.new.items ≡ others.old.items ++ record { section = section; events = read.events; saids = read.saids } ∷ [])) }
+    ensures some { OnOk result (IfSome found (λ read. others.new.items ≡ others.old.items ++ record { section = section; events = read.events; linking = read.linking } ∷ [])) }
 {
-    if let Some(Read { events, saids }) = found {
+    if let Some(Read { events, linking }) = found {
         others.push(Reread {
             section,
             events,
-            saids,
+            linking,
         })?;
     }
     Ok(())

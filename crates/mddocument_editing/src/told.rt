@@ -94,7 +94,7 @@ fn push_own(all: &mut Vec<Said>, alloc: Global, sections: &[Section]) -> Result<
     ensures { OnOk result (all.new.items ≡ all.old.items ++ own_saids sections.now) }
 {
     for section in sections {
-        push_saids(all, alloc, section.saids.as_slice())?;
+        push_saids(all, alloc, section.linking.saids.as_slice())?;
     }
     Ok(())
 }
@@ -109,29 +109,23 @@ fn push_now(
     ensures { OnOk result (all.new.items ≡ all.old.items ++ saids_now section.now (option_copied found.entry)) }
 {
     match found {
-        Some(reread) => push_saids(all, alloc, reread.saids.as_slice()),
-        None => push_saids(all, alloc, section.saids.as_slice()),
+        Some(reread) => push_saids(all, alloc, reread.linking.saids.as_slice()),
+        None => push_saids(all, alloc, section.linking.saids.as_slice()),
     }
 }
 
 /// What is new of a section, which was read again or was not.
-fn what_is_new(
-    alloc: Global,
-    leading: &Leading,
-    section: &Section,
-    found: Option<&Reread>,
-) -> Result<Option<Why>, AllocError>
-    ensures { IfOk result (IsToldAs (said_by leading.now.old) (said_by leading.now.new) section.now (is_some (option_copied found.entry))) }
+fn what_is_new(leading: &Leading, section: &Section, found: Option<&Reread>) -> Option<Why>
+    ensures { IsToldAs (said_by leading.now.old) (said_by leading.now.new) section.now (is_some (option_copied found.entry)) result }
 {
     if found.is_some() {
-        return Ok(Some(Why::Events));
+        return Some(Why::Events);
     }
-    let bytes = section.part.bytes.as_slice();
-    let stay = lead_as_before(alloc, &leading.old, &leading.new, bytes, &section.events)?;
-    if stay {
-        Ok(None)
+    let labels = section.linking.labels.as_slice();
+    if lead_as_before(&leading.old, &leading.new, labels) {
+        None
     } else {
-        Ok(Some(Why::Targets))
+        Some(Why::Targets)
     }
 }
 
@@ -153,7 +147,7 @@ fn tell_side(alloc: Global, leading: &Leading, side: Side) -> Result<Vec<Other>,
 {
     let mut told = Vec::new(alloc);
     for visit in side {
-        let why = what_is_new(alloc, leading, visit.section, visit.found)?;
+        let why = what_is_new(leading, visit.section, visit.found);
         push_other(&mut told, visit.number, why)?;
     }
     Ok(told)
@@ -177,8 +171,8 @@ fn push_again(all: &mut Vec<Said>, alloc: Global, visit: &Visit) -> Result<(), A
     ensures { OnOk result (IsAgain (visit_of visit.now) all.old.items all.new.items) }
 {
     if let Some(reread) = visit.found {
-        push_saids(all, alloc, visit.section.saids.as_slice())?;
-        push_saids(all, alloc, reread.saids.as_slice())?;
+        push_saids(all, alloc, visit.section.linking.saids.as_slice())?;
+        push_saids(all, alloc, reread.linking.saids.as_slice())?;
     }
     Ok(())
 }
@@ -238,7 +232,7 @@ fn push_near(
 ) -> Result<(), AllocError>
     ensures { OnOk result (ArePushed (said_by touched.now) (visit_of visit.now) near.old near.new) }
 {
-    let saids = visit.section.saids.as_slice();
+    let saids = visit.section.linking.saids.as_slice();
     if visit.found.is_some() || touch(touched, saids) {
         push_saids(&mut near.olds, alloc, saids)?;
         push_now(&mut near.news, alloc, visit.section, visit.found)?;

@@ -16,7 +16,8 @@ loop-visit-preserved c = λ after rest.
     let before = c.loop-visit.told.items in
     let now = c.push_other.new.told.items in
     let v = c.in-Some.visit in
-    let one : IsToldNext (said_by c.args.leading.now.old) (said_by c.args.leading.now.new) (visit_of v) before now = (c.in_ok-why.why, (c.in_ok-why.ensures, pushed v.number c.in_ok-why.why before now c.in_ok-push_other.ensures.none c.in_ok-push_other.ensures.some)) in
+    let why = c.what_is_new-why.result in
+    let one : IsToldNext (said_by c.args.leading.now.old) (said_by c.args.leading.now.new) (visit_of v) before now = (why, (c.what_is_new-why.ensures, pushed v.number why before now c.in_ok-push_other.ensures.none c.in_ok-push_other.ensures.some)) in
     c.loop-visit.invariant after
     (goes-on (IsToldNext (said_by c.args.leading.now.old) (said_by c.args.leading.now.new)) c.loop-visit.visit-iterator c.next.new.self v _ before now c.in-Some.is c.next.ensures.steps one after rest)
 
