@@ -1,9 +1,8 @@
 -- Definitions of sections in a row, and of those in front, between and behind.
-use Rattle.mddocument_editing.proofs.Prelude.{◌≡◌, ℕ, ◌+◌, List, [], ◌∷◌, ◌++◌, refl, inl, inr, subst, sym, ap, ◌∙◌, append_assoc, AllByRecursion, Event, bytes_of_sections, AreReread, HasEvents, Reread, Section}
+use Rattle.mddocument_editing.proofs.Prelude.{◌≡◌, ℕ, ◌+◌, List, [], ◌∷◌, ◌++◌, refl, inl, inr, sym, ap, ◌∙◌, AllByRecursion, Event, bytes_of_sections, AreReread, HasEvents, Reread, Section}
 use Rattle.mddocument_editing.specs.Leading.{first_said}
 use Rattle.mddocument_editing.specs.Said.{said_of, saids}
 use Rattle.mddocument_editing.specs.Told.{all_saids}
-use Rattle.mddocument_editing.specs.declared.said.Said.{Said}
 use Rattle.mddocument_editing.proofs.SaidFirst.{all-append, first-said}
 
 -- each of sections has its events, if none was read again

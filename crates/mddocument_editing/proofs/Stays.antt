@@ -1,5 +1,5 @@
 -- What links among events lead to, by their labels; and definitions, one by one.
-use Rattle.mddocument_editing.proofs.Prelude.{◌≡◌, ℕ, suc, ◌+◌, ◌<◌, Bool, true, false, cond, List, [], ◌∷◌, ◌++◌, length, drop, Option, Some, None, get_or, refl, sym, ap, ◌∙◌, subst, same_Some, drop-drop, drop_more, is_some, option_map, Event, HasLinking, Section}
+use Rattle.mddocument_editing.proofs.Prelude.{◌≡◌, ℕ, ◌+◌, ◌<◌, Bool, true, false, cond, List, [], ◌∷◌, ◌++◌, length, drop, Option, Some, None, refl, sym, ap, ◌∙◌, subst, drop-drop, drop_more, is_some, option_map, Event, HasLinking, Section}
 use Rattle.std.specs.Prelude.{◌↔◌, option_to_list}
 use Rattle.markdown_base.proofs.SliceLemmas.{filler}
 use Rattle.markdown_base.specs.declared.event.Name.TheVariants as name

@@ -1,5 +1,5 @@
 -- Sections of which something is new: which are told, in order and each once.
-use Rattle.mddocument_editing.proofs.Prelude.{◌≡◌, ℕ, zero, suc, ◌+◌, ◌<◌, ◌≤◌, ◌==◌, Bool, true, false, List, [], ◌∷◌, ◌++◌, length, Option, Some, None, cond, get_or, take, drop, refl, sym, ap, ◌∙◌, subst, arith, inl, inr, append-nil, append_assoc, drop-drop, drop_more, length-drop, length-take-le, map-append, take_more, eq-eqb, ne_eqb, false≢true, is_some, AllByRecursion, IfNone, IfSome, Contains, Contains-append_left, Contains-append_right, Event, ascend_from, bytes_of_sections, AreReread, HasEvents, read_again, Reread, Section}
+use Rattle.mddocument_editing.proofs.Prelude.{◌≡◌, ℕ, zero, suc, ◌+◌, ◌<◌, ◌≤◌, List, [], ◌∷◌, ◌++◌, length, Option, Some, None, get_or, refl, sym, ap, ◌∙◌, subst, arith, inl, inr, append-nil, append_assoc, map-append, false≢true, is_some, AllByRecursion, IfNone, IfSome, Contains, Contains-append_left, Contains-append_right, Event, ascend_from, AreReread, HasEvents, Reread, Section}
 use Rattle.std.specs.Prelude.{option_map, option_to_list}
 use Rattle.mddocument_link_targets.specs.declared.targets.Parts.{Parts}
 use Rattle.mddocument_editing.specs.declared.edit.Other.{Other}

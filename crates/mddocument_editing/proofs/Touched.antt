@@ -1,5 +1,5 @@
 -- Labels that sections touch: which definitions of others are asked for, and that no more labels can lead elsewhere.
-use Rattle.mddocument_editing.proofs.Prelude.{◌≡◌, ℕ, ◌+◌, ◌<◌, Bool, true, false, cond, List, [], ◌∷◌, ◌++◌, length, get_or, take, Option, Some, None, refl, inl, inr, subst, sym, ap, ◌∙◌, append-nil, false≢true, is_some, map-append, take_more, AllByRecursion, IfNone, IfSome, every-append, Event, bytes_of_sections, AreReread, Reread, Section}
+use Rattle.mddocument_editing.proofs.Prelude.{◌≡◌, ℕ, ◌+◌, Bool, true, false, cond, List, [], ◌∷◌, ◌++◌, Option, Some, None, refl, inl, inr, subst, sym, ap, ◌∙◌, append-nil, false≢true, is_some, map-append, AllByRecursion, Event, bytes_of_sections, AreReread, Reread, Section}
 use Rattle.std.proofs.lemmas.Grind.{flat_map-append}
 use Rattle.std.proofs.lemmas.Slice.Eq.{bytes_eq-Decides}
 use Rattle.std.specs.Option.{option_or}

@@ -1,9 +1,8 @@
 -- Sections that are gone over: which was read again, and a step for each.
-use Rattle.mddocument_editing.proofs.Prelude.{◌≡◌, ℕ, ◌+◌, ◌<◌, ◌≤◌, ◌==◌, Bool, cond, List, [], ◌∷◌, length, Option, Some, None, drop, refl, sym, ap, ◌∙◌, subst, arith, inl, inr, eq-eqb, ne_eqb, Event, AreReread, HasEvents, HasLinking, read_again, Reread, Section}
+use Rattle.mddocument_editing.proofs.Prelude.{◌≡◌, ℕ, ◌+◌, ◌≤◌, cond, List, [], ◌∷◌, length, Option, Some, None, drop, refl, sym, ap, ◌∙◌, subst, arith, inl, inr, eq-eqb, ne_eqb, Event, AreReread, HasEvents, HasLinking, read_again, Reread, Section}
 use Rattle.std.specs.Iterator.{YieldsFirstBy}
 use Rattle.mddocument_editing.specs.Said.{saids}
 use Rattle.mddocument_editing.specs.Told.{Goes, Visited, left_behind, read_next, saids_now, visit_of, visits_of}
-use Rattle.mddocument_editing.specs.declared.said.Said.{Said}
 use Rattle.mddocument_editing.specs.declared.told.Side.{Side}
 use Rattle.mddocument_editing.specs.declared.told.Visit.{Visit}
 

@@ -1,5 +1,5 @@
 -- Inner: what definitions say, and which labels links are by, for private functions.
-use Rattle.std.specs.Prelude.{◌≡◌, ℕ, ◌&&◌, cond, List, [], ◌∷◌, ◌++◌, Option, None, Some, bytes_eq, option_to_list, slice_get, option_and_then, option_map}
+use Rattle.std.specs.Prelude.{◌≡◌, ℕ, cond, List, [], ◌∷◌, ◌++◌, Option, None, Some, bytes_eq, option_to_list, slice_get, option_and_then, option_map}
 use Rattle.std.specs.List.{AllByRecursion}
 use Rattle.std.specs.Map.{lookup}
 use Rattle.markdown_base.specs.declared.event.Event.{Event}

@@ -1,7 +1,7 @@
 //! What labels lead to, and which lead elsewhere.
 
 ghost use Rattle.std.specs.Option.{option_copied};
-ghost use Rattle.std.specs.Prelude.{◌≡◌, ◌↔◌, ◌<◌, IfOk, IfSome, List, None, Some, ℕ, bytes_eq, false, is_some, length, option_map, slice_get, true};
+ghost use Rattle.std.specs.Prelude.{◌≡◌, ◌↔◌, ◌<◌, IfOk, List, None, Some, ℕ, bytes_eq, false, is_some, length, option_map, slice_get, true};
 ghost use Rattle.std.specs.Map.{lookup};
 ghost use Rattle.mddocument_editing.specs.Said.{LeadAsBefore, said_by, said_of};
 

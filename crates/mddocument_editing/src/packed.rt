@@ -1,9 +1,7 @@
 //! Events in little memory: 24 bytes for each, in place of 88.
 
 ghost use Rattle.std.specs.Prelude.{◌≡◌, ◌<◌, ◌↔◌, List, IfOk, IsErrOf, Some, false, length, map, slice_get, true};
-ghost use Rattle.std.specs.List.{list_any};
 ghost use Rattle.markdown_base.specs.declared.event.Event.{Event};
-ghost use Rattle.mddocument_link_targets.specs.Targets.{enters_link};
 ghost use Rattle.mddocument_editing.specs.Packed.{end_fits, event_fits, events_fit, link_fits, point_fits};
 ghost use Rattle.mddocument_editing.specs.PackedEvents.{content_of, end_of, link_of, unpacked};
 ghost use Rattle.mddocument_editing.specs.declared.packed.PackError.TheVariants.{Memory};

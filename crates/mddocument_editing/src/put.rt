@@ -1,6 +1,6 @@
 //! Sections that are put in the place of others.
 
-ghost use Rattle.std.specs.Prelude.{◌≡◌, ◌≤◌, ◌<◌, ◌+◌, ◌++◌, ◌∷◌, [], ◌^◌, ◌↔◌, IfOk, IfNone, IfSome, IsErrOf, List, OnErr, OnOk, ℕ, drop, length, map, take, true, false};
+ghost use Rattle.std.specs.Prelude.{◌≡◌, ◌≤◌, ◌<◌, ◌+◌, ◌++◌, ◌∷◌, [], ◌^◌, ◌↔◌, IfOk, IfNone, IfSome, IsErrOf, List, OnErr, OnOk, ℕ, drop, length, take, true, false};
 ghost use Rattle.std.specs.List.{AllByRecursion};
 ghost use Rattle.markdown_base.specs.Virtual.{IsWithinLimit};
 ghost use Rattle.markdown_tokenizer.specs.Text.{IsDocument};

@@ -1,18 +1,17 @@
 //! Of which sections something is new, beside those that are replaced.
 
 ghost use Rattle.std.specs.Option.{option_copied};
-ghost use Rattle.std.specs.Prelude.{◌≡◌, ◌↔◌, ◌≤◌, ◌<◌, ◌+◌, ◌++◌, ◌∷◌, [], ◌^◌, IfNone, IfOk, IfSome, List, None, OnOk, cond, drop, is_some, length, take, ℕ, true};
+ghost use Rattle.std.specs.Prelude.{◌≡◌, ◌↔◌, ◌<◌, ◌+◌, ◌++◌, ◌∷◌, [], ◌^◌, IfNone, IfOk, IfSome, List, None, OnOk, is_some, length, ℕ, true};
 ghost use Rattle.std.specs.List.{AllByRecursion};
 ghost use Rattle.mdinline_labels.specs.Defined.{defines};
 ghost use Rattle.mddocument_parts.specs.BothDocuments.{events_by};
-ghost use Rattle.mddocument_editing.specs.Kept.{IsKept, IsRead, bytes_of_sections};
+ghost use Rattle.mddocument_editing.specs.Kept.{bytes_of_sections};
 ghost use Rattle.mddocument_editing.specs.Leading.{first_said};
 ghost use Rattle.mddocument_editing.specs.Put.{AreReread};
 ghost use Rattle.mddocument_editing.specs.Said.{said_by, said_of};
 ghost use Rattle.mddocument_editing.specs.Told.{ArePushed, AreToldAround, Goes, IsAgain, IsToldAs, IsToldNext, IsUntouched, all_saids, own_saids, read_next, saids_now, visit_of, visits_of};
 
 use crate::edit::{Other, Why};
-use crate::kept::Kept;
 use crate::leads::{Leads, lead_as_before, touch};
 use crate::reread::Reread;
 use crate::said::{Said, push_saids, same_saids};

@@ -1,4 +1,4 @@
-use Rattle.mddocument_editing.proofs.Prelude.{◌+◌, ◌++◌, drop, sym, ap, ◌∙◌, append_assoc, append-nil, drop_all}
+use Rattle.mddocument_editing.proofs.Prelude.{◌+◌, ◌++◌, drop, ap, ◌∙◌, append_assoc}
 use Rattle.std.specs.Prelude.{option_to_list}
 use Rattle.mddocument_editing.specs.Said.{link_labels}
 use Rattle.mddocument_editing.proofs.Stays.{labels-more}
