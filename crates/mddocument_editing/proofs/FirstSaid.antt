@@ -1,5 +1,5 @@
 -- Definitions in order: what the first one of a label says, and where it is.
-use Rattle.mddocument_editing.proofs.Prelude.{◌≡◌, ℕ, zero, suc, ◌+◌, Bool, true, false, List, [], ◌∷◌, ◌++◌, length, Option, Some, None, cond, drop, same_Some, refl, sym, ap, ◌∙◌, arith, append_assoc, length-append, option_and_then, option_map, slice_get}
+use Rattle.mddocument_editing.proofs.Prelude.{◌≡◌, ℕ, zero, suc, Bool, true, false, List, [], ◌∷◌, ◌++◌, length, Option, Some, None, cond, drop, same_Some, refl, sym, ap, ◌∙◌, arith, append_assoc, length-append, option_and_then, option_map, slice_get}
 use Rattle.std.specs.Prelude.{bytes_eq}
 use Rattle.mddocument_link_targets.specs.declared.targets.Parts.{Parts}
 use Rattle.mddocument_editing.specs.Said.{said_of}

@@ -48,6 +48,7 @@ pub mod Rereads
 pub mod ToldOthers
 pub mod Touched
 pub mod SameTargets
+pub mod Visits
 -- moved events
 pub mod PartsMove
 -- undefined

@@ -1,5 +1,5 @@
 -- A text that is cut with the first line of a section behind it.
-use Rattle.mddocument_editing.proofs.Prelude.{◌≡◌, ℕ, suc, ◌+◌, ◌<◌, ◌≤◌, true, List, [], ◌∷◌, ◌++◌, length, take, drop, get_or, refl, sym, ap, ◌∙◌, subst, arith, append-nil, drop-append_seam, length-drop, length-map, length-take-le, take-append-drop, take-append_seam, every-front, Option, None, Some, IfSome, ParseOptions, ends_line, is_line_start, is_rest, begins_line, are_sections_by, document_of, AreSectionsOf, IsSeam, IsWhole, IsKept, Kept, Section, bytes_of_sections}
+use Rattle.mddocument_editing.proofs.Prelude.{◌≡◌, ℕ, suc, ◌+◌, ◌<◌, ◌≤◌, true, List, [], ◌∷◌, ◌++◌, length, take, drop, get_or, refl, sym, ap, ◌∙◌, subst, arith, append-nil, drop-append_seam, length-drop, length-map, length-take-le, take-append-drop, take-append_seam, every-front, Option, None, Some, IfSome, ParseOptions, ends_line, is_line_start, is_rest, begins_line, document_of, AreSectionsOf, IsSeam, IsWhole, IsKept, Kept, Section, bytes_of_sections}
 use Rattle.mddocument_editing.proofs.Below.{first-tells, rest-begins}
 use Rattle.mddocument_editing.proofs.CountedEndings.{starts-line}
 use Rattle.mddocument_editing.proofs.Joined.{document-append, gathers, joins, section-some, sections-front, sections-one, tells-all}

@@ -1,5 +1,5 @@
 -- The labels of a document with parts in the place of some of its sections.
-use Rattle.mddocument_editing.proofs.Prelude.{◌≡◌, ℕ, ◌+◌, ◌-◌, ◌≤◌, Bool, true, false, List, ◌++◌, length, take, drop, refl, sym, ap, ◌∙◌, subst, arith, drop-drop, drop-map, map-append, take-append-drop, take-map, take_rest, list_any-append, or-false, AllByRecursion, divided_of, flat_map, ◌||◌, every-map, ParseOptions, is_one_of, defines, is_same, is_label_of, IsKept, IsLabelled, IsRead, IsRecut, bytes_of_parts, bytes_of_sections, labels_written, recut_document, Kept, Section}
+use Rattle.mddocument_editing.proofs.Prelude.{◌≡◌, ℕ, ◌+◌, ◌-◌, ◌≤◌, Bool, false, List, ◌++◌, length, take, drop, sym, ap, ◌∙◌, subst, arith, drop-drop, drop-map, map-append, take-append-drop, take-map, take_rest, list_any-append, or-false, AllByRecursion, divided_of, flat_map, ◌||◌, every-map, ParseOptions, is_one_of, defines, is_same, is_label_of, IsKept, IsLabelled, IsRead, IsRecut, bytes_of_parts, bytes_of_sections, labels_written, recut_document, Kept, Section}
 use Rattle.std.proofs.lemmas.Grind.{flat_map-append}
 use Rattle.mddocument_editing.specs.declared.section.Part.{Part}
 use Rattle.mddocument_editing.proofs.SectionLabels.{labels-divided}

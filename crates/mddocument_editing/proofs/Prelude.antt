@@ -76,7 +76,7 @@ pub use Rattle.mddocument_editing.specs.Lookups.{IsSectionAt, line_at, start_of}
 pub use Rattle.mddocument_editing.specs.Packed.{end_fits, event_fits, events_fit, link_fits, point_fits}
 pub use Rattle.mddocument_editing.specs.PositionParts.{EndingsAdd, OffsetsMove, OffsetsStay, PositionsMove, PositionsStay, StartsLine, down, endings}
 pub use Rattle.mddocument_editing.specs.Positions.{CharactersAreUtf8, OffsetsComeBack, Place, PositionsComeBack, UnitsAreWritten, behind, character_in, clamped, first_size, index_in, is_between, is_in_line, length_in, line_of, offset_of, places, places_from, position_of, sizes, sizes_behind, starts, starts_up_to, text_at, units}
-pub use Rattle.mddocument_editing.specs.Put.{AreReread, HasEvents, HasSaids, IsReadDocument, looks_up, put_all, put_at, read_again, read_as}
+pub use Rattle.mddocument_editing.specs.Put.{AreReread, HasEvents, HasLinking, IsReadDocument, looks_up, put_all, put_at, read_again, read_as}
 pub use Rattle.mddocument_editing.specs.Seams.{IsSeam}
 pub use Rattle.mddocument_editing.specs.Settled.{has_ending, is_settled}
 pub use Rattle.mddocument_editing.specs.Trims.{AreTrimmed, StayBehind, StayInFront}

@@ -1,5 +1,5 @@
 -- Sections with others in the place of some, where labels change: the document that is kept then, and what changed.
-use Rattle.mddocument_editing.proofs.Prelude.{◌≡◌, ◌⊎◌, ℕ, zero, suc, ◌+◌, ◌-◌, ◌≤◌, ◌<◌, List, [], ◌∷◌, ◌++◌, length, get_or, take, drop, refl, subst, sym, ap, ◌∙◌, arith, append_assoc, inl, inr, cases_lt, get_or-append_right, get_or-map, get_or_append_left, length-append, length-map, length-take-le, AllByRecursion, Contains, Global, Vec, every-append, every-drop, every-map, every-take, Event, defines, events_by, Divided, is_label_of, IsChange, IsWhy, KeepsEvents, KeepsTargets, ascend_from, numbers_of, section_events, section_of, Option, IsKept, IsRead, IsRecut, bytes_of_sections, divided_of, recut_document, AreReread, HasEvents, put_all, AreTrimmed, Kept, Other, Reread, Section, Why}
+use Rattle.mddocument_editing.proofs.Prelude.{◌≡◌, ◌⊎◌, ℕ, zero, suc, ◌+◌, ◌-◌, ◌≤◌, ◌<◌, List, [], ◌∷◌, ◌++◌, length, get_or, take, drop, refl, subst, sym, ap, ◌∙◌, arith, append_assoc, inl, inr, get_or-append_right, get_or-map, get_or_append_left, length-append, length-map, length-take-le, AllByRecursion, Contains, Global, Vec, every-append, every-drop, every-map, every-take, Event, defines, events_by, Divided, is_label_of, IsChange, IsWhy, KeepsEvents, KeepsTargets, ascend_from, numbers_of, section_events, section_of, Option, IsKept, IsRead, IsRecut, bytes_of_sections, divided_of, recut_document, AreReread, HasEvents, put_all, AreTrimmed, Kept, Other, Reread, Section, Why}
 use Rattle.mddocument_editing.specs.Listed.{Listed}
 use Rattle.mdinline_machine.specs.declared.inlines.Inlines.{Inlines}
 use Rattle.mddocument_editing.proofs.PutSections.{bytes-put, change-of, kept-as}

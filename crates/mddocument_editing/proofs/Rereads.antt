@@ -1,7 +1,7 @@
 -- Sections that are read again, and their events put in.
-use Rattle.mddocument_editing.proofs.Prelude.{◌≡◌, ℕ, zero, suc, ◌+◌, ◌<◌, Bool, List, [], ◌∷◌, ◌++◌, length, Option, Some, None, get_or, take, set, refl, sym, ap, ◌∙◌, subst, arith, append_assoc, inl, inr, length-append, length-take-le, take_more, AllByRecursion, every-map, IfNone, IfSome, ParseOptions, Event, events_by, IsRead, bytes_of_sections, AreReread, HasEvents, HasSaids, put_all, put_at, read_again, read_as, Reread, Section}
-use Rattle.mddocument_editing.specs.Said.{saids}
-use Rattle.mddocument_editing.specs.declared.said.Said.{Said}
+use Rattle.mddocument_editing.proofs.Prelude.{◌≡◌, ℕ, zero, suc, ◌+◌, ◌<◌, Bool, List, [], ◌∷◌, ◌++◌, length, Option, Some, None, get_or, take, set, refl, sym, ap, ◌∙◌, subst, arith, append_assoc, inl, inr, length-append, length-take-le, take_more, AllByRecursion, every-map, IfNone, IfSome, ParseOptions, Event, events_by, IsRead, bytes_of_sections, AreReread, HasEvents, HasLinking, put_all, put_at, read_again, read_as, Reread, Section}
+use Rattle.mddocument_editing.specs.Said.{linking}
+use Rattle.mddocument_editing.specs.declared.linking.Linking.{Linking}
 use Rattle.mddocument_editing.specs.declared.section.Read.{Read}
 use Rattle.std.proofs.Common.{append-nil}
 
@@ -26,8 +26,8 @@ put-behind [] s ys r = refl
 put-behind (x ∷ xs) s ys r = ap (λ zs. x ∷ zs) (put-behind xs s ys r)
 
 -- what was read, by its number
-abbrev reread : ℕ → List Event → List Said → Reread
-reread number events all = record { section = number; events = events; saids = all }
+abbrev reread : ℕ → List Event → Linking → Reread
+reread number events all = record { section = number; events = events; linking = all }
 
 module _ (read : List ℕ → List Event) where
   -- one list of sections behind another
@@ -43,7 +43,7 @@ module _ (read : List ℕ → List Event) where
       inr (is.0 ++ ps, (ap (λ zs. zs ++ ps) is.1.0, (is.1.1.0, rereads-append (n + 1) xs ys is.0 ps is.1.1.1 (subst (λ k. AreReread read k ys ps) e more))))
 
   -- of sections with their events none is read again
-  pub rereads-none : (n : ℕ) (xs : List Section) → AllByRecursion (λ (s : Section). HasEvents read s × HasSaids s) xs → AreReread read n xs []
+  pub rereads-none : (n : ℕ) (xs : List Section) → AllByRecursion (λ (s : Section). HasEvents read s × HasLinking s) xs → AreReread read n xs []
   rereads-none n [] all = refl
   rereads-none n (x ∷ xs) all = inl (all.0, rereads-none (n + 1) xs all.1)
 
@@ -55,23 +55,23 @@ module _ (read : List ℕ → List Event) where
         subst (λ ys. AreReread read n ys (os ++ ps)) (sym (take_more xs i s lt ∙ ap (λ z. take i xs ++ z ∷ []) (sym is)))
         (rereads-append n (take i xs) (s ∷ []) os ps before (subst (λ k. AreReread read (n + k) (s ∷ []) ps) (sym long) one))
 
-    pub rereads-stay : HasEvents read s → HasSaids s → AreReread read n (take (i + 1) xs) os
+    pub rereads-stay : HasEvents read s → HasLinking s → AreReread read n (take (i + 1) xs) os
     rereads-stay has knows = subst (AreReread read n (take (i + 1) xs)) (append-nil os) (one-more [] (inl ((has, knows), refl)))
 
     pub rereads-differ : (r : Reread) → r ≡ read_again read (n + i) s → ¬ HasEvents read s → AreReread read n (take (i + 1) xs) (os ++ r ∷ [])
     rereads-differ r new differs = one-more (r ∷ []) (inr ([], (ap (λ (q : Reread). q ∷ []) new, (differs, refl))))
 
   -- what was found of one more section
-  pub rereads-found : (n i : ℕ) (xs : List Section) (s : Section) (found : Option Read) (before after : List Reread) → i < length xs → s ≡ get_or xs i s → HasSaids s → AreReread read n (take i xs) before
-      → IfNone found (HasEvents read s) → IfSome found (λ r. ((r.events ≡ read s.part.bytes.items) × (r.saids ≡ saids s.part.bytes.items r.events)) × ¬ HasEvents read s)
-      → IfNone found (after ≡ before) → IfSome found (λ r. after ≡ before ++ record { section = n + i; events = r.events; saids = r.saids } ∷ []) → AreReread read n (take (i + 1) xs) after
+  pub rereads-found : (n i : ℕ) (xs : List Section) (s : Section) (found : Option Read) (before after : List Reread) → i < length xs → s ≡ get_or xs i s → HasLinking s → AreReread read n (take i xs) before
+      → IfNone found (HasEvents read s) → IfSome found (λ r. ((r.events ≡ read s.part.bytes.items) × (r.linking ≡ linking s.part.bytes.items r.events)) × ¬ HasEvents read s)
+      → IfNone found (after ≡ before) → IfSome found (λ r. after ≡ before ++ record { section = n + i; events = r.events; linking = r.linking } ∷ []) → AreReread read n (take (i + 1) xs) after
   rereads-found n i xs s None before after lt is knows so_far has new stays more =
       subst (AreReread read n (take (i + 1) xs)) (sym stays) (rereads-stay n i xs s before lt is so_far has knows)
   rereads-found n i xs s (Some r) before after lt is knows so_far has new stays more =
       let p : r.events ≡ read s.part.bytes.items = new.0.0 in
-      let q : r.saids ≡ saids s.part.bytes.items (read s.part.bytes.items) = new.0.1 ∙ ap (saids s.part.bytes.items) p in
-      let same : reread (n + i) r.events r.saids ≡ read_again read (n + i) s = λ j. reread (n + i) (p j) (q j) in
-      subst (AreReread read n (take (i + 1) xs)) (sym more) (rereads-differ n i xs s before lt is so_far (reread (n + i) r.events r.saids) same new.1)
+      let q : r.linking ≡ linking s.part.bytes.items (read s.part.bytes.items) = new.0.1 ∙ ap (linking s.part.bytes.items) p in
+      let same : reread (n + i) r.events r.linking ≡ read_again read (n + i) s = λ j. reread (n + i) (p j) (q j) in
+      subst (AreReread read n (take (i + 1) xs)) (sym more) (rereads-differ n i xs s before lt is so_far (reread (n + i) r.events r.linking) same new.1)
 
   -- what holds of each section with other events holds of all that are read again
   pub rereads-each : (Q : ℕ → Type 0) (n : ℕ) (ss : List Section) (os : List Reread) → AreReread read n ss os
@@ -88,7 +88,7 @@ module _ (read : List ℕ → List Event) where
       )
 
   -- sections with their events between two lists of others
-  pub rereads-three : (front between behind : List Section) (from new_to : ℕ) (os ps : List Reread) → length front ≡ from → new_to ≡ from + length between → AllByRecursion (λ (s : Section). HasEvents read s × HasSaids s) between
+  pub rereads-three : (front between behind : List Section) (from new_to : ℕ) (os ps : List Reread) → length front ≡ from → new_to ≡ from + length between → AllByRecursion (λ (s : Section). HasEvents read s × HasLinking s) between
       → AreReread read 0 front os → AreReread read new_to behind ps → AreReread read 0 (front ++ (between ++ behind)) (os ++ ps)
   rereads-three front between behind from new_to os ps long ends has first last =
       let e : new_to ≡ 0 + length front + length between = omega (arith, long, ends) in
@@ -101,7 +101,7 @@ IsReadBySome options s = (defined : List ℕ → Bool) × IsRead options defined
 
 -- by other labels it has been read, if it has the events that they give
 pub read-as : (options : ParseOptions) (defined : List ℕ → Bool) (s : Section) → IsReadBySome options s → HasEvents (events_by options defined) s → IsRead options defined s
-read-as options defined s is has = record { limit = is.1.limit; labels = is.1.labels; lines = is.1.lines; asks = is.1.asks; events = sym has; saids = is.1.saids }
+read-as options defined s is has = record { limit = is.1.limit; labels = is.1.labels; lines = is.1.lines; asks = is.1.asks; events = sym has; linking = is.1.linking }
 
 -- sections, read again where they have other events: the events are put in
 pub put-again : (options : ParseOptions) (defined : List ℕ → Bool) (xs ss : List Section) (n : ℕ) (os : List Reread) → length xs ≡ n → AreReread (events_by options defined) n ss os
@@ -128,11 +128,11 @@ put-again options defined xs (s ∷ ss) n os len (inr is) all =
         ap (put_all (xs ++ s ∷ ss)) is.1.0 ∙ ap (λ zs. put_all zs rest) here ∙ next.1.0 ∙ append_assoc xs (t ∷ []) next.0,
         (
           ap (λ bs. s.part.bytes.items ∷ bs) next.1.1.0,
-          (record { limit = is_read.limit; labels = is_read.labels; lines = is_read.lines; asks = is_read.asks; events = refl; saids = refl }, next.1.1.1),
+          (record { limit = is_read.limit; labels = is_read.labels; lines = is_read.lines; asks = is_read.asks; events = refl; linking = refl }, next.1.1.1),
         ),
       ),
     )
 
 -- sections that were read so are not read again
 pub none-again : (options : ParseOptions) (defined : List ℕ → Bool) (n : ℕ) (ss : List Section) → AllByRecursion (IsRead options defined) ss → AreReread (events_by options defined) n ss []
-none-again options defined n ss are = rereads-none (events_by options defined) n ss (every-map (IsRead options defined) (λ (s : Section). HasEvents (events_by options defined) s × HasSaids s) (λ s is. (sym is.events, is.saids)) ss are)
+none-again options defined n ss are = rereads-none (events_by options defined) n ss (every-map (IsRead options defined) (λ (s : Section). HasEvents (events_by options defined) s × HasLinking s) (λ s is. (sym is.events, is.linking)) ss are)

@@ -1,5 +1,5 @@
 -- What the first definition of a label says, in events, in sections and in lists of definitions.
-use Rattle.mddocument_editing.proofs.Prelude.{◌≡◌, ℕ, suc, ◌+◌, ◌&&◌, Bool, true, false, cond, List, [], ◌∷◌, ◌++◌, length, drop, Option, Some, None, refl, sym, ap, ◌∙◌, arith, append_assoc, drop_at, length-append, option_and_then, option_map, Event}
+use Rattle.mddocument_editing.proofs.Prelude.{◌≡◌, ℕ, suc, ◌&&◌, Bool, true, false, cond, List, [], ◌∷◌, ◌++◌, length, Option, Some, None, refl, sym, ap, ◌∙◌, arith, append_assoc, drop_at, length-append, option_and_then, option_map, Event}
 use Rattle.std.proofs.lemmas.Grind.{flat_map-append}
 use Rattle.std.specs.Option.{option_or}
 use Rattle.std.specs.Prelude.{bytes_eq, option_to_list}

@@ -1,33 +1,15 @@
 -- Definitions of sections in a row, and of those in front, between and behind.
-use Rattle.mddocument_editing.proofs.Prelude.{◌≡◌, ℕ, ◌+◌, List, [], ◌∷◌, ◌++◌, refl, inl, inr, subst, sym, ap, ◌∙◌, append_assoc, AllByRecursion, Event, bytes_of_sections, AreReread, HasEvents, Reread, Section}
+use Rattle.mddocument_editing.proofs.Prelude.{◌≡◌, ℕ, ◌+◌, List, [], ◌∷◌, ◌++◌, refl, inl, inr, sym, ap, ◌∙◌, AllByRecursion, Event, bytes_of_sections, AreReread, HasEvents, Reread, Section}
 use Rattle.mddocument_editing.specs.Leading.{first_said}
 use Rattle.mddocument_editing.specs.Said.{said_of, saids}
 use Rattle.mddocument_editing.specs.Told.{all_saids}
-use Rattle.mddocument_editing.specs.declared.said.Said.{Said}
 use Rattle.mddocument_editing.proofs.SaidFirst.{all-append, first-said}
-
--- sections none of which was read again, as the function gives them
-pub reread-none : (read : List ℕ → List Event) (first : ℕ) (xs ys : List Section) (rs : List Reread) → first ≡ 0 → ys ≡ xs → rs ≡ [] → AreReread read 0 xs [] → AreReread read first ys rs
-reread-none read first xs ys rs zero same none are =
-    subst (λ k. AreReread read k ys rs) (sym zero) (subst (λ ss. AreReread read 0 ss rs) (sym same) (subst (AreReread read 0 xs) (sym none) are))
 
 -- each of sections has its events, if none was read again
 pub all-have : (read : List ℕ → List Event) (n : ℕ) (ss : List Section) (rs : List Reread) → rs ≡ [] → AreReread read n ss rs → AllByRecursion (HasEvents read) ss
 all-have read n [] rs none are = tt
 all-have read n (s ∷ ss) rs none (inl is) = (is.0.0, all-have read (n + 1) ss rs none is.1)
 all-have read n (s ∷ ss) rs none (inr is) = absurd (cc (none, is.1.0))
-
--- what three sections in a row define
-pub saids-three : (read : List ℕ → List Event) (front between behind : List (List ℕ)) (none one two three : List Said) → none ≡ [] → one ≡ none ++ all_saids read front → two ≡ one ++ all_saids read between
-    → three ≡ two ++ all_saids read behind → (label : List ℕ) → said_of three label ≡ first_said read (front ++ (between ++ behind)) label
-saids-three read front between behind none one two three p q r s label =
-    ap (λ all. said_of all label)
-    (s
-    ∙ ap (λ all. all ++ all_saids read behind) (r ∙ ap (λ all. all ++ all_saids read between) (q ∙ ap (λ all. all ++ all_saids read front) p))
-    ∙ append_assoc (all_saids read front) (all_saids read between) (all_saids read behind)
-    ∙ ap (λ all. all_saids read front ++ all) (sym (all-append read between behind))
-    ∙ sym (all-append read front (between ++ behind)))
-    ∙ first-said read label (front ++ (between ++ behind))
 
 -- what sections define by their own events is what they define as they are read
 same-saids : (read other : List ℕ → List Event) (ss : List Section) → AllByRecursion (HasEvents read) ss → AllByRecursion (HasEvents other) ss → all_saids read (bytes_of_sections ss) ≡ all_saids other (bytes_of_sections ss)

@@ -1,5 +1,5 @@
 -- Labels that sections touch: which definitions of others are asked for, and that no more labels can lead elsewhere.
-use Rattle.mddocument_editing.proofs.Prelude.{◌≡◌, ℕ, ◌+◌, ◌<◌, Bool, true, false, cond, List, [], ◌∷◌, ◌++◌, length, get_or, take, Option, Some, None, refl, inl, inr, subst, sym, ap, ◌∙◌, append-nil, false≢true, is_some, map-append, take_more, AllByRecursion, IfNone, IfSome, every-append, Event, bytes_of_sections, AreReread, Reread, Section}
+use Rattle.mddocument_editing.proofs.Prelude.{◌≡◌, ℕ, ◌+◌, Bool, true, false, cond, List, [], ◌∷◌, ◌++◌, Option, Some, None, refl, inl, inr, subst, sym, ap, ◌∙◌, append-nil, false≢true, is_some, map-append, AllByRecursion, Event, bytes_of_sections, AreReread, Reread, Section}
 use Rattle.std.proofs.lemmas.Grind.{flat_map-append}
 use Rattle.std.proofs.lemmas.Slice.Eq.{bytes_eq-Decides}
 use Rattle.std.specs.Option.{option_or}
@@ -7,11 +7,11 @@ use Rattle.std.specs.Prelude.{bytes_eq, ◌↔◌}
 use Rattle.mddocument_link_targets.specs.declared.targets.Parts.{Parts}
 use Rattle.mddocument_editing.specs.Leading.{first_said}
 use Rattle.mddocument_editing.specs.Said.{said_of, saids}
-use Rattle.mddocument_editing.specs.Told.{AreNear, ArePushed, IsUntouched, all_saids, own_saids, read_next, saids_now}
+use Rattle.mddocument_editing.specs.Told.{AreNear, ArePushed, Goes, IsAgain, IsUntouched, all_saids, left_behind, own_saids, read_next, saids_again, saids_now, visits}
 use Rattle.mddocument_editing.specs.declared.said.Said.{Said}
 use Rattle.mddocument_editing.specs.declared.told.Saids.{Saids}
 use Rattle.mddocument_editing.proofs.SaidFirst.{all-append, first-said, said-append}
-use Rattle.mddocument_editing.proofs.ToldOthers.{IsNext, read-now, was_not, was_read}
+use Rattle.mddocument_editing.proofs.Visits.{IsNext, next-is, read-now, was_not, was_read}
 
 -- ---- one of two
 
@@ -50,53 +50,55 @@ module _ (read : List ℕ → List Event) where
   pub own-are : (n : ℕ) (ss : List Section) (rs : List Reread) → rs ≡ [] → AreReread read n ss rs → own_saids ss ≡ all_saids read (bytes_of_sections ss)
   own-are n [] rs none are = refl
   own-are n (s ∷ ss) rs none (inl is) =
-      ap (λ ds. ds ++ own_saids ss) (is.0.1 ∙ ap (saids s.part.bytes.items) (sym is.0.0))
+      ap (λ ds. ds ++ own_saids ss) (ap (λ l. l.saids) is.0.1 ∙ ap (saids s.part.bytes.items) (sym is.0.0))
       ∙ ap (λ ds. saids s.part.bytes.items (read s.part.bytes.items) ++ ds) (own-are (n + 1) ss rs none is.1)
   own-are n (s ∷ ss) rs none (inr is) = absurd (cc (none, is.1.0))
 
   -- of a label that is not touched they say now what they said
-  now-own : (label : List ℕ) (s : Section) (ss : List Section) → said_of (saids s.part.bytes.items (read s.part.bytes.items)) label ≡ said_of s.saids label
+  now-own : (label : List ℕ) (s : Section) (ss : List Section) → said_of (saids s.part.bytes.items (read s.part.bytes.items)) label ≡ said_of s.linking.saids label
       → said_of (all_saids read (bytes_of_sections ss)) label ≡ said_of (own_saids ss) label → said_of (all_saids read (bytes_of_sections (s ∷ ss))) label ≡ said_of (own_saids (s ∷ ss)) label
   now-own label s ss here more =
       let now = saids s.part.bytes.items (read s.part.bytes.items) in
       let rest = all_saids read (bytes_of_sections ss) in
       said-append label now rest
       ∙ ap (λ p. option_or p (said_of rest label)) here
-      ∙ ap (option_or (said_of s.saids label)) more
-      ∙ sym (said-append label s.saids (own_saids ss))
+      ∙ ap (option_or (said_of s.linking.saids label)) more
+      ∙ sym (said-append label s.linking.saids (own_saids ss))
 
   pub untouched-same : (label : List ℕ) (n : ℕ) (ss : List Section) (rs : List Reread) → AreReread read n ss rs → AllByRecursion (IsUntouched read label) ss
       → said_of (all_saids read (bytes_of_sections ss)) label ≡ said_of (own_saids ss) label
   untouched-same label n [] rs are all = refl
   untouched-same label n (s ∷ ss) rs (inl is) all =
-      now-own label s ss (ap (λ ds. said_of ds label) (ap (saids s.part.bytes.items) is.0.0 ∙ sym is.0.1)) (untouched-same label (n + 1) ss rs is.1 all.1)
+      now-own label s ss (ap (λ ds. said_of ds label) (ap (saids s.part.bytes.items) is.0.0 ∙ sym (ap (λ l. l.saids) is.0.1))) (untouched-same label (n + 1) ss rs is.1 all.1)
   untouched-same label n (s ∷ ss) rs (inr is) all =
       let none = all.0 is.1.1.0 in
       now-own label s ss (none.1 ∙ sym none.0) (untouched-same label (n + 1) ss is.0 is.1.1.1 all.1)
 
   -- a section that has its events is not touched, and neither is one that was read again if it defined and defines no such label
-  pub untouched-one : (label : List ℕ) (n : ℕ) (s : Section) (ss : List Section) (rs : List Reread) (before after : List Said) → IsNext read n s ss rs
-      → IfNone (read_next n rs) (after ≡ before) → IfSome (read_next n rs) (λ r. after ≡ (before ++ s.saids) ++ r.saids) → said_of after label ≡ None
+  untouched-one : (label : List ℕ) (n : ℕ) (s : Section) (rs : List Reread) (before after : List Said) → IsNext read n s rs → after ≡ before ++ saids_again s (read_next n rs) → said_of after label ≡ None
       → (said_of before label ≡ None) × IsUntouched read label s
-  untouched-one label n s ss rs before after (was_not is_found has knows more) stays adds none =
-      let same : after ≡ before = subst (λ f. IfNone f (after ≡ before)) is_found stays in
-      (ap (λ ds. said_of ds label) (sym same) ∙ none, (λ differs. absurd (differs has)))
-  untouched-one label n s ss rs before after (was_read rest is_found left differs more) stays adds none =
-      let now = saids s.part.bytes.items (read s.part.bytes.items) in
-      let more : after ≡ (before ++ s.saids) ++ now = subst (λ f. IfSome f (λ r. after ≡ (before ++ s.saids) ++ r.saids)) is_found adds in
-      let both = neither-defined label (before ++ s.saids) now (ap (λ ds. said_of ds label) (sym more) ∙ none) in
-      let first = neither-defined label before s.saids both.0 in
-      (first.0, (λ _. (first.1, both.1)))
+  untouched-one label n s rs before after (was_not found has knows) is none =
+      let both = neither-defined label before (saids_again s (read_next n rs)) (ap (λ ds. said_of ds label) (sym is) ∙ none) in
+      (both.0, (λ differs. absurd (differs has)))
+  untouched-one label n s rs before after (was_read found differs) is none =
+      let both = neither-defined label before (saids_again s (read_next n rs)) (ap (λ ds. said_of ds label) (sym is) ∙ none) in
+      let again = neither-defined label s.linking.saids (saids s.part.bytes.items (read s.part.bytes.items)) (ap (λ f. said_of (saids_again s f) label) (sym found) ∙ both.1) in
+      (both.0, (λ _. again))
 
--- what holds of sections and of one more
-pub every-more : (P : Section → Type 0) (xs : List Section) (i : ℕ) (s : Section) → i < length xs → s ≡ get_or xs i s → AllByRecursion P (take i xs) → P s → AllByRecursion P (take (i + 1) xs)
-every-more P xs i s lt is all one =
-    subst (AllByRecursion P) (sym (take_more xs i s lt ∙ ap (λ z. take i xs ++ z ∷ []) (sym is))) (every-append P (take i xs) (s ∷ []) all (one, tt))
+  -- sections that are gone over
+  pub untouched-all : (label : List ℕ) (n : ℕ) (ss : List Section) (rs : List Reread) (before after : List Said) → AreReread read n ss rs → Goes IsAgain (visits n ss rs) before after → said_of after label ≡ None
+      → (said_of before label ≡ None) × AllByRecursion (IsUntouched read label) ss
+  untouched-all label n [] rs before after are goes none = (ap (λ ds. said_of ds label) (sym goes) ∙ none, tt)
+  untouched-all label n (s ∷ ss) rs before after are goes none =
+      let next = next-is read n s ss rs are in
+      let more = untouched-all label (n + 1) ss (left_behind (read_next n rs) rs) goes.0 after next.1 goes.1.1 none in
+      let here = untouched-one label n s rs before goes.0 next.0 goes.1.0 more.0 in
+      (here.0, (here.1, more.1))
 
 -- ---- definitions that are appended
 
 module _ (t : List ℕ → Option Parts) (read : List ℕ → List Event) where
-  pub near-none : (a : Saids) → AreNear t read [] a a
+  near-none : (a : Saids) → AreNear t read [] a a
   near-none a = record {
     old = λ label _. sym (or-none (said_of a.olds.items label));
     new = λ label _. sym (or-none (said_of a.news.items label));
@@ -104,13 +106,13 @@ module _ (t : List ℕ → Option Parts) (read : List ℕ → List Event) where
   }
 
   -- one list of sections behind another
-  pub near-append : (xs ys : List Section) (a b c : Saids) → AreNear t read xs a b → AreNear t read ys b c → AreNear t read (xs ++ ys) a c
+  near-append : (xs ys : List Section) (a b c : Saids) → AreNear t read xs a b → AreNear t read ys b c → AreNear t read (xs ++ ys) a c
   near-append xs ys a b c one more = record {
     old = λ label is.
         more.old label is
         ∙ ap (λ p. option_or p (said_of (own_saids ys) label)) (one.old label is)
         ∙ or-assoc (said_of a.olds.items label) (said_of (own_saids xs) label) (said_of (own_saids ys) label)
-        ∙ ap (option_or (said_of a.olds.items label)) (sym (said-append label (own_saids xs) (own_saids ys)) ∙ ap (λ ds. said_of ds label) (sym (flat_map-append (λ section. section.saids) xs ys)));
+        ∙ ap (option_or (said_of a.olds.items label)) (sym (said-append label (own_saids xs) (own_saids ys)) ∙ ap (λ ds. said_of ds label) (sym (flat_map-append (λ section. section.linking.saids) xs ys)));
     new = λ label is.
         let first = all_saids read (bytes_of_sections xs) in
         let last = all_saids read (bytes_of_sections ys) in
@@ -124,27 +126,27 @@ module _ (t : List ℕ → Option Parts) (read : List ℕ → List Event) where
   }
 
   -- what is appended of one section
-  module _ (n : ℕ) (s : Section) (ss : List Section) (rs : List Reread) (next : IsNext read n s ss rs) (untouched : (label : List ℕ) → t label ≡ None → IsUntouched read label s) (a b : Saids) where
+  module _ (n : ℕ) (s : Section) (rs : List Reread) (next : IsNext read n s rs) (untouched : (label : List ℕ) → t label ≡ None → IsUntouched read label s) (a b : Saids) where
     abbrev now : List Said
     now = saids s.part.bytes.items (read s.part.bytes.items)
 
-    alone-own : (label : List ℕ) → said_of (own_saids (s ∷ [])) label ≡ said_of s.saids label
-    alone-own label = ap (λ ds. said_of ds label) (append-nil s.saids)
+    alone-own : (label : List ℕ) → said_of (own_saids (s ∷ [])) label ≡ said_of s.linking.saids label
+    alone-own label = ap (λ ds. said_of ds label) (append-nil s.linking.saids)
 
     alone-now : (label : List ℕ) → said_of (all_saids read (bytes_of_sections (s ∷ []))) label ≡ said_of now label
     alone-now label = ap (λ ds. said_of ds label) (append-nil now)
 
     -- of labels that are not touched it says now what it said
-    equal-here : (label : List ℕ) → t label ≡ None → said_of now label ≡ said_of s.saids label
+    equal-here : (label : List ℕ) → t label ≡ None → said_of now label ≡ said_of s.linking.saids label
     equal-here label none = by next
       where
-        by : IsNext read n s ss rs → said_of now label ≡ said_of s.saids label
-        by (was_not is_found has knows more) = ap (λ ds. said_of ds label) (ap (saids s.part.bytes.items) has ∙ sym knows)
-        by (was_read rest is_found left differs more) = let both = untouched label none differs in both.1 ∙ sym both.0
+        by : IsNext read n s rs → said_of now label ≡ said_of s.linking.saids label
+        by (was_not found has knows) = ap (λ ds. said_of ds label) (ap (saids s.part.bytes.items) has ∙ sym (ap (λ l. l.saids) knows))
+        by (was_read found differs) = let both = untouched label none differs in both.1 ∙ sym both.0
 
-    pub near-one : ArePushed t s (read_next n rs) a b → AreNear t read (s ∷ []) a b
+    near-one : ArePushed t (record { number = n; section = s; found = read_next n rs }) a b → AreNear t read (s ∷ []) a b
     near-one (inl is) =
-        let same_now : s.saids ≡ now = sym (ap (saids_now s) is.1.0) ∙ read-now read next in
+        let same_now : s.linking.saids ≡ now = sym (ap (saids_now s) is.1.0) ∙ read-now read n s rs next in
         record {
           old = λ label touched.
               ap (λ ds. said_of ds label) is.0.0
@@ -155,8 +157,8 @@ module _ (t : List ℕ → Option Parts) (read : List ℕ → List Event) where
           same = λ label none equal. ap (λ ds. said_of ds label) is.0.1 ∙ equal ∙ sym (ap (λ ds. said_of ds label) is.0.0);
         }
     near-one (inr is) =
-        let new_is : b.news.items ≡ a.news.items ++ now = is.1 ∙ ap (λ ds. a.news.items ++ ds) (read-now read next) in
-        let old_said : (label : List ℕ) → said_of b.olds.items label ≡ option_or (said_of a.olds.items label) (said_of s.saids label) = λ label. ap (λ ds. said_of ds label) is.0 ∙ said-append label a.olds.items s.saids in
+        let new_is : b.news.items ≡ a.news.items ++ now = is.1 ∙ ap (λ ds. a.news.items ++ ds) (read-now read n s rs next) in
+        let old_said : (label : List ℕ) → said_of b.olds.items label ≡ option_or (said_of a.olds.items label) (said_of s.linking.saids label) = λ label. ap (λ ds. said_of ds label) is.0 ∙ said-append label a.olds.items s.linking.saids in
         let new_said : (label : List ℕ) → said_of b.news.items label ≡ option_or (said_of a.news.items label) (said_of now label) = λ label. ap (λ ds. said_of ds label) new_is ∙ said-append label a.news.items now in
         record {
           old = λ label touched. old_said label ∙ ap (option_or (said_of a.olds.items label)) (sym (alone-own label));
@@ -168,10 +170,14 @@ module _ (t : List ℕ → Option Parts) (read : List ℕ → List Event) where
               ∙ sym (old_said label);
         }
 
-  -- one section more
-  pub near-more : (xs : List Section) (i : ℕ) (s : Section) (a b c : Saids) → i < length xs → s ≡ get_or xs i s → AreNear t read (take i xs) a b → AreNear t read (s ∷ []) b c → AreNear t read (take (i + 1) xs) a c
-  near-more xs i s a b c lt is before one =
-      subst (λ ys. AreNear t read ys a c) (sym (take_more xs i s lt ∙ ap (λ z. take i xs ++ z ∷ []) (sym is))) (near-append (take i xs) (s ∷ []) a b c before one)
+  -- what is appended of sections that are gone over
+  pub near-all : (n : ℕ) (ss : List Section) (rs : List Reread) (a b : Saids) → AreReread read n ss rs → ((label : List ℕ) → t label ≡ None → AllByRecursion (IsUntouched read label) ss)
+      → Goes (ArePushed t) (visits n ss rs) a b → AreNear t read ss a b
+  near-all n [] rs a b are untouched goes = subst (AreNear t read [] a) (sym goes) (near-none a)
+  near-all n (s ∷ ss) rs a b are untouched goes =
+      let next = next-is read n s ss rs are in
+      near-append (s ∷ []) ss a goes.0 b (near-one n s rs next.0 (λ label none. (untouched label none).0) a goes.0 goes.1.0)
+      (near-all (n + 1) ss (left_behind (read_next n rs) rs) goes.0 b next.1 (λ label none. (untouched label none).1) goes.1.1)
 
 -- ---- so labels lead elsewhere by these exactly if they do
 

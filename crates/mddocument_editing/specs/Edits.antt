@@ -1,5 +1,5 @@
 -- Edits of a document, and what they change.
-use Rattle.std.specs.Prelude.{◌≡◌, ◌⊎◌, ℕ, suc, ◌-◌, ◌≤◌, ◌<◌, List, [], ◌∷◌, ◌++◌, length, map, take, drop, Contains, Option}
+use Rattle.std.specs.Prelude.{◌≡◌, ◌⊎◌, ℕ, suc, ◌-◌, ◌≤◌, ◌<◌, List, [], ◌∷◌, ◌++◌, length, map, take, drop, Contains}
 use Rattle.std.specs.List.{AllByRecursion, slice_index_or}
 use Rattle.mddocument_editing.specs.declared.edit.Change.{Change}
 use Rattle.mddocument_editing.specs.declared.edit.Edit.{Edit}

@@ -1,5 +1,5 @@
 -- Labels that may be looked up in bytes: those that may stand between brackets there.
-use Rattle.std.specs.Prelude.{ℕ, ◌==◌, ◌&&◌, ◌||◌, not, cond, Bool, false, List, [], ◌∷◌, ◌++◌}
+use Rattle.std.specs.Prelude.{◌≡◌, ℕ, ◌==◌, ◌&&◌, ◌||◌, not, cond, Bool, false, List, [], ◌∷◌, ◌++◌}
 use Rattle.mdinline_labels.specs.Defined.{defines}
 use Rattle.mdinline_labels.specs.Labels.{is_bracket}
 use Rattle.mdinline_labels.specs.declared.labels.Labels.{Labels}
@@ -25,6 +25,10 @@ abbrev pub changes : (old new : Labels) → List ℕ → Bool
 changes old new label = cond (defines old label) (not (defines new label)) (defines new label)
 
 -- ---- how it is found out
+
+-- labels that change are all near
+abbrev pub AreAllNear : (old new near : Labels) → Type 0
+AreAllNear old new near = (label : List ℕ) → defines near label ≡ false → defines old label ≡ defines new label
 
 -- at such a byte it is not told which label stands there: a line ends, or the next byte may be escaped
 abbrev pub is_untold : ℕ → Bool

@@ -13,7 +13,7 @@ use Rattle.mddocument_editing.specs.declared.section.Section.{Section}
 use Rattle.mddocument_editing.specs.Divided.{Divided, IsDivided, bytes_of, is_label_of}
 use Rattle.mddocument_editing.specs.Packed.{events_fit}
 use Rattle.mddocument_editing.specs.PositionParts.{endings}
-use Rattle.mddocument_editing.specs.Said.{saids}
+use Rattle.mddocument_editing.specs.Said.{linking}
 
 -- the bytes of parts, and of sections
 abbrev pub bytes_of_parts : List Part → List (List ℕ)
@@ -49,7 +49,7 @@ pub record IsRead (options : ParseOptions) (defined : List ℕ → Bool) (sectio
   pub lines : section.lines ≡ endings section.part.bytes.items
   pub asks : section.asks ≡ has_end section.part.bytes.items
   pub events : section.events ≡ events_by options defined section.part.bytes.items
-  pub saids : section.saids ≡ saids section.part.bytes.items section.events
+  pub linking : section.linking ≡ linking section.part.bytes.items section.events
 
 -- the document that is kept
 abbrev pub divided_of : Kept → Divided

@@ -10,15 +10,15 @@ use Rattle.mddocument_editing.specs.declared.reread.Reread.{Reread}
 use Rattle.mddocument_editing.specs.declared.section.Section.{Section}
 use Rattle.mddocument_editing.specs.InBrackets.{changes, may_ask}
 use Rattle.mddocument_editing.specs.Kept.{IsRead}
-use Rattle.mddocument_editing.specs.Said.{saids}
+use Rattle.mddocument_editing.specs.Said.{linking}
 
 -- a section may look up a label that changes
 abbrev pub looks_up : (old new : Labels) → Section → Bool
 looks_up old new s = s.asks && may_ask (changes old new) s.part.bytes.items
 
--- a section has the definitions among its events
-abbrev pub HasSaids : Section → Type 0
-HasSaids s = s.saids ≡ saids s.part.bytes.items s.events
+-- a section has what links go by that are among its events
+abbrev pub HasLinking : Section → Type 0
+HasLinking s = s.linking ≡ linking s.part.bytes.items s.events
 
 -- a section that was read, and whose bytes are a possible document
 pub record IsReadDocument (options : ParseOptions) (defined : List ℕ → Bool) (section : Section) : Type 0 where
@@ -32,18 +32,18 @@ module _ (read : List ℕ → List Event) where
 
   -- a section with a number, read again
   abbrev pub read_again : (number : ℕ) → Section → Reread
-  read_again number s = let events = read s.part.bytes.items in record { section = number; events = events; saids = saids s.part.bytes.items events }
+  read_again number s = let events = read s.part.bytes.items in record { section = number; events = events; linking = linking s.part.bytes.items events }
 
   -- Of sections, those that have other events are read again, and those alone; the first of the sections has this number
   abbrev pub AreReread : (first : ℕ) → List Section → List Reread → Type 0
   AreReread first [] others = others ≡ []
   AreReread first (s ∷ more) others =
-      ((HasEvents s × HasSaids s) × AreReread (first + 1) more others)
+      ((HasEvents s × HasLinking s) × AreReread (first + 1) more others)
       ⊎ ((rest : List Reread) × ((others ≡ read_again first s ∷ rest) × (¬ HasEvents s × AreReread (first + 1) more rest)))
 
 -- a section as it is read again
 abbrev pub read_as : Reread → Section → Section
-read_as r s = record { part = s.part; lines = s.lines; asks = s.asks; events = r.events; saids = r.saids }
+read_as r s = record { part = s.part; lines = s.lines; asks = s.asks; events = r.events; linking = r.linking }
 
 -- sections, of which the one with this number is read again
 abbrev pub put_at : (number : ℕ) → Reread → List Section → List Section

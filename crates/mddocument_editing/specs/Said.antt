@@ -1,13 +1,23 @@
--- Inner: what definitions say, for private functions.
-use Rattle.std.specs.Prelude.{◌≡◌, ℕ, ◌&&◌, cond, List, [], ◌∷◌, ◌++◌, Option, None, Some, bytes_eq, option_to_list, slice_get, option_and_then, option_map}
+-- Inner: what definitions say, and which labels links are by, for private functions.
+use Rattle.std.specs.Prelude.{◌≡◌, ℕ, cond, List, [], ◌∷◌, ◌++◌, Option, None, Some, bytes_eq, option_to_list, slice_get, option_and_then, option_map}
+use Rattle.std.specs.List.{AllByRecursion}
 use Rattle.std.specs.Map.{lookup}
 use Rattle.markdown_base.specs.declared.event.Event.{Event}
 use Rattle.markdown_base.specs.declared.event.Name.TheVariants as name
 use Rattle.mddocument_link_targets.specs.declared.targets.Parts.{Parts}
+use Rattle.mddocument_link_targets.specs.declared.targets.Target.{Target}
+use Rattle.mddocument_link_targets.specs.declared.targets.Target.TheVariants as target
 use Rattle.mddocument_link_targets.specs.Spans.{enters, inside}
-use Rattle.mddocument_link_targets.specs.Targets.{defined_label, definition_parts}
+use Rattle.mddocument_link_targets.specs.Targets.{defined_label, definition_parts, enters_link, target_in}
 use Rattle.mddocument_editing.specs.declared.leads.Leads.{Leads}
+use Rattle.mddocument_editing.specs.declared.linking.Linking.{Linking}
 use Rattle.mddocument_editing.specs.declared.said.Said.{Said}
+
+-- the label by which a link is, if it is by one
+abbrev pub label_of : Option Target → Option (List ℕ)
+label_of None = None
+label_of (Some (target.Parts parts)) = None
+label_of (Some (target.Label label)) = Some label
 
 module _ (bytes : List ℕ) where
   -- the definition that the first of events enters, if it enters one
@@ -20,6 +30,15 @@ module _ (bytes : List ℕ) where
   saids [] = []
   saids (e ∷ es) = option_to_list (said_at (e ∷ es)) ++ saids es
 
+  -- the labels by which links and images among events are, in order
+  abbrev pub link_labels : List Event → List (List ℕ)
+  link_labels [] = []
+  link_labels (e ∷ es) = cond (enters_link e) (option_to_list (label_of (Some (target_in bytes (inside es))))) [] ++ link_labels es
+
+  -- what links go by that are among events
+  abbrev pub linking : List Event → Linking
+  linking events = record { saids = saids events; labels = link_labels events }
+
 -- what the first definition of a label says
 abbrev pub said_of : List Said → (label : List ℕ) → Option Parts
 said_of [] label = None
@@ -29,3 +48,7 @@ said_of (s ∷ more) label = cond (bytes_eq label s.label) (Some s.parts) (said_
 abbrev pub said_by : Leads → (label : List ℕ) → Option Parts
 said_by leads label =
     option_and_then (λ at. option_map (λ (s : Said). s.parts) (slice_get leads.all.items at)) (lookup (λ known. bytes_eq label known.items) leads.indices.entries)
+
+-- labels lead where they led
+abbrev pub LeadAsBefore : (old new : List ℕ → Option Parts) → List (List ℕ) → Type 0
+LeadAsBefore old new labels = AllByRecursion (λ label. new label ≡ old label) labels

@@ -1,13 +1,12 @@
 //! Which bytes may look up a label that comes or goes.
 
-ghost use Rattle.std.specs.Prelude.{◌≡◌, [], IfOk, List, ℕ, false};
-ghost use Rattle.mdinline_labels.specs.Defined.{defines};
-ghost use Rattle.mddocument_editing.specs.InBrackets.{changes, label_ends, may_ask};
+ghost use Rattle.std.specs.Prelude.{◌≡◌, [], IfOk};
+ghost use Rattle.mddocument_editing.specs.InBrackets.{AreAllNear, changes, label_ends, may_ask};
 
 use mdinline_labels::labels::Labels;
 use std::alloc::{AllocError, Global};
 
-/// Whether a label is defined in one of two sets, and not in the other. All such labels are near.
+/// Whether a label is defined in one of two sets, and not in the other.
 fn is_changed(
     alloc: Global,
     old: &Labels,
@@ -15,7 +14,7 @@ fn is_changed(
     near: &Labels,
     label: &[u8],
 ) -> Result<bool, AllocError>
-    requires { (label : List ℕ) → defines near.now label ≡ false → defines old.now label ≡ defines new.now label }
+    requires { AreAllNear old.now new.now near.now }
     ensures { IfOk result (λ is. is ≡ changes old.now new.now label.now) }
 {
     let is_near = near.contains(alloc, label)?;
@@ -33,7 +32,7 @@ fn label_ends(
     near: &Labels,
     bytes: &[u8],
 ) -> Result<bool, AllocError>
-    requires { (label : List ℕ) → defines near.now label ≡ false → defines old.now label ≡ defines new.now label }
+    requires { AreAllNear old.now new.now near.now }
     ensures { IfOk result (λ ends. ends ≡ label_ends (changes old.now new.now) [] bytes.now) }
 {
     let mut index = 0;
@@ -61,7 +60,7 @@ pub(crate) fn may_ask(
     near: &Labels,
     bytes: &[u8],
 ) -> Result<bool, AllocError>
-    requires { (label : List ℕ) → defines near.now label ≡ false → defines old.now label ≡ defines new.now label }
+    requires { AreAllNear old.now new.now near.now }
     ensures { IfOk result (λ may. may ≡ may_ask (changes old.now new.now) bytes.now) }
 {
     let mut index = 0;

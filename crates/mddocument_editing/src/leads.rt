@@ -1,16 +1,13 @@
-//! What labels lead to, and which sections have links that lead elsewhere.
+//! What labels lead to, and which lead elsewhere.
 
 ghost use Rattle.std.specs.Option.{option_copied};
-ghost use Rattle.std.specs.Prelude.{◌≡◌, ◌↔◌, ◌<◌, IfOk, IfSome, List, None, Some, ℕ, bytes_eq, false, is_some, length, option_map, slice_get, true};
+ghost use Rattle.std.specs.Prelude.{◌≡◌, ◌↔◌, ◌<◌, IfOk, List, None, Some, ℕ, bytes_eq, false, is_some, length, option_map, slice_get, true};
 ghost use Rattle.std.specs.Map.{lookup};
-ghost use Rattle.mddocument_link_targets.specs.Targets.{target_of};
-ghost use Rattle.mddocument_editing.specs.Leading.{resolved, targets_in};
-ghost use Rattle.mddocument_editing.specs.Said.{said_by, said_of};
+ghost use Rattle.mddocument_editing.specs.Said.{LeadAsBefore, said_by, said_of};
 
-use crate::packed::Packed;
-use crate::said::{Said, same_parts, unpack_all};
-use markdown_base::event::Event;
-use mddocument_link_targets::targets::{Parts, Target, target_of};
+use crate::said::{Said, same_parts};
+use markdown_base::owned::Items;
+use mddocument_link_targets::targets::Parts;
 use std::alloc::{AllocError, Global};
 use std::collections::BTreeMap;
 
@@ -105,65 +102,16 @@ fn same_leads(one: Option<&Parts>, other: Option<&Parts>) -> bool
     }
 }
 
-/// Whether a link leads where it led.
-fn stays(old: &Leads, new: &Leads, target: &Target) -> bool
-    ensures { (result ≡ true) ↔ (resolved (said_by new.now) target.now ≡ resolved (said_by old.now) target.now) }
+/// Whether labels lead where they led.
+pub(crate) fn lead_as_before(old: &Leads, new: &Leads, labels: &[Items<u8>]) -> bool
+    ensures { (result ≡ true) ↔ LeadAsBefore (said_by old.now) (said_by new.now) labels.now }
 {
-    match target {
-        Target::Parts(_) => true,
-        Target::Label(label) => same_leads(new.get(label.as_slice()), old.get(label.as_slice())),
-    }
-}
-
-/// Whether the link or image that is entered at an index leads where it led, if one is entered there.
-fn stays_at(
-    alloc: Global,
-    old: &Leads,
-    new: &Leads,
-    bytes: &[u8],
-    events: &[Event],
-    at: usize,
-) -> Result<bool, AllocError>
-    ensures { IfOk result (λ stays. (stays ≡ true) ↔ IfSome (target_of bytes.now events.now at) (λ target. resolved (said_by new.now) target ≡ resolved (said_by old.now) target)) }
-{
-    match target_of(alloc, bytes, events, at)? {
-        None => Ok(true),
-        Some(target) => Ok(stays(old, new, &target)),
-    }
-}
-
-/// Whether all links and images among events lead where they led.
-fn all_stay(
-    alloc: Global,
-    old: &Leads,
-    new: &Leads,
-    bytes: &[u8],
-    events: &[Event],
-) -> Result<bool, AllocError>
-    ensures { IfOk result (λ stay. (stay ≡ true) ↔ (targets_in (said_by new.now) bytes.now events.now ≡ targets_in (said_by old.now) bytes.now events.now)) }
-{
-    for at in 0..events.len() {
-        let stays = stays_at(alloc, old, new, bytes, events, at)?;
-        if !stays {
-            return Ok(false);
+    for index in 0..labels.len() {
+        let label = labels[index].as_slice();
+        let same = same_leads(new.get(label), old.get(label));
+        if !same {
+            return false;
         }
     }
-    Ok(true)
-}
-
-/// Whether all links and images of a section lead where they led.
-pub(crate) fn lead_as_before(
-    alloc: Global,
-    old: &Leads,
-    new: &Leads,
-    bytes: &[u8],
-    events: &Packed,
-) -> Result<bool, AllocError>
-    ensures { IfOk result (λ stay. (stay ≡ true) ↔ (targets_in (said_by new.now) bytes.now events.now ≡ targets_in (said_by old.now) bytes.now events.now)) }
-{
-    if !events.has_link() {
-        return Ok(true);
-    }
-    let events = unpack_all(alloc, events)?;
-    all_stay(alloc, old, new, bytes, events.as_slice())
+    true
 }

@@ -27,6 +27,7 @@ mod trim;
 
 // targets: what links of sections lead to
 mod leads;
+mod linking;
 mod said;
 
 // putting in: sections that changed; which others are read again, and which have links that lead elsewhere

@@ -1,9 +1,7 @@
 //! Events in little memory: 24 bytes for each, in place of 88.
 
 ghost use Rattle.std.specs.Prelude.{◌≡◌, ◌<◌, ◌↔◌, List, IfOk, IsErrOf, Some, false, length, map, slice_get, true};
-ghost use Rattle.std.specs.List.{list_any};
 ghost use Rattle.markdown_base.specs.declared.event.Event.{Event};
-ghost use Rattle.mddocument_link_targets.specs.Targets.{enters_link};
 ghost use Rattle.mddocument_editing.specs.Packed.{end_fits, event_fits, events_fit, link_fits, point_fits};
 ghost use Rattle.mddocument_editing.specs.PackedEvents.{content_of, end_of, link_of, unpacked};
 ghost use Rattle.mddocument_editing.specs.declared.packed.PackError.TheVariants.{Memory};
@@ -109,27 +107,6 @@ impl Packed {
     {
         unpack(&self.events[index])
     }
-
-    /// Whether a link or an image is entered.
-    pub(crate) fn has_link(&self) -> bool
-        ensures { result ≡ list_any enters_link self.now }
-    {
-        any_link(self.events.as_slice())
-    }
-}
-
-/// Whether an event enters a link or an image.
-fn enters_link(event: &PackedEvent) -> bool
-    ensures { result ≡ enters_link (unpacked event.now) }
-{
-    event.kind == Kind::Enter && (event.name == Name::Link || event.name == Name::Image)
-}
-
-/// Whether a link or an image is entered.
-fn any_link(events: &[PackedEvent]) -> bool
-    ensures { result ≡ list_any (λ event. enters_link (unpacked event)) events.now }
-{
-    events.iter().any(enters_link)
 }
 
 /// Whether a place fits.

@@ -1,6 +1,6 @@
 //! Sections that are put in the place of others.
 
-ghost use Rattle.std.specs.Prelude.{◌≡◌, ◌≤◌, ◌<◌, ◌+◌, ◌++◌, ◌∷◌, [], ◌^◌, ◌↔◌, IfOk, IfNone, IfSome, IsErrOf, List, OnErr, OnOk, ℕ, drop, length, map, take, true, false};
+ghost use Rattle.std.specs.Prelude.{◌≡◌, ◌≤◌, ◌<◌, ◌+◌, ◌++◌, ◌∷◌, [], ◌^◌, ◌↔◌, IfOk, IfNone, IfSome, IsErrOf, List, OnErr, OnOk, ℕ, drop, length, take, true, false};
 ghost use Rattle.std.specs.List.{AllByRecursion};
 ghost use Rattle.markdown_base.specs.Virtual.{IsWithinLimit};
 ghost use Rattle.markdown_tokenizer.specs.Text.{IsDocument};
@@ -10,9 +10,10 @@ ghost use Rattle.mddocument_parts.specs.BothDocuments.{events_by};
 ghost use Rattle.mddocument_editing.specs.Divided.{bytes_of, is_label_of};
 ghost use Rattle.mddocument_editing.specs.Edits.{IsChange};
 ghost use Rattle.mddocument_editing.specs.FirstRest.{items_of};
+ghost use Rattle.mddocument_editing.specs.InBrackets.{AreAllNear};
 ghost use Rattle.mddocument_editing.specs.Kept.{ArePackable, IsKept, IsLabelled, IsPackable, IsRecut, IsRead, bytes_of_parts, bytes_of_sections, divided_of, recut_document};
 ghost use Rattle.mddocument_editing.specs.Leading.{first_said};
-ghost use Rattle.mddocument_editing.specs.Said.{saids};
+ghost use Rattle.mddocument_editing.specs.Said.{linking};
 ghost use Rattle.mddocument_editing.specs.Put.{AreReread, HasEvents, IsReadDocument, looks_up};
 ghost use Rattle.mddocument_editing.specs.Told.{AreToldAround};
 ghost use Rattle.mddocument_editing.specs.Trims.{AreTrimmed};
@@ -60,7 +61,7 @@ fn new_labels(
     requires labels { AllByRecursion (IsLabelled kept.now.options) parts.now }
     ensures none { IfOk result (λ found. IfNone found ((label : List ℕ) → defines kept.now.machine.labels label ≡ is_label_of (recut_document kept.now from end (bytes_of_parts parts.now)) label)) }
     ensures some { IfOk result (λ found. IfSome found (λ new. (label : List ℕ) → defines new.labels label ≡ is_label_of (recut_document kept.now from end (bytes_of_parts parts.now)) label)) }
-    ensures near { IfOk result (λ found. IfSome found (λ new. (label : List ℕ) → defines new.near label ≡ false → defines kept.now.machine.labels label ≡ defines new.labels label)) }
+    ensures near { IfOk result (λ found. IfSome found (λ new. AreAllNear kept.now.machine.labels new.labels new.near)) }
 {
     let sections = kept.sections.as_slice();
     let mut gone = Labels::new(alloc);
@@ -89,7 +90,7 @@ fn looks_up(
     near: &Labels,
     section: &Section,
 ) -> Result<bool, AllocError>
-    requires { (label : List ℕ) → defines near.now label ≡ false → defines old.now label ≡ defines new.now label }
+    requires { AreAllNear old.now new.now near.now }
     ensures { IfOk result (λ looks. looks ≡ looks_up old.now new.now section.now) }
 {
     Ok(section.asks && may_ask(alloc, old, new, near, section.part.bytes.as_slice())?)
@@ -131,9 +132,9 @@ fn new_events(
     section: &Section,
 ) -> Result<Option<Read>, PackError>
     requires read { IsReadDocument options.now (defines old.now) section.now }
-    requires near { (label : List ℕ) → defines near.now label ≡ false → defines old.now label ≡ defines machine.now.labels label }
+    requires near { AreAllNear old.now machine.now.labels near.now }
     ensures none { IfOk result (λ found. IfNone found (HasEvents (events_by options.now (defines machine.now.labels)) section.now)) }
-    ensures some { IfOk result (λ found. IfSome found (λ read. ((read.events ≡ events_by options.now (defines machine.now.labels) section.now.part.bytes.items) × (read.saids ≡ saids section.now.part.bytes.items read.events)) × ¬ HasEvents (events_by options.now (defines machine.now.labels)) section.now)) }
+    ensures some { IfOk result (λ found. IfSome found (λ read. ((read.events ≡ events_by options.now (defines machine.now.labels) section.now.part.bytes.items) × (read.linking ≡ linking section.now.part.bytes.items read.events)) × ¬ HasEvents (events_by options.now (defines machine.now.labels)) section.now)) }
     ensures fits { IsPackable options.now (defines machine.now.labels) section.now.part.bytes.items → ¬ IsErrOf result PackError.TooLong }
 {
     let asks = looks_up(alloc, old, &machine.labels, near, section)?;
@@ -155,13 +156,13 @@ fn push_found(
     found: Option<Read>,
 ) -> Result<(), AllocError>
     ensures none { OnOk result (IfNone found (others.new.items ≡ others.old.items)) }
-    ensures some { OnOk result (IfSome found (λ read. others.new.items ≡ others.old.items ++ record { section = section; events = read.events; saids = read.saids } ∷ [])) }
+    ensures some { OnOk result (IfSome found (λ read. others.new.items ≡ others.old.items ++ record { section = section; events = read.events; linking = read.linking } ∷ [])) }
 {
-    if let Some(Read { events, saids }) = found {
+    if let Some(Read { events, linking }) = found {
         others.push(Reread {
             section,
             events,
-            saids,
+            linking,
         })?;
     }
     Ok(())
@@ -178,7 +179,7 @@ fn read_again(
     first: usize,
 ) -> Result<Vec<Reread>, PackError>
     requires read { AllByRecursion (IsReadDocument options.now (defines old.now)) sections.now }
-    requires near { (label : List ℕ) → defines near.now label ≡ false → defines old.now label ≡ defines machine.now.labels label }
+    requires near { AreAllNear old.now machine.now.labels near.now }
     requires numbers { first + length sections.now < 2 ^ 64 }
     ensures others { IfOk result (λ others. AreReread (events_by options.now (defines machine.now.labels)) first sections.now others.items) }
     ensures fits { AllByRecursion (λ section. IsPackable options.now (defines machine.now.labels) section.part.bytes.items) sections.now → ¬ IsErrOf result PackError.TooLong }
@@ -263,7 +264,7 @@ fn put_other(
     requires trimmed { AreTrimmed (bytes_of_sections kept.old.sections.items) from end (bytes_of_parts parts.items) }
     requires labelled { AllByRecursion (IsLabelled kept.old.options) parts.items }
     requires labels { (label : List ℕ) → defines machine.labels label ≡ is_label_of (recut_document kept.old from end (bytes_of_parts parts.items)) label }
-    requires near { (label : List ℕ) → defines near.now label ≡ false → defines kept.old.machine.labels label ≡ defines machine.labels label }
+    requires near { AreAllNear kept.old.machine.labels machine.labels near.now }
     ensures kept { IsKept kept.new }
     ensures document { IfOk result (λ _. divided_of kept.new ≡ recut_document kept.old from end (bytes_of_parts parts.items)) }
     ensures change { IfOk result (IsChange (divided_of kept.old) (divided_of kept.new)) }
@@ -318,7 +319,7 @@ fn read_side(
     first: usize,
 ) -> Result<Vec<Reread>, Refused>
     requires read { AllByRecursion (IsReadDocument kept.now.options (defines kept.now.machine.labels)) sections.now }
-    requires near { (label : List ℕ) → defines near.now label ≡ false → defines kept.now.machine.labels label ≡ defines machine.now.labels label }
+    requires near { AreAllNear kept.now.machine.labels machine.now.labels near.now }
     requires numbers { first + length sections.now < 2 ^ 64 }
     ensures others { IfOk result (λ others. AreReread (events_by kept.now.options (defines machine.now.labels)) first sections.now others.items) }
     ensures range { ¬ IsErrOf result Refused.Range }
@@ -350,7 +351,7 @@ fn read_others(
     read: &[Section],
 ) -> Result<Rereads, Refused>
     requires kept { AllByRecursion (IsReadDocument kept.now.options (defines kept.now.machine.labels)) kept.now.sections.items }
-    requires near { (label : List ℕ) → defines near.now label ≡ false → defines kept.now.machine.labels label ≡ defines machine.now.labels label }
+    requires near { AreAllNear kept.now.machine.labels machine.now.labels near.now }
     requires order { from ≤ end }
     requires within { end ≤ length kept.now.sections.items }
     requires numbers { from + length read.now + length (drop end kept.now.sections.items) < 2 ^ 64 }

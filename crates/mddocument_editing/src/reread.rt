@@ -4,17 +4,16 @@ ghost use Rattle.std.specs.Prelude.{◌≡◌, ◌<◌, length};
 ghost use Rattle.std.specs.List.{AllByRecursion};
 ghost use Rattle.mddocument_editing.specs.Put.{put_all};
 
+use crate::linking::Linking;
 use crate::packed::Packed;
-use crate::said::Said;
 use crate::section::Section;
-use markdown_base::owned::Items;
 
 /// What a section is read as that is read again, by its number.
 #[derive(Drop)]
 pub(crate) struct Reread {
     pub(crate) section: usize,
     pub(crate) events: Packed,
-    pub(crate) saids: Items<Said>,
+    pub(crate) linking: Linking,
 }
 
 /// Puts the events of sections that were read again in the place of those that they had.
@@ -26,10 +25,10 @@ pub(crate) fn put_events(sections: &mut Vec<Section>, others: Vec<Reread>)
         let Reread {
             section,
             events,
-            saids,
+            linking,
         } = other;
         let section = &mut sections[section];
         section.events = events;
-        section.saids = saids;
+        section.linking = linking;
     }
 }

@@ -6,7 +6,6 @@ ghost use Rattle.markdown_base.specs.declared.event.Name.TheVariants as name;
 ghost use Rattle.mddocument_link_targets.specs.Spans.{enters};
 ghost use Rattle.mddocument_editing.specs.Said.{said_at, saids};
 
-use crate::packed::Packed;
 use markdown_base::event::{Event, Name};
 use markdown_base::owned::Items;
 use mddocument_link_targets::spans::enters;
@@ -20,17 +19,6 @@ pub(crate) struct Said {
     pub(crate) label: Items<u8>,
     /// What it says.
     pub(crate) parts: Parts,
-}
-
-/// Events, unpacked.
-pub(crate) fn unpack_all(alloc: Global, packed: &Packed) -> Result<Vec<Event>, AllocError>
-    ensures { IfOk result (λ events. events.items ≡ packed.now) }
-{
-    let mut events = Vec::with_capacity(alloc, packed.len())?;
-    for index in 0..packed.len() {
-        events.push(packed.event(index))?;
-    }
-    Ok(events)
 }
 
 /// The definition that is entered at an index, if one is.

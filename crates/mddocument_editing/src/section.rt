@@ -1,20 +1,19 @@
 //! A section as it is kept, and how one is read.
 
-ghost use Rattle.std.specs.Prelude.{◌≡◌, ◌≤◌, IfOk, IsErrOf, List, MatchResult, length, map, true};
+ghost use Rattle.std.specs.Prelude.{◌≡◌, IfOk, IsErrOf, MatchResult};
 ghost use Rattle.std.specs.List.{AllByRecursion};
 ghost use Rattle.markdown_base.specs.Virtual.{IsWithinLimit};
 ghost use Rattle.mdblock_definitions.specs.Labelled.{AreDefined};
 ghost use Rattle.mdinline_labels.specs.Defined.{defines};
 ghost use Rattle.mddocument_parts.specs.BothDocuments.{events_by};
 ghost use Rattle.mddocument_editing.specs.FirstRest.{items_of};
-ghost use Rattle.mddocument_editing.specs.Said.{saids};
+ghost use Rattle.mddocument_editing.specs.Said.{linking};
 ghost use Rattle.mddocument_editing.specs.Kept.{IsLabelled, IsPackable, IsRead, bytes_of_parts, bytes_of_sections, has_end, labels_written};
 
+use crate::linking::{Linking, linking_of};
 use crate::packed::{PackError, Packed};
 use crate::positions::line_endings;
-use crate::said::{Said, saids_of};
 use markdown_base::configuration::ParseOptions;
-use markdown_base::owned::Items;
 use mdblock_definitions::parts::skeleton_with_definitions;
 use mddocument::documents::read_document_by;
 use mdinline_labels::labels::Labels;
@@ -41,8 +40,8 @@ pub(crate) struct Section {
     pub(crate) asks: bool,
     /// Its events, as those of a document of its own, by the labels of the whole document.
     pub(crate) events: Packed,
-    /// The definitions among them.
-    pub(crate) saids: Items<Said>,
+    /// What links go by that are among them.
+    pub(crate) linking: Linking,
 }
 
 /// What a part is read as.
@@ -50,8 +49,8 @@ pub(crate) struct Section {
 pub(crate) struct Read {
     /// Its events.
     pub(crate) events: Packed,
-    /// The definitions among them.
-    pub(crate) saids: Items<Said>,
+    /// What links go by that are among them.
+    pub(crate) linking: Linking,
 }
 
 /// The labels that a part defines.
@@ -90,12 +89,12 @@ pub(crate) fn read_of(
 ) -> Result<Read, PackError>
     requires { IsWithinLimit options.now.tab_size bytes.now }
     ensures events { MatchResult result (λ read. read.events ≡ events_by options.now (defines machine.now.labels) bytes.now) (λ error. error ≡ PackError.TooLong → ¬ IsPackable options.now (defines machine.now.labels) bytes.now) }
-    ensures saids { IfOk result (λ read. read.saids ≡ saids bytes.now read.events) }
+    ensures linking { IfOk result (λ read. read.linking ≡ linking bytes.now read.events) }
 {
     let events = read_document_by(alloc, bytes, options, machine)?;
-    let saids = saids_of(alloc, bytes, events.as_slice())?;
+    let linking = linking_of(alloc, bytes, events.as_slice())?;
     match Packed::of(alloc, events.as_slice()) {
-        Ok(events) => Ok(Read { events, saids }),
+        Ok(events) => Ok(Read { events, linking }),
         Err(error) => Err(error),
     }
 }
@@ -129,7 +128,7 @@ fn section_of(
         lines,
         asks,
         events: read.events,
-        saids: read.saids,
+        linking: read.linking,
     })
 }
 

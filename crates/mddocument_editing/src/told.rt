@@ -1,18 +1,17 @@
 //! Of which sections something is new, beside those that are replaced.
 
 ghost use Rattle.std.specs.Option.{option_copied};
-ghost use Rattle.std.specs.Prelude.{◌≡◌, ◌↔◌, ◌≤◌, ◌<◌, ◌+◌, ◌++◌, ◌∷◌, [], ◌^◌, IfNone, IfOk, IfSome, List, None, OnOk, cond, drop, is_some, length, take, ℕ, true};
+ghost use Rattle.std.specs.Prelude.{◌≡◌, ◌↔◌, ◌<◌, ◌+◌, ◌++◌, ◌∷◌, [], ◌^◌, IfNone, IfOk, IfSome, List, None, OnOk, is_some, length, ℕ, true};
 ghost use Rattle.std.specs.List.{AllByRecursion};
 ghost use Rattle.mdinline_labels.specs.Defined.{defines};
 ghost use Rattle.mddocument_parts.specs.BothDocuments.{events_by};
-ghost use Rattle.mddocument_editing.specs.Kept.{IsKept, IsRead, bytes_of_sections};
+ghost use Rattle.mddocument_editing.specs.Kept.{bytes_of_sections};
 ghost use Rattle.mddocument_editing.specs.Leading.{first_said};
 ghost use Rattle.mddocument_editing.specs.Put.{AreReread};
 ghost use Rattle.mddocument_editing.specs.Said.{said_by, said_of};
-ghost use Rattle.mddocument_editing.specs.Told.{AreNear, ArePushed, AreTold, AreToldAround, IsToldAs, IsUntouched, all_saids, read_next, saids_now};
+ghost use Rattle.mddocument_editing.specs.Told.{ArePushed, AreToldAround, Goes, IsAgain, IsToldAs, IsToldNext, IsUntouched, all_saids, own_saids, read_next, saids_now, visit_of, visits_of};
 
 use crate::edit::{Other, Why};
-use crate::kept::Kept;
 use crate::leads::{Leads, lead_as_before, touch};
 use crate::reread::Reread;
 use crate::said::{Said, push_saids, same_saids};
@@ -21,7 +20,7 @@ use markdown_base::configuration::ParseOptions;
 use mdinline_machine::inlines::Inlines;
 use std::alloc::{AllocError, Global};
 
-/// Sections in a row, and which of them were read again.
+/// Sections in a row, and which of them were read again. It goes over them.
 #[derive(Clone, Copy)]
 pub(crate) struct Side<'a> {
     /// The sections.
@@ -32,18 +31,19 @@ pub(crate) struct Side<'a> {
     pub(crate) rereads: &'a [Reread],
 }
 
-/// What labels led to, and what they lead to: those that may lead elsewhere.
-#[derive(Drop)]
-struct Leading {
-    old: Leads,
-    new: Leads,
+/// A section that is gone over: its number, and what it was read as, if it was read again.
+#[derive(Clone, Copy)]
+pub(crate) struct Visit<'a> {
+    number: usize,
+    section: &'a Section,
+    found: Option<&'a Reread>,
 }
 
-/// What the section with a number is read as, if it is the next one that was read again.
-fn read_next(rereads: &[Reread], next: usize, number: usize) -> Option<&Reread>
-    ensures { option_copied result ≡ read_next number (drop next rereads.now) }
+/// What the section with a number is read as, if it is the first of those that were read again.
+fn read_next(rereads: &[Reread], number: usize) -> Option<&Reread>
+    ensures { option_copied result ≡ read_next number rereads.now }
 {
-    let reread = rereads.get(next)?;
+    let reread = rereads.first()?;
     if reread.section == number {
         Some(reread)
     } else {
@@ -51,14 +51,51 @@ fn read_next(rereads: &[Reread], next: usize, number: usize) -> Option<&Reread>
     }
 }
 
-/// How many of those that were read again a section is.
-fn count_of(found: Option<&Reread>) -> usize
-    ensures { result ≡ cond (is_some (option_copied found.entry)) 1 0 }
-{
-    match found {
-        None => 0,
-        Some(_) => 1,
+impl<'a> Iterator for Side<'a> {
+    ghost use Rattle.std.specs.Iterator.{YieldsFirstBy, item_count};
+    ghost use Rattle.std.specs.Prelude.{◌+◌, ◌<◌, ◌^◌, length};
+    ghost use Rattle.mddocument_editing.specs.Told.{visit_of, visits_of};
+
+    type Item = Visit<'a>;
+
+    ghost can_next = { λ side. side.first + length side.sections.now < 2 ^ 64 };
+
+    ghost next_gives = { YieldsFirstBy visit_of visits_of };
+
+    ghost remaining = { item_count (λ side. side.sections.now) };
+
+    fn next(&mut self) -> Option<Visit<'a>> {
+        let (section, sections) = self.sections.split_first()?;
+        let number = self.first;
+        let found = read_next(self.rereads, number);
+        if found.is_some() {
+            self.rereads = &self.rereads[1..];
+        }
+        self.sections = sections;
+        self.first += 1;
+        Some(Visit {
+            number,
+            section,
+            found,
+        })
     }
+}
+
+/// What labels led to, and what they lead to: those that may lead elsewhere.
+#[derive(Drop)]
+struct Leading {
+    old: Leads,
+    new: Leads,
+}
+
+/// Appends the definitions that sections have.
+fn push_own(all: &mut Vec<Said>, alloc: Global, sections: &[Section]) -> Result<(), AllocError>
+    ensures { OnOk result (all.new.items ≡ all.old.items ++ own_saids sections.now) }
+{
+    for section in sections {
+        push_saids(all, alloc, section.linking.saids.as_slice())?;
+    }
+    Ok(())
 }
 
 /// Appends the definitions of a section, its own or those that it has now.
@@ -71,55 +108,23 @@ fn push_now(
     ensures { OnOk result (all.new.items ≡ all.old.items ++ saids_now section.now (option_copied found.entry)) }
 {
     match found {
-        Some(reread) => push_saids(all, alloc, reread.saids.as_slice()),
-        None => push_saids(all, alloc, section.saids.as_slice()),
+        Some(reread) => push_saids(all, alloc, reread.linking.saids.as_slice()),
+        None => push_saids(all, alloc, section.linking.saids.as_slice()),
     }
-}
-
-/// Appends the definitions of sections.
-fn push_side(
-    all: &mut Vec<Said>,
-    alloc: Global,
-    options: &ParseOptions,
-    machine: &Inlines,
-    side: Side,
-) -> Result<(), AllocError>
-    requires rereads { AreReread (events_by options.now (defines machine.now.labels)) side.first side.sections.now side.rereads.now }
-    requires numbers { side.first + length side.sections.now < 2 ^ 64 }
-    ensures { OnOk result (all.new.items ≡ all.old.items ++ all_saids (events_by options.now (defines machine.now.labels)) (bytes_of_sections side.entry.sections.now)) }
-{
-    let Side {
-        sections,
-        first,
-        rereads,
-    } = side;
-    let mut next = 0;
-    for index in 0..sections.len() {
-        let found = read_next(rereads, next, first + index);
-        push_now(all, alloc, &sections[index], found)?;
-        next += count_of(found);
-    }
-    Ok(())
 }
 
 /// What is new of a section, which was read again or was not.
-fn what_is_new(
-    alloc: Global,
-    leading: &Leading,
-    section: &Section,
-    found: Option<&Reread>,
-) -> Result<Option<Why>, AllocError>
-    ensures { IfOk result (IsToldAs (said_by leading.now.old) (said_by leading.now.new) section.now (is_some (option_copied found.entry))) }
+fn what_is_new(leading: &Leading, section: &Section, found: Option<&Reread>) -> Option<Why>
+    ensures { IsToldAs (said_by leading.now.old) (said_by leading.now.new) section.now (is_some (option_copied found.entry)) result }
 {
     if found.is_some() {
-        return Ok(Some(Why::Events));
+        return Some(Why::Events);
     }
-    let bytes = section.part.bytes.as_slice();
-    let stay = lead_as_before(alloc, &leading.old, &leading.new, bytes, &section.events)?;
-    if stay {
-        Ok(None)
+    let labels = section.linking.labels.as_slice();
+    if lead_as_before(&leading.old, &leading.new, labels) {
+        None
     } else {
-        Ok(Some(Why::Targets))
+        Some(Why::Targets)
     }
 }
 
@@ -135,30 +140,14 @@ fn push_other(told: &mut Vec<Other>, section: usize, why: Option<Why>) -> Result
 }
 
 /// Those of sections of which something is new.
-fn tell_side(
-    alloc: Global,
-    options: &ParseOptions,
-    machine: &Inlines,
-    leading: &Leading,
-    side: Side,
-) -> Result<Vec<Other>, AllocError>
-    requires rereads { AreReread (events_by options.now (defines machine.now.labels)) side.first side.sections.now side.rereads.now }
-    requires numbers { side.first + length side.sections.now < 2 ^ 64 }
-    ensures { IfOk result (λ told. AreTold (events_by options.now (defines machine.now.labels)) (said_by leading.now.old) (said_by leading.now.new) side.entry.first side.entry.sections.now told.items) }
+fn tell_side(alloc: Global, leading: &Leading, side: Side) -> Result<Vec<Other>, AllocError>
+    requires { side.first + length side.sections.now < 2 ^ 64 }
+    ensures { IfOk result (λ told. Goes (IsToldNext (said_by leading.now.old) (said_by leading.now.new)) (visits_of side.entry) [] told.items) }
 {
-    let Side {
-        sections,
-        first,
-        rereads,
-    } = side;
     let mut told = Vec::new(alloc);
-    let mut next = 0;
-    for index in 0..sections.len() {
-        let number = first + index;
-        let found = read_next(rereads, next, number);
-        let why = what_is_new(alloc, leading, &sections[index], found)?;
-        push_other(&mut told, number, why)?;
-        next += count_of(found);
+    for visit in side {
+        let why = what_is_new(leading, visit.section, visit.found);
+        push_other(&mut told, visit.number, why)?;
     }
     Ok(told)
 }
@@ -176,58 +165,24 @@ pub(crate) struct Around<'a> {
     pub(crate) behind: Side<'a>,
 }
 
-/// Sections none of which was read again.
-fn as_they_are(sections: &[Section]) -> Side<'_>
-    ensures sections { result.sections.now ≡ sections.now }
-    ensures first { result.first ≡ 0 }
-    ensures rereads { result.rereads.now ≡ [] }
-{
-    Side {
-        sections,
-        first: 0,
-        rereads: &[],
-    }
-}
-
 /// Appends what a section defined and what it defines now, if it was read again.
-fn push_again(
-    all: &mut Vec<Said>,
-    alloc: Global,
-    section: &Section,
-    found: Option<&Reread>,
-) -> Result<(), AllocError>
-    ensures none { OnOk result (IfNone (option_copied found.entry) (all.new.items ≡ all.old.items)) }
-    ensures some { OnOk result (IfSome (option_copied found.entry) (λ reread. all.new.items ≡ (all.old.items ++ section.now.saids) ++ reread.saids)) }
+fn push_again(all: &mut Vec<Said>, alloc: Global, visit: &Visit) -> Result<(), AllocError>
+    ensures { OnOk result (IsAgain (visit_of visit.now) all.old.items all.new.items) }
 {
-    if let Some(reread) = found {
-        push_saids(all, alloc, section.saids.as_slice())?;
-        push_saids(all, alloc, reread.saids.as_slice())?;
+    if let Some(reread) = visit.found {
+        push_saids(all, alloc, visit.section.linking.saids.as_slice())?;
+        push_saids(all, alloc, reread.linking.saids.as_slice())?;
     }
     Ok(())
 }
 
 /// Appends what those of sections that were read again defined, and what they define now.
-fn push_rereads(
-    all: &mut Vec<Said>,
-    alloc: Global,
-    options: &ParseOptions,
-    machine: &Inlines,
-    side: Side,
-) -> Result<(), AllocError>
-    requires rereads { AreReread (events_by options.now (defines machine.now.labels)) side.first side.sections.now side.rereads.now }
-    requires numbers { side.first + length side.sections.now < 2 ^ 64 }
-    ensures { OnOk result ((label : List ℕ) → said_of all.new.items label ≡ None → (said_of all.old.items label ≡ None) × AllByRecursion (IsUntouched (events_by options.now (defines machine.now.labels)) label) side.entry.sections.now) }
+fn push_rereads(all: &mut Vec<Said>, alloc: Global, side: Side) -> Result<(), AllocError>
+    requires { side.first + length side.sections.now < 2 ^ 64 }
+    ensures { OnOk result (Goes IsAgain (visits_of side.entry) all.old.items all.new.items) }
 {
-    let Side {
-        sections,
-        first,
-        rereads,
-    } = side;
-    let mut next = 0;
-    for index in 0..sections.len() {
-        let found = read_next(rereads, next, first + index);
-        push_again(all, alloc, &sections[index], found)?;
-        next += count_of(found);
+    for visit in side {
+        push_again(all, alloc, &visit)?;
     }
     Ok(())
 }
@@ -252,10 +207,10 @@ fn touched(
     ensures behind { IfOk result (λ touched. (label : List ℕ) → said_by touched label ≡ None → AllByRecursion (IsUntouched (events_by options.now (defines new.now.labels)) label) around.now.behind.sections.now) }
 {
     let mut all = Vec::new(alloc);
-    push_side(&mut all, alloc, options, old, as_they_are(around.gone))?;
-    push_side(&mut all, alloc, options, new, as_they_are(around.read))?;
-    push_rereads(&mut all, alloc, options, new, around.front)?;
-    push_rereads(&mut all, alloc, options, new, around.behind)?;
+    push_own(&mut all, alloc, around.gone)?;
+    push_own(&mut all, alloc, around.read)?;
+    push_rereads(&mut all, alloc, around.front)?;
+    push_rereads(&mut all, alloc, around.behind)?;
     let touched = Leads::of(alloc, all)?;
     Ok(touched)
 }
@@ -272,14 +227,14 @@ fn push_near(
     near: &mut Saids,
     alloc: Global,
     touched: &Leads,
-    section: &Section,
-    found: Option<&Reread>,
+    visit: &Visit,
 ) -> Result<(), AllocError>
-    ensures { OnOk result (ArePushed (said_by touched.now) section.now (option_copied found.entry) near.old near.new) }
+    ensures { OnOk result (ArePushed (said_by touched.now) (visit_of visit.now) near.old near.new) }
 {
-    if found.is_some() || touch(touched, section.saids.as_slice()) {
-        push_saids(&mut near.olds, alloc, section.saids.as_slice())?;
-        push_now(&mut near.news, alloc, section, found)?;
+    let saids = visit.section.linking.saids.as_slice();
+    if visit.found.is_some() || touch(touched, saids) {
+        push_saids(&mut near.olds, alloc, saids)?;
+        push_now(&mut near.news, alloc, visit.section, visit.found)?;
     }
     Ok(())
 }
@@ -288,26 +243,14 @@ fn push_near(
 fn push_nears(
     near: &mut Saids,
     alloc: Global,
-    options: &ParseOptions,
-    machine: &Inlines,
     touched: &Leads,
     side: Side,
 ) -> Result<(), AllocError>
-    requires rereads { AreReread (events_by options.now (defines machine.now.labels)) side.first side.sections.now side.rereads.now }
-    requires numbers { side.first + length side.sections.now < 2 ^ 64 }
-    requires untouched { (label : List ℕ) → said_by touched.now label ≡ None → AllByRecursion (IsUntouched (events_by options.now (defines machine.now.labels)) label) side.sections.now }
-    ensures { OnOk result (AreNear (said_by touched.now) (events_by options.now (defines machine.now.labels)) side.entry.sections.now near.old near.new) }
+    requires { side.first + length side.sections.now < 2 ^ 64 }
+    ensures { OnOk result (Goes (ArePushed (said_by touched.now)) (visits_of side.entry) near.old near.new) }
 {
-    let Side {
-        sections,
-        first,
-        rereads,
-    } = side;
-    let mut next = 0;
-    for index in 0..sections.len() {
-        let found = read_next(rereads, next, first + index);
-        push_near(near, alloc, touched, &sections[index], found)?;
-        next += count_of(found);
+    for visit in side {
+        push_near(near, alloc, touched, &visit)?;
     }
     Ok(())
 }
@@ -337,22 +280,10 @@ fn near_leads(
     let olds = Vec::new(alloc);
     let news = Vec::new(alloc);
     let mut near = Saids { olds, news };
-    push_nears(&mut near, alloc, options, new, &touched, around.front)?;
-    push_side(
-        &mut near.olds,
-        alloc,
-        options,
-        old,
-        as_they_are(around.gone),
-    )?;
-    push_side(
-        &mut near.news,
-        alloc,
-        options,
-        new,
-        as_they_are(around.read),
-    )?;
-    push_nears(&mut near, alloc, options, new, &touched, around.behind)?;
+    push_nears(&mut near, alloc, &touched, around.front)?;
+    push_own(&mut near.olds, alloc, around.gone)?;
+    push_own(&mut near.news, alloc, around.read)?;
+    push_nears(&mut near, alloc, &touched, around.behind)?;
     let before = Leads::of(alloc, near.olds)?;
     let now = Leads::of(alloc, near.news)?;
     Ok(Leading {
@@ -374,9 +305,9 @@ fn define_as_before(
     ensures { IfOk result (λ same. same ≡ true → all_saids (events_by options.now (defines old.now.labels)) (bytes_of_sections around.now.gone.now) ≡ all_saids (events_by options.now (defines new.now.labels)) (bytes_of_sections around.now.read.now)) }
 {
     let mut gone = Vec::new(alloc);
-    push_side(&mut gone, alloc, options, old, as_they_are(around.gone))?;
+    push_own(&mut gone, alloc, around.gone)?;
     let mut read = Vec::new(alloc);
-    push_side(&mut read, alloc, options, new, as_they_are(around.read))?;
+    push_own(&mut read, alloc, around.read)?;
     Ok(same_saids(gone.as_slice(), read.as_slice()))
 }
 
@@ -425,8 +356,8 @@ fn tell_sides(
         around.entry.behind.first around.entry.front.sections.now around.entry.behind.sections.now told.items) }
 {
     let leading = near_leads(alloc, options, old, new, &around)?;
-    let mut told = tell_side(alloc, options, new, &leading, around.front)?;
-    let mut more = tell_side(alloc, options, new, &leading, around.behind)?;
+    let mut told = tell_side(alloc, &leading, around.front)?;
+    let mut more = tell_side(alloc, &leading, around.behind)?;
     told.append(&mut more)?;
     Ok(told)
 }

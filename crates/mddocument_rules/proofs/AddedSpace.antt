@@ -7,7 +7,7 @@ use Rattle.mddocument_link_targets.specs.declared.strings.Reading.TheVariants.{A
 use Rattle.mddocument_link_targets.specs.Strings.{as_written, given_at}
 use Rattle.mddocument_rules.proofs.AlikeTexts.{AreWhite, white-passed}
 use Rattle.mddocument_rules.proofs.Reworked.{AreMinor, IsKind, enter-gives}
-use Rattle.mddocument_rules.specs.SegmentLaws.{BeginsWithAnEnter, Segment, instead, new_events, old_events, one}
+use Rattle.mddocument_rules.specs.SegmentLaws.{AreWrittenAs, BeginsWithAnEnter, Segment, instead, new_events, old_events, one}
 
 -- ---- texts
 -- whether text ends in white space, by whether what is before it does
@@ -44,7 +44,7 @@ pub record AreSpace (bytes : List ℕ) (es : List Event) : Type 0 where
   pub minor : AreMinor es
   pub text : List ℕ
   pub white : AreWhite text
-  pub gives : (zs : List Event) → as_written bytes (es ++ zs) ≡ text ++ as_written bytes zs
+  pub gives : AreWrittenAs bytes text es
 
 module _ (bytes : List ℕ) where
   abbrev pub told : Event → List Event → List ℕ

@@ -22,16 +22,16 @@ use Rattle.markdown_edits.specs.Woven.{Change}
 use Rattle.markdown_tokenizer.proofs.Positions.Chains.{IsChain}
 use Rattle.mdblock_leaf_blocks.proofs.Marks.Courses.{Course, course-every, course-on, course-place, course-upto}
 use Rattle.mdblock_leaf_blocks.specs.ChunksJoin.{AcrossGap}
-use Rattle.mdconstructs_machines.specs.Innermost.{AccountFor, innermost_spans, span_over, stretch_bytes}
+use Rattle.mdconstructs_machines.specs.Innermost.{innermost_spans, span_over, stretch_bytes}
 use Rattle.mdinline_text_machine.proofs.Autolinks.Places.{EndsInLine, chain-in-line}
-use Rattle.mdinline_text_machine.proofs.DeepSpans.Atoms.{EndsLine, none-account}
+use Rattle.mdinline_text_machine.proofs.DeepSpans.Atoms.{EndsLine}
 use Rattle.mdinline_text_machine.proofs.DeepSpans.Chains.{front-and-rest, front-upto}
 use Rattle.mdinline_text_machine.proofs.DeepSpans.Chunks.{HasChunk, Stands, chain-seats, chunk_seats, from_chunk, has-chunk, no-gap, place_behind, up-to-chunk}
 use Rattle.mdinline_text_machine.proofs.DeepSpans.Places.{Upto as IsUpto, chain-from, ends-line, origin}
 use Rattle.mdinline_text_machine.specs.ChainTexts.{chain_text}
 use Rattle.mddocument.proofs.InContainers.Order.{steady-pairs}
-use Rattle.mddocument.proofs.Innermost.Chains.{IsReadWell}
-use Rattle.mddocument.proofs.Innermost.Cuts.{Ascends, EndsUpto, IsBehind, StartBehind, ascends-back, cut-stretches, cut-there, rest-behind}
+use Rattle.mddocument.proofs.Innermost.Chains.{IsReadWell, not-same, some-gap, stretches-start}
+use Rattle.mddocument.proofs.Innermost.Cuts.{Ascends, EndsUpto, IsBehind, ascends-back, cut-stretches, cut-there, rest-behind}
 use Rattle.mddocument.proofs.Innermost.Lined.{InLine, LinedFor}
 use Rattle.mddocument_laws.proofs.Chosen.{AreOther}
 use Rattle.mddocument_link_targets.specs.declared.strings.Reading.TheVariants.{AsWritten}
@@ -121,10 +121,6 @@ stretches-upto t bytes end p (a ∷ others) rest c is =
     let exit : stands_before end (shown bytes q) ≡ false = (λ i. stands_before (sym is_later i) (place.is_shown i)) ∙ course-upto AcrossGap t bytes q seats rest later in
     (exit, stretches-upto t bytes end q others rest later is_later)
 
-stretches-start : (bytes : List ℕ) (end : Point) (stretches : List (Seat × List Seat)) (s : Seat) (ss : List Seat) → flat_map stretch_bytes stretches ≡ s ∷ ss → stands_before end (shown bytes s.point) ≡ true → StartBehind end (map (span_over bytes) stretches)
-stretches-start bytes end [] s ss is h = tt
-stretches-start bytes end (a ∷ others) s ss is h = let same : a.0 ≡ s = cc in subst (λ (r : Seat). stands_before end (shown bytes r.point) ≡ true) (sym same) h
-
 module _ (g : Given) (some : 0 < g.tab) (wanted : Option Content) (events : List Event) (ready : IsReady g.tab g.bytes wanted events) (gaps : HasTextInGaps wanted events) (defined : List ℕ → Bool)
     (space : (k d : ℕ) → fits wanted events k ≡ true → next_of events k ≡ Some d → (between (k + 2) d events ≡ [] → ⊥) → AreSpace g.bytes (between (k + 2) d events))
     (bare : (k d : ℕ) → fits wanted events k ≡ true → next_of events k ≡ Some d → AllBare (between (k + 2) d events)) where
@@ -158,10 +154,6 @@ module _ (g : Given) (some : 0 < g.tab) (wanted : Option Content) (events : List
     up : AllByRecursion (IsUpto (place_at events (k + 1))) (read ++ front_until (place_at events (k + 1)) left)
     late : AllByRecursion (IsBehind (place_at events (k + 1))) (drop (length (front_until (place_at events (k + 1)) left)) left)
     next : TakesPart d ks [] (drop (length (front_until (place_at events (k + 1)) left)) left) ((pre ++ (s ∷ ss)) ++ h.before) h.first h.others h.behind
-    some_gap : between (k + 2) d events ≡ [] → ⊥
-
-  not-same : (p q : Point) → p ≡ q → stands_before p q ≡ true → ⊥
-  not-same p q same h = let no : true ≡ false = sym h ∙ ap (λ r. stands_before r q) same ∙ stands-self q in cc
 
   whole-is : (end : Point) (read left : List Event) → (read ++ front_until end left) ++ drop (length (front_until end left)) left ≡ read ++ left
   whole-is end read left = append_assoc read (front_until end left) (drop (length (front_until end left)) left) ∙ ap (λ l. read ++ l) (front-and-rest end left)
@@ -217,10 +209,6 @@ module _ (g : Given) (some : 0 < g.tab) (wanted : Option Content) (events : List
           leads = lead-back g.bytes defined (read ++ front) rest (subst (Lead g.bytes defined) (sym all) c.leads);
           bares = every-back IsBare (read ++ front) rest (subst AllBare (sym all) c.bares);
         };
-        some_gap = λ none.
-            let nothing : h.before ≡ [] = none-account g.bytes h.before (subst (λ l. AccountFor l g.bytes h.before) none h.gap) in
-            let same : end ≡ place_at events d = c.ends_at ∙ ap (place_behind g some events) (sym (append-nil (pre ++ (s ∷ ss))) ∙ ap (λ l. (pre ++ (s ∷ ss)) ++ l) (sym nothing)) ∙ sym h.from in
-            not-same end (place_at events d) same before;
       }
 
   -- directly behind a chunk the next one takes its part too
@@ -319,7 +307,7 @@ module _ (g : Given) (some : 0 < g.tab) (wanted : Option Content) (events : List
             let cut = cut-behind-line k d ks read left pre s ss behind fit lead.0 before c h in
             let b = weave d ks more [] rest ((pre ++ (s ∷ ss)) ++ h.before) h.first h.others h.behind fit_next lead.2 spaced.1 cut.next in
             let xs = read ++ front in
-            let sp = space k d fit lead.0 cut.some_gap in
+            let sp = space k d fit lead.0 (some-gap g some events k d (pre ++ (s ∷ ss)) behind c.ends_at before h) in
             let others = flat_map (chunk_seats g events) (d ∷ ks) in
             let feeds = every-front (IfFeed g.bytes) (s ∷ ss) others (course-every AcrossGap g.tab g.bytes (IfFeed g.bytes) (feeds-virtual g.bytes g.tab) c.from ((s ∷ ss) ++ others) c.course) in
             let plain = every-front IsUnmarked xs rest (subst AreUnmarked (sym all) c.plain) in

@@ -114,8 +114,9 @@ ReferencesOfChainsAreDefined =
     (g : Given) (c at : ℕ) (label : List ℕ) → IsDocument g → begins (Some content.Text) (document_blocks g) c ≡ true
     → target_of g.bytes (inline_events (is_defined_in g) g (chain_text g (document_blocks g) c)) at ≡ Some (target.Label label) → is_some (definition_of g.bytes (document_events g) label) ≡ true
 
--- So each reference among the events of a document, a link or an image without a resource, has a label that is defined: the first definition among the events with
--- this label is what `definition_of` gives
+-- "A link label that matches a link reference definition elsewhere in the document" (CommonMark 0.31, 6.3): each reference among the events of a
+-- document, a link or an image without a resource, has a label that is defined. The first definition among the events with this label is what
+-- `definition_of` gives
 abbrev pub ReferencesAreDefined : Type 0
 ReferencesAreDefined =
     (g : Given) (at : ℕ) (label : List ℕ) → IsDocument g → target_of g.bytes (document_events g) at ≡ Some (target.Label label) → is_some (definition_of g.bytes (document_events g) label) ≡ true

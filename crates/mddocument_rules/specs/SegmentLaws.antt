@@ -42,12 +42,16 @@ BeginsWithAnEnter [] = ⊥
 BeginsWithAnEnter (e ∷ es) = e.kind ≡ Enter
 
 module _ (bytes : List ℕ) where
-  -- whole spans of other names, which are written as this, whatever comes behind them
+  -- events are written as this text, whatever comes behind them
+  abbrev pub AreWrittenAs : (text : List ℕ) → List Event → Type 0
+  AreWrittenAs text es = (zs : List Event) → as_written bytes (es ++ zs) ≡ text ++ as_written bytes zs
+
+  -- whole spans of other names, which are written as this
   pub record AreSpansOf (text : List ℕ) (es : List Event) : Type 0 where
     pub balanced : IsBalanced es
     pub begins : BeginsWithAnEnter es
     pub named : AllByRecursion (λ (e : Event). is_wanted leading_names e.name ≡ false) es
-    pub gives : (zs : List Event) → as_written bytes (es ++ zs) ≡ text ++ as_written bytes zs
+    pub gives : AreWrittenAs text es
 
   -- both are, and are written alike
   pub record AreWrittenAlike (old new : List Event) : Type 0 where

@@ -44,9 +44,20 @@ stretches-upto t bytes end p (a ∷ others) rest c is =
     (exit, stretches-upto t bytes end q others rest later is_later)
 
 -- the first of stretches begins at the first of their virtual bytes
-stretches-start : (bytes : List ℕ) (end : Point) (stretches : List (Seat × List Seat)) (s : Seat) (ss : List Seat) → flat_map stretch_bytes stretches ≡ s ∷ ss → stands_before end (shown bytes s.point) ≡ true → StartBehind end (map (span_over bytes) stretches)
+pub stretches-start : (bytes : List ℕ) (end : Point) (stretches : List (Seat × List Seat)) (s : Seat) (ss : List Seat) → flat_map stretch_bytes stretches ≡ s ∷ ss → stands_before end (shown bytes s.point) ≡ true → StartBehind end (map (span_over bytes) stretches)
 stretches-start bytes end [] s ss is h = tt
 stretches-start bytes end (a ∷ others) s ss is h = let same : a.0 ≡ s = cc in subst (λ (r : Seat). stands_before end (shown bytes r.point) ≡ true) (sym same) h
+
+pub not-same : (p q : Point) → p ≡ q → stands_before p q ≡ true → ⊥
+not-same p q same h = let no : true ≡ false = sym h ∙ ap (λ r. stands_before r q) same ∙ stands-self q in cc
+
+-- where text comes before the next chunk, events are between
+pub some-gap : (g : Given) (some : 0 < g.tab) (events : List Event) (k d : ℕ) (seats behind : List Seat) → place_at events (k + 1) ≡ place_behind g some events seats → stands_before (place_at events (k + 1)) (place_at events d) ≡ true
+    → HasChunk g some events (k + 2) d seats behind → between (k + 2) d events ≡ [] → ⊥
+some-gap g some events k d seats behind ends before h none =
+    let nothing : h.before ≡ [] = none-account g.bytes h.before (subst (λ l. AccountFor l g.bytes h.before) none h.gap) in
+    let same : place_at events (k + 1) ≡ place_at events d = ends ∙ ap (place_behind g some events) (sym (append-nil seats) ∙ ap (λ l. seats ++ l) (sym nothing)) ∙ sym h.from in
+    not-same (place_at events (k + 1)) (place_at events d) same before
 
 module _ (g : Given) (some : 0 < g.tab) (wanted : Option Content) (events : List Event) (ready : IsReady g.tab g.bytes wanted events) (gaps : HasTextInGaps wanted events) where
   -- the parts of a child's events from a chunk on, and what is behind them, begin with an enter, if the child does
@@ -77,10 +88,6 @@ module _ (g : Given) (some : 0 < g.tab) (wanted : Option Content) (events : List
   record IsCutThere (k d : ℕ) (ks : List ℕ) (read left : List Event) (pre : List Seat) (s : Seat) (ss behind : List Seat) (h : HasChunk g some events (k + 2) d (pre ++ (s ∷ ss)) behind) : Type 0 where
     pub front : AccountFor (read ++ front_until (place_at events (k + 1)) left) g.bytes (s ∷ ss)
     pub next : Comes d ks [] (drop (length (front_until (place_at events (k + 1)) left)) left) ((pre ++ (s ∷ ss)) ++ h.before) h.first h.others h.behind
-    pub some_gap : between (k + 2) d events ≡ [] → ⊥
-
-  not-same : (p q : Point) → p ≡ q → stands_before p q ≡ true → ⊥
-  not-same p q same h = let no : true ≡ false = sym h ∙ ap (λ r. stands_before r q) same ∙ stands-self q in cc
 
   cut-at-gap : (k d : ℕ) (ks : List ℕ) (read left : List Event) (pre : List Seat) (s : Seat) (ss behind : List Seat) → fits wanted events k ≡ true → next_of events k ≡ Some d
       → stands_before (place_at events (k + 1)) (place_at events d) ≡ true → Comes k (d ∷ ks) read left pre s ss behind → (h : HasChunk g some events (k + 2) d (pre ++ (s ∷ ss)) behind)
@@ -120,10 +127,6 @@ module _ (g : Given) (some : 0 < g.tab) (wanted : Option Content) (events : List
           shut = shut-back front rest (subst Shut (sym (front-and-rest end left)) (shut-back read left c.shut));
           upto = tt;
         };
-        some_gap = λ none.
-            let nothing : h.before ≡ [] = none-account g.bytes h.before (subst (λ l. AccountFor l g.bytes h.before) none h.gap) in
-            let same : end ≡ place_at events d = c.ends_at ∙ ap (place_behind g some events) (sym (append-nil (pre ++ (s ∷ ss))) ∙ ap (λ l. (pre ++ (s ∷ ss)) ++ l) (sym nothing)) ∙ sym h.from in
-            not-same end (place_at events d) same before;
       }
 
   -- directly behind a chunk the next one takes its part too
@@ -185,7 +188,7 @@ module _ (g : Given) (some : 0 < g.tab) (wanted : Option Content) (events : List
             let balanced = (ready.gaps k d fit lead.0).balanced in
             let more_good = through d ks more ws [] rest ((pre ++ (s ∷ ss)) ++ h.before) h.first h.others h.behind fit_next lead.2 spaced.1 good cut.next in
             let gapped = shut-account g.bytes gap then h.before (t ++ h.behind) (balanced-shut balanced) h.gap more_good in
-            let whole = opened-account g.bytes (read ++ front) (gap ++ then) (s ∷ ss) (h.before ++ (t ++ h.behind)) (opens-behind gap then balanced (inl cut.some_gap)) cut.front gapped in
+            let whole = opened-account g.bytes (read ++ front) (gap ++ then) (s ∷ ss) (h.before ++ (t ++ h.behind)) (opens-behind gap then balanced (inl (some-gap g some events k d (pre ++ (s ∷ ss)) behind c.ends_at before h))) cut.front gapped in
             subst (λ es. AccountFor es g.bytes ((s ∷ ss) ++ behind)) (append_assoc read front (gap ++ then)) (subst (λ l. AccountFor ((read ++ front) ++ (gap ++ then)) g.bytes ((s ∷ ss) ++ l)) (sym h.are) whole)
       ]
 

@@ -1,6 +1,6 @@
 use Rattle.mddocument_editing.proofs.Prelude.{◌≡◌, subst, sym, ap, ◌∙◌, false≢true, err_from_is_err_and, defines, events_by, IsPackable, TooLong}
 use Rattle.mddocument_editing.proofs.PutOthers.{has-unasked}
-use Rattle.mddocument_editing.specs.Said.{saids}
+use Rattle.mddocument_editing.specs.Said.{linking}
 use Rattle.mddocument_editing.proofs.put.new_events.Goals as goal
 
 pub returns-then-not-asks-clause-none : goal.returns-then-not-asks-clause-none
@@ -15,7 +15,7 @@ pub returns-clause-some : goal.returns-clause-some
 returns-clause-some c =
     let read = events_by c.args.options.now (defines c.args.machine.now.labels) in
     let new = c.in_ok-read.ensures.events ∙ ap read c.as_slice.ensures.value in
-    let all = c.in_ok-read.ensures.saids ∙ ap (λ bytes. saids bytes c.in_ok-read.read.events) c.as_slice.ensures.value in
+    let all = c.in_ok-read.ensures.linking ∙ ap (λ bytes. linking bytes c.in_ok-read.read.events) c.as_slice.ensures.value in
     ((new, all), (λ has. false≢true (sym c.if-same.false ∙ c.are_same-same.ensures.1 (new ∙ has))))
 
 pub returns-in_err-read-clause-fits : goal.returns-in_err-read-clause-fits

@@ -1,4 +1,4 @@
-use Rattle.mddocument_editing.proofs.Prelude.{◌+◌, ◌++◌, length, take, drop, refl, subst, sym, ap, ◌∙◌, arith, length-take-le, every-map, err_from_is_err_and, defines, events_by, IsRead, bytes_of_parts, bytes_of_sections, AreReread, HasEvents, HasSaids, Section}
+use Rattle.mddocument_editing.proofs.Prelude.{◌+◌, ◌++◌, length, take, drop, refl, subst, sym, ap, ◌∙◌, arith, length-take-le, every-map, err_from_is_err_and, defines, events_by, IsRead, bytes_of_parts, bytes_of_sections, AreReread, HasEvents, HasLinking, Section}
 use Rattle.mddocument_editing.specs.Leading.{first_said}
 use Rattle.mddocument_editing.specs.Told.{AreToldAround}
 use Rattle.mddocument_editing.proofs.PackedParts.{behind-fits, front-fits, parts-fit}
@@ -29,7 +29,7 @@ put-in c =
     let old_leads = first_said (events_by kept.options (defines kept.machine.labels)) (bytes_of_sections kept.sections.items) in
     let xs = kept.sections.items in
     let ends = ap (λ n. c.args.from + n) (c.len.ensures ∙ read.ok.0) in
-    let has = every-map (IsRead kept.options (defines c.args.machine.labels)) (λ (s : Section). HasEvents by s × HasSaids s) (λ s is. (sym is.events, is.saids)) read.items c.in_ok-read.ensures.read in
+    let has = every-map (IsRead kept.options (defines c.args.machine.labels)) (λ (s : Section). HasEvents by s × HasLinking s) (λ s is. (sym is.events, is.linking)) read.items c.in_ok-read.ensures.read in
     let new_to = c.args.from + length read.items in
     let long = length-take-le c.args.from xs (omega (arith, c.requires.recut.order, c.requires.recut.within)) in
     record {

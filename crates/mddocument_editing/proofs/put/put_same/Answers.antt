@@ -1,4 +1,4 @@
-use Rattle.mddocument_editing.proofs.Prelude.{◌≡◌, ◌+◌, ◌++◌, [], length, take, drop, refl, subst, sym, ap, ◌∙◌, err_from_is_err_and, defines, events_by, bytes_of_parts, bytes_of_sections, IsRead}
+use Rattle.mddocument_editing.proofs.Prelude.{◌+◌, ◌++◌, [], length, take, drop, refl, subst, sym, ap, ◌∙◌, err_from_is_err_and, defines, events_by, bytes_of_parts, bytes_of_sections, IsRead}
 use Rattle.mddocument_editing.specs.Leading.{first_said}
 use Rattle.mddocument_editing.specs.Told.{AreToldAround}
 use Rattle.mddocument_editing.proofs.PackedParts.{parts-fit}

@@ -21,7 +21,7 @@ loop-index-preserved c =
     let P = IsReadDocument c.args.options.now (defines c.args.old.now) in
     let is : P s = subst P (sym c.index-sections-index.is) (every-at P xs i s c.requires.read lt) in
     rereads-found (events_by c.args.options.now (defines c.args.machine.now.labels)) c.args.first i xs c.index-sections-index.result c.in_ok-found.found c.loop-index.others.items c.push_found.new.others.items lt
-    c.index-sections-index.is is.read.saids c.loop-index.invariant c.in_ok-found.ensures.none c.in_ok-found.ensures.some c.in_ok-push_found.ensures.none c.in_ok-push_found.ensures.some
+    c.index-sections-index.is is.read.linking c.loop-index.invariant c.in_ok-found.ensures.none c.in_ok-found.ensures.some c.in_ok-push_found.ensures.none c.in_ok-push_found.ensures.some
 
 pub returns-in_err-found-clause-fits : goal.returns-in_err-found-clause-fits
 returns-in_err-found-clause-fits c fits long =

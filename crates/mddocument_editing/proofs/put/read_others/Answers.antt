@@ -1,4 +1,4 @@
-use Rattle.mddocument_editing.proofs.Prelude.{◌≡◌, ◌+◌, ◌-◌, ◌++◌, length, take, drop, refl, subst, sym, arith, length-drop, length-take-le, take_all, AllByRecursion, every-drop, every-map, every-take, defines, events_by, IsRead, AreReread, HasEvents, IsReadDocument}
+use Rattle.mddocument_editing.proofs.Prelude.{◌≡◌, ◌+◌, ◌-◌, length, take, drop, subst, sym, arith, length-drop, take_all, AllByRecursion, every-drop, every-take, defines, events_by, AreReread, IsReadDocument}
 use Rattle.mddocument_editing.proofs.put.read_others.Goals as goal
 
 pub read_side-requires-clause-read : goal.read_side-requires-clause-read

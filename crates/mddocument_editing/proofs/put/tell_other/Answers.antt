@@ -1,4 +1,4 @@
-use Rattle.mddocument_editing.proofs.Prelude.{◌≡◌, ℕ, ◌+◌, ◌-◌, ◌≤◌, List, [], ◌++◌, length, take, drop, subst, sym, ap, ◌∙◌, arith, length-drop, take_all, drop-drop, AllByRecursion, every-drop, every-take, IfOk, defines, events_by, IsRead, bytes_of_sections, Section}
+use Rattle.mddocument_editing.proofs.Prelude.{◌≡◌, ℕ, ◌+◌, ◌-◌, ◌≤◌, List, ◌++◌, length, take, drop, subst, sym, ap, ◌∙◌, arith, length-drop, take_all, drop-drop, AllByRecursion, every-drop, every-take, IfOk, defines, events_by, IsRead, bytes_of_sections, Section}
 use Rattle.std.proofs.lemmas.List.{take-append-drop}
 use Rattle.mddocument_editing.specs.Leading.{first_said}
 use Rattle.mddocument_editing.specs.Told.{AreToldAround}

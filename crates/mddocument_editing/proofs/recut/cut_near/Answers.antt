@@ -1,4 +1,4 @@
-use Rattle.mddocument_editing.proofs.Prelude.{◌≡◌, ◌<◌, ◌++◌, ◌∙◌, ap, arith, subst, length, take, take-append_seam, IsSeam, items_of}
+use Rattle.mddocument_editing.proofs.Prelude.{◌<◌, ◌++◌, ◌∙◌, ap, arith, subst, length, take, take-append_seam, IsSeam, items_of}
 use Rattle.std.proofs.lemmas.Option.{IfSome_then}
 use Rattle.mddocument_editing.proofs.NearCuts.{front-sections, front-seam, near-is, near-some, of-some}
 use Rattle.mddocument_editing.proofs.recut.cut_near.Goals as goal

@@ -1,5 +1,5 @@
 use Rattle.mddocument_editing.proofs.Prelude.{◌≡◌, ap, subst, sym, ◌∙◌, err_from_is_err_and, defines, events_by, TooLong, IsPackable, has_end, endings}
-use Rattle.mddocument_editing.specs.Said.{saids}
+use Rattle.mddocument_editing.specs.Said.{linking}
 use Rattle.mddocument_editing.proofs.section.section_of.Goals as goal
 
 pub returns-clause-read : goal.returns-clause-read
@@ -11,7 +11,7 @@ returns-clause-read c =
       lines = c.line_endings-lines.ensures ∙ ap endings same;
       asks = c.has_end-asks.ensures ∙ ap has_end same;
       events = c.in_ok-read.ensures.events ∙ ap (events_by c.args.options.now (defines c.args.machine.now.labels)) same;
-      saids = c.in_ok-read.ensures.saids ∙ ap (λ bytes. saids bytes c.in_ok-read.read.events) same;
+      linking = c.in_ok-read.ensures.linking ∙ ap (λ bytes. linking bytes c.in_ok-read.read.events) same;
     }
 
 pub returns-in_err-read-clause-fits : goal.returns-in_err-read-clause-fits

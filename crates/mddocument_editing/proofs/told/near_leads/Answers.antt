@@ -1,20 +1,8 @@
 use Rattle.mddocument_editing.proofs.Prelude.{[], ◌++◌, refl, sym, ap, ◌∙◌, defines, events_by, bytes_of_sections}
 use Rattle.mddocument_editing.specs.Said.{said_by}
-use Rattle.mddocument_editing.specs.Told.{all_saids}
 use Rattle.mddocument_editing.specs.declared.told.Saids.{Saids}
-use Rattle.mddocument_editing.proofs.SaidSides.{reread-none}
-use Rattle.mddocument_editing.proofs.Touched.{AreAppended, leads-iff, own-are, untouched-same}
+use Rattle.mddocument_editing.proofs.Touched.{AreAppended, leads-iff, near-all, own-are, untouched-same}
 use Rattle.mddocument_editing.proofs.told.near_leads.Goals as goal
-
-pub push_side-requires-clause-rereads : goal.push_side-requires-clause-rereads
-push_side-requires-clause-rereads c =
-    reread-none (events_by c.args.options.now (defines c.args.old.now.labels)) c.as_they_are.result.first c.args.around.now.gone.now c.as_they_are.result.sections.now c.as_they_are.result.rereads.now
-    c.as_they_are.ensures.first c.as_they_are.ensures.sections c.as_they_are.ensures.rereads c.requires.gone
-
-pub push_side-requires-2-clause-rereads : goal.push_side-requires-2-clause-rereads
-push_side-requires-2-clause-rereads c =
-    reread-none (events_by c.args.options.now (defines c.args.new.now.labels)) c.as_they_are-2.result.first c.args.around.now.read.now c.as_they_are-2.result.sections.now c.as_they_are-2.result.rereads.now
-    c.as_they_are-2.ensures.first c.as_they_are-2.ensures.sections c.as_they_are-2.ensures.rereads c.requires.read
 
 pub returns : goal.returns
 returns c = λ label.
@@ -29,15 +17,15 @@ returns c = λ label.
     let touched = said_by c.in_ok-touched.touched in
     let zero : Saids = record { olds = c.new-olds.result; news = c.new-news.result } in
     let one = c.push_nears.new.near in
-    let two : Saids = record { olds = c.push_side.new.all; news = c.push_side-2.new.all } in
+    let two : Saids = record { olds = c.push_own.new.all; news = c.push_own-2.new.all } in
     let three = c.push_nears-2.new.near in
     let are : AreAppended touched old new front behind gone come zero one two three = record {
       none_old = c.new-olds.ensures.items;
       none_new = c.new-news.ensures.items;
-      front_near = c.in_ok-push_nears.ensures;
-      gone_added = c.in_ok-push_side.ensures ∙ ap (λ ss. one.olds.items ++ all_saids old (bytes_of_sections ss)) c.as_they_are.ensures.sections;
-      come_added = c.in_ok-push_side-2.ensures ∙ ap (λ ss. one.news.items ++ all_saids new (bytes_of_sections ss)) c.as_they_are-2.ensures.sections;
-      behind_near = c.in_ok-push_nears-2.ensures;
+      front_near = near-all touched new around.front.first front around.front.rereads.now zero one c.requires.front c.in_ok-touched.ensures.front c.in_ok-push_nears.ensures;
+      gone_added = c.in_ok-push_own.ensures ∙ ap (λ ds. one.olds.items ++ ds) (own-are old 0 around.gone.now [] refl c.requires.gone);
+      come_added = c.in_ok-push_own-2.ensures ∙ ap (λ ds. one.news.items ++ ds) (own-are new 0 around.read.now [] refl c.requires.read);
+      behind_near = near-all touched new around.behind.first behind around.behind.rereads.now two three c.requires.behind c.in_ok-touched.ensures.behind c.in_ok-push_nears-2.ensures;
       front_own = own-are old 0 front [] refl c.requires.old_front;
       behind_own = own-are old 0 behind [] refl c.requires.old_behind;
       gone_none = c.in_ok-touched.ensures.gone;

@@ -1,13 +1,7 @@
-use Rattle.mddocument_editing.proofs.Prelude.{◌+◌, ◌≤◌, length, drop, take, defines, events_by, AreReread}
 use Rattle.mddocument_editing.specs.Said.{said_by}
-use Rattle.mddocument_editing.specs.Told.{AreNear}
+use Rattle.mddocument_editing.specs.Told.{ArePushed, Goes, visits_of}
+use Rattle.mddocument_editing.specs.declared.told.Saids.{Saids}
 use Rattle.mddocument_editing.proofs.told.push_nears.Given as goal
 
-abbrev pub invariant-loop-index : goal.invariant-loop-index
-invariant-loop-index l =
-    let read = events_by l.options (defines l.machine.labels) in
-    record {
-      ahead : AreReread read (l.first + l.index) (drop l.index l.sections) (drop l.next l.rereads);
-      near : AreNear (said_by l.touched) read (take l.index l.sections) l.fn.near l.near;
-      room : l.next ≤ length l.rereads;
-    }
+abbrev pub invariant-loop-visit : goal.invariant-loop-visit
+invariant-loop-visit l = (after : Saids) → Goes (ArePushed (said_by l.touched)) (visits_of l.visit-iterator) l.near after → Goes (ArePushed (said_by l.touched)) (visits_of l.fn.side) l.fn.near after
