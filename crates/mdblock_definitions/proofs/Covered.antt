@@ -13,6 +13,7 @@ use Rattle.mdinline_labels.specs.Definitions.{definitions}
 use Rattle.mdblock_definitions.specs.Laws.{SectionsHoldLines}
 use Rattle.mdblock_definitions.specs.Sections.{Section, before_defined, begins_text, cut, defined_in, defining, in_same, lines, paragraph_of, sections_in, sections_of, text_in, undefined}
 use Rattle.mdblock_definitions.specs.Skeleton.{all_rows}
+use Rattle.mdblock_definitions.proofs.CutAlike.{undefined-is}
 
 abbrev pub rows_of : List Section → List Row
 rows_of ss = flat_map (λ s. all_rows s.part) ss
@@ -35,7 +36,7 @@ plain-lines around [] = refl
 plain-lines around (p ∷ ps) = ap (λ xs. all_rows p ++ xs) (plain-lines around ps)
 
 undefined-lines : (x : Bool) (around : Part) (rs : List Row) → rows_of (undefined x around rs) ≡ rs
-undefined-lines x around rs = by (parts rs) ∙ lines-of-parts (length rs) rs (omega (arith))
+undefined-lines x around rs = ap rows_of (undefined-is x around rs) ∙ by (parts rs) ∙ lines-of-parts (length rs) rs (omega (arith))
   where
     by : (ps : List Part) → rows_of (sections_of (x && begins_text rs) (map (in_same around) ps)) ≡ flat_map all_rows ps
     by [] = refl

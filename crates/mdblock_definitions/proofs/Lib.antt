@@ -17,6 +17,7 @@ pub mod Shorter
 pub mod Underlined
 -- sections
 pub mod Covered
+pub mod CutAlike
 pub mod SectionCosts
 pub mod SectionCuts
 pub mod SectionFacts

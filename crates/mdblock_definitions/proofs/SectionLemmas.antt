@@ -26,6 +26,7 @@ use Rattle.mdblock_definitions.specs.Held.{HasText, HaveTexts}
 use Rattle.mdblock_definitions.specs.Sections.{Section, before_defined, begins_text, defined, defined_in, defining, in_same, lines, lines_defined, lines_of, paragraph_of, sections_in, sections_of, text_in, undefined}
 use Rattle.mdblock_definitions.specs.Seen.{AreSections, AreThese, IsSection, begins_text_at, inside_of, is_text_at, row_by, rows_by}
 use Rattle.mdblock_definitions.proofs.Covered.{fewer-left, some-defined}
+use Rattle.mdblock_definitions.proofs.CutAlike.{undefined-is}
 
 -- ---- some of the lines
 
@@ -269,7 +270,7 @@ pub record Pushed (xs : List CodeSection) (is_behind : Bool) (left : List Row) (
   pub same : front ++ sections_of is_behind (map (in_same around) (parts left)) ≡ target
 
 pub pushed-init : (xs : List CodeSection) (before : List Section) (all : List Row) (around : Part) (is_behind b : Bool) → AreSections xs before → b ≡ (is_behind && begins_text all) → Pushed xs b all around (before ++ undefined is_behind around all)
-pushed-init xs before all around is_behind b are e = record { front = before; are = are; same = ap (λ (v : Bool). before ++ sections_of v (map (in_same around) (parts all))) e }
+pushed-init xs before all around is_behind b are e = record { front = before; are = are; same = ap (λ (v : Bool). before ++ sections_of v (map (in_same around) (parts all))) e ∙ ap (λ ss. before ++ ss) (sym (undefined-is is_behind around all)) }
 
 plain-is : (ps : List Part) → map (λ p. record { part = p; inside = lines false }) ps ≡ sections_of false ps
 plain-is [] = refl

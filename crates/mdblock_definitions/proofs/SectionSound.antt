@@ -7,7 +7,7 @@ use Rattle.markdown_base.proofs.Common.{and-right, every-append, every-take, eve
 use Rattle.markdown_tokenizer.proofs.Positions.Order.{every-back, every-front}
 use Rattle.mdblock_leaf_blocks.specs.LeafBlocks.{Line}
 use Rattle.mdblock_containers.specs.Rows.{Row, is_paragraph}
-use Rattle.mdblock_containers.specs.Skeleton.{Part, further, parts, parts_in}
+use Rattle.mdblock_containers.specs.Skeleton.{Part, further, parts}
 use Rattle.mdinline_labels.specs.Definitions.{definitions}
 use Rattle.mdblock_definitions.specs.Rows.{rows}
 use Rattle.mdblock_definitions.specs.Sectioned.{AreSectionsOf, AreSound, TextIsFilled, TextsAreFilled, IsSound}
@@ -34,7 +34,7 @@ undefined-sound : (x : Bool) (around : Part) (rs : List Row) → TextsAreFilled 
 undefined-sound x around [] h = tt
 undefined-sound x around (r ∷ rs) h =
     let n = cond r.is_blank 0 (further rs) in
-    (first-sound x (record { first = r; more = take n rs; frames = around.frames; stands = around.stands }) h.0, plain-sound around (parts_in (length rs) (drop n rs)))
+    (first-sound x (record { first = r; more = take n rs; frames = around.frames; stands = around.stands }) h.0, plain-sound around _)
 
 module _ (on : Constructs) where
   pub none-in : (r : Row) (rs : List Row) → is_paragraph r.leaf ≡ false → defined_in on (r ∷ rs) ≡ 0

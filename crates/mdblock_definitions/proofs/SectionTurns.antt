@@ -23,10 +23,11 @@ use Rattle.mdblock_containers.specs.Rows.{Row, has_none, is_paragraph, rest_of}
 use Rattle.mdblock_containers.specs.Skeleton.{Frame, Part, frames_at, further, parts, parts_in, shared, standing}
 use Rattle.mdinline_labels.specs.declared.definitions.Definition.{Definition}
 use Rattle.mdinline_labels.specs.Definitions.{definitions}
-use Rattle.mdblock_definitions.specs.Sections.{Inside, Section, before_defined, cut, defined, defined_in, defining, in_same, lines, lines_defined, paragraph_of, sections, sections_in, text_in, undefined}
+use Rattle.mdblock_definitions.specs.Sections.{Inside, Section, before_defined, begins_text, cut, defined, defined_in, defining, in_same, lines, lines_defined, paragraph_of, sections, sections_in, sections_of, text_in, undefined}
 use Rattle.mdblock_definitions.specs.Rows.{Known, known_after, row_of, rows, rows_from}
 use Rattle.mdblock_definitions.specs.Skeleton.{all_rows}
 use Rattle.mdblock_definitions.proofs.Covered.{lines-of-parts, part-lines, rows_of, sections-hold-lines}
+use Rattle.mdblock_definitions.proofs.CutAlike.{undefined-is}
 use Rattle.mdblock_definitions.proofs.DefinitionLines.{AreDefined, IsFilled, lines-are-defined}
 use Rattle.mdblock_definitions.proofs.KnownReads.{known-reads, nothing}
 use Rattle.mdblock_definitions.proofs.PlainLetters.{open-not-blank}
@@ -134,13 +135,16 @@ module _ (bytes : List ℕ) where
     others-inside [] h = tt
     others-inside (p ∷ ps) h = (one-inside p (lines false) h.0 (λ e. absurd (false≢true e)), others-inside ps h.1)
 
-    undefined-inside : (x : Bool) (rs : List Row) → AllByRecursion IsIn rs → OnlyFirst rs → AllByRecursion IsInside (undefined x around rs)
-    undefined-inside x [] h only = tt
-    undefined-inside x (r ∷ rs) h only =
+    parts-inside : (x : Bool) (rs : List Row) → AllByRecursion IsIn rs → OnlyFirst rs → AllByRecursion IsInside (sections_of (x && begins_text rs) (map (in_same around) (parts rs)))
+    parts-inside x [] h only = tt
+    parts-inside x (r ∷ rs) h only =
         let all = pieces (suc (length rs)) (r ∷ rs) h only in
         let n = cond r.is_blank 0 (further rs) in
         let p : Part = record { first = r; more = take n rs; frames = frames_at r rs; stands = standing r rs } in
         (one-inside p (lines (x && is_paragraph r.leaf)) all.0 (λ e. not-blank r h.0.0 (and-right x (is_paragraph r.leaf) e)), others-inside (parts_in (length rs) (drop n rs)) all.1)
+
+    undefined-inside : (x : Bool) (rs : List Row) → AllByRecursion IsIn rs → OnlyFirst rs → AllByRecursion IsInside (undefined x around rs)
+    undefined-inside x rs h only = subst (AllByRecursion IsInside) (sym (undefined-is x around rs)) (parts-inside x rs h only)
 
     defining-inside : (ds : List Definition) (rs : List Row) → AreDefined bytes ds rs → AllByRecursion IsIn rs → OnlyFirst rs → AllByRecursion IsInside (defining ds around rs)
     defining-inside ds [] d h only = tt

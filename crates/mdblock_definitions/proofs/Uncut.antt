@@ -15,6 +15,7 @@ use Rattle.mdblock_definitions.specs.Sections.{Section, before_defined, cut, def
 use Rattle.mdblock_definitions.specs.Seen.{AreThese, IsFound, begins_text_at}
 use Rattle.mdblock_definitions.specs.Skeleton.{all_rows}
 use Rattle.mdblock_definitions.specs.declared.sections.Found.{Found}
+use Rattle.mdblock_definitions.proofs.CutAlike.{undefined-is}
 use Rattle.mdblock_definitions.proofs.SectionLemmas.{nothing-in, sections-none}
 use Rattle.mdblock_definitions.proofs.SectionSound.{cut-filled, none-in}
 
@@ -80,6 +81,7 @@ module _ (on : Constructs) where
         ∙ ap (pieces all []) (sym (nothing-in on))
         ∙ ap (λ ss. undefined false p all ++ ss) (sections-none on (length p.more) true p)
         ∙ append-nil (undefined false p all)
+        ∙ undefined-is false p all
         ∙ ap (λ (x : Bool). made (cond x 0 (further p.more))) filled
         ∙ ap made whole
         ∙ ap (λ (rs : List Row). plain (record p { more = rs }) ∷ behind (drop (length p.more) p.more)) (take-length p.more)

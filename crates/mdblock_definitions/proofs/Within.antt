@@ -10,12 +10,13 @@ use Rattle.markdown_base.proofs.Common.{every-append}
 use Rattle.mdblock_containers.specs.declared.parts.PartEnd.{PartEnd}
 use Rattle.mdblock_containers.specs.Rest.{ending_to}
 use Rattle.mdblock_containers.specs.Rows.{Row, has_none}
-use Rattle.mdblock_containers.specs.Skeleton.{Frame, Part, end_of, ending_marks, exits, parts, shared}
+use Rattle.mdblock_containers.specs.Skeleton.{Frame, Part, end_of, ending_marks, exits, shared}
 use Rattle.mdblock_containers.proofs.FrameFacts.{shared_front}
 use Rattle.mdblock_containers.proofs.RestLemmas.{exits_shown}
 use Rattle.mdblock_containers.proofs.RowSpans.{head_same}
 use Rattle.mdinline_labels.specs.declared.definitions.Definition.{Definition}
 use Rattle.mdinline_labels.specs.Definitions.{definitions}
+use Rattle.mdblock_definitions.specs.BlankLines.{parts}
 use Rattle.mdblock_definitions.specs.Sections.{Section, before_defined, cut, defined_in, defining, in_same, lines, paragraph_of, sections_in, sections_of, text_in, undefined}
 use Rattle.mdblock_definitions.specs.Skeleton.{behind_marks, section_marks, sections_marks}
 use Rattle.mdblock_definitions.proofs.Covered.{part-lines, rows_of}

@@ -1,5 +1,6 @@
--- lines: with the open paragraph's text; parts, cut before and behind definitions
+-- lines: with the open paragraph's text; parts, by where blank lines stand; parts, cut before and behind definitions
 pub mod Rows
+pub mod BlankLines
 pub mod Sections
 -- definition: the events of definitions; the skeleton with them, the labels and the letters; the blocks
 pub mod Blocks

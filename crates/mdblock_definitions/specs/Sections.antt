@@ -6,6 +6,7 @@ use Rattle.std.specs.List.{flat_map, prefix_len}
 use Rattle.markdown_base.specs.declared.configuration.Constructs.{Constructs}
 use Rattle.mdblock_containers.specs.Rows.{Row, has_none, is_paragraph, rest_of}
 use Rattle.mdblock_containers.specs.Skeleton.{Part, parts}
+use Rattle.mdblock_definitions.specs.BlankLines as blank_lines
 use Rattle.mdinline_labels.specs.declared.definitions.Definition.{Definition}
 use Rattle.mdinline_labels.specs.Definitions.{definitions, rest}
 
@@ -65,7 +66,7 @@ sections_of is_behind (part ∷ more) = record { part = part; inside = lines is_
 
 -- lines of a part without definitions: blank lines, and stretches
 abbrev pub undefined : (is_behind : Bool) → Part → List Row → List Section
-undefined is_behind around rows = sections_of (is_behind && begins_text rows) (map (in_same around) (parts rows))
+undefined is_behind around rows = sections_of (is_behind && begins_text rows) (map (in_same around) (blank_lines.parts rows))
 
 -- lines of a part with these definitions
 abbrev pub defining : List Definition → Part → List Row → List Section

@@ -14,8 +14,9 @@ use Rattle.mdblock_containers.specs.Skeleton.{Part, further, parts, parts_in}
 use Rattle.mdinline_labels.specs.declared.definitions.Definition.{Definition}
 use Rattle.mdinline_labels.specs.Definitions.{definitions}
 use Rattle.mdblock_definitions.specs.Rows.{rows}
-use Rattle.mdblock_definitions.specs.Sections.{Section, before_defined, cut, defined, defined_in, defining, in_same, lines, paragraph_of, sections, sections_in, text_in, undefined}
+use Rattle.mdblock_definitions.specs.Sections.{Section, before_defined, begins_text, cut, defined, defined_in, defining, in_same, lines, paragraph_of, sections, sections_in, sections_of, text_in, undefined}
 use Rattle.mdblock_definitions.specs.Skeleton.{all_rows}
+use Rattle.mdblock_definitions.proofs.CutAlike.{undefined-is}
 use Rattle.mdblock_paragraphs.proofs.SaidRows.{AreSaid, Mode, Ready, StaysOn, goes_on, mode_behind, none_open, not_said, ready-apart, ready-unsaid, said-before}
 use Rattle.mdblock_paragraphs.proofs.ToldRows.{AreTold, IsKept, rows-told, text_behind, told-drop, told-kept, told-take}
 
@@ -129,9 +130,9 @@ module _ (on : Constructs) where
   others-said around [] h = tt
   others-said around (p ∷ ps) h = ((λ e. h.0), others-said around ps h.1)
 
-  undefined-said : (x : Bool) (around : Part) (rs : List Row) → AreSaid on (cond x not_said none_open) rs → AllByRecursion (IsKept on) rs → AllByRecursion StaysOn (drop 1 rs) → AllByRecursion SectionSaid (undefined x around rs)
-  undefined-said x around [] h keep stay = tt
-  undefined-said x around (r ∷ rs) h keep stay =
+  sections-of-said : (x : Bool) (around : Part) (rs : List Row) → AreSaid on (cond x not_said none_open) rs → AllByRecursion (IsKept on) rs → AllByRecursion StaysOn (drop 1 rs) → AllByRecursion SectionSaid (sections_of (x && begins_text rs) (map (in_same around) (parts rs)))
+  sections-of-said x around [] h keep stay = tt
+  sections-of-said x around (r ∷ rs) h keep stay =
       let n = cond r.is_blank 0 (further rs) in
       let said = parts-said (length (r ∷ rs)) (r ∷ rs) (cond x not_said none_open) h keep stay in
       (by x said.0, others-said around (parts_in (length rs) (drop n rs)) said.1)
@@ -139,6 +140,9 @@ module _ (on : Constructs) where
       by : (x : Bool) → AreSaid on (cond x not_said none_open) (r ∷ take (cond r.is_blank 0 (further rs)) rs) → (x && is_paragraph r.leaf) ≡ false → AreSaid on none_open (r ∷ take (cond r.is_blank 0 (further rs)) rs)
       by true h e = anew not_said r (take (cond r.is_blank 0 (further rs)) rs) h e
       by false h e = h
+
+  undefined-said : (x : Bool) (around : Part) (rs : List Row) → AreSaid on (cond x not_said none_open) rs → AllByRecursion (IsKept on) rs → AllByRecursion StaysOn (drop 1 rs) → AllByRecursion SectionSaid (undefined x around rs)
+  undefined-said x around rs h keep stay = subst (AllByRecursion SectionSaid) (sym (undefined-is x around rs)) (sections-of-said x around rs h keep stay)
 
   defining-said : (ds : List Definition) (around : Part) (rs : List Row) → AllByRecursion SectionSaid (defining ds around rs)
   defining-said ds around [] = tt

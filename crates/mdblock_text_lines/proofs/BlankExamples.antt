@@ -7,7 +7,7 @@ use Rattle.markdown_base.specs.declared.event.Name.TheVariants.{BlockQuote, List
 use Rattle.mdconstructs_machines.specs.LineEvents.{lines_in}
 use Rattle.mdblock_containers.specs.Skeleton.{Frame}
 use Rattle.mdblock_definitions.specs.Rows.{rows}
-use Rattle.mdblock_text_lines.specs.BlankLines.{parts}
+use Rattle.mdblock_definitions.specs.BlankLines.{parts}
 
 -- the spans of each part: here each line is one
 abbrev spans : List ℕ → List (List Frame)

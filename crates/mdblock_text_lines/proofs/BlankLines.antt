@@ -25,7 +25,7 @@ use Rattle.mdblock_containers.specs.Skeleton.{Frame, Part, frames_of, further, g
 use Rattle.mdblock_containers.specs.Skeleton as now
 use Rattle.mdblock_definitions.proofs.KnownReads.{known-reads, nothing}
 use Rattle.mdblock_text_lines.specs.Asked.{PartsAreThose}
-use Rattle.mdblock_text_lines.specs.BlankLines.{containers_in, frames_at, frames_behind, has_marker, marked, parts, parts_in, standing}
+use Rattle.mdblock_definitions.specs.BlankLines.{containers_in, frames_at, frames_behind, has_marker, marked, parts, parts_in, standing}
 
 -- ---- containers that a blank line stands in, from the outermost on
 

@@ -8,7 +8,7 @@ use Rattle.mdblock_containers.specs.Skeleton as by_counts
 use Rattle.mdblock_definitions.specs.Blocks as lettered
 use Rattle.mdblock_definitions.specs.Rows.{rows}
 use Rattle.mdblock_definitions.specs.Skeleton as by_counts_defined
-use Rattle.mdblock_text_lines.specs.BlankLines.{parts}
+use Rattle.mdblock_definitions.specs.BlankLines.{parts}
 use Rattle.mdblock_text_lines.specs.DocumentBlocks.{document_blocks}
 use Rattle.mdblock_text_lines.specs.DocumentSections.{sections_in_seats}
 

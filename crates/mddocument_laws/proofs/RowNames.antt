@@ -3,6 +3,7 @@ use Rattle.mddocument_laws.proofs.Prelude.{◌≡◌, ℕ, zero, suc, ◌==◌, 
 use Rattle.mdblock_lines.specs.Containers.{begins}
 use Rattle.mdblock_containers.specs.Rows as without
 use Rattle.mdblock_containers.specs.Skeleton.{parts}
+use Rattle.mdblock_definitions.proofs.CutAlike.{undefined-is}
 use Rattle.mdblock_definitions.specs.Sections.{cut}
 use Rattle.mddocument_laws.proofs.PlainNames.{stands_bare}
 
@@ -197,7 +198,9 @@ module _ (other : Constructs) where
   sections-of-on is_behind (p ∷ ps) h = (record { part = h.0; inside = tt }, plain-on ps h.1)
 
   undefined-on : (is_behind : Bool) (around : Part) (all : List Row) → FramesAreOn around.frames → RowsAreOn all → SectionsAreOn (undefined is_behind around all)
-  undefined-on is_behind around all f h = sections-of-on (is_behind && begins_text all) (map (in_same around) (parts all)) (in-same-on around (parts all) f (parts-on (length all) all h))
+  undefined-on is_behind around all f h =
+      subst SectionsAreOn (sym (undefined-is is_behind around all))
+      (sections-of-on (is_behind && begins_text all) (map (in_same around) (parts all)) (in-same-on around (parts all) f (parts-on (length all) all h)))
 
   defining-on : (ds : List Definition) (around : Part) (all : List Row) → FramesAreOn around.frames → RowsAreOn all → other.definition ≡ true → SectionsAreOn (defining ds around all)
   defining-on ds around [] f h d = tt

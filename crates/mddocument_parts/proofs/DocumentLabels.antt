@@ -19,6 +19,7 @@ use Rattle.mdblock_containers.specs.Prefixes.{containers_of}
 use Rattle.mdblock_containers.specs.Rows.{Before, Row, closed, has_none, holds_ending, is_paragraph, rest_of}
 use Rattle.mdblock_containers.specs.Skeleton.{Part, frames_at, further, parts, parts_in, standing}
 use Rattle.mdblock_definitions.proofs.Covered.{lines-of-parts}
+use Rattle.mdblock_definitions.proofs.CutAlike.{undefined-is}
 use Rattle.mdblock_definitions.specs.Rows.{Known, known_after, row_of, rows, rows_from}
 use Rattle.mdblock_definitions.specs.Sections.{Section, before_defined, begins_text, cut, defined, defined_in, defining, in_same, lines, lines_defined, paragraph_of, sections, sections_in, sections_of, text_in, undefined}
 use Rattle.mdblock_definitions.specs.Skeleton.{all_rows, labels_in, labels_of_section, letters_of_section, text_begin, written_labels}
@@ -43,7 +44,7 @@ module _ {A : Type 0} (on : Constructs) (h : Bool → Row → List A) (d : List 
   plain-are around (p ∷ ps) = (λ i. of-lines false (in_same around p) i ++ plain-are around ps i) ∙ sym (flat_map-append (h false) (all_rows p) (flat_map all_rows ps))
 
   undefined-are : (b : Bool) (around : Part) (rs : List Row) → flat_map f (undefined b around rs) ≡ of_rows on h d (b && begins_text rs) rs
-  undefined-are b around rs = by (b && begins_text rs) (parts rs) ∙ ap (of_rows on h d (b && begins_text rs)) (lines-of-parts (length rs) rs (omega arith))
+  undefined-are b around rs = ap (flat_map f) (undefined-is b around rs) ∙ by (b && begins_text rs) (parts rs) ∙ ap (of_rows on h d (b && begins_text rs)) (lines-of-parts (length rs) rs (omega arith))
     where
       by : (c : Bool) (ps : List Part) → flat_map f (sections_of c (map (in_same around) ps)) ≡ of_rows on h d c (flat_map all_rows ps)
       by c [] = refl

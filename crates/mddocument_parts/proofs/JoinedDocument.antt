@@ -30,6 +30,7 @@ use Rattle.mdblock_containers.specs.Rows.{Before, Row, closed, has_none, holds_e
 use Rattle.mdblock_containers.specs.Skeleton.{Frame, Part, frames_at, frames_of, going_on_at, last_of, left_in, list_at, list_begun, parts, standing}
 use Rattle.mdblock_definitions.proofs.PlainLetters.{open-not-blank}
 use Rattle.mdblock_definitions.proofs.SectionCosts.{defined-text}
+use Rattle.mdblock_definitions.specs.BlankLines as blank_lines
 use Rattle.mdblock_definitions.specs.Rows.{Known, known_after, row_of, rows, rows_from, underlines_nothing}
 use Rattle.mdblock_definitions.specs.Sections.{Section, before_defined, begins_text, cut, defined, defined_in, defining, paragraph_of, sections, sections_in, sections_of, text_in}
 use Rattle.mdblock_definitions.specs.Skeleton.{all_rows}
@@ -67,7 +68,7 @@ around-any on (suc bound) p a b (r ∷ rs) f s =
     let k = defined_in on behind in
     let ds = definitions (text_in (paragraph_of behind)) in
     let more = around-any on bound true a b (drop k behind) f s in
-    (λ i. sections_of (p && begins_text (take n all)) (map (λ (q : Part). let o : Part = record { first = q.first; more = q.more; frames = f i; stands = s i } in o) (parts (take n all))) ++ (defining-any ds (take k behind) i ++ more i))
+    (λ i. sections_of (p && begins_text (take n all)) (map (λ (q : Part). let o : Part = record { first = q.first; more = q.more; frames = f i; stands = s i } in o) (blank_lines.parts (take n all))) ++ (defining-any ds (take k behind) i ++ more i))
   where
     defining-any : (ds : List Definition) (rows : List Row) → defining ds a rows ≡ defining ds b rows
     defining-any ds [] = refl
@@ -102,7 +103,7 @@ module _ (around : Part) where
         let n = length all in
         let are = left-parts-by (its_frames around) (its_stands around) n all (omega arith) l k in
         sections-plain on around b false r y (left-before false all l k)
-        ∙ ap (sections_of false) (same-parts around n all ∙ blanks-are (its_parts around n all) are.1 (all-same around n all) ∙ ap blank_parts are.0)
+        ∙ ap (sections_of false) (same-parts around n [] all ∙ blanks-are (its_parts around n all) are.1 (all-same around n all) ∙ ap blank_parts are.0)
 
     -- behind other rows
     with-blanks : (c b : ℕ) (q : Row) (x : List Row) (ps : List Part) → length (q ∷ (x ++ firsts ps)) ≤ c → length (q ∷ x) ≤ b → AllByRecursion LeftIsBlank (q ∷ x) → AllByRecursion LeftIsBlank (firsts ps) → AllByRecursion IsBlankPart ps → AllByRecursion (IsSame around) ps

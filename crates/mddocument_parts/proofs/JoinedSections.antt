@@ -11,8 +11,9 @@ use Rattle.mdinline_labels.specs.Definitions.{definitions}
 use Rattle.mdblock_lines.specs.Containers.{Container}
 use Rattle.mdblock_containers.proofs.RestLemmas.{further_few}
 use Rattle.mdblock_containers.specs.Rows.{Row, is_paragraph}
-use Rattle.mdblock_containers.specs.Skeleton.{Frame, Part, frames_at, further, parts, parts_in, standing}
+use Rattle.mdblock_containers.specs.Skeleton.{Frame, Part, frames_at, further, parts_in, standing}
 use Rattle.mdblock_definitions.proofs.Covered.{fewer-left}
+use Rattle.mdblock_definitions.specs.BlankLines as blank_lines
 use Rattle.mdblock_definitions.specs.Sections.{Section, before_defined, begins_text, defined_in, defining, in_same, lines, paragraph_of, sections_in, sections_of, text_in, undefined}
 use Rattle.mdblock_definitions.specs.Skeleton.{all_rows}
 use Rattle.mddocument_parts.proofs.SectionRows.{AllLeft, Apart, Follows, FurtherApart, LeftIsBlank, before-apart, cut_off, defined-apart, defined-within, further-apart, further-cut, going, joined, joined-behind, joined-drop, left-behind, paragraph-apart, text-taken}
@@ -303,10 +304,13 @@ module _ (around : Part) where
   abbrev pub its_parts : (bound : ℕ) → List Row → List Part
   its_parts = parts_by its_frames its_stands
 
-  pub same-parts : (bound : ℕ) (rs : List Row) → map (in_same around) (parts_in bound rs) ≡ its_parts bound rs
-  same-parts zero rs = refl
-  same-parts (suc bound) [] = refl
-  same-parts (suc bound) (r ∷ rs) = let n = cond r.is_blank 0 (further rs) in let p : Part = record { first = r; more = take n rs; frames = around.frames; stands = around.stands } in ap (λ ps. p ∷ ps) (same-parts bound (drop n rs))
+  pub same-parts : (bound : ℕ) (before : List Frame) (rs : List Row) → map (in_same around) (blank_lines.parts_in bound before rs) ≡ its_parts bound rs
+  same-parts zero before rs = refl
+  same-parts (suc bound) before [] = refl
+  same-parts (suc bound) before (r ∷ rs) =
+      let n = cond r.is_blank 0 (further rs) in
+      let p : Part = record { first = r; more = take n rs; frames = around.frames; stands = around.stands } in
+      ap (λ ps. p ∷ ps) (same-parts bound (blank_lines.frames_at before r rs) (drop n rs))
 
   pub all-same : (bound : ℕ) (rs : List Row) → AllByRecursion (IsSame around) (its_parts bound rs)
   all-same zero rs = tt
@@ -387,7 +391,7 @@ module _ (around : Part) where
         let behind = front-behind m r rs tail in
         let c = length (all ++ ys) in
         joins-same Place around r rs all all (sections_of flag (its_parts c (all ++ ys))) (undefined b around (all ++ ys)) (sections_of flag (its_parts (length all) all)) (undefined b around all) (sections_of false (its_parts (length ys) ys)) (undefined false around ys)
-        refl (ap (sections_of flag) (sym (same-parts c (all ++ ys)))) (ap (sections_of flag) (sym (same-parts (length all) all))) (ap (sections_of false) (sym (same-parts (length ys) ys)))
+        refl (ap (sections_of flag) (sym (same-parts c [] (all ++ ys)))) (ap (sections_of flag) (sym (same-parts (length all) [] all))) (ap (sections_of false) (sym (same-parts (length ys) [] ys)))
         (joins-longer Place around r z rs (drop m rs) (sym (take-append-drop m rs)) all (sections_of flag (its_parts c (all ++ ys))) (sections_of flag (its_parts (length all) all)) (sections_of false (its_parts (length ys) ys))
         (of-parts Place r z behind flag all (its_parts c (all ++ ys)) (its_parts (length all) all) (its_parts (length ys) ys) (all-same (length all) all) (all-same (length ys) ys) (some-parts (length all) q x (omega arith))
         (λ h. place h.front h.it.begin h.it.blanks h.first_is (h.rows_are ∙ ap (λ l. l ++ (h.it.begin.first ∷ (h.it.begin.more ++ firsts h.it.blanks))) h.above_is) h.it.full h.it.stay)
@@ -428,7 +432,7 @@ module _ (on : Constructs) (around : Part) where
   sections-any (suc bound) p (r ∷ ys) e =
       let all = r ∷ ys in
       let n = before_defined on false all in
-      ap (λ flag. sections_of flag (map (in_same around) (parts (take n all))) ++ from_cut bound (drop n all)) (text-taken p n all e)
+      ap (λ flag. sections_of flag (map (in_same around) (blank_lines.parts (take n all))) ++ from_cut bound (drop n all)) (text-taken p n all e)
 
   from-none : (b : ℕ) → from_cut b [] ≡ []
   from-none b = let n = defined_in on [] in (λ i. defining (definitions (text_in (paragraph_of []))) around (take-nil n i) ++ sections_in on b true around (drop-nil n i)) ∙ sections-none b true

@@ -22,6 +22,7 @@ use Rattle.mdblock_containers.proofs.RestLemmas.{further_few, parts_bound}
 use Rattle.mdblock_containers.specs.Prefixes.{beginning, columns_of, containers_of, going_on, in_place_of, with_list}
 use Rattle.mdblock_containers.specs.Rows.{Before, Row, closed, is_paragraph, is_raw}
 use Rattle.mdblock_containers.specs.Skeleton.{Frame, Part, end_of, ending_marks, exits, frames_at, frames_of, further, going_on_at, left_in, list_at, list_begun, list_name, parts, parts_in, shared, standing}
+use Rattle.mdblock_definitions.specs.BlankLines as blank_lines
 use Rattle.mdblock_definitions.specs.Rows.{Known, known_after, row_of, rows, rows_from}
 use Rattle.mdblock_definitions.specs.Sections.{Section, before_defined, begins_text, cut, defined_in, defining, in_same, lines, paragraph_of, sections, sections_in, sections_of, text_in, undefined}
 use Rattle.mdblock_definitions.specs.Skeleton.{behind_marks, section_marks, sections_marks}
@@ -220,7 +221,7 @@ module _ (P : ℕ → Type 0) where
       let first = undefined b around (take n all) in
       let middle = defining ds around (take d behind) in
       let last = sections_in on bound true around (drop d behind) in
-      every-append SectionIs first (middle ++ last) (several-in around h (b && begins_text (take n all)) (parts (take n all)))
+      every-append SectionIs first (middle ++ last) (several-in around h (b && begins_text (take n all)) (blank_lines.parts (take n all)))
       (every-append SectionIs middle last (defining-in ds around h (take d behind)) (cut-in on bound true around h (drop d behind)))
 
   cut-is : (on : Constructs) (part : Part) → PartIs part → AllByRecursion SectionIs (cut on part)

@@ -11,6 +11,7 @@ use Rattle.mdblock_lines.specs.Containers.{Container, Prefix, item, quote}
 use Rattle.mdblock_containers.specs.Prefixes.{containers_of}
 use Rattle.mdblock_containers.specs.Rows.{Row, is_paragraph}
 use Rattle.mdblock_containers.specs.Skeleton.{Frame, Part, frames_at, frames_of, further, going_on_at, left_in, list_at, list_begun, list_name, parts, parts_in, standing}
+use Rattle.mdblock_definitions.proofs.CutAlike.{undefined-is}
 use Rattle.mdblock_definitions.specs.Sections.{Section, before_defined, begins_text, cut, defined_in, defining, in_same, lines, lines_defined, paragraph_of, sections_in, sections_of, text_in, undefined}
 use Rattle.mddocument_parts.specs.DocumentRests.{moved_container, moved_prefix, moved_row}
 use Rattle.mddocument_parts.specs.MovedSections.{SectionsMove, moved_frame, moved_part, moved_section}
@@ -156,7 +157,10 @@ module _ (l n : ℕ) where
 
     undefined-moved : (b : Bool) (around : Part) (rows : List Row) → undefined b (moved_part l n around) (mrs rows) ≡ mss (undefined b around rows)
     undefined-moved b around rows =
-        (λ i. sections_of (b && begins-moved rows i) (map (in_same (moved_part l n around)) (all-parts-moved rows i))) ∙ sections-of-moved (b && begins_text rows) around (parts rows)
+        undefined-is b (moved_part l n around) (mrs rows)
+        ∙ (λ i. sections_of (b && begins-moved rows i) (map (in_same (moved_part l n around)) (all-parts-moved rows i)))
+        ∙ sections-of-moved (b && begins_text rows) around (parts rows)
+        ∙ ap mss (sym (undefined-is b around rows))
 
     defining-moved : (ds : List Definition) (around : Part) (rows : List Row) → defining ds (moved_part l n around) (mrs rows) ≡ mss (defining ds around rows)
     defining-moved ds around [] = refl

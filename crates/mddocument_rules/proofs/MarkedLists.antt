@@ -40,7 +40,7 @@ use Rattle.mddocument_rules.proofs.Markers.{AreOfTheirLists, line-items, open-it
 use Rattle.mddocument_rules.proofs.OpenRows.{IsBehind, behind-next, first-behind}
 use Rattle.mddocument_rules.proofs.Skeletons.{InFrames, sections-in}
 use Rattle.mddocument_rules.proofs.WrittenMarkers.{AreWritten, IsByte, bytes-virtual, row-written}
-use Rattle.mdblock_text_lines.specs.BlankLines.{containers_in}
+use Rattle.mdblock_definitions.specs.BlankLines.{containers_in}
 use Rattle.mddocument_rules.specs.MarkerLaws.{ListsAreNamedByMarkers, ListsAreOfOneType}
 
 module _ (rs : List Row) (bytes : List ℕ) where

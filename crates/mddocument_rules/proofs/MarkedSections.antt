@@ -24,7 +24,7 @@ use Rattle.mdblock_definitions.specs.Sections.{Section}
 use Rattle.mdblock_definitions.specs.Skeleton.{behind_marks, inside_marks, section_marks, sections_marks}
 use Rattle.mddocument_rules.proofs.ListItems.{AreMarked, IsIn, marks}
 use Rattle.mddocument_rules.proofs.MarkedMarks.{MarksAre, begins-plain, ends-plain, enters-plain, inside-plain, prefixes-plain}
-use Rattle.mdblock_text_lines.specs.BlankLines.{containers_in}
+use Rattle.mdblock_definitions.specs.BlankLines.{containers_in}
 use Rattle.mddocument_rules.specs.MarkerLaws.{item_marker}
 
 -- ---- what is around, by spans of containers

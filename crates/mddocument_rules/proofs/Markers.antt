@@ -18,7 +18,7 @@ use Rattle.mdblock_containers.specs.Rows.{Row, nothing_known}
 use Rattle.mdblock_containers.specs.Skeleton.{list_name}
 use Rattle.mdblock_definitions.proofs.KnownRows.{changed-stack}
 use Rattle.mdblock_definitions.specs.Rows.{Known, known_after, row_of, rows, rows_from}
-use Rattle.mdblock_text_lines.specs.BlankLines.{containers_in}
+use Rattle.mdblock_definitions.specs.BlankLines.{containers_in}
 use Rattle.mddocument_rules.proofs.BegunPlaces.{begins-at, begun-at, ended-first}
 use Rattle.mddocument_rules.proofs.OpenRows.{IsBehind, behind-next, first-behind}
 use Rattle.mddocument_rules.specs.ListLaws.{IsOfItsList, ItemsHaveTheMarker, ListsHaveOneMarker}

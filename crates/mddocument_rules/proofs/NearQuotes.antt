@@ -13,7 +13,7 @@ use Rattle.mdblock_containers.specs.Prefixes.{beginning, containers_of, in_place
 use Rattle.mdblock_containers.specs.Rows.{Row, is_raw}
 use Rattle.mdblock_definitions.proofs.KnownRows.{changed-stack}
 use Rattle.mdblock_definitions.specs.Rows.{Known, known_after, row_of}
-use Rattle.mdblock_text_lines.specs.BlankLines.{containers_in}
+use Rattle.mdblock_definitions.specs.BlankLines.{containers_in}
 use Rattle.mddocument_rules.proofs.BegunPlaces.{ended, in_paragraph, left, new}
 
 module _ (on : Constructs) where

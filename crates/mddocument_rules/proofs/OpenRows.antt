@@ -14,7 +14,7 @@ use Rattle.mdblock_containers.specs.Rows.{Before, Row, closed, has_none, is_para
 use Rattle.mdblock_definitions.proofs.KnownReads.{known-reads}
 use Rattle.mdblock_definitions.proofs.KnownRows.{changed-stack}
 use Rattle.mdblock_definitions.specs.Rows.{Known, known_after, row_of, rows, rows_from}
-use Rattle.mdblock_text_lines.specs.BlankLines.{containers_in}
+use Rattle.mdblock_definitions.specs.BlankLines.{containers_in}
 use Rattle.mddocument_rules.proofs.NearQuotes.{AreNear, open-near}
 use Rattle.mddocument_rules.specs.ListLaws.{still_open}
 

@@ -1,5 +1,6 @@
 -- The sections of a document stand in the spans of containers around them; so its skeleton stands.
 use Rattle.mddocument_rules.proofs.Prelude.{◌≡◌, ◌∙◌, ℕ, zero, suc, Bool, true, false, cond, List, [], ◌∷◌, ◌++◌, None, drop, inl, inr, length, map, refl, sym, subst, take, cond_both, false_from_ne_true, false≢true, AllByRecursion, flat_map, ◌&&◌, every-append, every-drop, Constructs, virtual, Given, lines_in, Definition, Line, left_is, Row, nothing_known, Frame, Part, further, parts, parts_in, document_skeleton, Known, known_after, row_of, rows, rows_from, Section, before_defined, begins_text, cut, defined_in, defining, in_same, lines, paragraph_of, sections, sections_in, sections_of, text_in, undefined, sections_marks, holds_blocks, SkeletonsStand}
+use Rattle.mdblock_definitions.specs.BlankLines as blank_lines
 use Rattle.mdinline_labels.specs.Definitions.{definitions}
 use Rattle.mdblock_containers.proofs.SeatFacts.{document_lines}
 use Rattle.mdblock_definitions.proofs.SectionTurns.{AreCut, document-cut}
@@ -56,7 +57,7 @@ module _ (fs : List Frame) where
       let behind = drop n all in
       let d = defined_in on behind in
       let ds = definitions (text_in (paragraph_of behind)) in
-      every-append InFrames (undefined is_behind around (take n all)) (defining ds around (take d behind) ++ sections_in on bound true around (drop d behind)) (of-parts-in (is_behind && begins_text (take n all)) around (parts (take n all)) e)
+      every-append InFrames (undefined is_behind around (take n all)) (defining ds around (take d behind) ++ sections_in on bound true around (drop d behind)) (of-parts-in (is_behind && begins_text (take n all)) around (blank_lines.parts (take n all)) e)
       (every-append InFrames (defining ds around (take d behind)) (sections_in on bound true around (drop d behind)) (defining-in ds around (take d behind) e) (sections-in on bound true around (drop d behind) e))
 
 in-frames-stand : (bytes : List ℕ) (fs : List Frame) → Stacked [] fs → holds_blocks (within [] fs) ≡ true → (ss : List Section) → AllByRecursion (InFrames fs) ss → AllByRecursion (SectionStands bytes) ss

@@ -8,7 +8,7 @@ use Rattle.mdblock_containers.specs.Prefixes.{containers_of}
 use Rattle.mdblock_containers.specs.Rows.{Row}
 use Rattle.mdblock_containers.specs.Skeleton.{list_name}
 use Rattle.mdblock_definitions.specs.Rows.{rows}
-use Rattle.mdblock_text_lines.specs.BlankLines.{containers_in}
+use Rattle.mdblock_definitions.specs.BlankLines.{containers_in}
 
 -- ---- items of a list (5.3)
 
