@@ -1,5 +1,6 @@
 -- The containers of lines, the spans of parts and the definitions in sections are of constructs that are on.
 use Rattle.mddocument_laws.proofs.Prelude.{◌≡◌, ℕ, zero, suc, ◌==◌, List, [], ◌∷◌, ◌++◌, Bool, true, false, cond, Some, None, Option, take, drop, length, map, reverse, and_parts, cond_both, AllByRecursion, flat_map, ◌&&◌, ◌||◌, nat_le, nat_lt, every-append, every-drop, every-reverse, every-take, Constructs, Name, ListOrdered, ListUnordered, Definition, definitions, Line, text_of, begins_with, indent, is_blank_line, is_thematic_break, unindented, Container, Item, Prefix, goes_on, item, item_at, may_begin_item, quote, quote_size, beginning, columns_of, containers_of, going_on, in_place_of, with_list, Before, Row, is_paragraph, is_raw, nothing_known, Frame, Part, frames_at, frames_of, further, going_on_at, left_in, list_at, list_begun, list_name, parts_in, standing, Known, known_after, row_of, rows, rows_from, Inside, Section, before_defined, begins_text, defined, defined_in, defining, in_same, lines, lines_defined, paragraph_of, sections, sections_in, sections_of, text_in, undefined}
+use Rattle.std.proofs.Common.{subst, sym}
 use Rattle.mdblock_lines.specs.Containers.{begins}
 use Rattle.mdblock_containers.specs.Rows as without
 use Rattle.mdblock_containers.specs.Skeleton.{parts}
