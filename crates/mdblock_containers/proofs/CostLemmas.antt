@@ -23,7 +23,7 @@ use Rattle.mdblock_containers.specs.declared.rows.Row.{Row as CodeRow}
 use Rattle.mdblock_containers.specs.Costs.{ArePaid, FirstIsNotLazy, HasSize, HaveSizes, IsAsked, IsEnough, IsPaid, is_bare}
 use Rattle.mdblock_containers.specs.Frames.{frame_of, frames_in}
 use Rattle.mdblock_containers.specs.Prefixes.{columns_of, containers_of, going_on}
-use Rattle.mdblock_containers.specs.Rows.{Before, Leaf, Row, closed, has_none, is_paragraph, known_after, leaf_after, open_fence, open_html, open_paragraph, opened_by, row_of}
+use Rattle.mdblock_containers.specs.Rows.{Before, Leaf, Row, closed, has_none, is_paragraph, known_after, leaf_after, open_fence, open_html, open_paragraph, opened_by, row_of, open_table}
 use Rattle.mdblock_containers.specs.Skeleton.{Frame, frames_of, further}
 use Rattle.mdblock_containers.specs.Views.{IsRow, begun_of, open_of}
 use Rattle.mdblock_containers.proofs.FrameFacts.{lazy_is, lazy_stays, left_is, none_is}
@@ -87,6 +87,7 @@ blank_kind on t h = ap (λ x. cond x blank (cond (is_far on t) indented (kind_of
 
 pub blank_leaf : (on : Constructs) (leaf : Leaf) (t : List ℕ) → is_blank_line t ≡ true → is_paragraph (leaf_after on leaf t) ≡ false
 blank_leaf on closed t h = ap (λ k. is_paragraph (opened_by on k t)) (blank_kind on t h)
+blank_leaf on open_table t h = ap (λ k. is_paragraph (opened_by on k t)) (blank_kind on t h)
 blank_leaf on open_paragraph t h =
     (λ i. is_paragraph (cond (is_some (underline_rank on t)) closed (cond (interrupts (blank_kind on t h i)) (opened_by on (blank_kind on t h i) t) open_paragraph))) ∙ by (is_some (underline_rank on t))
   where

@@ -33,6 +33,7 @@ pub mod LetterLemmas
 pub mod LetterPlaces
 pub mod PlainLetters
 -- prefixes
+pub mod AnySpans
 pub mod PrefixLemmas
 pub mod PrefixSpans
 -- parts

@@ -1,13 +1,21 @@
 -- Lemmas on the events of prefixes, by places.
 use Rattle.std.proofs.Common.{◌≡◌, ℕ, zero, suc, ◌+◌, ◌-◌, ◌<◌, ◌≤◌, List, [], ◌∷◌, ◌++◌, length, sym, ap, ◌∙◌, subst, arith, append_assoc}
+use Rattle.std.proofs.lemmas.List.{map-append}
 use Rattle.markdown_base.specs.declared.event.Event.{Event}
 use Rattle.markdown_base.specs.declared.event.Kind.TheVariants.{Enter, Exit}
 use Rattle.markdown_base.specs.declared.event.Name.TheVariants as name
 use Rattle.markdown_base.specs.declared.event.Point.{Point}
 use Rattle.mdblock_leaf_blocks.specs.LineKinds.{indent}
+use Rattle.mdblock_leaf_blocks.specs.LeafEvents.{Mark}
 use Rattle.mdblock_lines.specs.Lines.{next_place, place_after}
 use Rattle.mdblock_lines.proofs.PlaceLemmas.{place_next}
 use Rattle.mdblock_containers.specs.PlaceEvents.{HasColumns, event_at, span_at, quote_prefix_at, item_prefix_at}
+use Rattle.mdblock_containers.specs.SeatPlaces.{events_of}
+
+-- marks that are written one after another
+pub write-both : (old mid new : List Event) (a b : List Mark) → mid ≡ old ++ events_of a → new ≡ mid ++ events_of b → new ≡ old ++ events_of (a ++ b)
+write-both old mid new a b e f =
+    f ∙ ap (λ l. l ++ events_of b) e ∙ append_assoc old (events_of a) (events_of b) ∙ ap (λ l. old ++ l) (sym (map-append (λ (m : Mark). m.0) a b))
 
 -- one list behind the other
 pub five : (o w m v e1 e2 e3 e4 e5 : List Event) (x y : Event) → e1 ≡ o ++ w → e2 ≡ e1 ++ x ∷ [] → e3 ≡ e2 ++ m → e4 ≡ e3 ++ v → e5 ≡ e4 ++ y ∷ [] → e5 ≡ o ++ (w ++ (x ∷ ((m ++ v) ++ y ∷ [])))

@@ -7,16 +7,23 @@ use Rattle.mdblock_leaf_blocks.specs.LineKinds.{Fence, LineKind, fence, html, te
 use Rattle.mdblock_lines.specs.Containers.{Container, Prefix}
 use Rattle.mdblock_containers.specs.Prefixes.{going_on, beginning, with_list, columns_of, containers_of}
 
--- The leaf block that may go on behind a line: a paragraph, fenced code or HTML. Each line of another leaf block can be one of its own
+-- The leaf block that may go on behind a line: a paragraph, fenced code, HTML, or a table, behind its delimiter row. Each line of another leaf block can
+-- be one of its own
 pub data Leaf : Type 0 where
   closed : Leaf
   open_paragraph : Leaf
   open_fence : Fence → Leaf
   open_html : HtmlKind → Leaf
+  open_table : Leaf
 
 abbrev pub is_paragraph : Leaf → Bool
 is_paragraph open_paragraph = true
 is_paragraph _ = false
+
+-- a line behind which a table may go on is its delimiter row, or a row behind that
+abbrev pub is_table : Leaf → Bool
+is_table open_table = true
+is_table _ = false
 
 -- What is in it is not read as blocks, so no container begins there (4.5, 4.6)
 abbrev pub is_raw : Leaf → Bool
@@ -44,12 +51,15 @@ module _ (on : Constructs) where
   opened_by _ t = closed
 
   -- What may go on behind a line, by what may go on before it: an underline ends a paragraph, a line that interrupts it opens what it opens, and
-  -- other lines go on with it (4.3, 4.8); a closing fence (4.5), or the line with the end condition, or a blank line (4.6) ends the others
+  -- other lines go on with it (4.3, 4.8); a closing fence (4.5), or the line with the end condition, or a blank line (4.6) ends fenced code and HTML.
+  -- Behind a table, a line that is none of its rows is what it is alone: "The table is broken at the first empty line, or beginning of another
+  -- block-level structure" (GFM 0.29, 4.10)
   abbrev pub leaf_after : Leaf → List ℕ → Leaf
   leaf_after closed t = opened_by (line_kind on t) t
   leaf_after open_paragraph t = cond (is_some (underline_rank on t)) closed (cond (interrupts (line_kind on t)) (opened_by (line_kind on t) t) open_paragraph)
   leaf_after (open_fence f) t = cond (closes on f t) closed (open_fence f)
   leaf_after (open_html kind) t = cond (cond (waits_for_blank kind) (is_blank_line t) (ends kind t)) closed (open_html kind)
+  leaf_after open_table t = opened_by (line_kind on t) t
 
 -- What is known before a line: the containers of the last line that was not left blank; how many of them went on since; and the open leaf
 pub record Before : Type 0 where

@@ -18,6 +18,7 @@ leaf_of leaves.Closed = rows.closed
 leaf_of leaves.Paragraph = rows.open_paragraph
 leaf_of (leaves.Fenced f) = rows.open_fence (fence_of f)
 leaf_of (leaves.Html kind) = rows.open_html (html_kind_of kind)
+leaf_of leaves.Table = rows.open_table
 
 -- a container that is open
 abbrev pub open_of : Open → nested.Container

@@ -4,7 +4,7 @@ ghost use Rattle.std.specs.Prelude.{◌≡◌, ◌≤◌, ◌+◌, ◌*◌, leng
 ghost use Rattle.mdblock_leaf_blocks.specs.LeafBlocks.{interrupts};
 ghost use Rattle.mdblock_leaf_blocks.specs.LineKinds.{line_kind};
 ghost use Rattle.mdblock_lines.specs.Views.{kind_of};
-ghost use Rattle.mdblock_containers.specs.Rows.{is_paragraph, is_raw, holds_ending, opened_by, leaf_after, open_paragraph};
+ghost use Rattle.mdblock_containers.specs.Rows.{is_paragraph, is_raw, holds_ending, opened_by, leaf_after, open_paragraph, is_table};
 ghost use Rattle.mdblock_containers.specs.Views.{leaf_of};
 
 use markdown_base::configuration::Constructs;
@@ -25,6 +25,8 @@ pub enum Leaf {
     Fenced(Fence),
     /// HTML of this kind.
     Html(HtmlKind),
+    /// A table, behind its delimiter row.
+    Table,
 }
 
 /// Whether the leaf block is a paragraph.
@@ -33,6 +35,16 @@ pub fn is_paragraph(leaf: Leaf) -> bool
 {
     match leaf {
         Leaf::Paragraph => true,
+        _ => false,
+    }
+}
+
+/// Whether the leaf block is a table.
+pub fn is_table(leaf: Leaf) -> bool
+    ensures { result ≡ is_table (leaf_of leaf) }
+{
+    match leaf {
+        Leaf::Table => true,
         _ => false,
     }
 }
@@ -164,7 +176,7 @@ pub fn leaf_after<L: Ledger>(on: &Constructs, leaf: Leaf, t: &[u8], turns: &mut 
     ensures turns { turns.new ≤ turns.old + 92 * length t.now + 824 }
 {
     match leaf {
-        Leaf::Closed => opened(on, t, turns),
+        Leaf::Closed | Leaf::Table => opened(on, t, turns),
         Leaf::Paragraph => behind_paragraph(on, t, turns),
         Leaf::Fenced(fence) => {
             if closes(on, fence, t, turns) {

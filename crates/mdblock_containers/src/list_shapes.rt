@@ -205,7 +205,8 @@ fn is_quiet(name: Name) -> bool
         || Name::CodeFenced == name
         || Name::HtmlFlow == name
         || Name::ThematicBreak == name
-        || Name::Definition == name)
+        || Name::Definition == name
+        || Name::GfmTable == name)
 }
 
 /// An event comes before of whose name nothing is to be known.

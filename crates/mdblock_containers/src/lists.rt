@@ -29,7 +29,7 @@ pub(crate) const LISTS: [Name; 2] = [Name::ListOrdered, Name::ListUnordered];
 
 pub(crate) const ITEMS: [Name; 1] = [Name::ListItem];
 
-pub(crate) const BLOCKS: [Name; 11] = [
+pub(crate) const BLOCKS: [Name; 12] = [
     Name::BlockQuote,
     Name::ListOrdered,
     Name::ListUnordered,
@@ -41,6 +41,7 @@ pub(crate) const BLOCKS: [Name; 11] = [
     Name::HtmlFlow,
     Name::ThematicBreak,
     Name::Definition,
+    Name::GfmTable,
 ];
 
 /// The most digits that a marker has.
