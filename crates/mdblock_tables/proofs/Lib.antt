@@ -1,5 +1,6 @@
 -- cells
 pub mod CellLemmas
+pub mod DelimiterFronts
 pub mod DelimiterLemmas
 -- pieces
 pub mod PieceLemmas
