@@ -10,6 +10,9 @@ pub mod PieceCounts
 pub mod PieceLemmas
 -- cells
 pub mod CellData
+pub mod CellEnds
+pub mod CellGaps
 pub mod CellLemmas
+pub mod NoCellMarks
 -- laws
 mod Examples

@@ -8,7 +8,7 @@ use Rattle.mdblock_table_marks.specs.TableCuts.{Cut, before_table, begins_in_tab
 
 module _ (is_in_table : Row → Bool) where
   -- each pair of pieces has a line
-  pair-some : (row : Row) (rows : List Row) → let all = row ∷ rows in let n = before_table is_in_table all in 1 ≤ n + table_lines is_in_table (drop n all)
+  pub pair-some : (row : Row) (rows : List Row) → let all = row ∷ rows in let n = before_table is_in_table all in 1 ≤ n + table_lines is_in_table (drop n all)
   pair-some row rows = by (begins_in_table is_in_table rows)
     where
       by : (b : Bool) → let n = cond b 0 (suc (before_table is_in_table rows)) in 1 ≤ n + table_lines is_in_table (drop n (row ∷ rows))
@@ -29,7 +29,7 @@ module _ (is_in_table : Row → Bool) where
       ap (λ l. take n all ++ (take m behind ++ l)) rest ∙ ap (λ l. take n all ++ l) (take-append-drop m behind) ∙ take-append-drop n all
 
   -- ---- no table
-  before-all : (rows : List Row) → AllByRecursion (λ r. is_in_table r ≡ false) rows → before_table is_in_table rows ≡ length rows
+  pub before-all : (rows : List Row) → AllByRecursion (λ r. is_in_table r ≡ false) rows → before_table is_in_table rows ≡ length rows
   before-all [] h = refl
   before-all (row ∷ rows) h = ap (λ b. cond b 0 (suc (before_table is_in_table rows))) (none rows h.1) ∙ ap suc (before-all rows h.1)
     where
@@ -44,7 +44,7 @@ module _ (is_in_table : Row → Bool) where
   abbrev pieces : ℕ → List Row → List Cut
   pieces bound behind = let m = table_lines is_in_table behind in tabled (take m behind) ∷ cut_at_tables is_in_table bound (drop m behind)
 
-  one-piece : (bound : ℕ) (all : List Row) (n : ℕ) → length all ≤ n → untabled (take n all) ∷ pieces bound (drop n all) ≡ untabled all ∷ tabled [] ∷ []
+  pub one-piece : (bound : ℕ) (all : List Row) (n : ℕ) → length all ≤ n → untabled (take n all) ∷ pieces bound (drop n all) ≡ untabled all ∷ tabled [] ∷ []
   one-piece bound all n le = (λ i. untabled (take_all n all le i) ∷ pieces bound (drop_all n all le i)) ∙ ap (λ l. untabled all ∷ tabled [] ∷ l) (nothing-left bound)
 
 pub cuts_hold_lines : CutsHoldLines

@@ -28,8 +28,7 @@ use Rattle.mdblock_containers.specs.Rows.{Row}
 use Rattle.mdblock_containers.specs.SeatPlaces.{events_of}
 use Rattle.mdblock_containers.specs.Skeleton.{going_marks, prefixes_marks}
 use Rattle.mdblock_containers.specs.Written.{NoChunk}
-use Rattle.mdblock_definitions.proofs.DefinitionMarks.{accounts-kept-by}
-use Rattle.mdblock_definitions.proofs.DefinitionSpans.{IsKeptByAnySpans}
+use Rattle.mdblock_containers.proofs.AnySpans.{IsKeptByAnySpans, accounts-kept-by}
 use Rattle.mdblock_table_marks.specs.Laws.{TablesAccount, TablesAreBalanced, TablesAreVoidTight, TablesHaveNoChunks}
 use Rattle.mdblock_table_marks.specs.TableMarks.{rows_marks, rows_seats}
 use Rattle.mdblock_table_marks.proofs.TableSpans.{PrefixHolds, tables-kept}

@@ -18,7 +18,7 @@ use Rattle.mdblock_tables.proofs.RowLemmas.{rows_are_whole}
 use Rattle.mdblock_containers.specs.Prefixes.{columns_of}
 use Rattle.mdblock_containers.specs.Rows.{Row, rest_of}
 use Rattle.mdblock_containers.specs.Skeleton.{prefixes_marks}
-use Rattle.mdblock_definitions.proofs.DefinitionSpans.{IsKeptByAnySpans}
+use Rattle.mdblock_containers.proofs.AnySpans.{IsKeptByAnySpans}
 use Rattle.mdblock_table_marks.specs.TableMarks.{body_marks, head_marks, marks_behind, marks_between, row_marks, row_seats, rows_marks, rows_seats, seats_behind, seats_between}
 
 -- the bytes of a row

@@ -23,7 +23,7 @@ use Rattle.mdblock_containers.specs.Rows.{Row}
 use Rattle.mdblock_containers.specs.SeatPlaces.{events_of}
 use Rattle.mdblock_containers.specs.Written.{Written}
 use Rattle.mdblock_containers.proofs.WrittenLemmas.{write_plain}
-use Rattle.mdblock_definitions.proofs.MarksCursor.{write-both}
+use Rattle.mdblock_containers.proofs.WritingLemmas.{write-both}
 use Rattle.mdblock_table_marks.specs.Lines.{AreLines, AreNext, CanBeTable, FromTo, HasText, HaveLines, IsBegin, IsFurther, IsLine, IsNext, IsStanding, begin_at, end_at, last_end}
 use Rattle.mdblock_table_marks.specs.TableMarks.{body_marks, head_marks, marks_behind, marks_between, row_marks, row_seats, rows_marks, rows_seats, seats_behind}
 use Rattle.mdblock_table_marks.proofs.LineLemmas.{further-are, lines-next, next-line, rows-go, rows-split, size-is, write-span}

@@ -6,5 +6,6 @@ pub mod TableMarks
 pub mod PiecePlaces
 -- cells
 pub mod Cells
+pub mod CellPlaces
 -- laws
 pub mod Laws

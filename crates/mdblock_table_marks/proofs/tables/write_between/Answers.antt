@@ -11,7 +11,7 @@ use Rattle.mdblock_containers.specs.PlaceEvents.{event_at}
 use Rattle.mdblock_containers.specs.SeatPlaces.{events_of}
 use Rattle.mdblock_containers.specs.Skeleton.{prefixes_marks}
 use Rattle.mdblock_containers.specs.Views.{open_of}
-use Rattle.mdblock_definitions.proofs.MarksCursor.{write-both}
+use Rattle.mdblock_containers.proofs.WritingLemmas.{write-both}
 use Rattle.mdblock_table_marks.specs.Lines.{begin_at}
 use Rattle.mdblock_table_marks.proofs.LineLemmas.{bytes-columns, bytes-size, next-marks, next-size, span-events, start-inside}
 use Rattle.mdblock_table_marks.proofs.tables.write_between.Goals as goal

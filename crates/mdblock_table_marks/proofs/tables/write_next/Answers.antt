@@ -1,6 +1,6 @@
 use Rattle.std.proofs.Common.{map, ◌∙◌, arith}
 use Rattle.mdblock_containers.specs.Views.{open_of}
-use Rattle.mdblock_definitions.proofs.MarksCursor.{write-both}
+use Rattle.mdblock_containers.proofs.WritingLemmas.{write-both}
 use Rattle.mdblock_table_marks.specs.TableMarks.{marks_between, row_marks}
 use Rattle.mdblock_table_marks.proofs.LineLemmas.{next-line}
 use Rattle.mdblock_table_marks.proofs.tables.write_next.Goals as goal
