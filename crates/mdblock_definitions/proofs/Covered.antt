@@ -1,17 +1,20 @@
 -- Each line is in exactly one section.
 use Rattle.std.proofs.Common.{◌≡◌, ◌≤◌, ◌∙◌, ℕ, zero, suc, List, [], ◌∷◌, ◌++◌, Bool, true, false, cond, ap, append-nil, arith, drop, length, map, refl, take}
-use Rattle.std.specs.List.{flat_map}
+use Rattle.std.specs.List.{AllByRecursion, flat_map}
 use Rattle.std.specs.Prelude.{◌&&◌, nat_le}
 use Rattle.std.proofs.lemmas.Bool.Decides.{nat_tests}
 use Rattle.std.proofs.lemmas.Grind.{flat_map-append}
 use Rattle.std.proofs.lemmas.List.{length-drop, take-append-drop}
+use Rattle.markdown_base.proofs.Common.{every-append}
 use Rattle.markdown_base.specs.declared.configuration.Constructs.{Constructs}
 use Rattle.mdblock_containers.specs.Rows.{Row, is_paragraph}
 use Rattle.mdblock_containers.specs.Skeleton.{Part, further, parts, parts_in}
+use Rattle.mdblock_table_marks.proofs.TableCuts.{cuts_hold_lines}
+use Rattle.mdblock_table_marks.specs.TableCuts.{Cut, cut_at_tables}
 use Rattle.mdinline_labels.specs.declared.definitions.Definition.{Definition}
 use Rattle.mdinline_labels.specs.Definitions.{definitions}
 use Rattle.mdblock_definitions.specs.Laws.{SectionsHoldLines}
-use Rattle.mdblock_definitions.specs.Sections.{Section, before_defined, begins_text, cut, defined_in, defining, in_same, lines, paragraph_of, sections_in, sections_of, text_in, undefined}
+use Rattle.mdblock_definitions.specs.Sections.{Section, before_defined, begins_text, cut, defined_in, defining, in_same, lines, paragraph_of, sections_in, sections_of, text_in, undefined, is_in_table, sections_of_cut, tabled}
 use Rattle.mdblock_definitions.specs.Skeleton.{all_rows}
 use Rattle.mdblock_definitions.proofs.CutAlike.{undefined-is}
 
@@ -85,12 +88,43 @@ module _ (on : Constructs) where
       ∙ take-append-drop d behind)
       ∙ take-append-drop n all
 
+  -- ---- lines cut at tables
+
+  -- what holds of each section of lines of a part without a table, and of each table, holds of all
+  pub cuts-every : (around : Part) (Of : Section → Type 0) → ((rs : List Row) → AllByRecursion Of (sections_in on (length rs) false around rs)) → ((rs : List Row) → AllByRecursion Of (tabled around rs))
+      → (cs : List Cut) → AllByRecursion Of (flat_map (sections_of_cut on around) cs)
+  cuts-every around Of plain table [] = tt
+  cuts-every around Of plain table (c ∷ cs) = every-append Of (sections_of_cut on around c) (flat_map (sections_of_cut on around) cs) (by c.is_table) (cuts-every around Of plain table cs)
+    where
+      by : (b : Bool) → AllByRecursion Of (cond b (tabled around c.rows) (sections_in on (length c.rows) false around c.rows))
+      by true = table c.rows
+      by false = plain c.rows
+
+  tabled-lines : (around : Part) (rs : List Row) → rows_of (tabled around rs) ≡ rs
+  tabled-lines around [] = refl
+  tabled-lines around (r ∷ rs) = append-nil (r ∷ rs)
+
+  -- each line of the pieces is in exactly one section
+  cut-rows : (around : Part) (cs : List Cut) → rows_of (flat_map (sections_of_cut on around) cs) ≡ flat_map (λ (c : Cut). c.rows) cs
+  cut-rows around [] = refl
+  cut-rows around (c ∷ cs) =
+      flat_map-append (λ s. all_rows s.part) (sections_of_cut on around c) (flat_map (sections_of_cut on around) cs)
+      ∙ ap (λ ys. ys ++ rows_of (flat_map (sections_of_cut on around) cs)) (by c.is_table)
+      ∙ ap (λ ys. c.rows ++ ys) (cut-rows around cs)
+    where
+      by : (b : Bool) → rows_of (cond b (tabled around c.rows) (sections_in on (length c.rows) false around c.rows)) ≡ c.rows
+      by true = tabled-lines around c.rows
+      by false = cut-lines (length c.rows) false around c.rows (omega arith)
+
+  pub cuts-lines : (b : ℕ) (around : Part) (rs : List Row) → length rs ≤ b → rows_of (flat_map (sections_of_cut on around) (cut_at_tables is_in_table b rs)) ≡ rs
+  cuts-lines b around rs few = cut-rows around (cut_at_tables is_in_table b rs) ∙ cuts_hold_lines is_in_table b rs few
+
   pub part-lines : (p : Part) → rows_of (cut on p) ≡ all_rows p
   part-lines p = by p.first.is_blank
     where
-      by : (x : Bool) → rows_of (cond x (record { part = p; inside = lines false } ∷ []) (sections_in on (suc (length p.more)) false p (all_rows p))) ≡ all_rows p
+      by : (x : Bool) → rows_of (cond x (record { part = p; inside = lines false } ∷ []) (flat_map (sections_of_cut on p) (cut_at_tables is_in_table (suc (length p.more)) (all_rows p)))) ≡ all_rows p
       by true = append-nil (all_rows p)
-      by false = cut-lines (suc (length p.more)) false p (all_rows p) (omega (arith))
+      by false = cuts-lines (suc (length p.more)) p (all_rows p) (omega arith)
 
   all-lines : (ps : List Part) → rows_of (flat_map (cut on) ps) ≡ flat_map all_rows ps
   all-lines [] = refl

@@ -12,7 +12,6 @@ use Rattle.markdown_base.specs.Places.{shown, stands_before}
 use Rattle.markdown_base.specs.Virtual.{Seat, end_after}
 use Rattle.markdown_edits.proofs.Balanced.{same_name-refl}
 use Rattle.markdown_edits.specs.OpenNames.{names_after_all}
-use Rattle.mdconstructs_machines.proofs.Innermost.{span-more}
 use Rattle.mdconstructs_machines.specs.LineEvents.{ending_of, line_text}
 use Rattle.mdblock_leaf_blocks.proofs.Lines.WholeLines.{IsWhole}
 use Rattle.mdblock_leaf_blocks.proofs.Marks.Courses.{Place as IsPlaceOf, track-on, track-place, track-upto}
@@ -32,27 +31,19 @@ use Rattle.mdblock_containers.proofs.TightMarks.{Tight, leaf_tight, prefixes_tig
 use Rattle.mdblock_containers.specs.Prefixes.{columns_of}
 use Rattle.mdblock_containers.specs.Rows.{Row, has_none}
 use Rattle.mdblock_containers.specs.Skeleton.{prefixes_marks}
+use Rattle.mdblock_containers.proofs.AnySpans.{IsKeptByAnySpans, accounts-kept-by}
 use Rattle.mdinline_labels.specs.declared.definitions.Definition.{Definition}
 use Rattle.mdblock_definitions.specs.Definitions.{all_seats, byte_at, definitions_marks, ending_at, places_in, seats_of}
 use Rattle.mdblock_definitions.proofs.DefinitionLines.{line_places}
-use Rattle.mdblock_definitions.proofs.DefinitionSpans.{AllHold, AreLaid, IsKeptByAnySpans, definitions-kept}
+use Rattle.mdblock_definitions.proofs.DefinitionSpans.{AllHold, AreLaid, definitions-kept}
+use Rattle.mdblock_table_marks.specs.CellPlaces.{ends_entering}
+use Rattle.mdblock_table_marks.proofs.CellEnds.{IsOut, out-kept-by}
+use Rattle.mdblock_table_marks.proofs.CellGaps.{no-cells-end}
+use Rattle.mdblock_table_marks.proofs.NoCellMarks.{prefixes-none}
 
 -- ---- what is kept by spans
 
 module _ (bytes : List ℕ) where
-  -- accounts of virtual bytes
-  pub accounts-kept-by : IsKeptByAnySpans bytes (AreSpans bytes)
-  accounts-kept-by = record {
-    none = no-spans bytes (AreSpans bytes) (accounts-kept bytes);
-    both = λ xs ys a b h k. spans-both bytes (AreSpans bytes) (accounts-kept bytes) h k;
-    alone = alone;
-    around = λ n ss inside void h. spans-around bytes (AreSpans bytes) (accounts-kept bytes) n ss inside void h;
-  }
-    where
-      alone : (n : Name) (ss : List Seat) → AreSpans bytes (leaf_marks bytes n ss) ss
-      alone n [] = no-spans bytes (AreSpans bytes) (accounts-kept bytes)
-      alone n (s ∷ ss) = record { begins = refl; account = λ events more h. span-more bytes _ _ events s ss more refl refl refl refl h }
-
   -- marks in order, at places
   pub forms-kept-by : (t : ℕ) → IsKeptByAnySpans bytes (Forms t bytes)
   forms-kept-by t = record {
@@ -112,13 +103,17 @@ module _ (bytes : List ℕ) where
     marks = definitions_marks bytes ds (places_in bytes rs)
 
     pub definitions-are-spans : AreSpans bytes marks (seats_of (places_in bytes rs))
-    definitions-are-spans = definitions-kept bytes (AreSpans bytes) accounts-kept-by ds (places_in bytes rs) laid (places-hold (AreSpans bytes) accounts-kept-by (prefixes_kept bytes (AreSpans bytes) (accounts-kept bytes)) rs fits)
+    definitions-are-spans = definitions-kept bytes (AreSpans bytes) (accounts-kept-by bytes) ds (places_in bytes rs) laid (places-hold (AreSpans bytes) (accounts-kept-by bytes) (prefixes_kept bytes (AreSpans bytes) (accounts-kept bytes)) rs fits)
 
     pub definitions-form : (t : ℕ) → Forms t bytes marks (seats_of (places_in bytes rs))
     definitions-form t = definitions-kept bytes (Forms t bytes) (forms-kept-by t) ds (places_in bytes rs) laid (places-hold (Forms t bytes) (forms-kept-by t) (prefixes_kept bytes (Forms t bytes) (forms-kept t bytes)) rs fits)
 
     pub definitions-are-shaped : Tight marks × Unlinked marks
     definitions-are-shaped = definitions-kept bytes AreShaped shapes-kept-by ds (places_in bytes rs) laid (places-hold AreShaped shapes-kept-by (λ ps ss w. (prefixes_tight bytes ps ss, prefixes_unlinked bytes ps ss)) rs fits)
+
+    -- and end behind the texts of cells
+    pub definitions-out : ends_entering false marks ≡ false
+    definitions-out = definitions-kept bytes (IsOut bytes) (out-kept-by bytes) ds (places_in bytes rs) laid (places-hold (IsOut bytes) (out-kept-by bytes) (λ ps ss w. no-cells-end (prefixes_marks bytes ps ss) (prefixes-none bytes ps ss)) rs fits)
 
   -- ---- their virtual bytes
 

@@ -11,7 +11,6 @@ use Rattle.markdown_base.specs.declared.event.Name.TheVariants as name
 use Rattle.markdown_base.specs.Events.{is_void}
 use Rattle.markdown_base.specs.Virtual.{Seat}
 use Rattle.markdown_base.proofs.Common.{every-take, every-drop}
-use Rattle.mdblock_leaf_blocks.proofs.Marks.MarkSpans.{IsKeptAround}
 use Rattle.mdblock_leaf_blocks.specs.LeafBlocks.{bytes_of}
 use Rattle.mdblock_leaf_blocks.specs.LeafEvents.{Mark, leaf_marks}
 use Rattle.mdblock_leaf_blocks.specs.LineKinds.{indent}
@@ -22,6 +21,7 @@ use Rattle.mdinline_labels.specs.Tails.{begins_with}
 use Rattle.mdblock_definitions.specs.Definitions.{Place, StringLine, all_seats, before_prefixes, between, byte_at, definition_marks, definitions_marks, destination_marks, ending_at, ending_marks, further_line, gap_marks, is_byte, last_prefixes, leaf, line_marks, marked, parts_marks, places_of, seats_of, span, string, string_lines, text_byte, text_of}
 use Rattle.mdblock_definitions.proofs.LaidParts.{IsLaid, TitleIs}
 use Rattle.mdblock_definitions.proofs.StringEnds.{every-before, every-last, last-endings, seats-both as seats-both-of}
+use Rattle.mdblock_containers.proofs.AnySpans.{IsKeptByAnySpans}
 
 -- ---- parts of a text
 
@@ -56,13 +56,6 @@ text-between : (a b m : ℕ) (xs : List Place) → text_of (between a b (take m 
 text-between a b m xs = sym (take-map text_byte (b - a) (drop a (take m xs))) ∙ ap (take (b - a)) (sym (drop-map text_byte a (take m xs)) ∙ ap (drop a) (sym (take-map text_byte m xs)))
 
 -- ---- what is kept by spans
-
--- What is said of marks over virtual bytes is kept by marks behind others, and by spans, alone and around others
-pub record IsKeptByAnySpans (bytes : List ℕ) (P : List Mark → List Seat → Type 0) : Type 0 where
-  pub none : P [] []
-  pub both : (xs ys : List Mark) (a b : List Seat) → P xs a → P ys b → P (xs ++ ys) (a ++ b)
-  pub alone : (n : Name) (ss : List Seat) → P (leaf_marks bytes n ss) ss
-  pub around : IsKeptAround bytes P
 
 module _ (bytes : List ℕ) (P : List Mark → List Seat → Type 0) (kept : IsKeptByAnySpans bytes P) where
   -- marks over places

@@ -1,17 +1,19 @@
 -- How lines are read where paragraphs may begin with definitions: as containers read them, but for leaf blocks. A blank line is no underline.
-use Rattle.std.proofs.Common.{◌≡◌, ℕ, suc, ◌+◌, Bool, true, false, cond, List, [], ◌∷◌, arith, drop, length, refl, ap, ◌∙◌}
-use Rattle.std.specs.Prelude.{◌&&◌, is_some}
+use Rattle.std.proofs.Common.{◌≡◌, ℕ, suc, ◌+◌, Bool, true, false, cond, List, [], ◌∷◌, arith, drop, length, refl, ap, ◌∙◌, sym}
+use Rattle.std.specs.Prelude.{◌&&◌, is_some, ◌||◌}
 use Rattle.std.proofs.lemmas.Bool.{false≢true}
 use Rattle.markdown_base.specs.declared.configuration.Constructs.{Constructs}
 use Rattle.markdown_base.proofs.Common.{and-right}
 use Rattle.mdconstructs_tables.specs.Breaks.{is_white}
 use Rattle.mdblock_leaf_blocks.specs.LeafBlocks.{Line}
 use Rattle.mdblock_leaf_blocks.specs.LineKinds.{indent, is_blank_line, underline_rank, unindented}
-use Rattle.mdblock_containers.specs.Rows.{Row, nothing_known, open_paragraph, rest_of}
+use Rattle.mdblock_containers.specs.Rows.{Row, nothing_known, open_paragraph, rest_of, Leaf, closed, is_paragraph, is_table, leaf_after, open_table}
 use Rattle.mdblock_containers.specs.Rows as without
+use Rattle.mdblock_tables.specs.Tables.{is_row}
+use Rattle.mdblock_containers.proofs.CostLemmas.{blank_leaf, blank_not_lazy}
 use Rattle.mdblock_containers.proofs.LazyLemmas.{underline_some}
 use Rattle.mdblock_containers.proofs.RowReads.{Reads}
-use Rattle.mdblock_definitions.specs.Rows.{Known, is_behind_text, is_used_up, known_after, row_of, underlines_nothing}
+use Rattle.mdblock_definitions.specs.Rows.{Known, is_behind_text, is_used_up, known_after, row_of, underlines_nothing, begins_table, row_without}
 
 -- nothing is behind the white space of a blank line
 pub blank-unindented : (t : List ℕ) → is_blank_line t ≡ true → unindented t ≡ []
@@ -39,6 +41,32 @@ module _ (on : Constructs) (k : Known) (n : ℕ) (line : Line) where
       by true true false d e = refl
       by true true true d e = absurd (none e)
 
+  -- and no text: no paragraph is open behind it
+  pub blank-open : plain.is_blank ≡ true → is_paragraph plain.leaf ≡ false
+  blank-open h =
+      none plain.is_left_blank plain.is_lazy (blank_not_lazy on k.before n line h) (leaf_after on (cond plain.stays k.before.leaf closed) (rest_of plain)) (blank_leaf on (cond plain.stays k.before.leaf closed) (rest_of plain) h)
+    where
+      none : (left lazy : Bool) → lazy ≡ false → (leaf : Leaf) → is_paragraph leaf ≡ false → is_paragraph (cond left closed (cond lazy open_paragraph leaf)) ≡ false
+      none true lazy e leaf h = refl
+      none false true e leaf h = absurd (false≢true (sym e))
+      none false false e leaf h = h
+
+  pub blank-without : plain.is_blank ≡ true → (row_without on k n line).leaf ≡ plain.leaf
+  blank-without h = ap (λ x. cond x open_paragraph plain.leaf) (blank-nothing h)
+
+  -- so it is in no table
+  pub blank-same : plain.is_blank ≡ true → (row_of on k n line).leaf ≡ plain.leaf
+  blank-same h =
+      let row = row_without on k n line in
+      let more = (is_paragraph k.before.leaf && begins_table on k row) || (is_table k.before.leaf && is_row (rest_of row)) in
+      let no : is_paragraph row.leaf ≡ false = ap is_paragraph (blank-without h) ∙ blank-open h in
+      ap (λ b. cond (on.gfm_table && (row.stays && (b && more))) open_table row.leaf) no ∙ ap (λ b. cond b open_table row.leaf) (none on.gfm_table row.stays) ∙ blank-without h
+    where
+      none : (g s : Bool) → (g && (s && false)) ≡ false
+      none false s = refl
+      none true false = refl
+      none true true = refl
+
 -- as definitions have them read
 abbrev pub known-reads : (on : Constructs) → Reads on
 known-reads on = record {
@@ -47,7 +75,7 @@ known-reads on = record {
   leaf = λ k n l. (row_of on k n l).leaf;
   next = known_after on;
   same_next = λ k r. refl;
-  same_blank = λ k n l h. ap (λ x. cond x open_paragraph (without.row_of on k.before n l).leaf) (blank-nothing on k n l h);
+  same_blank = λ k n l h. blank-same on k n l h;
 }
 
 -- what is known before the first line

@@ -6,18 +6,22 @@ pub mod HeldLemmas
 pub mod HeldTexts
 -- rows
 pub mod BracketLemmas
+pub mod FilledTexts
 pub mod KnownLemmas
 pub mod KnownReads
 pub mod KnownRows
+pub mod LastLines
 pub mod LeftLines
 pub mod Longer
 pub mod PlainLetters
 pub mod RowTexts
 pub mod Shorter
+pub mod TableLeaves
 pub mod Underlined
 -- sections
 pub mod Covered
 pub mod CutAlike
+pub mod SectionApart
 pub mod SectionCosts
 pub mod SectionCuts
 pub mod SectionFacts
@@ -32,6 +36,9 @@ pub mod SectionTight
 pub mod SectionTurns
 pub mod Sectioned
 pub mod SectionsReady
+pub mod TableLines
+pub mod TableScans
+pub mod TableSeats
 pub mod Uncut
 pub mod Within
 -- marks
@@ -57,4 +64,6 @@ pub mod PartTexts
 -- laws
 pub mod Examples
 pub mod Linked
+mod TableExamples
+pub mod TablesOff
 pub mod Without

@@ -34,7 +34,7 @@ use Rattle.mdblock_containers.proofs.DocumentRows.{text_of_line_at}
 use Rattle.mdblock_containers.proofs.RunLemmas.{behind_line, behind_text, end_run, ending_is, line_parts, text_columns, text_seats_at, text_size}
 use Rattle.mdblock_containers.proofs.SeatLemmas.{here, seats_drop, seats_end, span_is_leaf}
 use Rattle.mdblock_containers.proofs.StretchLemmas.{ends_before, row_bytes, row_columns, row_seats, went_again, went_marks, went_small}
-use Rattle.mdblock_containers.proofs.WritingLemmas.{columns_behind, columns_front, place_add}
+use Rattle.mdblock_containers.proofs.WritingLemmas.{columns_behind, columns_front, place_add, write-both}
 use Rattle.mdblock_definitions.specs.declared.marks.Cursor.{Cursor}
 use Rattle.mdblock_definitions.specs.Cursor.{AreLines, FitsGap, Goes, HasColumn, HaveLines, IsBehind, IsCursor, IsFirst, IsHeld, columns_left, left_at, left_from, row_from, rows_from}
 use Rattle.mdblock_definitions.specs.Definitions.{Place, byte_at, ending_at, ending_marks, further_line, gap_marks, is_byte, leaf, line_marks, places_in, seats_of, span, string_lines, text_byte, text_of}
@@ -44,10 +44,6 @@ use Rattle.mdblock_definitions.proofs.MarksPlaces.{further-parts, gap-line, gap-
 use Rattle.mdblock_definitions.proofs.MarksFits.{IsPlain}
 
 -- marks that are written one after another
-pub write-both : (old mid new : List Event) (a b : List Mark) → mid ≡ old ++ events_of a → new ≡ mid ++ events_of b → new ≡ old ++ events_of (a ++ b)
-write-both old mid new a b e f =
-    f ∙ ap (λ l. l ++ events_of b) e ∙ append_assoc old (events_of a) (events_of b) ∙ ap (λ l. old ++ l) (sym (map-append (λ (m : Mark). m.0) a b))
-
 pub write-three : (old first mid new : List Event) (a b c : List Mark) → first ≡ old ++ events_of a → mid ≡ first ++ events_of b → new ≡ mid ++ events_of c → new ≡ old ++ events_of (a ++ (b ++ c))
 write-three old first mid new a b c e f g = write-both old first new a (b ++ c) e (write-both first mid new b c f g)
 

@@ -14,12 +14,13 @@ use Rattle.mdblock_containers.specs.declared.prefixes.At.{At}
 use Rattle.mdblock_containers.specs.declared.spans.RowAt.{RowAt}
 use Rattle.mdblock_containers.specs.Rows.{Row}
 use Rattle.mdblock_containers.specs.SeatPlaces.{events_of}
+use Rattle.mdblock_containers.proofs.WritingLemmas.{write-both}
 use Rattle.mdblock_definitions.specs.declared.marks.Cursor.{Cursor}
 use Rattle.mdblock_definitions.specs.Cursor.{AreLines, FitsDefinition, HaveLines, IsBegin, IsCursor, left_at, left_from}
 use Rattle.mdblock_definitions.specs.Definitions.{Place, between, definition_marks, definitions_marks, ending_marks, places_in, text_of}
 use Rattle.mdblock_definitions.specs.Sections.{text_in}
 use Rattle.mdblock_definitions.specs.Seen.{rows_by}
-use Rattle.mdblock_definitions.proofs.MarksCursor.{all-places, plain-left, text-left, write-both}
+use Rattle.mdblock_definitions.proofs.MarksCursor.{all-places, plain-left, text-left}
 use Rattle.mdblock_definitions.proofs.MarksFits.{definition-fits, text-behind}
 use Rattle.mdblock_definitions.proofs.MarksText.{fits}
 

@@ -14,10 +14,11 @@ use Rattle.mdinline_labels.specs.Tails.{begins_with}
 use Rattle.mdblock_containers.specs.declared.spans.RowAt.{RowAt}
 use Rattle.mdblock_containers.specs.PlaceEvents.{event_at}
 use Rattle.mdblock_containers.specs.SeatPlaces.{events_of}
+use Rattle.mdblock_containers.proofs.WritingLemmas.{write-both}
 use Rattle.mdblock_definitions.specs.declared.marks.Cursor.{Cursor}
 use Rattle.mdblock_definitions.specs.Cursor.{FitsDefinition, FitsDestination, FitsGap, FitsMarks, FitsTitle, Goes, IsCursor, columns_left, label_marks, left_at, title_length, title_marks}
 use Rattle.mdblock_definitions.specs.Definitions.{Place, destination_marks, gap_marks, is_byte, leaf, marked, parts_marks, span, string, text_of}
-use Rattle.mdblock_definitions.proofs.MarksCursor.{goes-on, line-left, write-both, write-span, write-three}
+use Rattle.mdblock_definitions.proofs.MarksCursor.{goes-on, line-left, write-span, write-three}
 use Rattle.mdblock_definitions.proofs.MarksPlaces.{definition-parts, marked-parts}
 
 pub marks-few : (size : ℕ) (ps : List Place) → FitsMarks size ps → size ≤ length ps

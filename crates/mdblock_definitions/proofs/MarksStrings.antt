@@ -23,7 +23,8 @@ use Rattle.mdblock_definitions.specs.declared.marks.Cursor.{Cursor}
 use Rattle.mdblock_definitions.specs.declared.marks.Written.{Written}
 use Rattle.mdblock_definitions.specs.Cursor.{EndsLines, Goes, IsBeforeFeed, IsCursor, columns_left, left_at}
 use Rattle.mdblock_definitions.specs.Definitions.{Place, all_seats, before_prefixes, byte_at, ending_at, ending_marks, further_line, is_byte, last_prefixes, leaf, line_marks, seats_of, span, string, string_lines}
-use Rattle.mdblock_definitions.proofs.MarksCursor.{Next, behind-line, first-seat, goes-over, line-left, lines-last, next-of, write-as, write-both, write-span}
+use Rattle.mdblock_definitions.proofs.MarksCursor.{Next, behind-line, first-seat, goes-over, line-left, lines-last, next-of, write-as, write-span}
+use Rattle.mdblock_containers.proofs.WritingLemmas.{write-both}
 use Rattle.mdblock_definitions.proofs.MarksPlaces.{drop-front, front-bytes, front-size}
 use Rattle.mdblock_definitions.proofs.StringEnds.{endings-both, string-feed, string-whole}
 

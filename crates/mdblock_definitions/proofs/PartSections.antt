@@ -11,7 +11,6 @@ use Rattle.markdown_base.specs.declared.configuration.Constructs.{Constructs}
 use Rattle.markdown_base.specs.declared.event.Event.{Event}
 use Rattle.markdown_base.specs.Virtual.{Seat, point}
 use Rattle.markdown_base.proofs.Facts.Bools.{and-left}
-use Rattle.markdown_base.proofs.Common.{every-take}
 use Rattle.mdconstructs_machines.specs.LineEvents.{line_text}
 use Rattle.mdblock_leaf_blocks.specs.LeafBlocks.{bytes_of}
 use Rattle.mdblock_leaf_blocks.specs.LeafEvents.{Mark}
@@ -44,10 +43,11 @@ use Rattle.mdblock_containers.proofs.RestLemmas.{part_of, parts_more, plain_map}
 use Rattle.mdblock_containers.proofs.StretchLemmas.{row_bytes, row_seats}
 use Rattle.mdblock_containers.proofs.WrittenLemmas.{plain_append, write_end, write_plain}
 use Rattle.mdblock_definitions.specs.Labelled.{is_one_of}
-use Rattle.mdblock_definitions.specs.Sectioned.{HasEnd, TextIsFilled, TextsAreFilled, IsBegun, IsSectionOf, inside_from}
+use Rattle.mdblock_definitions.specs.Sectioned.{HasEnd, TextsAreFilled, IsBegun, IsSectionOf, inside_from}
 use Rattle.mdblock_definitions.specs.Sections.{Section, cut, sections}
 use Rattle.mdblock_definitions.specs.Skeleton.{all_rows, behind_marks, inside_marks, labels_of_section, letters_of_section, section_marks}
 use Rattle.mdblock_definitions.specs.Within.{AreWithin, last_of, rest_sections, within_marks}
+use Rattle.mdblock_definitions.proofs.FilledTexts.{texts-take}
 use Rattle.mdblock_definitions.proofs.Within.{behind-sections, behind-within, part-begins, within-next}
 
 -- ---- the sections of a part
@@ -148,7 +148,7 @@ module _ (t : ℕ) (bytes : List ℕ) (some : 0 < t) (limit : t * length bytes +
       by false e = after_further rs paid.2
 
   pub part-texts : TextsAreFilled (r ∷ rs) → TextsAreFilled (all_rows (part_of r rs))
-  part-texts h = (h.0, every-take TextIsFilled (cond r.is_blank 0 (further rs)) rs h.1)
+  part-texts h = texts-take (suc (cond r.is_blank 0 (further rs))) (r ∷ rs) h
 
   module _ (open_now : List Container) (oe : open_now ≡ open_behind stack r) where
     -- its lines

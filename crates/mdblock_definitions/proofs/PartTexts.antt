@@ -9,7 +9,7 @@ use Rattle.mdblock_leaf_blocks.specs.LineKinds.{indent, is_blank_line, unindente
 use Rattle.mdblock_containers.specs.Rows.{nothing_known, rest_of}
 use Rattle.mdblock_definitions.specs.Rows.{Known, known_after, row_of, rows, rows_from}
 use Rattle.mdblock_definitions.specs.Sectioned.{TextsAreFilled}
-use Rattle.mdblock_definitions.proofs.PlainLetters.{open-not-blank}
+use Rattle.mdblock_definitions.proofs.FilledTexts.{follows-from, text-not-blank}
 
 -- a line that is not blank has text behind its white space
 some-filled : (t : List ℕ) → is_blank_line t ≡ false → 1 ≤ length (unindented t)
@@ -24,8 +24,8 @@ texts-from : (on : Constructs) (k : Known) (n : ℕ) (ls : List Line) → TextsA
 texts-from on k n [] = tt
 texts-from on k n (l ∷ ls) =
     let row = row_of on k n l in (
-      (λ e. let not-blank = open-not-blank on k n l e in (not-blank, some-filled (rest_of row) not-blank)),
-      texts-from on (known_after on k row) (suc n) ls,
+      (λ e. let not-blank = text-not-blank on k n l e in (not-blank, some-filled (rest_of row) not-blank)),
+      (follows-from on k n l ls, texts-from on (known_after on k row) (suc n) ls),
     )
 
 pub all-texts : (on : Constructs) (ls : List Line) → TextsAreFilled (rows on ls)

@@ -13,21 +13,20 @@ use Rattle.mdconstructs_machines.specs.LineEvents.{line_text, lines_in}
 use Rattle.mdblock_leaf_blocks.proofs.Lines.WholeLines.{IsWhole, whole-lines}
 use Rattle.mdblock_leaf_blocks.specs.LeafBlocks.{Line, bytes_of, text_of}
 use Rattle.mdblock_leaf_blocks.specs.LineKinds.{begins_with, indent, is_blank_line}
-use Rattle.mdblock_containers.proofs.CostLemmas.{blank_leaf, blank_not_lazy}
 use Rattle.mdblock_containers.proofs.PlainLetters.{AtMark, IsMarked, IsPlainAt, every_both, is_mark, lines_each, one_of, plain_from, text_byte, underline_plain, underlines_plain}
 use Rattle.mdblock_containers.specs.Letters.{is_plain, lazy_underline}
-use Rattle.mdblock_containers.specs.Rows.{Leaf, Row, closed, is_paragraph, leaf_after, nothing_known, open_paragraph, rest_of}
+use Rattle.mdblock_containers.specs.Rows.{Row, is_paragraph, nothing_known, rest_of, is_table}
 use Rattle.mdblock_containers.specs.Rows as without
 use Rattle.mdblock_containers.specs.Skeleton.{Part, parts}
-use Rattle.mdblock_containers.proofs.RowReads.{blank_same}
+use Rattle.mdblock_table_marks.specs.TableCuts.{cut_at_tables}
 use Rattle.mdinline_labels.specs.declared.definitions.Definition.{Definition}
 use Rattle.mdinline_labels.specs.Definitions.{definitions}
 use Rattle.mdblock_definitions.specs.SkeletonLaws.{LettersArePlain}
 use Rattle.mdblock_definitions.specs.Rows.{Known, known_after, row_of, rows, rows_from}
-use Rattle.mdblock_definitions.specs.Sections.{Inside, Section, before_defined, cut, defined, defined_in, defining, in_same, lines, paragraph_of, sections, sections_in, text_in, undefined}
+use Rattle.mdblock_definitions.specs.Sections.{Inside, Section, before_defined, cut, defined, defined_in, defining, in_same, lines, paragraph_of, sections, sections_in, text_in, undefined, is_in_table, sections_of_cut, table, tabled}
 use Rattle.mdblock_definitions.specs.Skeleton.{all_rows, letters, letters_of_section, text_begin}
-use Rattle.mdblock_definitions.proofs.Covered.{rows_of, sections-hold-lines}
-use Rattle.mdblock_definitions.proofs.KnownReads.{known-reads}
+use Rattle.mdblock_definitions.proofs.Covered.{rows_of, sections-hold-lines, cuts-every}
+use Rattle.mdblock_definitions.proofs.FilledTexts.{text-not-blank}
 
 -- ---- bytes of text
 
@@ -106,21 +105,7 @@ some-text (b ∷ bs) h e = by (some-text bs h.1) (is_white b) refl e
 module _ (on : Constructs) where
   -- no paragraph is open behind a blank line
   pub open-not-blank : (k : Known) (n : ℕ) (line : Line) → is_paragraph (row_of on k n line).leaf ≡ true → is_blank_line (rest_of (row_of on k n line)) ≡ false
-  open-not-blank k n line is-open = by (is_blank_line (rest_of r)) refl
-    where
-      r : Row
-      r = without.row_of on k.before n line
-
-      none : (left lazy : Bool) → lazy ≡ false → (leaf : Leaf) → is_paragraph leaf ≡ false → is_paragraph (cond left closed (cond lazy open_paragraph leaf)) ≡ false
-      none true lazy e leaf h = refl
-      none false true e leaf h = absurd (false≢true (sym e))
-      none false false e leaf h = h
-
-      by : (x : Bool) → is_blank_line (rest_of r) ≡ x → is_blank_line (rest_of r) ≡ false
-      by false e = e
-      by true e =
-          let plain = none r.is_left_blank r.is_lazy (blank_not_lazy on k.before n line e) (leaf_after on (cond r.stays k.before.leaf closed) (rest_of r)) (blank_leaf on (cond r.stays k.before.leaf closed) (rest_of r) e) in
-          absurd (false≢true (sym plain ∙ ap (λ (x : Row). is_paragraph x.leaf) (sym (blank_same on (known-reads on) k n line e)) ∙ is-open))
+  open-not-blank k n line is-open = text-not-blank on k n line (ap (λ b. b || is_table (row_of on k n line).leaf) is-open)
 
 module _ (on : Constructs) (bytes : List ℕ) where
   -- what is known of a line: it is whole, and its text is plain
@@ -153,7 +138,7 @@ module _ (on : Constructs) (bytes : List ℕ) where
 
   -- the first line of a section that is text directly behind definitions is text
   abbrev BeginsText : Section → Type 0
-  BeginsText s = elim s.inside as (λ _. Type 0) [ lines is_behind ↦ (is_behind ≡ true → is_paragraph s.part.first.leaf ≡ true) | defined ds ↦ Unit {0} ]
+  BeginsText s = elim s.inside as (λ _. Type 0) [ lines is_behind ↦ (is_behind ≡ true → is_paragraph s.part.first.leaf ≡ true) | defined ds ↦ Unit {0} | table ↦ Unit {0} ]
 
   underlined : (rs : List Row) → AllByRecursion IsPlainRow rs → AllByRecursion (IsPlainAt on bytes) (flat_map (lazy_underline on) rs)
   underlined rs h = underlines_plain on bytes rs (every-map IsPlainRow (λ (row : Row). IsMarked on bytes row.line) (λ row k. marked-line row.line k.0) rs h)
@@ -165,10 +150,11 @@ module _ (on : Constructs) (bytes : List ℕ) where
       first true k = begin-plain s.part.first h.0.0 (h.0.1 (k refl))
       first false k = underline_plain on bytes s.part.first (marked-line s.part.first.line h.0.0)
 
-      by : (i : Inside) → (elim i as (λ _. Type 0) [ lines is_behind ↦ (is_behind ≡ true → is_paragraph s.part.first.leaf ≡ true) | defined ds ↦ Unit {0} ])
-          → AllByRecursion (IsPlainAt on bytes) (elim i as (λ _. List ℕ) [ lines is_behind ↦ cond is_behind (text_begin s.part.first) (lazy_underline on s.part.first) ++ flat_map (lazy_underline on) s.part.more | defined ds ↦ [] ])
+      by : (i : Inside) → (elim i as (λ _. Type 0) [ lines is_behind ↦ (is_behind ≡ true → is_paragraph s.part.first.leaf ≡ true) | defined ds ↦ Unit {0} | table ↦ Unit {0} ])
+          → AllByRecursion (IsPlainAt on bytes) (elim i as (λ _. List ℕ) [ lines is_behind ↦ cond is_behind (text_begin s.part.first) (lazy_underline on s.part.first) ++ flat_map (lazy_underline on) s.part.more | defined ds ↦ [] | table ↦ [] ])
       by (lines x) k = every-append (IsPlainAt on bytes) (cond x (text_begin s.part.first) (lazy_underline on s.part.first)) (flat_map (lazy_underline on) s.part.more) (first x k) (underlined s.part.more h.1)
       by (defined ds) k = tt
+      by table k = tt
 
   sections-plain : (ss : List Section) → AllByRecursion BeginsText ss → AllByRecursion IsPlainRow (rows_of ss) → AllByRecursion (IsPlainAt on bytes) (flat_map (letters_of_section on) ss)
   sections-plain [] b h = tt
@@ -204,9 +190,13 @@ module _ (on : Constructs) (bytes : List ℕ) where
   all-begin [] = tt
   all-begin (p ∷ ps) = every-append BeginsText (cut on p) (flat_map (cut on) ps) (by p.first.is_blank) (all-begin ps)
     where
-      by : (x : Bool) → AllByRecursion BeginsText (cond x (record { part = p; inside = lines false } ∷ []) (sections_in on (suc (length p.more)) false p (p.first ∷ p.more)))
+      tables-begin : (rs : List Row) → AllByRecursion BeginsText (tabled p rs)
+      tables-begin [] = tt
+      tables-begin (r ∷ rs) = (tt, tt)
+
+      by : (x : Bool) → AllByRecursion BeginsText (cond x (record { part = p; inside = lines false } ∷ []) (flat_map (sections_of_cut on p) (cut_at_tables is_in_table (suc (length p.more)) (p.first ∷ p.more))))
       by true = ((λ e. absurd (false≢true e)), tt)
-      by false = sections-begin (suc (length p.more)) false p (p.first ∷ p.more)
+      by false = cuts-every on p BeginsText (λ rs. sections-begin (length rs) false p rs) tables-begin (cut_at_tables is_in_table (suc (length p.more)) (p.first ∷ p.more))
 
   -- ---- all lines
 

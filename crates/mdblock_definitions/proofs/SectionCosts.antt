@@ -50,6 +50,10 @@ module _ (t : ℕ) (bytes : List ℕ) where
   bytes-within (suc m) zero (x ∷ xs) h = absurd (omega (arith, h))
   bytes-within (suc m) (suc n) (x ∷ xs) h = omega (arith, bytes-within m n xs (omega (arith, h)))
 
+  pub first-some : (xs : List RowAt) → 1 ≤ bytes_in t bytes xs → 1 ≤ bytes_in t bytes (take 1 xs)
+  first-some [] h = absurd (omega (arith, h))
+  first-some (x ∷ xs) h = omega arith
+
   pub bytes-some : (xs : List RowAt) → length xs ≤ bytes_in t bytes xs
   bytes-some [] = omega (arith)
   bytes-some (x ∷ xs) = omega (arith, bytes-some xs)

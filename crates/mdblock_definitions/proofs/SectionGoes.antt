@@ -29,15 +29,18 @@ use Rattle.mdblock_containers.proofs.SeatFacts.{LineIs, LinesEnd, line_front}
 use Rattle.mdblock_containers.specs.Prefixes.{columns_of, containers_of}
 use Rattle.mdblock_containers.specs.Rows.{Leaf, Row, has_none, holds_ending, is_paragraph, rest_of}
 use Rattle.mdblock_containers.specs.Skeleton.{Frame, Part, Piece, begun_all, chunks_of, end_of, ending_marks, exits, inside_of, is_held, joined_pieces, last_of, pieces_of, prefixes_marks, shared}
+use Rattle.mdblock_table_marks.proofs.TableShapes.{tables-are-shaped, tables-keep}
+use Rattle.mdblock_table_marks.specs.TableMarks.{rows_seats, table_marks}
 use Rattle.mdinline_labels.specs.declared.definitions.Definition.{Definition}
 use Rattle.mdblock_definitions.specs.Definitions.{definitions_marks, places_in, seats_of as place_seats}
 use Rattle.mdblock_definitions.specs.Rows.{rows}
-use Rattle.mdblock_definitions.specs.Sections.{Inside, Section, defined, lines, sections}
+use Rattle.mdblock_definitions.specs.Sections.{Inside, Section, defined, lines, sections, table}
 use Rattle.mdblock_definitions.specs.Skeleton.{all_rows, behind_definitions, behind_marks, inside_marks, section_marks, sections_marks}
 use Rattle.mdblock_definitions.proofs.Covered.{rows_of}
 use Rattle.mdblock_definitions.proofs.DefinitionLines.{AreDefined}
 use Rattle.mdblock_definitions.proofs.DefinitionMarks.{definitions-are-shaped, definitions-form, forms-kept-by, seats-are}
 use Rattle.mdblock_definitions.proofs.KnownLemmas.{paragraph-is}
+use Rattle.mdblock_definitions.proofs.TableSeats.{rows-are-places}
 use Rattle.mdblock_definitions.proofs.SectionTurns.{AreCut, InsideIs, RowIs, SectionIs, all-of-sections, document-cut, document-lines, rows-fit}
 use Rattle.mdblock_containers.proofs.PrefixSpans.{leaf_is_unlinked}
 
@@ -279,6 +282,18 @@ module _ (t : ℕ) (bytes : List ℕ) where
           let over : Forms t bytes ms inner = subst (Forms t bytes ms) (defined-seats ds d) (definitions-form bytes ds (all_rows p) d.laid (first-fits, others-fit) t) in
           goes_over t bytes fs a ms inner rest over (definitions-are-shaped bytes ds (all_rows p) d.laid (first-fits, others-fit)).1 track
 
+      -- a table
+      pub table-seats : holds_ending (last_of r p.more).leaf ≡ false → rows_seats (all_rows p) ≡ inner
+      table-seats free =
+          let none : is_held p ≡ false = ap (λ x. not (r.is_blank) && x) free ∙ and-false (not r.is_blank) in
+          rows-are-places bytes r p.more ∙ seats-are bytes r p.more first-fits others-fit is.none_begin ∙ (λ k. drop (sym cut-is k) (seats_of (sym none k) r p.more))
+
+      table-goes : holds_ending (last_of r p.more).leaf ≡ false → GoOver (table_marks bytes p)
+      table-goes free fs a rest track =
+          let ms = table_marks bytes p in
+          let over : Forms t bytes ms inner = subst (Forms t bytes ms) (table-seats free) (tables-keep bytes (Forms t bytes) (forms-kept-by bytes t) r p.more) in
+          goes_over t bytes fs a ms inner rest over (tables-are-shaped bytes r p.more).1 track
+
     inside-goes : GoOver (inside_marks bytes p s.inside)
     inside-goes = by s.inside is.inside
       where
@@ -286,6 +301,7 @@ module _ (t : ℕ) (bytes : List ℕ) where
         by (lines true) h = behind-goes (h refl)
         by (lines false) h = lines-go
         by (defined ds) h = defined-goes h.1 ds h.0
+        by table h = table-goes h.0 h.1
 
     -- The marks of a section are over its virtual bytes, and what begins in it is open behind them
     section-goes : (kept : List Frame) (a : Point) (rest : List Seat) → Track t bytes a (seats ++ (ending ++ rest)) → Goes t bytes kept a (section_marks bytes s) (kept ++ all_entered r.begun) (end_after a seats)

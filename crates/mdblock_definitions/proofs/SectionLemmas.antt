@@ -4,7 +4,7 @@ use Rattle.std.specs.Prelude.{◌==◌, ◌&&◌, filter, nat_le, not}
 use Rattle.std.specs.List.{prefix_len}
 use Rattle.std.proofs.lemmas.Bool.{false≢true}
 use Rattle.std.proofs.lemmas.Bool.Decides.{nat_tests}
-use Rattle.std.proofs.lemmas.List.{append-nil, length-take-le}
+use Rattle.std.proofs.lemmas.List.{append-nil, length-take-le, take_rest}
 use Rattle.std.proofs.lemmas.List.Elements.{filter-append}
 use Rattle.markdown_base.specs.declared.configuration.Constructs.{Constructs}
 use Rattle.markdown_base.specs.Virtual.{Seat}
@@ -13,7 +13,7 @@ use Rattle.mdblock_leaf_blocks.specs.LeafBlocks.{Line, text_of}
 use Rattle.mdblock_containers.specs.declared.spans.RowAt.{RowAt}
 use Rattle.mdblock_containers.specs.declared.ahead.Ahead.{Ahead}
 use Rattle.mdblock_containers.specs.Ahead.{AreRows, ahead_of}
-use Rattle.mdblock_containers.specs.Rows.{Row, has_none, is_paragraph, rest_of}
+use Rattle.mdblock_containers.specs.Rows.{Row, has_none, is_paragraph, rest_of, is_table}
 use Rattle.mdblock_containers.specs.Skeleton.{Part, further, parts}
 use Rattle.mdblock_containers.specs.Views.{IsRow}
 use Rattle.mdblock_containers.proofs.AheadLemmas.{row_at, no_ahead, rows_length}
@@ -23,10 +23,11 @@ use Rattle.mdinline_labels.specs.declared.definitions.Definition.{Definition}
 use Rattle.mdinline_labels.specs.Definitions.{definitions, rest}
 use Rattle.mdblock_definitions.specs.declared.sections.Section.{Section as CodeSection}
 use Rattle.mdblock_definitions.specs.Held.{HasText, HaveTexts}
-use Rattle.mdblock_definitions.specs.Sections.{Section, before_defined, begins_text, defined, defined_in, defining, in_same, lines, lines_defined, lines_of, paragraph_of, sections_in, sections_of, text_in, undefined}
-use Rattle.mdblock_definitions.specs.Seen.{AreSections, AreThese, IsSection, begins_text_at, inside_of, is_text_at, row_by, rows_by}
+use Rattle.mdblock_definitions.specs.Sections.{Section, before_defined, begins_text, defined, defined_in, defining, in_same, lines, lines_defined, lines_of, paragraph_of, sections_in, sections_of, text_in, undefined, is_in_table, table, tabled}
+use Rattle.mdblock_definitions.specs.Seen.{AreSections, AreThese, IsSection, begins_text_at, inside_of, is_text_at, row_by, rows_by, is_in_table_at, begins_in_table_at}
 use Rattle.mdblock_definitions.proofs.Covered.{fewer-left, some-defined}
 use Rattle.mdblock_definitions.proofs.CutAlike.{undefined-is}
+use Rattle.mdblock_table_marks.specs.TableCuts.{begins_in_table}
 
 -- ---- some of the lines
 
@@ -210,12 +211,31 @@ pub record NextLine (rows : List RowAt) (all : List Row) (n : ℕ) : Type 0 wher
   pub row : Row
   pub rest : drop n all ≡ row ∷ drop (n + 1) all
   pub text : (x : RowAt) → x ≡ get_or rows n x → is_text_at x ≡ is_paragraph row.leaf
+  pub table : (x : RowAt) → x ≡ get_or rows n x → is_in_table_at x ≡ is_in_table row
 
 pub next-line : (rows : List RowAt) (all : List Row) (n : ℕ) → AreRows rows all → n < length rows → NextLine rows all n
 next-line [] all n are h = absurd (omega (arith, h))
 next-line (x ∷ xs) [] n are h = absurd are
-next-line (x ∷ xs) (r ∷ rs) zero are h = record { row = r; rest = refl; text = λ y e. ap is_text_at e ∙ ap is_paragraph are.0.leaf }
-next-line (x ∷ xs) (r ∷ rs) (suc n) are h = let more = next-line xs rs n are.1 (omega (arith, h)) in let one : suc n + 1 ≡ suc (n + 1) = omega arith in record { row = more.row; rest = more.rest ∙ ap (λ m. more.row ∷ drop m (r ∷ rs)) (sym one); text = λ y e. more.text y e }
+next-line (x ∷ xs) (r ∷ rs) zero are h = record { row = r; rest = refl; text = λ y e. ap is_text_at e ∙ ap is_paragraph are.0.leaf; table = λ y e. ap is_in_table_at e ∙ ap is_table are.0.leaf }
+next-line (x ∷ xs) (r ∷ rs) (suc n) are h = let more = next-line xs rs n are.1 (omega (arith, h)) in let one : suc n + 1 ≡ suc (n + 1) = omega arith in record { row = more.row; rest = more.rest ∙ ap (λ m. more.row ∷ drop m (r ∷ rs)) (sym one); text = λ y e. more.text y e; table = λ y e. more.table y e }
+
+pub begins-table : (rows : List RowAt) (all : List Row) → AreRows rows all → begins_in_table_at rows ≡ begins_in_table is_in_table all
+begins-table [] [] are = refl
+begins-table [] (r ∷ rs) are = absurd are
+begins-table (x ∷ xs) [] are = absurd are
+begins-table (x ∷ xs) (r ∷ rs) are = ap is_table are.0.leaf
+
+-- ---- lines that are left
+
+-- the lines that are left
+pub these-left : (t : ℕ) (bytes : List ℕ) (rows : List RowAt) (all : List Row) (i : ℕ) → AreThese t bytes rows all → AreThese t bytes (take (length rows - i) (drop i rows)) (drop i all)
+these-left t bytes rows all i h = subst (λ (l : List RowAt). AreThese t bytes l (drop i all)) (sym (take_rest rows i)) (these-back t bytes i rows all h)
+
+-- and the first of them
+pub these-first : (t : ℕ) (bytes : List ℕ) (rows : List RowAt) (all : List Row) (i n e : ℕ) → e ≡ i + n → AreThese t bytes rows all → AreThese t bytes (take (e - i) (drop i rows)) (take n (drop i all))
+these-first t bytes rows all i n e h these =
+    let size : e - i ≡ n = omega (arith, h) in
+    subst (λ (k : ℕ). AreThese t bytes (take k (drop i rows)) (take n (drop i all))) (sym size) (these-front t bytes n (drop i rows) (drop i all) (these-back t bytes i rows all these))
 
 -- ---- one section more
 
@@ -309,6 +329,23 @@ defining-push xs ys x ss ds around (r ∷ rs) ey ef ei h = sections-push xs ys x
 pub defining-none : (xs : List CodeSection) (ss : List Section) (ds : List Definition) (around : Part) (rows : List Row) → length rows ≡ 0 → AreSections xs ss → AreSections xs (ss ++ defining ds around rows)
 defining-none xs ss ds around [] e h = subst (AreSections xs) (sym (append-nil ss)) h
 defining-none xs ss ds around (r ∷ rs) e h = absurd (omega (arith, e))
+
+-- a table
+pub tabled-push : (xs ys : List CodeSection) (x : CodeSection) (ss : List Section) (around : Part) (rows : List Row) → ys ≡ xs ++ x ∷ [] → suc x.further ≡ length rows → inside_of x.inside ≡ table → AreSections xs ss
+    → AreSections ys (ss ++ tabled around rows)
+tabled-push xs ys x ss around [] ey ef ei h = absurd (omega (arith, ef))
+tabled-push xs ys x ss around (r ∷ rs) ey ef ei h = sections-push xs ys x ss (record { part = record around { first = r; more = rs }; inside = table }) ey h (record { further = omega (arith, ef); inside = ei })
+
+pub tabled-none : (xs : List CodeSection) (ss : List Section) (around : Part) (rows : List Row) → length rows ≡ 0 → AreSections xs ss → AreSections xs (ss ++ tabled around rows)
+tabled-none xs ss around [] e h = subst (AreSections xs) (sym (append-nil ss)) h
+tabled-none xs ss around (r ∷ rs) e h = absurd (omega (arith, e))
+
+-- sections behind others
+pub sections-both : (xs ys : List CodeSection) (ss ts : List Section) → AreSections xs ss → AreSections ys ts → AreSections (xs ++ ys) (ss ++ ts)
+sections-both [] ys [] ts h k = k
+sections-both [] ys (s ∷ ss) ts h k = absurd h
+sections-both (x ∷ xs) ys [] ts h k = absurd h
+sections-both (x ∷ xs) ys (s ∷ ss) ts h k = (h.0, sections-both xs ys ss ts h.1 k)
 
 -- ---- all of a part
 

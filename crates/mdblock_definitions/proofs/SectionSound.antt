@@ -1,22 +1,25 @@
 -- What is in the sections of a part fits their lines.
-use Rattle.std.proofs.Common.{◌≡◌, ℕ, zero, suc, ◌+◌, Bool, true, false, cond, List, [], ◌∷◌, ◌++◌, length, drop, take, map, refl, sym, ap, subst, ◌∙◌, arith}
-use Rattle.std.specs.Prelude.{◌&&◌}
-use Rattle.std.specs.List.{flat_map, prefix_len}
+use Rattle.std.proofs.Common.{◌≡◌, ℕ, zero, suc, ◌+◌, Bool, true, false, cond, List, [], ◌∷◌, ◌++◌, length, drop, take, map, refl, sym, ap, subst, ◌∙◌, arith, append-nil}
+use Rattle.std.specs.Prelude.{◌&&◌, ◌||◌}
+use Rattle.std.specs.List.{flat_map, prefix_len, AllByRecursion}
+use Rattle.std.proofs.lemmas.Bool.{false≢true}
 use Rattle.markdown_base.specs.declared.configuration.Constructs.{Constructs}
-use Rattle.markdown_base.proofs.Common.{and-right, every-append, every-take, every-drop}
-use Rattle.markdown_tokenizer.proofs.Positions.Order.{every-back, every-front}
+use Rattle.markdown_base.proofs.Common.{and-right, every-append}
 use Rattle.mdblock_leaf_blocks.specs.LeafBlocks.{Line}
-use Rattle.mdblock_containers.specs.Rows.{Row, is_paragraph}
+use Rattle.mdblock_containers.specs.Rows.{Row, is_paragraph, is_table}
 use Rattle.mdblock_containers.specs.Skeleton.{Part, further, parts}
+use Rattle.mdblock_table_marks.proofs.TableCuts.{before-all, one-piece}
+use Rattle.mdblock_table_marks.specs.TableCuts.{before_table, begins_in_table, cut_at_tables, table_lines}
 use Rattle.mdinline_labels.specs.Definitions.{definitions}
 use Rattle.mdblock_definitions.specs.Rows.{rows}
-use Rattle.mdblock_definitions.specs.Sectioned.{AreSectionsOf, AreSound, TextIsFilled, TextsAreFilled, IsSound}
-use Rattle.mdblock_definitions.specs.Sections.{Section, before_defined, cut, defined_in, defining, in_same, lines, lines_defined, paragraph_of, sections, sections_in, text_in, undefined}
+use Rattle.mdblock_definitions.specs.Sectioned.{AreSectionsOf, AreSound, TextIsFilled, TextsAreFilled, IsSound, IsFilled}
+use Rattle.mdblock_definitions.specs.Sections.{Section, before_defined, cut, defined_in, defining, in_same, lines, lines_defined, paragraph_of, sections, sections_in, text_in, undefined, is_in_table, sections_of_cut, tabled}
 use Rattle.mdblock_definitions.specs.Skeleton.{all_rows}
-use Rattle.mdblock_definitions.proofs.Covered.{cut-lines, lines-of-parts}
+use Rattle.mdblock_definitions.proofs.Covered.{cut-lines, lines-of-parts, cuts-lines}
 use Rattle.mdblock_definitions.proofs.DefinedText.{paragraph-defined}
+use Rattle.mdblock_definitions.proofs.FilledTexts.{texts-back, texts-drop, texts-front, texts-take}
 use Rattle.mdblock_definitions.proofs.PartTexts.{all-texts}
-use Rattle.mdblock_definitions.proofs.Within.{sections-within}
+use Rattle.mdblock_definitions.proofs.Within.{sections-within, cuts-within}
 
 plain-sound : (around : Part) (ps : List Part) → AreSound (map (λ p. record { part = p; inside = lines false }) (map (in_same around) ps))
 plain-sound around [] = tt
@@ -28,7 +31,7 @@ first-sound x p h = by (x && is_paragraph p.first.leaf) refl
   where
     by : (b : Bool) → (x && is_paragraph p.first.leaf) ≡ b → IsSound p (lines b)
     by false e = tt
-    by true e = h (and-right x (is_paragraph p.first.leaf) e)
+    by true e = h (ap (λ b. b || is_table p.first.leaf) (and-right x (is_paragraph p.first.leaf) e))
 
 undefined-sound : (x : Bool) (around : Part) (rs : List Row) → TextsAreFilled rs → AreSound (undefined x around rs)
 undefined-sound x around [] h = tt
@@ -49,7 +52,7 @@ module _ (on : Constructs) where
   defining-sound : (around : Part) (behind : List Row) (d : ℕ) → defined_in on behind ≡ d → TextsAreFilled behind → AreSound (defining (definitions (text_in (paragraph_of behind))) around (take d behind))
   defining-sound around behind zero e h = tt
   defining-sound around [] (suc d) e h = tt
-  defining-sound around (r ∷ rs) (suc d) e h = (((h.0 (text (is_paragraph r.leaf) refl)).0, own), tt)
+  defining-sound around (r ∷ rs) (suc d) e h = (((h.0 (ap (λ b. b || is_table r.leaf) (text (is_paragraph r.leaf) refl))).0, own), tt)
     where
       text : (b : Bool) → is_paragraph r.leaf ≡ b → is_paragraph r.leaf ≡ true
       text true k = k
@@ -69,11 +72,71 @@ module _ (on : Constructs) where
       let front = undefined x around (take n all) in
       let middle = defining (definitions (text_in (paragraph_of behind))) around (take d behind) in
       let back = sections_in on b true around (drop d behind) in
-      let left : TextsAreFilled behind = every-drop TextIsFilled n all h in
-      every-append (λ (s : Section). IsSound s.part s.inside) front (middle ++ back) (undefined-sound x around (take n all) (every-take TextIsFilled n all h))
-      (every-append (λ (s : Section). IsSound s.part s.inside) middle back (defining-sound around behind d refl left) (sections-sound b true around (drop d behind) (every-drop TextIsFilled d behind left)))
+      let left : TextsAreFilled behind = texts-drop n all h in
+      every-append (λ (s : Section). IsSound s.part s.inside) front (middle ++ back) (undefined-sound x around (take n all) (texts-take n all h))
+      (every-append (λ (s : Section). IsSound s.part s.inside) middle back (defining-sound around behind d refl left) (sections-sound b true around (drop d behind) (texts-drop d behind left)))
+
+  -- ---- tables
+
+  -- behind the lines before the first table comes its header row, and then a line of it
+  pub begins-behind : (all rows : List Row) (header : Row) → drop (before_table is_in_table all) all ≡ header ∷ rows → begins_in_table is_in_table rows ≡ true
+  begins-behind [] rows header e = absurd (cc)
+  begins-behind (r ∷ rs) rows header e = by (begins-behind rs rows header) (begins_in_table is_in_table rs) refl e
+    where
+      by : (drop (before_table is_in_table rs) rs ≡ header ∷ rows → begins_in_table is_in_table rows ≡ true)
+          → (x : Bool) → begins_in_table is_in_table rs ≡ x → drop (cond x 0 (suc (before_table is_in_table rs))) (r ∷ rs) ≡ header ∷ rows → begins_in_table is_in_table rows ≡ true
+      by more true ex k = ap (begins_in_table is_in_table) (sym (ap (drop 1) k)) ∙ ex
+      by more false ex k = more k
+
+  -- lines in a table have text
+  rows-filled : (rs : List Row) → TextsAreFilled rs → AllByRecursion IsFilled (take (prefix_len is_in_table rs) rs)
+  rows-filled [] h = tt
+  rows-filled (r ∷ rs) h = by (rows-filled rs h.1.1) (is_in_table r) refl
+    where
+      either : (a b : Bool) → b ≡ true → (a || b) ≡ true
+      either true b e = refl
+      either false b e = e
+
+      by : AllByRecursion IsFilled (take (prefix_len is_in_table rs) rs) → (x : Bool) → is_in_table r ≡ x → AllByRecursion IsFilled (take (cond x (1 + prefix_len is_in_table rs) 0) (r ∷ rs))
+      by more true e =
+          let one : suc (prefix_len is_in_table rs) ≡ 1 + prefix_len is_in_table rs = omega arith in
+          subst (λ (n : ℕ). AllByRecursion IsFilled (take n (r ∷ rs))) one ((h.0 (either (is_paragraph r.leaf) (is_table r.leaf) e)).1, more)
+      by more false e = tt
+
+  table-sound : (around : Part) (behind : List Row) → TextsAreFilled behind → ((rows : List Row) (header : Row) → behind ≡ header ∷ rows → begins_in_table is_in_table rows ≡ true)
+      → AreSound (tabled around (take (table_lines is_in_table behind) behind))
+  table-sound around [] h begins = tt
+  table-sound around (header ∷ []) h begins = absurd (false≢true (begins [] header refl))
+  table-sound around (header ∷ r ∷ rs) h begins =
+      let is : is_in_table r ≡ true = begins (r ∷ rs) header refl in
+      let one : 1 + prefix_len is_in_table rs ≡ suc (prefix_len is_in_table rs) = omega arith in
+      let many : prefix_len is_in_table (r ∷ rs) ≡ suc (prefix_len is_in_table rs) = ap (λ b. cond b (1 + prefix_len is_in_table rs) 0) is ∙ one in
+      subst (λ (n : ℕ). AreSound (tabled around (take (suc n) (header ∷ r ∷ rs)))) (sym many) (((h.0 (h.1.0 is)).0, rows-filled rs h.1.1.1.1), tt)
+
+  cuts-sound : (b : ℕ) (around : Part) (rs : List Row) → TextsAreFilled rs → AreSound (flat_map (sections_of_cut on around) (cut_at_tables is_in_table b rs))
+  cuts-sound zero around rs h = tt
+  cuts-sound (suc b) around [] h = tt
+  cuts-sound (suc b) around (r ∷ rs) h =
+      let all : List Row = r ∷ rs in
+      let n = before_table is_in_table all in
+      let behind = drop n all in
+      let m = table_lines is_in_table behind in
+      let front = sections_in on (length (take n all)) false around (take n all) in
+      let middle = tabled around (take m behind) in
+      let back = flat_map (sections_of_cut on around) (cut_at_tables is_in_table b (drop m behind)) in
+      let left = texts-drop n all h in
+      every-append (λ (s : Section). IsSound s.part s.inside) front (middle ++ back) (sections-sound (length (take n all)) false around (take n all) (texts-take n all h))
+      (every-append (λ (s : Section). IsSound s.part s.inside) middle back (table-sound around behind left (λ rows header. begins-behind all rows header)) (cuts-sound b around (drop m behind) (texts-drop m behind left)))
 
   -- the sections of a part that is no blank line
+  pub cut-sections : (p : Part) → TextsAreFilled (all_rows p) → AreSectionsOf p (flat_map (sections_of_cut on p) (cut_at_tables is_in_table (suc (length p.more)) (all_rows p)))
+  cut-sections p h = record {
+    within = cuts-within on p (cut_at_tables is_in_table (suc (length p.more)) (all_rows p));
+    lines = cuts-lines on (suc (length p.more)) p (all_rows p) (omega arith);
+    sound = cuts-sound (suc (length p.more)) p (all_rows p) h;
+  }
+
+  -- and if it has no table
   pub part-sections : (p : Part) → TextsAreFilled (all_rows p) → AreSectionsOf p (sections_in on (suc (length p.more)) false p (all_rows p))
   part-sections p h = record {
     within = sections-within on (suc (length p.more)) false p (all_rows p);
@@ -81,21 +144,37 @@ module _ (on : Constructs) where
     sound = sections-sound (suc (length p.more)) false p (all_rows p) h;
   }
 
-  pub cut-filled : (p : Part) → p.first.is_blank ≡ false → cut on p ≡ sections_in on (suc (length p.more)) false p (all_rows p)
-  cut-filled p e = ap (λ b. cond b (record { part = p; inside = lines false } ∷ []) (sections_in on (suc (length p.more)) false p (all_rows p))) e
+  abbrev cut_by : Part → Bool → List Section
+  cut_by p b = cond b (record { part = p; inside = lines false } ∷ []) (flat_map (sections_of_cut on p) (cut_at_tables is_in_table (suc (length p.more)) (all_rows p)))
+
+  pub cut-tabled : (p : Part) → p.first.is_blank ≡ false → cut on p ≡ flat_map (sections_of_cut on p) (cut_at_tables is_in_table (suc (length p.more)) (all_rows p))
+  cut-tabled p e = ap (cut_by p) e
+
+  -- no line is in a table
+  abbrev pub NoTable : List Row → Type 0
+  NoTable rs = AllByRecursion (λ r. is_in_table r ≡ false) rs
+
+  pub no-table : (rs : List Row) → NoTable rs → before_table is_in_table rs ≡ length rs
+  no-table rs none = before-all is_in_table rs none
+
+  pub cut-filled : (p : Part) → p.first.is_blank ≡ false → before_table is_in_table (all_rows p) ≡ length (all_rows p) → cut on p ≡ sections_in on (suc (length p.more)) false p (all_rows p)
+  cut-filled p e none =
+      cut-tabled p e
+      ∙ ap (flat_map (sections_of_cut on p)) (one-piece is_in_table (length p.more) (all_rows p) (before_table is_in_table (all_rows p)) (omega (arith, none)))
+      ∙ append-nil (sections_in on (suc (length p.more)) false p (all_rows p))
 
   pub cut-blank : (p : Part) → p.first.is_blank ≡ true → cut on p ≡ record { part = p; inside = lines false } ∷ []
-  cut-blank p e = ap (λ b. cond b (record { part = p; inside = lines false } ∷ []) (sections_in on (suc (length p.more)) false p (all_rows p))) e
+  cut-blank p e = ap (cut_by p) e
 
   -- ---- the sections of a document
   parts-sound : (ps : List Part) → TextsAreFilled (flat_map all_rows ps) → AreSound (flat_map (cut on) ps)
   parts-sound [] h = tt
   parts-sound (p ∷ ps) h =
-      every-append (λ (s : Section). IsSound s.part s.inside) (cut on p) (flat_map (cut on) ps) (by p.first.is_blank) (parts-sound ps (every-back TextIsFilled (all_rows p) (flat_map all_rows ps) h))
+      every-append (λ (s : Section). IsSound s.part s.inside) (cut on p) (flat_map (cut on) ps) (by p.first.is_blank) (parts-sound ps (texts-back (all_rows p) (flat_map all_rows ps) h))
     where
-      by : (b : Bool) → AreSound (cond b (record { part = p; inside = lines false } ∷ []) (sections_in on (suc (length p.more)) false p (p.first ∷ p.more)))
+      by : (b : Bool) → AreSound (cut_by p b)
       by true = (tt, tt)
-      by false = (part-sections p (every-front TextIsFilled (all_rows p) (flat_map all_rows ps) h)).sound
+      by false = (cut-sections p (texts-front (all_rows p) (flat_map all_rows ps) h)).sound
 
   pub document-sound : (ls : List Line) → AreSound (sections on (rows on ls))
   document-sound ls =

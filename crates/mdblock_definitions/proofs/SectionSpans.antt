@@ -19,18 +19,21 @@ use Rattle.mdblock_containers.proofs.Innermost.Spans.{Accounts, both_account, ch
 use Rattle.mdblock_containers.proofs.PartGoes.{cut, front_is, lines_of}
 use Rattle.mdblock_containers.proofs.SeatFacts.{LineIs, LinesEnd, document_lines, lines_end}
 use Rattle.mdblock_containers.specs.Prefixes.{columns_of}
-use Rattle.mdblock_containers.specs.Rows.{has_none}
-use Rattle.mdblock_containers.specs.Skeleton.{begun_all, chunks_of, end_of, ending_marks, exits, inside_of, is_held, joined_pieces, pieces_of, prefixes_marks, shared}
+use Rattle.mdblock_containers.specs.Rows.{has_none, holds_ending}
+use Rattle.mdblock_containers.specs.Skeleton.{begun_all, chunks_of, end_of, ending_marks, exits, inside_of, is_held, joined_pieces, pieces_of, prefixes_marks, shared, last_of}
+use Rattle.mdblock_containers.proofs.AnySpans.{accounts-kept-by}
+use Rattle.mdblock_table_marks.proofs.TableShapes.{tables-are-spans}
+use Rattle.mdblock_table_marks.specs.TableMarks.{table_marks}
 use Rattle.mdinline_labels.specs.declared.definitions.Definition.{Definition}
 use Rattle.mdblock_definitions.specs.Definitions.{definitions_marks, places_in}
 use Rattle.mdblock_definitions.specs.SkeletonLaws.{SkeletonsAccount}
 use Rattle.mdblock_definitions.specs.Rows.{rows}
-use Rattle.mdblock_definitions.specs.Sections.{Inside, Section, defined, lines, sections}
+use Rattle.mdblock_definitions.specs.Sections.{Inside, Section, defined, lines, sections, table}
 use Rattle.mdblock_definitions.specs.Skeleton.{all_rows, behind_definitions, behind_marks, inside_marks, section_marks, sections_marks}
 use Rattle.mdblock_definitions.proofs.Covered.{rows_of}
 use Rattle.mdblock_definitions.proofs.DefinitionLines.{AreDefined}
-use Rattle.mdblock_definitions.proofs.DefinitionMarks.{accounts-kept-by, definitions-are-spans}
-use Rattle.mdblock_definitions.proofs.SectionGoes.{all-seats, defined-seats, ending, ends-front, ends-rest, first-fits, fitted, inner, lines_in_all, others-fit, part, part-is, seats, text-behind}
+use Rattle.mdblock_definitions.proofs.DefinitionMarks.{definitions-are-spans}
+use Rattle.mdblock_definitions.proofs.SectionGoes.{all-seats, defined-seats, ending, ends-front, ends-rest, first-fits, fitted, inner, lines_in_all, others-fit, part, part-is, seats, text-behind, table-seats}
 use Rattle.mdblock_definitions.proofs.SectionTurns.{AreCut, InsideIs, RowIs, SectionIs, all-of-sections, document-cut, document-lines}
 
 module _ (t : ℕ) (bytes : List ℕ) where
@@ -60,6 +63,9 @@ module _ (t : ℕ) (bytes : List ℕ) where
         let ms = definitions_marks bytes ds (places_in bytes (all_rows s.part)) in
         subst (P ms) (defined-seats t bytes s is fits ends filled ds d) (definitions-are-spans bytes ds (all_rows s.part) d.laid (first-fits t bytes s is fits ends, others-fit t bytes s is fits ends))
 
+    table-spans : (filled : s.part.first.is_blank ≡ false) → holds_ending (last_of s.part.first s.part.more).leaf ≡ false → P (table_marks bytes s.part) within
+    table-spans filled free = subst (P (table_marks bytes s.part)) (table-seats t bytes s is fits ends filled free) (tables-are-spans bytes s.part.first s.part.more)
+
     inside-are-spans : P (inside_marks bytes s.part s.inside) within
     inside-are-spans = by s.inside is.inside
       where
@@ -67,6 +73,7 @@ module _ (t : ℕ) (bytes : List ℕ) where
         by (lines true) h = behind-spans (h refl)
         by (lines false) h = lines-spans
         by (defined ds) h = defined-spans h.1 ds h.0
+        by table h = table-spans h.0 h.1
 
     -- the marks of a section account for its virtual bytes
     section-spans : P (section_marks bytes s) (seats t bytes s is fits ends)

@@ -15,8 +15,9 @@ use Rattle.mdblock_containers.specs.Prefixes.{columns_of}
 use Rattle.mdblock_containers.specs.Rows.{rest_of}
 use Rattle.mdblock_containers.specs.Skeleton.{Part, Piece, begun_all, chunks_of, end_of, ending_marks, exits, is_held, joined_pieces, pieces_of, prefixes_marks, shared}
 use Rattle.mdblock_definitions.specs.Rows.{rows}
-use Rattle.mdblock_definitions.specs.Sections.{Inside, Section, defined, lines, sections}
+use Rattle.mdblock_definitions.specs.Sections.{Inside, Section, defined, lines, sections, table}
 use Rattle.mdblock_definitions.specs.Skeleton.{all_rows, behind_definitions, behind_marks, inside_marks, section_marks, sections_marks}
+use Rattle.mdblock_table_marks.proofs.TableShapes.{tables-are-shaped}
 use Rattle.mdblock_definitions.specs.SkeletonLaws.{SkeletonsAreVoidTight, SkeletonsHaveChunks}
 use Rattle.mdblock_definitions.proofs.Covered.{rows_of}
 use Rattle.mdblock_definitions.proofs.DefinitionMarks.{definitions-are-shaped}
@@ -42,6 +43,7 @@ module _ (bytes : List ℕ) where
       by (lines true) h = behind-tight s.part
       by (lines false) h = inside_tight bytes s.part
       by (defined ds) h = (definitions-are-shaped bytes ds (all_rows s.part) h.0.laid (rows-fit (all_rows s.part) fits)).0
+      by table h = (tables-are-shaped bytes s.part.first s.part.more).0
 
   section-tight : (s : Section) → SectionIs bytes s → AllByRecursion RowIs (all_rows s.part) → Tight (section_marks bytes s)
   section-tight s is fits =

@@ -1,7 +1,7 @@
 -- The sections of a document: which spans are open from one to the next, and what is in their lines.
-use Rattle.std.proofs.Common.{◌≡◌, ◌⊎◌, inl, ℕ, zero, suc, ◌≤◌, Bool, true, false, cond, List, [], ◌∷◌, ◌++◌, append-nil, arith, drop, length, map, refl, sym, ap, subst, take, ◌∙◌}
+use Rattle.std.proofs.Common.{◌≡◌, ◌⊎◌, inl, ℕ, zero, suc, ◌≤◌, Bool, true, false, cond, List, [], ◌∷◌, ◌++◌, append-nil, arith, drop, length, map, refl, sym, ap, subst, take, ◌∙◌, ◌+◌}
 use Rattle.std.specs.Prelude.{◌&&◌}
-use Rattle.std.specs.List.{AllByRecursion, flat_map}
+use Rattle.std.specs.List.{AllByRecursion, flat_map, prefix_len}
 use Rattle.std.proofs.lemmas.Bool.{false≢true}
 use Rattle.std.proofs.lemmas.List.{length-append, length-map}
 use Rattle.markdown_base.proofs.Common.{and-right, every-append, every-map, every-take, every-drop}
@@ -19,18 +19,24 @@ use Rattle.mdblock_containers.proofs.RowFacts.{begun_sizes, columns_within}
 use Rattle.mdblock_containers.proofs.RowSpans.{head_same}
 use Rattle.mdblock_containers.proofs.SeatFacts.{LineIs}
 use Rattle.mdblock_containers.specs.Prefixes.{containers_of}
-use Rattle.mdblock_containers.specs.Rows.{Row, has_none, is_paragraph, rest_of}
-use Rattle.mdblock_containers.specs.Skeleton.{Frame, Part, frames_at, further, parts, parts_in, shared, standing}
+use Rattle.mdblock_containers.specs.Rows.{Row, has_none, is_paragraph, rest_of, holds_ending}
+use Rattle.mdblock_containers.specs.Skeleton.{Frame, Part, frames_at, further, parts, parts_in, shared, standing, last_of}
+use Rattle.mdblock_table_marks.specs.TableCuts.{before_table, begins_in_table, cut_at_tables, table_lines}
 use Rattle.mdinline_labels.specs.declared.definitions.Definition.{Definition}
 use Rattle.mdinline_labels.specs.Definitions.{definitions}
-use Rattle.mdblock_definitions.specs.Sections.{Inside, Section, before_defined, begins_text, cut, defined, defined_in, defining, in_same, lines, lines_defined, paragraph_of, sections, sections_in, sections_of, text_in, undefined}
+use Rattle.mdblock_definitions.specs.Sections.{Inside, Section, before_defined, begins_text, cut, defined, defined_in, defining, in_same, lines, lines_defined, paragraph_of, sections, sections_in, sections_of, text_in, undefined, is_in_table, sections_of_cut, table, tabled}
 use Rattle.mdblock_definitions.specs.Rows.{Known, known_after, row_of, rows, rows_from}
+use Rattle.mdblock_definitions.specs.Sectioned.{TextsAreFilled}
 use Rattle.mdblock_definitions.specs.Skeleton.{all_rows}
 use Rattle.mdblock_definitions.proofs.Covered.{lines-of-parts, part-lines, rows_of, sections-hold-lines}
 use Rattle.mdblock_definitions.proofs.CutAlike.{undefined-is}
 use Rattle.mdblock_definitions.proofs.DefinitionLines.{AreDefined, IsFilled, lines-are-defined}
 use Rattle.mdblock_definitions.proofs.KnownReads.{known-reads, nothing}
+use Rattle.mdblock_definitions.proofs.FilledTexts.{texts-back, texts-drop, texts-front}
+use Rattle.mdblock_definitions.proofs.PartTexts.{all-texts}
 use Rattle.mdblock_definitions.proofs.PlainLetters.{open-not-blank}
+use Rattle.mdblock_definitions.proofs.SectionSound.{begins-behind}
+use Rattle.mdblock_definitions.proofs.TableSeats.{last-no-ending}
 use Rattle.mdblock_definitions.proofs.Within.{shared-all}
 
 -- no paragraph is open behind a line without text
@@ -91,6 +97,7 @@ module _ (bytes : List ℕ) where
   abbrev pub InsideIs : Part → Inside → Type 0
   InsideIs p (lines is_behind) = is_behind ≡ true → p.first.is_blank ≡ false
   InsideIs p (defined ds) = AreDefined bytes ds (all_rows p) × (p.first.is_blank ≡ false)
+  InsideIs p table = (p.first.is_blank ≡ false) × (holds_ending (last_of p.first p.more).leaf ≡ false)
 
   -- A section: no more containers go on at its first line than it stands in, and nothing begins behind that
   pub record SectionIs (s : Section) : Type 0 where
@@ -183,6 +190,38 @@ module _ (bytes : List ℕ) where
         every-append IsInside front (middle ++ back) (undefined-inside x (take n all) (every-take IsIn n all h) (only-front n all only))
         (every-append IsInside middle back (found-inside behind left only-left) (all-inside b true (drop d behind) (every-drop IsIn d behind left) (only-behind d behind only-left)))
 
+    -- lines of a table
+    table-inside : (behind : List Row) → AllByRecursion IsIn behind → OnlyFirst behind → TextsAreFilled behind → ((rows : List Row) (header : Row) → behind ≡ header ∷ rows → begins_in_table is_in_table rows ≡ true)
+        → AllByRecursion IsInside (tabled around (take (table_lines is_in_table behind) behind))
+    table-inside [] h only texts begins = tt
+    table-inside (header ∷ []) h only texts begins = absurd (false≢true (begins [] header refl))
+    table-inside (header ∷ q ∷ qs) h only texts begins =
+        let is : is_in_table q ≡ true = begins (q ∷ qs) header refl in
+        let k = prefix_len is_in_table qs in
+        let one : 1 + k ≡ suc k = omega arith in
+        let many : prefix_len is_in_table (q ∷ qs) ≡ suc k = ap (λ b. cond b (1 + k) 0) is ∙ one in
+        let filled = (texts.0 (texts.1.0 is)).0 in
+        subst (λ (n : ℕ). AllByRecursion IsInside (tabled around (take (suc n) (header ∷ q ∷ qs)))) (sym many)
+        (record { frames = refl; is = record { narrow = λ e. h.0.1; none_begin = every-take (λ (x : Row). has_none x.begun ≡ true) (suc k) (q ∷ qs) only; alone = λ e. absurd (false≢true (sym filled ∙ e)); inside = (filled, last-no-ending q qs is) } }, tt)
+
+    cuts-inside : (b : ℕ) (rs : List Row) → AllByRecursion IsIn rs → OnlyFirst rs → TextsAreFilled rs → AllByRecursion IsInside (flat_map (sections_of_cut on around) (cut_at_tables is_in_table b rs))
+    cuts-inside zero rs h only texts = tt
+    cuts-inside (suc b) [] h only texts = tt
+    cuts-inside (suc b) (r ∷ rs) h only texts =
+        let all : List Row = r ∷ rs in
+        let n = before_table is_in_table all in
+        let behind = drop n all in
+        let m = table_lines is_in_table behind in
+        let front = sections_in on (length (take n all)) false around (take n all) in
+        let middle = tabled around (take m behind) in
+        let back = flat_map (sections_of_cut on around) (cut_at_tables is_in_table b (drop m behind)) in
+        let left = every-drop IsIn n all h in
+        let only-left = only-behind n all only in
+        let texts-left = texts-drop n all texts in
+        every-append IsInside front (middle ++ back) (all-inside (length (take n all)) false (take n all) (every-take IsIn n all h) (only-front n all only))
+        (every-append IsInside middle back (table-inside behind left only-left texts-left (λ rows header. begins-behind on all rows header))
+        (cuts-inside b (drop m behind) (every-drop IsIn m behind left) (only-behind m behind only-left) (texts-drop m behind texts-left)))
+
     -- ---- spans from one section to the next
 
     -- behind the first section nothing begins
@@ -212,8 +251,8 @@ module _ (bytes : List ℕ) where
 
   module _ (on : Constructs) where
     -- the sections of a part
-    part-is-cut : (fs : List Frame) (p : Part) → IsTurned fs p → AllByRecursion RowIs (all_rows p) → AllByRecursion (IsInside on p) (cut on p) × AreCut fs (cut on p)
-    part-is-cut fs p h ls = by p.first.is_blank refl (part-lines on p)
+    part-is-cut : (fs : List Frame) (p : Part) → IsTurned fs p → AllByRecursion RowIs (all_rows p) → TextsAreFilled (all_rows p) → AllByRecursion (IsInside on p) (cut on p) × AreCut fs (cut on p)
+    part-is-cut fs p h ls texts = by p.first.is_blank refl (part-lines on p)
       where
         narrow : (p.first.is_blank ≡ false) ⊎ (has_none p.first.begun ≡ false) → length p.first.went_on ≤ length p.stands
         narrow e =
@@ -227,21 +266,21 @@ module _ (bytes : List ℕ) where
         in-all (r ∷ rs) a b = ((a.0, b.0), in-all rs a.1 b.1)
 
         cut_by : Bool → List Section
-        cut_by x = cond x (record { part = p; inside = lines false } ∷ []) (sections_in on (suc (length p.more)) false p (p.first ∷ p.more))
+        cut_by x = cond x (record { part = p; inside = lines false } ∷ []) (flat_map (sections_of_cut on p) (cut_at_tables is_in_table (suc (length p.more)) (p.first ∷ p.more)))
 
         by : (x : Bool) → p.first.is_blank ≡ x → rows_of (cut_by x) ≡ all_rows p → AllByRecursion (IsInside on p) (cut_by x) × AreCut fs (cut_by x)
         by true e all =
             let one : SectionIs (record { part = p; inside = lines false }) = record { narrow = narrow; none_begin = h.none_begin; alone = h.alone; inside = λ e. absurd (false≢true e) } in
             ((record { frames = refl; is = one }, tt), (h.turn, one, tt))
         by false e all =
-            let inside = all-inside on p (suc (length p.more)) false (all_rows p) ((ls.0, narrow (inl e)), in-all p.more ls.1 h.narrow) h.none_begin in
+            let inside = cuts-inside on p (suc (length p.more)) (all_rows p) ((ls.0, narrow (inl e)), in-all p.more ls.1 h.narrow) h.none_begin texts in
             (inside, cut-first on p fs p.first p.more h.turn h.none_begin (cut_by false) inside all)
 
-    all-cut : (fs : List Frame) (ps : List Part) → AreTurned fs ps → AllByRecursion RowIs (flat_map all_rows ps) → AreCut fs (flat_map (cut on) ps)
-    all-cut fs [] h ls = tt
-    all-cut fs (p ∷ ps) h ls =
-        let here = part-is-cut fs p h.0 (every-front RowIs (all_rows p) (flat_map all_rows ps) ls) in
-        cut-more on p fs (cut on p) (flat_map (cut on) ps) (some (cut on p) (part-lines on p)) here.0 here.1 (all-cut p.frames ps h.1 (every-back RowIs (all_rows p) (flat_map all_rows ps) ls))
+    all-cut : (fs : List Frame) (ps : List Part) → AreTurned fs ps → AllByRecursion RowIs (flat_map all_rows ps) → TextsAreFilled (flat_map all_rows ps) → AreCut fs (flat_map (cut on) ps)
+    all-cut fs [] h ls texts = tt
+    all-cut fs (p ∷ ps) h ls texts =
+        let here = part-is-cut fs p h.0 (every-front RowIs (all_rows p) (flat_map all_rows ps) ls) (texts-front (all_rows p) (flat_map all_rows ps) texts) in
+        cut-more on p fs (cut on p) (flat_map (cut on) ps) (some (cut on p) (part-lines on p)) here.0 here.1 (all-cut p.frames ps h.1 (every-back RowIs (all_rows p) (flat_map all_rows ps) ls) (texts-back (all_rows p) (flat_map all_rows ps) texts))
       where
         some : (ss : List Section) → rows_of ss ≡ all_rows p → has_none ss ≡ false
         some [] e = absurd (false≢true (sym (ap has_none e)))
@@ -271,6 +310,7 @@ module _ (bytes : List ℕ) where
         let rs = rows on ls in
         let all = rows-are-lines (nothing on) 1 ls h in
         all-cut [] (parts rs) (document_turned on (known-reads on) (nothing on) ls refl refl) (subst (AllByRecursion RowIs) (sym (lines-of-parts (length rs) rs (omega arith))) all)
+        (subst TextsAreFilled (sym (lines-of-parts (length rs) rs (omega arith))) (all-texts on ls))
 
     pub document-lines : (ls : List Line) → AllByRecursion LineIs ls → AllByRecursion RowIs (rows_of (sections on (rows on ls)))
     document-lines ls h = subst (AllByRecursion RowIs) (sym (sections-hold-lines on (rows on ls))) (rows-are-lines (nothing on) 1 ls h)

@@ -10,8 +10,9 @@ use Rattle.mdblock_containers.specs.Skeleton.{Part, further, parts_in}
 use Rattle.mdblock_containers.proofs.AheadLemmas.{rows_length}
 use Rattle.mdblock_containers.proofs.OpenFrames.{none_in}
 use Rattle.mdblock_containers.proofs.RestLemmas.{further_few, part_of}
+use Rattle.mdblock_table_marks.specs.TableCuts.{before_table}
 use Rattle.mdinline_labels.specs.Definitions.{definitions}
-use Rattle.mdblock_definitions.specs.Sections.{Section, before_defined, cut, defined_in, defining, in_same, lines, paragraph_of, sections_in, text_in, undefined}
+use Rattle.mdblock_definitions.specs.Sections.{Section, before_defined, cut, defined_in, defining, in_same, lines, paragraph_of, sections_in, text_in, undefined, is_in_table}
 use Rattle.mdblock_definitions.specs.Seen.{AreThese, IsFound, begins_text_at}
 use Rattle.mdblock_definitions.specs.Skeleton.{all_rows}
 use Rattle.mdblock_definitions.specs.declared.sections.Found.{Found}
@@ -71,10 +72,10 @@ module _ (on : Constructs) where
     abbrev made : ℕ → List Section
     made n = plain (record p { more = take n p.more }) ∷ behind (drop n p.more)
 
-    pub cut-once : before_defined on false (all_rows p) ≡ length (all_rows p) → p.first.is_blank ≡ false → further p.more ≡ length p.more → cut on p ≡ plain p ∷ []
-    cut-once before filled whole =
+    pub cut-once : before_defined on false (all_rows p) ≡ length (all_rows p) → p.first.is_blank ≡ false → further p.more ≡ length p.more → before_table is_in_table (all_rows p) ≡ length (all_rows p) → cut on p ≡ plain p ∷ []
+    cut-once before filled whole no_table =
         let all = all_rows p in
-        cut-filled on p filled
+        cut-filled on p filled no_table
         ∙ ap (λ n. pieces (take n all) (drop n all) (defined_in on (drop n all))) before
         ∙ ap (λ xs. pieces xs (drop (length all) all) (defined_in on (drop (length all) all))) (take-length all)
         ∙ ap (λ ys. pieces all ys (defined_in on ys)) (drop-length all)
@@ -90,5 +91,5 @@ module _ (on : Constructs) where
 
   -- the same, by what is found in its lines
   pub found-none : (p : Part) (t : ℕ) (bytes : List ℕ) (xs : List RowAt) (f : Found) → AreThese t bytes xs (all_rows p) → ((all : List Row) → AreThese t bytes xs all → IsFound on f all) → f.before ≡ length xs → p.first.is_blank ≡ false
-      → (p.first.is_blank ≡ false → further p.more ≡ length p.more) → cut on p ≡ plain p ∷ []
-  found-none p t bytes xs f these found none filled whole = cut-once p (sym (found (all_rows p) these).before ∙ none ∙ rows_length xs (all_rows p) these.rows) filled (whole filled)
+      → (p.first.is_blank ≡ false → further p.more ≡ length p.more) → before_table is_in_table (all_rows p) ≡ length (all_rows p) → cut on p ≡ plain p ∷ []
+  found-none p t bytes xs f these found none filled whole no_table = cut-once p (sym (found (all_rows p) these).before ∙ none ∙ rows_length xs (all_rows p) these.rows) filled (whole filled) no_table

@@ -10,6 +10,8 @@ use Rattle.mdblock_containers.specs.Rows.{has_none}
 use Rattle.mdblock_containers.proofs.FrameFacts.{none_is}
 use Rattle.mdblock_containers.proofs.LazyLemmas.{underline_some}
 use Rattle.mdblock_containers.proofs.PlainLetters.{begins_underline}
+use Rattle.mdblock_tables.proofs.DelimiterFronts.{BeginsDelimiting, delimiters-begin}
+use Rattle.mdblock_tables.specs.Tables.{matched}
 use Rattle.mdinline_labels.specs.Definitions as definitions
 use Rattle.mdinline_labels.specs.Tails.{is_white, marked_size, title_end, title_size}
 use Rattle.mdinline_labels.specs.Tails as tails
@@ -50,5 +52,27 @@ underlined on text rest used underline more =
     let place : drop (prefix_len is_white w) w ≡ unindented rest ++ more = front-white rest more some in
     let mark : (title_size (unindented rest ++ more) ≡ None) × (tails.begins_with 91 (unindented rest ++ more) ≡ false) =
     elim (begins_underline on rest underline) [ inl a ↦ other-mark 61 (unindented rest) more a refl refl | inr a ↦ other-mark 45 (unindented rest) more a refl refl ] in
+    ap is_used_up (append_assoc text (10 ∷ rest) more)
+    ∙ line-is-left w (ap title_size place ∙ mark.0) (ap (tails.begins_with 91) place ∙ mark.1) (some-line rest more some) (length text) text (omega arith) (none_is (definitions.rest text) used)
+
+-- a delimiter row begins with a mark that begins neither
+delimiting-some : (u : List ℕ) → BeginsDelimiting u → 0 < length u
+delimiting-some [] (inl h) = absurd (false≢true h)
+delimiting-some [] (inr (inl h)) = absurd (false≢true h)
+delimiting-some [] (inr (inr h)) = absurd (false≢true h)
+delimiting-some (b ∷ bs) h = omega arith
+
+pub delimited : (text header rest : List ℕ) → is_used_up text ≡ true → is_some (matched header rest) ≡ true → IsNeverUsedUp (text ++ 10 ∷ rest)
+delimited text header rest used match more =
+    let w = rest ++ more in
+    let begins = delimiters-begin header rest match in
+    let some : 0 < length (unindented rest) = delimiting-some (unindented rest) begins in
+    let place : drop (prefix_len is_white w) w ≡ unindented rest ++ more = front-white rest more some in
+    let mark : (title_size (unindented rest ++ more) ≡ None) × (tails.begins_with 91 (unindented rest ++ more) ≡ false) =
+    elim begins [
+      | inl a ↦ other-mark 124 (unindented rest) more a refl refl
+      | inr (inl a) ↦ other-mark 58 (unindented rest) more a refl refl
+      | inr (inr a) ↦ other-mark 45 (unindented rest) more a refl refl
+    ] in
     ap is_used_up (append_assoc text (10 ∷ rest) more)
     ∙ line-is-left w (ap title_size place ∙ mark.0) (ap (tails.begins_with 91) place ∙ mark.1) (some-line rest more some) (length text) text (omega arith) (none_is (definitions.rest text) used)

@@ -1,6 +1,7 @@
 -- Sections of one part, one behind another: they are in the same spans, so none ends between them.
 use Rattle.std.proofs.Common.{◌≡◌, ℕ, zero, suc, ◌+◌, Bool, true, false, cond, List, [], ◌∷◌, ◌++◌, append_assoc, arith, drop, length, map, refl, sym, ap, take, ◌∙◌}
 use Rattle.std.specs.Prelude.{None}
+use Rattle.std.specs.List.{flat_map}
 use Rattle.std.proofs.lemmas.Bool.{false≢true}
 use Rattle.std.proofs.lemmas.List.{append-nil, drop-append-le, drop_all, take-append-le}
 use Rattle.std.proofs.Math.Seq.{drop-length, take-length}
@@ -14,12 +15,13 @@ use Rattle.mdblock_containers.specs.Skeleton.{Frame, Part, end_of, ending_marks,
 use Rattle.mdblock_containers.proofs.FrameFacts.{shared_front}
 use Rattle.mdblock_containers.proofs.RestLemmas.{exits_shown}
 use Rattle.mdblock_containers.proofs.RowSpans.{head_same}
+use Rattle.mdblock_table_marks.specs.TableCuts.{Cut, cut_at_tables}
 use Rattle.mdinline_labels.specs.declared.definitions.Definition.{Definition}
 use Rattle.mdinline_labels.specs.Definitions.{definitions}
 use Rattle.mdblock_definitions.specs.BlankLines.{parts}
-use Rattle.mdblock_definitions.specs.Sections.{Section, before_defined, cut, defined_in, defining, in_same, lines, paragraph_of, sections_in, sections_of, text_in, undefined}
+use Rattle.mdblock_definitions.specs.Sections.{Section, before_defined, cut, defined_in, defining, in_same, lines, paragraph_of, sections_in, sections_of, text_in, undefined, is_in_table, sections_of_cut, tabled}
 use Rattle.mdblock_definitions.specs.Skeleton.{behind_marks, section_marks, sections_marks}
-use Rattle.mdblock_definitions.proofs.Covered.{part-lines, rows_of}
+use Rattle.mdblock_definitions.proofs.Covered.{part-lines, rows_of, cuts-every}
 use Rattle.mdblock_definitions.specs.Within.{AreWithin, IsWithin, last_of, rest_sections, within_marks}
 
 -- ---- the same spans
@@ -59,6 +61,13 @@ sections-within on (suc b) x around (r ∷ rs) =
     let back = sections_in on b true around (drop d behind) in
     every-append (IsWithin around) front (middle ++ back) (undefined-within around _ (parts (take n all))) (every-append (IsWithin around) middle back (defining-within around _ (take d behind)) (sections-within on b true around (drop d behind)))
 
+tabled-within : (around : Part) (rs : List Row) → AreWithin around (tabled around rs)
+tabled-within around [] = tt
+tabled-within around (r ∷ rs) = ((refl, refl), tt)
+
+pub cuts-within : (on : Constructs) (around : Part) (cs : List Cut) → AreWithin around (flat_map (sections_of_cut on around) cs)
+cuts-within on around cs = cuts-every on around (IsWithin around) (λ rs. sections-within on (length rs) false around rs) (tabled-within around) cs
+
 pub within-next : (p q : Part) (ss : List Section) → q.frames ≡ p.frames → q.stands ≡ p.stands → AreWithin p ss → AreWithin q ss
 within-next p q [] e f h = tt
 within-next p q (s ∷ ss) e f h = ((h.0.0 ∙ sym e, h.0.1 ∙ sym f), within-next p q ss e f h.1)
@@ -95,9 +104,9 @@ module _ (on : Constructs) (p : Part) where
   cut-within : AreWithin p (cut on p)
   cut-within = by p.first.is_blank
     where
-      by : (b : Bool) → AreWithin p (cond b (record { part = p; inside = lines false } ∷ []) (sections_in on (suc (length p.more)) false p (p.first ∷ p.more)))
+      by : (b : Bool) → AreWithin p (cond b (record { part = p; inside = lines false } ∷ []) (flat_map (sections_of_cut on p) (cut_at_tables is_in_table (suc (length p.more)) (p.first ∷ p.more))))
       by true = ((refl, refl), tt)
-      by false = sections-within on (suc (length p.more)) false p (p.first ∷ p.more)
+      by false = cuts-within on p (cut_at_tables is_in_table (suc (length p.more)) (p.first ∷ p.more))
 
   -- A part has a section at least, which begins where it does
   pub record Begins : Type 0 where

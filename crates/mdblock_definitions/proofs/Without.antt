@@ -2,10 +2,11 @@
 use Rattle.std.proofs.Common.{◌≡◌, ◌==◌, ◌+◌, ◌-◌, ◌≤◌, ◌∙◌, ℕ, zero, suc, List, [], ◌∷◌, ◌++◌, Bool, true, false, cond, Some, None, ap, append_assoc, arith, drop, length, map, refl, subst, sym, take}
 use Rattle.std.specs.List.{AllByRecursion, flat_map, prefix_len}
 use Rattle.std.specs.Option.{option_and_then}
-use Rattle.std.specs.Prelude.{◌&&◌, not, nat_le, is_some}
+use Rattle.std.specs.Prelude.{◌&&◌, ◌||◌, not, nat_le, is_some}
 use Rattle.std.proofs.lemmas.Bool.{false≢true}
 use Rattle.std.proofs.lemmas.Grind.{flat_map-append}
 use Rattle.std.proofs.lemmas.List.{length-drop, take-append-drop}
+use Rattle.markdown_base.proofs.Common.{every-map}
 use Rattle.markdown_base.specs.declared.configuration.Constructs.{Constructs}
 use Rattle.markdown_base.specs.declared.event.Content.TheVariants.{Content}
 use Rattle.markdown_base.specs.declared.event.Event.{Event}
@@ -22,26 +23,28 @@ use Rattle.mdblock_leaf_blocks.specs.LineKinds.{closes, line_kind, underline_ran
 use Rattle.mdblock_containers.proofs.RestLemmas.{part_of}
 use Rattle.mdblock_containers.specs.Letters.{lazy_underline, with_letters}
 use Rattle.mdblock_containers.specs.Prefixes.{containers_of}
-use Rattle.mdblock_containers.specs.Rows.{Before, Leaf, Row, closed, has_none, is_paragraph, leaf_after, nothing_known, open_fence, open_html, open_paragraph, rest_of}
+use Rattle.mdblock_containers.specs.Rows.{Before, Leaf, Row, closed, has_none, is_paragraph, leaf_after, nothing_known, open_fence, open_html, open_paragraph, rest_of, open_table, is_table}
 use Rattle.mdblock_containers.specs.Blocks as blocks
 use Rattle.mdblock_containers.specs.Rows as without
 use Rattle.mdblock_containers.specs.Skeleton.{Part, chained_from, further, parts, parts_in}
 use Rattle.mdblock_containers.specs.Skeleton as containers
 use Rattle.mdinline_labels.proofs.Fronts.{no-rest}
+use Rattle.mdblock_tables.specs.Tables.{is_row}
 use Rattle.mdinline_labels.specs.Definitions.{definition_at, definitions, destination_at, end, rest, stretch_at, title_at, titled_or_not}
 use Rattle.mdinline_labels.specs.Labels.{is_label, normalised}
 use Rattle.mdinline_labels.specs.Tails.{begins_with, is_white, label_size}
 use Rattle.mdblock_definitions.specs.Blocks.{document_blocks}
 use Rattle.mdblock_definitions.specs.Laws.{BlocksCanBeWithout, BlocksNeedBrackets, DefinitionsCanBeOff, DefinitionsNeedBrackets, HasNoBracket, NothingIsDefined, begins_with_bracket}
-use Rattle.mdblock_definitions.specs.Rows.{Known, is_behind_text, is_used_up, known_after, row_of, rows, rows_from}
-use Rattle.mdblock_definitions.specs.Sections.{before_defined, cut, defined_in, lines, lines_defined, lines_of, paragraph_of, sections, text_in}
-use Rattle.mdblock_definitions.proofs.SectionSound.{cut-blank}
+use Rattle.mdblock_definitions.specs.Rows.{Known, is_behind_text, is_used_up, known_after, row_of, rows, rows_from, begins_table, row_without}
+use Rattle.mdblock_definitions.specs.Sections.{before_defined, cut, defined_in, lines, lines_defined, lines_of, paragraph_of, sections, text_in, is_in_table}
+use Rattle.mdblock_definitions.proofs.FilledTexts.{plain-none}
+use Rattle.mdblock_definitions.proofs.SectionSound.{cut-blank, no-table as none-tabled}
 use Rattle.mdblock_definitions.proofs.Uncut.{cut-once, plain, whole-part}
 use Rattle.mdblock_definitions.specs.Skeleton.{behind_marks, labels_of_section, letters, letters_of_section, sections_in_seats, sections_marks}
 
 -- ---- parts are not cut
 
-module _ (on : Constructs) (P : Row → Type 0) (none-defined : (rs : List Row) → AllByRecursion P rs → defined_in on rs ≡ 0) where
+module _ (on : Constructs) (P : Row → Type 0) (none-defined : (rs : List Row) → AllByRecursion P rs → defined_in on rs ≡ 0) (no-table : (r : Row) → P r → is_in_table r ≡ false) where
   all-before : (rs : List Row) (p : Bool) → AllByRecursion P rs → before_defined on p rs ≡ length rs
   all-before [] p h = refl
   all-before (r ∷ rs) p h =
@@ -59,7 +62,7 @@ module _ (on : Constructs) (P : Row → Type 0) (none-defined : (rs : List Row) 
       where
         by : (x : Bool) → p.first.is_blank ≡ x → cut on p ≡ plain p ∷ []
         by true e = cut-blank on p e
-        by false e = cut-once on p (all-before (p.first ∷ p.more) false are) e (whole e)
+        by false e = cut-once on p (all-before (p.first ∷ p.more) false are) e (whole e) (none-tabled on (p.first ∷ p.more) (every-map P (λ r. is_in_table r ≡ false) no-table (p.first ∷ p.more) are))
 
   all-take : (n : ℕ) (rs : List Row) → AllByRecursion P rs → AllByRecursion P (take n rs)
   all-take zero rs h = tt
@@ -115,14 +118,14 @@ plain-letters on [] = refl
 plain-letters on (p ∷ ps) = ap (λ ls. (lazy_underline on p.first ++ flat_map (lazy_underline on) p.more) ++ ls) (plain-letters on ps)
 
 -- what is read of a document with the lines of containers alone, in which nothing is defined
-module _ (on : Constructs) (bytes : List ℕ) (seats : List Seat) (P : Row → Type 0) (none-defined : (rs : List Row) → AllByRecursion P rs → defined_in on rs ≡ 0) where
+module _ (on : Constructs) (bytes : List ℕ) (seats : List Seat) (P : Row → Type 0) (none-defined : (rs : List Row) → AllByRecursion P rs → defined_in on rs ≡ 0) (no-table : (r : Row) → P r → is_in_table r ≡ false) where
   abbrev alone : List Row
   alone = without.rows on (lines_in seats)
 
   undefined-document : rows on (lines_in seats) ≡ alone → AllByRecursion P alone → NothingIsDefined on bytes seats
   undefined-document same are =
       let ps = parts alone in
-      let found : sections_in_seats on seats ≡ map plain ps = ap (sections on) same ∙ all-plain on P none-defined (length alone) alone are in
+      let found : sections_in_seats on seats ≡ map plain ps = ap (sections on) same ∙ all-plain on P none-defined no-table (length alone) alone are in
       record {
         events = ap (λ ss. chained_from 0 None (sections_marks bytes ss)) found ∙ ap (chained_from 0 None) (marks-plain bytes ps);
         letters_are = ap (flat_map (letters_of_section on)) found ∙ plain-letters on ps ∙ all-rows (lazy_underline on) (length alone) alone (omega (arith));
@@ -140,13 +143,27 @@ same-blocks g is =
     ap (λ es. blocks-by g es (letters g.options.constructs (virtual g.tab g.bytes))) is.events
     ∙ ap (blocks-by g (blocks.document_skeleton g)) is.letters_are
 
+-- ---- tables are off
+
+-- no line is in one
+pub untabled-row : (on : Constructs) → on.gfm_table ≡ false → (k : Known) (n : ℕ) (line : Line) → row_of on k n line ≡ row_without on k n line
+untabled-row on off k n line =
+    let row = row_without on k n line in
+    let more = row.stays && (is_paragraph row.leaf && ((is_paragraph k.before.leaf && begins_table on k row) || (is_table k.before.leaf && is_row (rest_of row)))) in
+    ap (λ g. record row { leaf = cond (g && more) open_table row.leaf }) off
+
+-- nor is one of containers alone
+plain-untabled : (on : Constructs) (b : Before) (n : ℕ) (ls : List Line) → AllByRecursion (λ r. is_in_table r ≡ false) (without.rows_from on b n ls)
+plain-untabled on b n [] = tt
+plain-untabled on b n (l ∷ ls) = (plain-none on b n l, plain-untabled on (without.known_after on b (without.row_of on b n l)) (suc n) ls)
+
 -- ---- definitions are off
 
-module _ (on : Constructs) (off : on.definition ≡ false) where
+module _ (on : Constructs) (off : on.definition ≡ false) (tables-off : on.gfm_table ≡ false) where
   row-off : (k : Known) (n : ℕ) (line : Line) → row_of on k n line ≡ without.row_of on k.before n line
   row-off k n line =
       let r = without.row_of on k.before n line in
-      ap (λ d. record r { leaf = cond (d && (is_behind_text k.before r && (is_some (underline_rank on (rest_of r)) && is_used_up k.text))) open_paragraph r.leaf }) off
+      untabled-row on tables-off k n line ∙ ap (λ d. record r { leaf = cond (d && (is_behind_text k.before r && (is_some (underline_rank on (rest_of r)) && is_used_up k.text))) open_paragraph r.leaf }) off
 
   rows-off : (ls : List Line) (k : Known) (n : ℕ) → rows_from on k n ls ≡ without.rows_from on k.before n ls
   rows-off [] k n = refl
@@ -154,19 +171,15 @@ module _ (on : Constructs) (off : on.definition ≡ false) where
       ap (λ r. r ∷ rows_from on (known_after on k r) (suc n) ls) (row-off k n l)
       ∙ ap (λ rs. without.row_of on k.before n l ∷ rs) (rows-off ls (known_after on k (without.row_of on k.before n l)) (suc n))
 
-  none-off : (rs : List Row) → AllByRecursion (λ r. Unit {0}) rs → defined_in on rs ≡ 0
+  none-off : (rs : List Row) → AllByRecursion (λ r. is_in_table r ≡ false) rs → defined_in on rs ≡ 0
   none-off rs h = ap (λ d. cond d (lines_defined (text_in (paragraph_of rs))) 0) off
 
-all-unit : (rs : List Row) → AllByRecursion (λ r. Unit {0}) rs
-all-unit [] = tt
-all-unit (r ∷ rs) = (tt, all-unit rs)
-
 pub definitions-can-be-off : DefinitionsCanBeOff
-definitions-can-be-off on off bytes seats =
-    undefined-document on bytes seats (λ r. Unit {0}) (none-off on off) (rows-off on off (lines_in seats) (record { before = nothing_known on; text = [] }) 1) (all-unit (without.rows on (lines_in seats)))
+definitions-can-be-off on off tables-off bytes seats =
+    undefined-document on bytes seats (λ r. is_in_table r ≡ false) (none-off on off tables-off) (λ r h. h) (rows-off on off tables-off (lines_in seats) (record { before = nothing_known on; text = [] }) 1) (plain-untabled on (nothing_known on) 1 (lines_in seats))
 
 pub blocks-can-be-without : BlocksCanBeWithout
-blocks-can-be-without g off = same-blocks g (definitions-can-be-off g.options.constructs off g.bytes (virtual g.tab g.bytes))
+blocks-can-be-without g off tables-off = same-blocks g (definitions-can-be-off g.options.constructs off tables-off g.bytes (virtual g.tab g.bytes))
 
 -- ---- no line has a bracket in front
 
@@ -272,6 +285,7 @@ module _ (on : Constructs) where
   filled-line true y leaf [] f h = absurd (false≢true h)
   filled-line false true leaf [] f h = absurd (false≢true (sym (f refl)))
   filled-line false false closed [] f h = absurd (false≢true h)
+  filled-line false false open_table [] f h = absurd (false≢true h)
   filled-line false false open_paragraph [] f h = either-closed (is_some (underline_rank on [])) closed refl h
   filled-line false false (open_fence fence) [] f h = either-closed (closes on fence []) (open_fence fence) refl h
   filled-line false false (open_html kind) [] f h = either-closed (cond (waits_for_blank kind) true (ends kind [])) (open_html kind) refl h
@@ -299,10 +313,10 @@ module _ (on : Constructs) where
   abbrev Fits : Known → Type 0
   Fits k = is_paragraph k.before.leaf ≡ true → IsPlain k.text
 
-  row-plain : (k : Known) (n : ℕ) (line : Line) → Fits k → row_of on k n line ≡ without.row_of on k.before n line
-  row-plain k n line fits =
+  row-plain : on.gfm_table ≡ false → (k : Known) (n : ℕ) (line : Line) → Fits k → row_of on k n line ≡ without.row_of on k.before n line
+  row-plain tables-off k n line fits =
       let r = without.row_of on k.before n line in
-      ap (λ x. record r { leaf = cond x open_paragraph r.leaf })
+      untabled-row on tables-off k n line ∙ ap (λ x. record r { leaf = cond x open_paragraph r.leaf })
       (no-underline on.definition r.stays (is_paragraph k.before.leaf) (is_some (underline_rank on (rest_of r))) (is_used_up k.text) (λ e. not-used-up k.text (fits e)))
 
   module _ (k : Known) (n : ℕ) (line : Line) where
@@ -321,12 +335,12 @@ module _ (on : Constructs) where
         subst IsPlain (sym (ap (λ x. cond x (cond (is_behind_text k.before row) (k.text ++ 10 ∷ rest_of row) (rest_of row)) []) open_row))
         (either-text row.stays (is_paragraph k.before.leaf) fits (bare, filled))
 
-  rows-plain : (ls : List Line) (k : Known) (n : ℕ) → Fits k → AllByRecursion HasNoBracket (without.rows_from on k.before n ls) → rows_from on k n ls ≡ without.rows_from on k.before n ls
-  rows-plain [] k n fits h = refl
-  rows-plain (l ∷ ls) k n fits h =
+  rows-plain : on.gfm_table ≡ false → (ls : List Line) (k : Known) (n : ℕ) → Fits k → AllByRecursion HasNoBracket (without.rows_from on k.before n ls) → rows_from on k n ls ≡ without.rows_from on k.before n ls
+  rows-plain tables-off [] k n fits h = refl
+  rows-plain tables-off (l ∷ ls) k n fits h =
       let r = without.row_of on k.before n l in
-      ap (λ x. x ∷ rows_from on (known_after on k x) (suc n) ls) (row-plain k n l fits)
-      ∙ ap (λ rs. r ∷ rs) (rows-plain ls (known_after on k r) (suc n) (text-fits k n l fits h.0) h.1)
+      ap (λ x. x ∷ rows_from on (known_after on k x) (suc n) ls) (row-plain tables-off k n l fits)
+      ∙ ap (λ rs. r ∷ rs) (rows-plain tables-off ls (known_after on k r) (suc n) (text-fits k n l fits h.0) h.1)
 
   none-plain : (rs : List Row) → AllByRecursion HasNoBracket rs → defined_in on rs ≡ 0
   none-plain rs h = by on.definition (lines_defined (text_in (paragraph_of rs))) (none-defined-in (text_in (paragraph_of rs)) (no-bracket-in rs h))
@@ -335,9 +349,16 @@ module _ (on : Constructs) where
       by true n e = e
       by false n e = refl
 
+-- a line of containers alone has no bracket in front, and is in no table
+both-hold : (rs : List Row) → AllByRecursion HasNoBracket rs → AllByRecursion (λ r. is_in_table r ≡ false) rs → AllByRecursion (λ r. HasNoBracket r × (is_in_table r ≡ false)) rs
+both-hold [] h k = tt
+both-hold (r ∷ rs) h k = ((h.0, k.0), both-hold rs h.1 k.1)
+
 pub definitions-need-brackets : DefinitionsNeedBrackets
-definitions-need-brackets on bytes seats h =
-    undefined-document on bytes seats HasNoBracket (none-plain on) (rows-plain on (lines_in seats) (record { before = nothing_known on; text = [] }) 1 (λ e. absurd (false≢true e)) h) h
+definitions-need-brackets on tables-off bytes seats h =
+    let lines = lines_in seats in
+    undefined-document on bytes seats (λ r. HasNoBracket r × (is_in_table r ≡ false)) (λ rs are. none-plain on rs (every-map (λ r. HasNoBracket r × (is_in_table r ≡ false)) HasNoBracket (λ r k. k.0) rs are)) (λ r k. k.1)
+    (rows-plain on tables-off lines (record { before = nothing_known on; text = [] }) 1 (λ e. absurd (false≢true e)) h) (both-hold (without.rows on lines) h (plain-untabled on (nothing_known on) 1 lines))
 
 pub blocks-need-brackets : BlocksNeedBrackets
-blocks-need-brackets g h = same-blocks g (definitions-need-brackets g.options.constructs g.bytes (virtual g.tab g.bytes) h)
+blocks-need-brackets g tables-off h = same-blocks g (definitions-need-brackets g.options.constructs tables-off g.bytes (virtual g.tab g.bytes) h)

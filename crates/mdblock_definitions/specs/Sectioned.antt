@@ -1,5 +1,5 @@
 -- Lines of a section, as the code has them.
-use Rattle.std.specs.Prelude.{◌≡◌, ◌≤◌, ◌==◌, ◌&&◌, not, ℕ, suc, ◌+◌, Bool, true, false, cond, List, [], ◌∷◌, ◌++◌, drop, length, take, Some, None}
+use Rattle.std.specs.Prelude.{◌≡◌, ◌≤◌, ◌==◌, ◌&&◌, not, ℕ, suc, ◌+◌, Bool, true, false, cond, List, [], ◌∷◌, ◌++◌, drop, length, take, Some, None, ◌||◌}
 use Rattle.std.specs.List.{AllByRecursion, flat_map}
 use Rattle.markdown_base.specs.Places.{shown}
 use Rattle.markdown_base.specs.declared.configuration.Constructs.{Constructs}
@@ -14,13 +14,13 @@ use Rattle.mdblock_containers.specs.declared.spans.RowAt.{RowAt}
 use Rattle.mdblock_containers.specs.Letters.{lazy_underline}
 use Rattle.mdblock_containers.specs.Prefixes.{columns_of}
 use Rattle.mdblock_containers.specs.Rest.{AreLeft, ending_to}
-use Rattle.mdblock_containers.specs.Rows.{Row, has_none, holds_ending, is_paragraph, rest_of}
+use Rattle.mdblock_containers.specs.Rows.{Row, has_none, holds_ending, is_paragraph, rest_of, is_table}
 use Rattle.mdblock_containers.specs.Skeleton.{Part, end_of, ending_marks}
 use Rattle.mdblock_containers.specs.Spans.{IsRowIn}
 use Rattle.mdblock_containers.specs.Stretches.{AreFurther, end_at, last_at}
 use Rattle.mdblock_containers.specs.Views.{leaf_of}
 use Rattle.mdinline_labels.specs.Definitions.{definitions}
-use Rattle.mdblock_definitions.specs.Sections.{Inside, Section, defined, lines, text_in}
+use Rattle.mdblock_definitions.specs.Sections.{Inside, Section, defined, lines, text_in, table}
 use Rattle.mdblock_definitions.specs.Skeleton.{all_rows, inside_marks, text_begin}
 use Rattle.mdblock_definitions.specs.Within.{AreWithin, within_marks}
 
@@ -28,12 +28,27 @@ use Rattle.mdblock_definitions.specs.Within.{AreWithin, within_marks}
 abbrev pub IsFilled : Row → Type 0
 IsFilled r = 1 ≤ length (unindented (rest_of r))
 
--- a line behind which a paragraph is open has text
+-- behind a line a paragraph goes on, or a table
+abbrev pub holds_text : Row → Bool
+holds_text r = is_paragraph r.leaf || is_table r.leaf
+
+-- such a line has text
 abbrev pub TextIsFilled : Row → Type 0
-TextIsFilled r = is_paragraph r.leaf ≡ true → (r.is_blank ≡ false) × IsFilled r
+TextIsFilled r = holds_text r ≡ true → (r.is_blank ≡ false) × IsFilled r
+
+-- and a line in a table comes behind such a line
+abbrev pub FollowsText : Row → List Row → Type 0
+FollowsText r [] = Unit {0}
+FollowsText r (s ∷ rs) = is_table s.leaf ≡ true → holds_text r ≡ true
 
 abbrev pub TextsAreFilled : List Row → Type 0
-TextsAreFilled rs = AllByRecursion TextIsFilled rs
+TextsAreFilled [] = Unit {0}
+TextsAreFilled (r ∷ rs) = TextIsFilled r × (FollowsText r rs × TextsAreFilled rs)
+
+-- lines behind the header row of a table: its delimiter row, and rows, which have text
+abbrev pub AreTableRows : List Row → Type 0
+AreTableRows [] = ⊥
+AreTableRows (r ∷ rs) = AllByRecursion IsFilled rs
 
 -- the first of these lines has
 abbrev pub BeginsFilled : List Row → Type 0
@@ -86,11 +101,12 @@ module _ (t : ℕ) (bytes : List ℕ) where
   AreBegun (x ∷ xs) [] at = Unit {0}
   AreBegun (x ∷ xs) (s ∷ ss) at = IsBegun s.part x at
 
--- What is in a section fits its lines: text directly behind definitions has text, and definitions are all of theirs
+-- What is in a section fits its lines: text directly behind definitions has text, definitions are all of theirs, and lines of a table are such
 abbrev pub IsSound : Part → Inside → Type 0
 IsSound p (lines false) = Unit {0}
 IsSound p (lines true) = (p.first.is_blank ≡ false) × IsFilled p.first
 IsSound p (defined ds) = (p.first.is_blank ≡ false) × (ds ≡ definitions (text_in (all_rows p)))
+IsSound p table = (p.first.is_blank ≡ false) × AreTableRows p.more
 
 -- Where lines of a section end, and the line ending behind them
 pub record IsEnd (x : RowAt) (xs : List RowAt) (e : PartEnd) : Type 0 where

@@ -1,12 +1,14 @@
--- The sections of a document: its parts, cut before and behind the definitions with which a paragraph begins (CommonMark 0.31, 4.7). "A link
+-- The sections of a document: its parts, cut before and behind each table, and before and behind the definitions with which a paragraph begins
+-- (CommonMark 0.31, 4.7). "A link
 -- reference definition cannot interrupt a paragraph. However, it can directly follow other block elements, such as headings and thematic breaks, and
 -- it need not be followed by a blank line."
 use Rattle.std.specs.Prelude.{ℕ, zero, suc, ◌-◌, ◌==◌, ◌&&◌, not, nat_le, Bool, true, false, cond, List, [], ◌∷◌, ◌++◌, filter, length, map, take, drop}
 use Rattle.std.specs.List.{flat_map, prefix_len}
 use Rattle.markdown_base.specs.declared.configuration.Constructs.{Constructs}
-use Rattle.mdblock_containers.specs.Rows.{Row, has_none, is_paragraph, rest_of}
+use Rattle.mdblock_containers.specs.Rows.{Row, has_none, is_paragraph, rest_of, is_table}
 use Rattle.mdblock_containers.specs.Skeleton.{Part, parts}
 use Rattle.mdblock_definitions.specs.BlankLines as blank_lines
+use Rattle.mdblock_table_marks.specs.TableCuts.{Cut, cut_at_tables}
 use Rattle.mdinline_labels.specs.declared.definitions.Definition.{Definition}
 use Rattle.mdinline_labels.specs.Definitions.{definitions, rest}
 
@@ -39,11 +41,12 @@ module _ (on : Constructs) where
   before_defined in_paragraph (row ∷ rows) =
       cond (not in_paragraph && nat_le 1 (defined_in (row ∷ rows))) 0 (suc (before_defined (is_paragraph row.leaf) rows))
 
--- What is in a section: a blank line, or lines that leaf blocks are read from, of which the first may be text directly behind definitions; or
--- definitions
+-- What is in a section: a blank line, or lines that leaf blocks are read from, of which the first may be text directly behind definitions;
+-- definitions; or a table
 pub data Inside : Type 0 where
   lines : (is_behind : Bool) → Inside
   defined : List Definition → Inside
+  table : Inside
 
 -- A section: a part of a document, and what is in it
 pub record Section : Type 0 where
@@ -73,6 +76,15 @@ abbrev pub defining : List Definition → Part → List Row → List Section
 defining ds around [] = []
 defining ds around (row ∷ rows) = record { part = record around { first = row; more = rows }; inside = defined ds } ∷ []
 
+-- lines of a part that are a table
+abbrev pub tabled : Part → List Row → List Section
+tabled around [] = []
+tabled around (row ∷ rows) = record { part = record around { first = row; more = rows }; inside = table } ∷ []
+
+-- a line is the delimiter row of a table, or a row behind that
+abbrev pub is_in_table : Row → Bool
+is_in_table row = is_table row.leaf
+
 module _ (on : Constructs) where
   -- lines of a part, cut into so many pieces at most. `is_behind`: definitions come directly before them
   abbrev pub sections_in : (bound : ℕ) → (is_behind : Bool) → Part → List Row → List Section
@@ -86,11 +98,15 @@ module _ (on : Constructs) where
       undefined is_behind around (take n all)
       ++ (defining (definitions (text_in (paragraph_of behind))) around (take d behind) ++ sections_in bound true around (drop d behind))
 
+  -- lines of a part that are a table, or without one
+  abbrev pub sections_of_cut : Part → Cut → List Section
+  sections_of_cut around c = cond c.is_table (tabled around c.rows) (sections_in (length c.rows) false around c.rows)
+
   -- a blank line is not cut
   abbrev pub cut : Part → List Section
   cut part =
       cond part.first.is_blank (record { part = part; inside = lines false } ∷ [])
-      (sections_in (suc (length part.more)) false part (part.first ∷ part.more))
+      (flat_map (sections_of_cut part) (cut_at_tables is_in_table (suc (length part.more)) (part.first ∷ part.more)))
 
   -- The sections of a document, by its lines
   abbrev pub sections : List Row → List Section

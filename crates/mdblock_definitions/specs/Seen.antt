@@ -4,7 +4,7 @@ use Rattle.markdown_base.specs.declared.configuration.Constructs.{Constructs}
 use Rattle.mdblock_lines.specs.Lines.{line_at}
 use Rattle.mdblock_containers.specs.declared.spans.RowAt.{RowAt}
 use Rattle.mdblock_containers.specs.Ahead.{AreRows}
-use Rattle.mdblock_containers.specs.Rows.{Row, closed, is_paragraph, rest_of}
+use Rattle.mdblock_containers.specs.Rows.{Row, closed, is_paragraph, rest_of, is_table}
 use Rattle.mdblock_containers.specs.Views.{leaf_of}
 use Rattle.mdinline_labels.specs.Definitions.{definitions}
 use Rattle.mdblock_definitions.specs.declared.sections.Found.{Found}
@@ -13,13 +13,14 @@ use Rattle.mdblock_definitions.specs.declared.sections.Inside.TheVariants as see
 use Rattle.mdblock_definitions.specs.declared.sections.Section.{Section as CodeSection}
 use Rattle.mdblock_definitions.specs.Held.{HaveTexts}
 use Rattle.mdblock_definitions.specs.Laws.{begins_with_bracket}
-use Rattle.mdblock_definitions.specs.Sections.{Inside, Section, before_defined, defined, defined_in, lines, paragraph_of, text_in}
+use Rattle.mdblock_definitions.specs.Sections.{Inside, Section, before_defined, defined, defined_in, lines, paragraph_of, text_in, table}
 
 -- what is in a section
 abbrev pub inside_of : CodeInside → Inside
 inside_of seen.Lines = lines false
 inside_of seen.Behind = lines true
 inside_of (seen.Defined ds) = defined ds.items
+inside_of seen.Table = table
 
 -- a section: how many further lines it has, and what is in it
 pub record IsSection (x : CodeSection) (s : Section) : Type 0 where
@@ -35,6 +36,15 @@ AreSections (x ∷ xs) (s ∷ ss) = IsSection x s × AreSections xs ss
 -- a paragraph is open behind a line
 abbrev pub is_text_at : RowAt → Bool
 is_text_at x = is_paragraph (leaf_of x.row.leaf)
+
+-- a line is in a table, behind its header row
+abbrev pub is_in_table_at : RowAt → Bool
+is_in_table_at x = is_table (leaf_of x.row.leaf)
+
+-- the first of these lines is
+abbrev pub begins_in_table_at : List RowAt → Bool
+begins_in_table_at [] = false
+begins_in_table_at (x ∷ xs) = is_in_table_at x
 
 -- the first of these lines is text
 abbrev pub begins_text_at : List RowAt → Bool

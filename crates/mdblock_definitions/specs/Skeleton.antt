@@ -1,5 +1,5 @@
--- The skeleton of a document with link reference definitions: the events of its containers and definitions, and a chain of chunks for each stretch of
--- other lines. The definitions have no states.
+-- The skeleton of a document with link reference definitions and tables: the events of its containers, definitions and tables, and a chain of chunks for
+-- each stretch of other lines. The definitions have no states.
 use Rattle.std.specs.Prelude.{ℕ, ◌+◌, ◌-◌, false, cond, List, [], ◌∷◌, ◌++◌, drop, length, map, take, None}
 use Rattle.std.specs.List.{flat_map}
 use Rattle.markdown_base.specs.declared.configuration.Constructs.{Constructs}
@@ -12,11 +12,12 @@ use Rattle.mdblock_containers.specs.Letters.{lazy_underline}
 use Rattle.mdblock_containers.specs.Prefixes.{columns_of}
 use Rattle.mdblock_containers.specs.Rows.{Row, rest_of}
 use Rattle.mdblock_containers.specs.Skeleton.{Part, begun_all, chained_from, chunks_of, end_of, ending_marks, exits, inside_of, is_held, joined_pieces, pieces_of, prefixes_marks, shared}
+use Rattle.mdblock_table_marks.specs.TableMarks.{table_marks}
 use Rattle.mdinline_labels.specs.declared.definitions.Definition.{Definition}
 use Rattle.mdinline_labels.specs.Labels.{normalised}
 use Rattle.mdblock_definitions.specs.Definitions.{definitions_marks, places_in}
 use Rattle.mdblock_definitions.specs.Rows.{rows}
-use Rattle.mdblock_definitions.specs.Sections.{Inside, Section, defined, lines, sections, text_in}
+use Rattle.mdblock_definitions.specs.Sections.{Inside, Section, defined, lines, sections, table, text_in}
 
 -- all lines of a part
 abbrev pub all_rows : Part → List Row
@@ -36,6 +37,7 @@ module _ (bytes : List ℕ) where
   abbrev pub inside_marks : Part → Inside → List Mark
   inside_marks part (lines is_behind) = cond is_behind (behind_definitions part) (inside_of bytes part)
   inside_marks part (defined ds) = definitions_marks bytes ds (places_in bytes (all_rows part))
+  inside_marks part table = table_marks bytes part
 
   -- Sections, one after another: spans that the next one is not in end before the line ending
   abbrev pub section_marks : Section → List Mark
@@ -62,6 +64,7 @@ abbrev pub labels_of_section : Section → List (List ℕ)
 labels_of_section s = elim s.inside [
   | lines is_behind ↦ []
   | defined ds ↦ labels_in ds (text_in (all_rows s.part))
+  | table ↦ []
 ]
 
 -- the index of the first byte of a line behind its prefixes and white space
@@ -90,6 +93,7 @@ module _ (on : Constructs) where
   letters_of_section s = elim s.inside [
     | lines is_behind ↦ cond is_behind (text_begin s.part.first) (lazy_underline on s.part.first) ++ flat_map (lazy_underline on) s.part.more
     | defined ds ↦ []
+    | table ↦ []
   ]
 
   -- The indices of bytes that leaf blocks are read of as of a letter, so that their lines are text

@@ -1,8 +1,8 @@
-//! Laws about documents with link reference definitions. Each is a function that does nothing; its contract is the law.
+//! Laws about documents with link reference definitions and tables. Each is a function that does nothing; its contract is the law.
 
 ghost use Rattle.std.specs.Prelude.{◌≡◌, map};
 ghost use Rattle.mdblock_definitions.specs.Examples.{read_of, links_of_document, links_of_stretches, white_in_string, with_strings, parts_of_definitions, where_definitions_stand, text_behind_definitions, definitions_in_containers};
-ghost use Rattle.mdblock_definitions.specs.Laws.{BlocksCanBeWithout, BlocksNeedBrackets, DefinitionsCanBeOff, DefinitionsNeedBrackets, SectionsHoldLines};
+ghost use Rattle.mdblock_definitions.specs.Laws.{BlocksCanBeWithout, BlocksNeedBrackets, DefinitionsCanBeOff, DefinitionsNeedBrackets, SectionsHoldLines, TablesCanBeOff};
 ghost use Rattle.mdblock_definitions.specs.SkeletonLaws.{LettersArePlain, SkeletonsAccount, SkeletonsAreFormed, SkeletonsAreReady, SkeletonsAreVoidTight, SkeletonsHaveChunks, SkeletonsHaveOneContent, SkeletonsHaveTextInGaps};
 
 /// What is read of fifty-one documents: the events of their skeletons, the labels that they define, and the bytes that are shown as letters.
@@ -20,7 +20,12 @@ pub fn only_stretches_are_chunks()
     ensures white { read_of white_in_string.document ≡ white_in_string }
 {}
 
-/// Where definitions are off, the skeleton, the letters and the blocks of a document are those of containers alone, and no label is defined.
+/// Where tables are off, the sections of a document are those of definitions alone.
+pub fn tables_can_be_off()
+    ensures { TablesCanBeOff }
+{}
+
+/// Where definitions and tables are off, the skeleton, the letters and the blocks of a document are those of containers alone, and no label is defined.
 pub fn definitions_can_be_off()
     ensures skeleton { DefinitionsCanBeOff }
     ensures blocks { BlocksCanBeWithout }
@@ -31,7 +36,7 @@ pub fn sections_hold_lines()
     ensures { SectionsHoldLines }
 {}
 
-/// Of a document no line of which has a bracket in front, behind its prefixes and white space, the skeleton, the letters and the blocks are those
+/// Where tables are off, of a document no line of which has a bracket in front, behind its prefixes and white space, the skeleton, the letters and the blocks are those
 /// of containers alone, and no label is defined.
 pub fn definitions_need_brackets()
     ensures skeleton { DefinitionsNeedBrackets }

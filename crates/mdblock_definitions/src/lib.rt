@@ -1,4 +1,5 @@
-//! Link reference definitions in the skeleton of a document: the paragraphs that begin with definitions, and the events of these.
+//! Link reference definitions and tables in the skeleton of a document: the paragraphs that begin with definitions, the events of these, and the lines
+//! of tables.
 #![tactic(auto)]
 
 // fronts: the text of a paragraph; its definitions
@@ -8,7 +9,10 @@ pub mod texts;
 // held text: the text of lines of a paragraph
 pub mod held;
 
-// rows: the lines, each with what was known; an underline behind definitions alone
+// tables: which lines are rows of one
+mod tables;
+
+// rows: the lines, each with what was known; an underline behind definitions alone; a table
 pub mod rows;
 
 // sections: of a part, and what is in them

@@ -13,9 +13,10 @@ ghost use Rattle.mdblock_containers.specs.Over.{AreBefore, AreOver};
 ghost use Rattle.mdblock_containers.specs.Rows.{closed, is_paragraph, open_paragraph};
 ghost use Rattle.mdblock_containers.specs.Spans.{ArePlaced, IsPlaced};
 ghost use Rattle.mdblock_containers.specs.Views.{IsRow, leaf_of, open_of};
-ghost use Rattle.mdblock_definitions.specs.Known.{IsKept, IsKnown, held_behind, is_held_used_up};
+ghost use Rattle.mdblock_definitions.specs.Known.{IsKept, IsKnown, held_behind, is_in_table, last_behind, leaf_behind, table_asked};
 ghost use Rattle.mdblock_definitions.specs.Rows.{Known as KnownOf, known_after, row_of, rows};
 
+use crate::tables::is_row_behind;
 use crate::texts::{hold_defining, underlines_held};
 use markdown_base::configuration::{Constructs, TabSize};
 use mdblock_containers::leaves::{Leaf, is_paragraph};
@@ -35,6 +36,8 @@ pub struct Known {
     pub before: Before,
     /// What is held of the text of the paragraph that is open, if one is: all of it, if it begins with `[` behind white space, and else nothing.
     pub text: Vec<u8>,
+    /// What the last line of that paragraph has behind its prefixes, where tables are on: it may be the header row of one.
+    pub last: Vec<u8>,
 }
 
 impl Known {
@@ -45,10 +48,12 @@ impl Known {
         ensures over { result.before.over ≡ 0 }
         ensures leaf { leaf_of result.before.leaf ≡ closed }
         ensures text { result.text.items ≡ [] }
+        ensures last { result.last.items ≡ [] }
     {
         Known {
             before: Before::new(alloc),
             text: Vec::new(alloc),
+            last: Vec::new(alloc),
         }
     }
 
@@ -66,24 +71,50 @@ impl Known {
         requires over { AreOver number self.old.before.over self.old.before.depth self.old.before.stack.items }
         requires began { AreBefore number self.old.before.stack.items }
         requires sizes { HaveSizes (map open_of self.old.before.stack.items) }
-        ensures row { IfOk result (λ r. (known : KnownOf) → IsKnown self.old known → (line : Line) → text_of line ≡ t.now → IsRow number r (row_of on.now known number line)) }
-        ensures known { IfOk result (λ _. (known : KnownOf) → IsKnown self.old known → (line : Line) → text_of line ≡ t.now → IsKnown self.new (known_after on.now known (row_of on.now known number line))) }
+        ensures row { IfOk result (λ r. (known : KnownOf) → IsKnown on.now self.old known → (line : Line) → text_of line ≡ t.now → IsRow number r (row_of on.now known number line)) }
+        ensures known { IfOk result (λ _. (known : KnownOf) → IsKnown on.now self.old known → (line : Line) → text_of line ≡ t.now → IsKnown on.now self.new (known_after on.now known (row_of on.now known number line))) }
         ensures within { IfOk result (λ r. r.columns ≤ length t.now) }
         ensures depth { IfOk result (λ _. (line : Line) → text_of line ≡ t.now → self.new.before.depth ≤ length self.new.before.stack.items) }
         ensures over { IfOk result (λ _. (line : Line) → text_of line ≡ t.now → AreOver (number + 1) self.new.before.over self.new.before.depth self.new.before.stack.items) }
-        ensures kept { IfOk result (λ _. (line : Line) → text_of line ≡ t.now → (budget : ℕ) → IsKept (turns.old + self.old.before.over) budget self.old.text.items → IsKept (turns.new + self.new.before.over) (budget + 183 * length t.now + 1703) self.new.text.items) }
-        ensures turns { (line : Line) → text_of line ≡ t.now → turns.new ≤ turns.old + self.old.before.over + 147 * length t.now + 1670 + 16 * length self.old.text.items }
+        ensures kept { IfOk result (λ _. (line : Line) → text_of line ≡ t.now → (budget : ℕ) → IsKept (turns.old + self.old.before.over + 3 * length self.old.last.items) budget self.old.text.items → IsKept (turns.new + self.new.before.over + 3 * length self.new.last.items) (budget + 199 * length t.now + 1703) self.new.text.items) }
+        ensures turns { (line : Line) → text_of line ≡ t.now → turns.new ≤ turns.old + self.old.before.over + 152 * length t.now + 1674 + 16 * length self.old.text.items + 3 * length self.old.last.items }
     {
         let mut row = self.before.row(alloc, on, number, t, turns)?;
         look_behind(on, self, &mut row, t, turns);
         hold_row(&mut self.text, self.before.leaf, &row, t, turns)?;
+        hold_last(on, &mut self.last, &row, t)?;
         self.before.go_behind(number, &row, turns)?;
         Ok(row)
     }
 }
 
-/// What would be an underline makes no heading of definitions alone, so it is text: a paragraph may go on behind the line. `t` are the line's virtual
-/// bytes.
+/// Whether a line is in a table. `rest` is what it has behind its prefixes.
+fn is_row_of_table<L: Ledger>(
+    on: &Constructs,
+    known: &Known,
+    row: &Row,
+    rest: &[u8],
+    turns: &mut Turns<L>,
+) -> bool
+    ensures value { result ≡ is_in_table on.now (leaf_of known.now.before.leaf) known.now.text.items known.now.last.items row.now.stays row.now.is_lazy (leaf_of row.now.leaf) rest.now }
+    ensures turns { turns.new ≤ turns.old + 3 * length known.now.last.items + 5 * length rest.now + 8 + table_asked on.now (leaf_of known.now.before.leaf) known.now.text.items known.now.last.items row.now.stays row.now.is_lazy (leaf_of row.now.leaf) rest.now }
+{
+    on.gfm_table
+        && row.stays
+        && is_paragraph(row.leaf)
+        && is_row_behind(
+            on,
+            known.before.leaf,
+            known.text.as_slice(),
+            known.last.as_slice(),
+            row.is_lazy,
+            rest,
+            turns,
+        )
+}
+
+/// What would be an underline makes no heading of definitions alone, so it is text: a paragraph may go on behind the line. What would be text may be in
+/// a table. `t` are the line's virtual bytes.
 fn look_behind<L: Ledger>(
     on: &Constructs,
     known: &Known,
@@ -92,15 +123,18 @@ fn look_behind<L: Ledger>(
     turns: &mut Turns<L>,
 )
     requires { row.old.columns ≤ length t.now }
-    ensures leaf { leaf_of row.new.leaf ≡ cond (on.now.definition && ((row.old.stays && is_paragraph (leaf_of known.now.before.leaf)) && (is_some (underline_rank on.now (drop row.old.columns t.now)) && is_held_used_up known.now.text.items))) open_paragraph (leaf_of row.old.leaf) }
+    ensures leaf { leaf_of row.new.leaf ≡ leaf_behind on.now (leaf_of known.now.before.leaf) known.now.text.items known.now.last.items row.old.stays row.old.is_lazy (leaf_of row.old.leaf) (drop row.old.columns t.now) }
     ensures row { row.new ≡ record row.old { leaf = row.new.leaf } }
-    ensures text { is_paragraph (leaf_of row.old.leaf) ≡ true → turns.new ≤ turns.old }
-    ensures turns { turns.new ≤ turns.old + 3 * length t.now + 20 + 16 * length known.now.text.items }
+    ensures text { is_paragraph (leaf_of row.old.leaf) ≡ true → turns.new ≤ turns.old + 3 * length known.now.last.items + 5 * length t.now + 8 + table_asked on.now (leaf_of known.now.before.leaf) known.now.text.items known.now.last.items row.old.stays row.old.is_lazy (leaf_of row.old.leaf) (drop row.old.columns t.now) }
+    ensures turns { turns.new ≤ turns.old + 5 * length t.now + 24 + 16 * length known.now.text.items + 3 * length known.now.last.items }
 {
+    let rest = behind(t, row.columns);
     if is_paragraph(row.leaf) {
+        if is_row_of_table(on, known, row, rest, turns) {
+            row.leaf = Leaf::Table;
+        }
         return;
     }
-    let rest = behind(t, row.columns);
     if underlines_held(
         on,
         known.before.leaf,
@@ -135,6 +169,18 @@ fn hold_row<L: Ledger>(
     hold_defining(text, goes_on, behind(t, row.columns), turns)
 }
 
+/// What is held of the last line of the open paragraph behind a line, where tables are on. `t` are the line's virtual bytes.
+fn hold_last(on: &Constructs, last: &mut Vec<u8>, row: &Row, t: &[u8]) -> Result<(), AllocError>
+    requires { row.now.columns ≤ length t.now }
+    ensures { IfOk result (λ _. last.new.items ≡ last_behind on.now (leaf_of row.now.leaf) (drop row.now.columns t.now)) }
+{
+    last.clear();
+    if on.gfm_table && is_paragraph(row.leaf) {
+        last.extend_from_slice(behind(t, row.columns))?;
+    }
+    Ok(())
+}
+
 /// The line that has this text, with its containers. What is known before it becomes what is known behind it.
 #[inline(always)]
 fn row_of_text<L: Ledger>(
@@ -157,15 +203,15 @@ fn row_of_text<L: Ledger>(
     requires sizes { HaveSizes (map open_of known.old.before.stack.items) }
     ensures number { IfOk result (λ at. at.span.number ≡ number) }
     ensures placed { IfOk result (λ at. IsPlaced tab bytes.now number start at) }
-    ensures row { IfOk result (λ at. (seen : KnownOf) → IsKnown known.old seen → IsRow number at.row (row_of on.now seen number (line_at tab number start (drop start bytes.now)))) }
-    ensures known { IfOk result (λ _. (seen : KnownOf) → IsKnown known.old seen → IsKnown known.new (known_after on.now seen (row_of on.now seen number (line_at tab number start (drop start bytes.now))))) }
+    ensures row { IfOk result (λ at. (seen : KnownOf) → IsKnown on.now known.old seen → IsRow number at.row (row_of on.now seen number (line_at tab number start (drop start bytes.now)))) }
+    ensures known { IfOk result (λ _. (seen : KnownOf) → IsKnown on.now known.old seen → IsKnown on.now known.new (known_after on.now seen (row_of on.now seen number (line_at tab number start (drop start bytes.now))))) }
     ensures next { IfOk result (λ at. at.span.next ≡ start + line_length (drop start bytes.now)) }
     ensures more { IfOk result (λ at. start < at.span.next) }
     ensures within { IfOk result (λ at. at.span.next ≤ length bytes.now) }
     ensures depth { IfOk result (λ _. known.new.before.depth ≤ length known.new.before.stack.items) }
     ensures over { IfOk result (λ _. AreOver (number + 1) known.new.before.over known.new.before.depth known.new.before.stack.items) }
-    ensures kept { IfOk result (λ at. (budget : ℕ) → IsKept (turns.old + known.old.before.over) budget known.old.text.items → IsKept (turns.new + known.new.before.over) (budget + 183 * at.span.size + 1703) known.new.text.items) }
-    ensures turns { turns.new ≤ turns.old + known.old.before.over + 147 * length text.entry.bytes.now + 1670 + 16 * length known.old.text.items }
+    ensures kept { IfOk result (λ at. (budget : ℕ) → IsKept (turns.old + known.old.before.over + 3 * length known.old.last.items) budget known.old.text.items → IsKept (turns.new + known.new.before.over + 3 * length known.new.last.items) (budget + 199 * at.span.size + 1703) known.new.text.items) }
+    ensures turns { turns.new ≤ turns.old + known.old.before.over + 152 * length text.entry.bytes.now + 1674 + 16 * length known.old.text.items + 3 * length known.old.last.items }
 {
     let end = text.end;
     let next = behind_ending(bytes, end);
@@ -201,15 +247,15 @@ pub fn next_row<L: Ledger>(
     ensures text { IfOk result (λ _. line.new.items ≡ line_bytes tab number 1 start (drop start bytes.now)) }
     ensures number { IfOk result (λ at. at.span.number ≡ number) }
     ensures placed { IfOk result (λ at. IsPlaced tab bytes.now number start at) }
-    ensures row { IfOk result (λ at. (seen : KnownOf) → IsKnown known.old seen → IsRow number at.row (row_of on.now seen number (line_at tab number start (drop start bytes.now)))) }
-    ensures known { IfOk result (λ _. (seen : KnownOf) → IsKnown known.old seen → IsKnown known.new (known_after on.now seen (row_of on.now seen number (line_at tab number start (drop start bytes.now))))) }
+    ensures row { IfOk result (λ at. (seen : KnownOf) → IsKnown on.now known.old seen → IsRow number at.row (row_of on.now seen number (line_at tab number start (drop start bytes.now)))) }
+    ensures known { IfOk result (λ _. (seen : KnownOf) → IsKnown on.now known.old seen → IsKnown on.now known.new (known_after on.now seen (row_of on.now seen number (line_at tab number start (drop start bytes.now))))) }
     ensures next { IfOk result (λ at. at.span.next ≡ start + line_length (drop start bytes.now)) }
     ensures more { IfOk result (λ at. start < at.span.next) }
     ensures within { IfOk result (λ at. at.span.next ≤ length bytes.now) }
     ensures depth { IfOk result (λ _. known.new.before.depth ≤ length known.new.before.stack.items) }
     ensures over { IfOk result (λ _. AreOver (number + 1) known.new.before.over known.new.before.depth known.new.before.stack.items) }
-    ensures kept { IfOk result (λ at. (budget : ℕ) → IsKept (turns.old + known.old.before.over) budget known.old.text.items → IsKept (turns.new + known.new.before.over) (budget + 187 * at.span.size + 1705) known.new.text.items) }
-    ensures turns { turns.new ≤ turns.old + known.old.before.over + 151 * length (line_bytes tab number 1 start (drop start bytes.now)) + 1672 + 16 * length known.old.text.items }
+    ensures kept { IfOk result (λ at. (budget : ℕ) → IsKept (turns.old + known.old.before.over + 3 * length known.old.last.items) budget known.old.text.items → IsKept (turns.new + known.new.before.over + 3 * length known.new.last.items) (budget + 203 * at.span.size + 1705) known.new.text.items) }
+    ensures turns { turns.new ≤ turns.old + known.old.before.over + 156 * length (line_bytes tab number 1 start (drop start bytes.now)) + 1676 + 16 * length known.old.text.items + 3 * length known.old.last.items }
 {
     let end = read_text(line, bytes, tab, start, turns)?;
     let text = LineText {

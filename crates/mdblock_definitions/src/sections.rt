@@ -1,19 +1,21 @@
 //! The sections of a part: its lines, cut before and behind the definitions with which a paragraph in it begins.
 
 ghost use Rattle.std.specs.Prelude.{◌≡◌, ◌≤◌, ◌<◌, ◌+◌, ◌-◌, ◌*◌, ◌++◌, ◌&&◌, ℕ, List, IfOk, cond, drop, false, length, slice_index_or, take};
-ghost use Rattle.std.specs.List.{prefix_len};
+ghost use Rattle.std.specs.List.{prefix_len, flat_map};
 ghost use Rattle.mdblock_containers.specs.declared.ahead.Ahead.{Ahead as AheadOf};
 ghost use Rattle.mdblock_containers.specs.Ahead.{AreRows, ahead_of};
 ghost use Rattle.mdblock_containers.specs.Rows.{Row as RowOf};
 ghost use Rattle.mdblock_containers.specs.Skeleton.{Part};
+ghost use Rattle.mdblock_table_marks.specs.TableCuts.{cut_at_tables};
 ghost use Rattle.mdinline_labels.specs.declared.definitions.Definition.{Definition as DefinitionOf};
 ghost use Rattle.mdinline_labels.specs.Definitions.{definitions};
 ghost use Rattle.mdblock_definitions.specs.Costs.{bytes_in, text_rows};
-ghost use Rattle.mdblock_definitions.specs.Sections.{Section as SectionOf, defined_in, defining, lines, paragraph_of, sections_in, text_in, undefined};
+ghost use Rattle.mdblock_definitions.specs.Sections.{Section as SectionOf, defined_in, defining, lines, paragraph_of, sections_in, text_in, undefined, is_in_table, sections_of_cut, tabled};
 ghost use Rattle.mdblock_definitions.specs.Seen.{AreHeld, AreSections, AreSome, AreThese, IsFound, begins_defining, begins_text_at, inside_of, is_text_at};
 
 use crate::fronts::front_of;
 use crate::held::{has_bracket, hold_lines};
+use crate::tables::{lines_before_table, lines_of_table};
 use crate::texts::lines_before;
 use markdown_base::configuration::{Constructs, TabSize};
 use mdblock_containers::ahead::{Ahead, aheads_of};
@@ -34,6 +36,8 @@ pub enum Inside {
     Behind,
     /// Definitions.
     Defined(Vec<Definition>),
+    /// A table.
+    Table,
 }
 
 /// A section of a part.
@@ -366,6 +370,47 @@ pub(crate) fn sections_from<L: Ledger>(
         push_undefined(alloc, &mut sections, &rows[i..end], true, turns)?;
         i = end + found.defined.lines;
         push_defined(&mut sections, found.defined)?;
+    }
+    Ok(sections)
+}
+
+/// The section of a table of so many lines, if it has any.
+fn push_table(sections: &mut Vec<Section>, lines: usize) -> Result<(), AllocError>
+    ensures { IfOk result (λ _. (around : Part) → (rows : List RowOf) → length rows ≡ lines → (before : List SectionOf) → AreSections sections.old.items before → AreSections sections.new.items (before ++ tabled around rows)) }
+{
+    if lines == 0 {
+        return Ok(());
+    }
+    sections.push(Section {
+        further: lines - 1,
+        inside: Inside::Table,
+    })?;
+    Ok(())
+}
+
+/// The sections of a part, which is no blank line, by its lines, cut before and behind each table. Fails only for want of memory.
+pub(crate) fn sections_with_tables<L: Ledger>(
+    alloc: Global,
+    bytes: &[u8],
+    tab: TabSize,
+    on: &Constructs,
+    rows: &[RowAt],
+    room: &mut Room,
+    turns: &mut Turns<L>,
+) -> Result<Vec<Section>, AllocError>
+    requires { AreHeld tab bytes.now rows.now }
+    ensures sections { IfOk result (λ ss. (all : List RowOf) → AreThese tab bytes.now rows.now all → (around : Part) → AreSections ss.items (flat_map (sections_of_cut on.now around) (cut_at_tables is_in_table (length all) all))) }
+    ensures turns { turns.new ≤ turns.old + 96 * bytes_in tab bytes.now rows.now }
+{
+    let mut sections = Vec::new(alloc);
+    let mut i = 0;
+    while i < rows.len() {
+        turns.add_one();
+        let end = i + lines_before_table(&rows[i..], turns);
+        let mut found = sections_of(alloc, bytes, tab, on, &rows[i..end], room, turns)?;
+        sections.append(&mut found)?;
+        i = end + lines_of_table(&rows[end..], turns);
+        push_table(&mut sections, i - end)?;
     }
     Ok(sections)
 }

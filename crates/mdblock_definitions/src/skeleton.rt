@@ -1,6 +1,6 @@
 //! The skeleton of a document with link reference definitions.
 
-ghost use Rattle.std.specs.Prelude.{◌≡◌, ◌≤◌, ◌+◌, ◌-◌, ◌*◌, ◌++◌, ◌&&◌, ◌||◌, cond, true, false, None, ℕ, List, [], ◌∷◌, IfOk, drop, is_some, length, map, not, take};
+ghost use Rattle.std.specs.Prelude.{◌≡◌, ◌≤◌, ◌+◌, ◌-◌, ◌*◌, ◌++◌, ◌&&◌, ◌||◌, cond, true, false, None, ℕ, List, [], ◌∷◌, IfOk, drop, is_some, length, map, not, take, suc};
 ghost use Rattle.std.specs.List.{flat_map};
 ghost use Rattle.markdown_base.specs.declared.event.Name.TheVariants.{SpaceOrTab};
 ghost use Rattle.markdown_base.specs.Virtual.{IsWithinLimit, Seat, point};
@@ -18,20 +18,22 @@ ghost use Rattle.mdblock_containers.specs.SeatPlaces.{AreSeatsAt, events_of};
 ghost use Rattle.mdblock_containers.specs.Stretches.{end_at, last_at};
 ghost use Rattle.mdblock_containers.specs.Views.{leaf_of, open_of};
 ghost use Rattle.mdblock_containers.specs.Written.{Written};
+ghost use Rattle.mdblock_table_marks.specs.TableMarks.{table_marks};
 ghost use Rattle.mdinline_labels.specs.Defined.{defines};
 ghost use Rattle.mdinline_labels.specs.Definitions.{definitions};
 ghost use Rattle.mdblock_definitions.specs.Costs.{bytes_in, bytes_of};
 ghost use Rattle.mdblock_definitions.specs.Definitions.{definitions_marks, places_in};
 ghost use Rattle.mdblock_definitions.specs.Labelled.{IsInText, is_one_of};
 ghost use Rattle.mdblock_definitions.specs.Sectioned.{AreBegun, AreFirst, AreInLines, AreLater, BeginsFilled, HasEnd, TextsAreFilled, IsBegun, IsEnd, IsFilled, IsSectionOf, AreSectionsOf, IsSound, inside_from, letters_in};
-ghost use Rattle.mdblock_definitions.specs.Sections.{Section as SectionOf, cut, lines, text_in};
+ghost use Rattle.mdblock_definitions.specs.Sections.{Section as SectionOf, cut, lines, text_in, table};
 ghost use Rattle.mdblock_definitions.specs.Seen.{AreSections, inside_of};
 ghost use Rattle.mdblock_definitions.specs.Skeleton.{all_rows, inside_marks, labels_in, labels_of_section, letters_of_section};
 ghost use Rattle.mdblock_definitions.specs.Within.{last_of, within_marks};
 
 use crate::held::hold_lines;
 use crate::marks::write_definitions;
-use crate::sections::{Inside, Room, Section, find_defined, sections_from};
+use crate::sections::{Inside, Room, Section, find_defined, sections_from, sections_with_tables};
+use crate::tables::lines_before_table;
 use markdown_base::configuration::{Constructs, TabSize};
 use markdown_base::event::{Event, Point};
 use mdblock_containers::going::{Open, first_of};
@@ -44,6 +46,7 @@ use mdblock_containers::texts::text_at;
 use mdblock_containers::writing::white;
 use mdblock_lines::bytes::{behind, indent};
 use mdblock_lines::places::moved;
+use mdblock_table_marks::tables::write_table;
 use mdconstructs_loop_counts::Turns;
 use mdinline_labels::definitions::Definition;
 use mdinline_labels::labels::Labels;
@@ -351,6 +354,47 @@ fn write_defined<L: Ledger>(
     Ok(())
 }
 
+/// What is in a section that is a table, behind the prefixes of its first line.
+fn write_rows<L: Ledger>(
+    alloc: Global,
+    skeleton: &mut Skeleton,
+    bytes: &[u8],
+    tab: TabSize,
+    stack: &[Open],
+    rows: &[RowAt],
+    first: &RowAt,
+    more: &[RowAt],
+    begin: At,
+    line: &mut Vec<u8>,
+    turns: &mut Turns<L>,
+) -> Result<(), AllocError>
+    ghost part: { PartOf }
+    requires limit { IsWithinLimit tab bytes.now }
+    requires rows { rows.now ≡ first.now ∷ more.now }
+    requires section { IsSectionOf tab bytes.now (map open_of stack.now) first.now more.now part }
+    requires begun { IsBegun tab bytes.now part first.now begin }
+    requires table { IsSound part table }
+    ensures events { IfOk result (λ _. (rest : List Mark) → (all : List Mark) → Written skeleton.old.events.items None false (table_marks bytes.now part ++ rest) all → Written skeleton.new.events.items None false rest all) }
+    ensures letters { IfOk result (λ _. skeleton.new.letters.items ≡ skeleton.old.letters.items) }
+    ensures labels { IfOk result (λ _. (label : List ℕ) → defines skeleton.new.labels label ≡ defines skeleton.old.labels label) }
+    ensures turns { turns.new ≤ turns.old + 25 * bytes_in tab bytes.now rows.now }
+{
+    let tab_size = tab.get();
+    prove!(tab_size >= 1);
+    write_table(
+        alloc,
+        &mut skeleton.events,
+        bytes,
+        tab,
+        stack,
+        rows,
+        begin,
+        line,
+        turns,
+    )?;
+    Ok(())
+}
+
 /// What is in a section, behind the prefixes of its first line. Returns where it ends.
 fn write_section<L: Ledger>(
     alloc: Global,
@@ -377,13 +421,26 @@ fn write_section<L: Ledger>(
     ensures events { IfOk result (λ _. (rest : List Mark) → (all : List Mark) → Written skeleton.old.events.items None false (inside_marks bytes.now part (inside_of inside.now) ++ rest) all → Written skeleton.new.events.items None false rest all) }
     ensures letters { IfOk result (λ _. skeleton.new.letters.items ≡ skeleton.old.letters.items ++ letters_of_section on.now (record { part = part; inside = inside_of inside.now })) }
     ensures labels { IfOk result (λ _. (label : List ℕ) → defines skeleton.new.labels label ≡ (defines skeleton.old.labels label || is_one_of (labels_of_section (record { part = part; inside = inside_of inside.now })) label)) }
-    ensures turns { turns.new ≤ turns.old + 21 * bytes_in tab bytes.now rows.now }
+    ensures turns { turns.new ≤ turns.old + 25 * bytes_in tab bytes.now rows.now }
 {
     let tab_size = tab.get();
     prove!(tab_size >= 1);
     let end = end_of_part(first, more);
     let place = end.place;
     match inside {
+        Inside::Table => write_rows(
+            alloc,
+            skeleton,
+            bytes,
+            tab,
+            stack,
+            rows,
+            first,
+            more,
+            begin,
+            &mut room.line,
+            turns,
+        )?,
         Inside::Lines => write_text(
             skeleton,
             bytes,
@@ -525,8 +582,8 @@ fn write_one<L: Ledger>(
     ensures events { IfOk result (λ _. (rest : List Mark) → (all : List Mark) → Written skeleton.old.events.items None false (inside_from bytes.now (given.0 ∷ given.1) rest) all → Written skeleton.new.events.items None false (inside_from bytes.now given.1 rest) all) }
     ensures letters { IfOk result (λ _. skeleton.new.letters.items ≡ skeleton.old.letters.items ++ letters_of_section on.now given.0) }
     ensures labels { IfOk result (λ _. (label : List ℕ) → defines skeleton.new.labels label ≡ (defines skeleton.old.labels label || is_one_of (labels_of_section given.0) label)) }
-    ensures paid { IfOk result (λ e. turns.new ≤ turns.old + (21 * bytes_in tab bytes.now (take e.lines left.now) + 8 * bytes_in tab bytes.now (take 1 (drop e.lines left.now)))) }
-    ensures turns { turns.new ≤ turns.old + 29 * bytes_in tab bytes.now left.now }
+    ensures paid { IfOk result (λ e. turns.new ≤ turns.old + (25 * bytes_in tab bytes.now (take e.lines left.now) + 8 * bytes_in tab bytes.now (take 1 (drop e.lines left.now)))) }
+    ensures turns { let n = suc (length given.0.part.more) in turns.new ≤ turns.old + (25 * bytes_in tab bytes.now (take n left.now) + 8 * bytes_in tab bytes.now (take 1 (drop n left.now))) }
 {
     let tab_size = tab.get();
     prove!(tab_size >= 1);
@@ -589,7 +646,7 @@ fn write_sections<L: Ledger>(
     ensures events { IfOk result (λ _. (rest : List Mark) → (all : List Mark) → Written skeleton.old.events.items None false (inside_from bytes.now given.1 rest) all → Written skeleton.new.events.items None false rest all) }
     ensures letters { IfOk result (λ _. skeleton.new.letters.items ≡ skeleton.old.letters.items ++ flat_map (letters_of_section on.now) given.1) }
     ensures labels { IfOk result (λ _. (label : List ℕ) → defines skeleton.new.labels label ≡ (defines skeleton.old.labels label || is_one_of (flat_map labels_of_section given.1) label)) }
-    ensures turns { turns.new ≤ turns.old + 38 * bytes_in tab bytes.now rows.now }
+    ensures turns { turns.new ≤ turns.old + 34 * bytes_in tab bytes.now rows.now }
 {
     let tab_size = tab.get();
     prove!(tab_size >= 1);
@@ -608,6 +665,56 @@ fn write_sections<L: Ledger>(
         i += one.lines;
         k += 1;
     }
+    Ok(end)
+}
+
+/// What is in a part that is no blank line, behind the prefixes of its first line, cut before and behind each table. Returns where the part ends.
+fn fill_tabled<L: Ledger>(
+    alloc: Global,
+    skeleton: &mut Skeleton,
+    bytes: &[u8],
+    tab: TabSize,
+    on: &Constructs,
+    stack: &[Open],
+    rows: &[RowAt],
+    first: &RowAt,
+    more: &[RowAt],
+    begin: At,
+    room: &mut Room,
+    turns: &mut Turns<L>,
+) -> Result<PartEnd, AllocError>
+    ghost part: { PartOf }
+    requires limit { IsWithinLimit tab bytes.now }
+    requires rows { rows.now ≡ first.now ∷ more.now }
+    requires section { IsSectionOf tab bytes.now (map open_of stack.now) first.now more.now part }
+    requires stands { length stack.now ≤ length part.stands }
+    requires filled { part.first.is_blank ≡ false }
+    requires texts { TextsAreFilled (all_rows part) }
+    requires begun { IsBegun tab bytes.now part first.now begin }
+    ensures end { IfOk result (λ e. HasEnd bytes.now (last_of part (cut on.now part)) e) }
+    ensures events { IfOk result (λ _. (rest : List Mark) → (all : List Mark) → Written skeleton.old.events.items None false (inside_from bytes.now (cut on.now part) rest) all → Written skeleton.new.events.items None false rest all) }
+    ensures letters { IfOk result (λ _. skeleton.new.letters.items ≡ skeleton.old.letters.items ++ flat_map (letters_of_section on.now) (cut on.now part)) }
+    ensures labels { IfOk result (λ _. (label : List ℕ) → defines skeleton.new.labels label ≡ (defines skeleton.old.labels label || is_one_of (flat_map labels_of_section (cut on.now part)) label)) }
+    ensures turns { turns.new ≤ turns.old + 130 * bytes_in tab bytes.now rows.now }
+{
+    let tab_size = tab.get();
+    prove!(tab_size >= 1);
+    let sections = sections_with_tables(alloc, bytes, tab, on, rows, room, turns)?;
+    let end = write_sections(
+        alloc,
+        skeleton,
+        bytes,
+        tab,
+        on,
+        stack,
+        rows,
+        first,
+        more,
+        sections.as_slice(),
+        begin,
+        room,
+        turns,
+    )?;
     Ok(end)
 }
 
@@ -649,6 +756,13 @@ pub(crate) fn fill_part<L: Ledger>(
             alloc, skeleton, bytes, tab, on, stack, rows, first, more, &inside, begin, room, turns,
         )?;
         return Ok(only);
+    }
+    let before = lines_before_table(rows, turns);
+    if before < rows.len() {
+        let last = fill_tabled(
+            alloc, skeleton, bytes, tab, on, stack, rows, first, more, begin, room, turns,
+        )?;
+        return Ok(last);
     }
     let found = find_defined(alloc, bytes, tab, on, rows, room, turns)?;
     if found.before == rows.len() {

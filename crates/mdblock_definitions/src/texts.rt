@@ -1,6 +1,6 @@
 //! The text of a paragraph, which may begin with definitions: what its lines have behind their prefixes, joined by line feeds.
 
-ghost use Rattle.std.specs.Prelude.{◌≡◌, ◌≤◌, ◌+◌, ◌*◌, ◌++◌, ◌∷◌, ◌&&◌, ◌==◌, ◌-◌, cond, drop, filter, is_some, length, not, IfOk};
+ghost use Rattle.std.specs.Prelude.{◌≡◌, ◌≤◌, ◌+◌, ◌*◌, ◌++◌, ◌∷◌, ◌&&◌, ◌==◌, ◌-◌, cond, drop, filter, is_some, length, not, IfOk, []};
 ghost use Rattle.mdblock_leaf_blocks.specs.LineKinds.{indent, underline_rank};
 ghost use Rattle.mdblock_containers.specs.Rows.{has_none, is_paragraph};
 ghost use Rattle.mdblock_containers.specs.Views.{leaf_of};
@@ -98,6 +98,15 @@ pub fn is_used_up<L: Ledger>(text: &[u8], turns: &mut Turns<L>) -> bool
 {
     let front = definitions_counted(text, turns);
     front.end == text.len()
+}
+
+/// Whether all of a paragraph is definitions, by what is held of its text: of one that does not begin with `[`, in which nothing is defined, it is nothing.
+pub(crate) fn is_held_used_up<L: Ledger>(text: &[u8], turns: &mut Turns<L>) -> bool
+    ensures value { result ≡ is_held_used_up text.now }
+    ensures turns { turns.new ≤ turns.old + 16 * length text.now + 16 }
+    ensures none { text.now ≡ [] → turns.new ≤ turns.old }
+{
+    has_bytes(text) && is_used_up(text, turns)
 }
 
 /// Whether what would be an underline makes no heading: all of the open paragraph, which has this text, is definitions. `rest` is what the line has

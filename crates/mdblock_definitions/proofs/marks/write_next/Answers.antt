@@ -3,9 +3,10 @@ use Rattle.std.specs.List.{flat_map, prefix_len}
 use Rattle.std.proofs.lemmas.List.{append-nil, drop-drop, length-map}
 use Rattle.mdblock_containers.specs.SeatPlaces.{events_of}
 use Rattle.mdblock_containers.specs.Views.{open_of}
+use Rattle.mdblock_containers.proofs.WritingLemmas.{write-both}
 use Rattle.mdblock_definitions.specs.Cursor.{left_at}
 use Rattle.mdblock_definitions.specs.Definitions.{Place, between, definition_marks, ending_marks, is_byte, text_byte}
-use Rattle.mdblock_definitions.proofs.MarksCursor.{line-left, write-both}
+use Rattle.mdblock_definitions.proofs.MarksCursor.{line-left}
 use Rattle.mdblock_definitions.proofs.MarksLoop.{begins-first, next-fits, next-marks-end, next-marks-none}
 use Rattle.mdblock_definitions.proofs.marks.write_next.Goals as goal
 

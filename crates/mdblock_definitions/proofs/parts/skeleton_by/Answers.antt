@@ -3,7 +3,6 @@ use Rattle.std.specs.Prelude.{◌||◌, None}
 use Rattle.std.specs.List.{flat_map}
 use Rattle.std.proofs.lemmas.List.{append-nil, drop_all, drop-drop, take_rest}
 use Rattle.markdown_base.specs.declared.event.Event.{Event}
-use Rattle.markdown_base.proofs.Common.{every-drop}
 use Rattle.mdblock_leaf_blocks.specs.LeafEvents.{Mark}
 use Rattle.mdblock_containers.specs.declared.frames.Frame.{Frame}
 use Rattle.mdblock_containers.specs.declared.going.Open.{Open}
@@ -26,7 +25,7 @@ use Rattle.mdblock_containers.proofs.RestLemmas.{next_of, no_end, none_left}
 use Rattle.mdblock_containers.proofs.WrittenLemmas.{write_init}
 use Rattle.mdinline_labels.specs.Defined.{defines}
 use Rattle.mdblock_definitions.specs.Labelled.{is_one_of}
-use Rattle.mdblock_definitions.specs.Sectioned.{TextIsFilled, TextsAreFilled}
+use Rattle.mdblock_definitions.specs.Sectioned.{TextsAreFilled}
 use Rattle.mdblock_definitions.specs.Sections.{sections}
 use Rattle.mdblock_definitions.specs.Skeleton.{labels_of_section, letters_of_section, sections_marks}
 use Rattle.mdblock_definitions.specs.Within.{rest_sections}
@@ -35,6 +34,7 @@ use Rattle.mdblock_definitions.proofs.RowTexts.{these-in}
 use Rattle.mdblock_definitions.proofs.Within.{sections-init}
 use Rattle.mdblock_containers.proofs.ColumnLemmas.{columns_add, columns_parts, few_columns}
 use Rattle.mdblock_containers.proofs.PartCosts.{asked_all}
+use Rattle.mdblock_definitions.proofs.FilledTexts.{texts-drop}
 use Rattle.mdblock_definitions.proofs.parts.skeleton_by.Goals as goal
 
 or-none : (b : Bool) → (b || false) ≡ b
@@ -85,7 +85,7 @@ write_part-requires g c = λ lifetimes outlives.
     let ahead = ahead_at c.args.aheads.now all (length rows) i c.loop-i-test.true c.requires.1.1.1.1.0 ∙ ap (λ (p : Row × List Row). ahead_of p.1) (sym given) in
     let lazy = subst (λ (p : Row × List Row). FirstIsNotLazy (p.0 ∷ p.1)) (sym given) (subst FirstIsNotLazy next.is c.loop-i.invariant.lazy) in
     let paid = subst (λ (p : Row × List Row). ArePaid (p.0 ∷ p.1)) (sym given) (subst ArePaid next.is (paid_behind i all c.requires.1.1.1.1.1.1.0)) in
-    let texts = subst (λ (p : Row × List Row). TextsAreFilled (p.0 ∷ p.1)) (sym given) (subst TextsAreFilled next.is (every-drop TextIsFilled i all c.requires.1.1.1.1.1.1.1)) in
+    let texts = subst (λ (p : Row × List Row). TextsAreFilled (p.0 ∷ p.1)) (sym given) (subst TextsAreFilled next.is (texts-drop i all c.requires.1.1.1.1.1.1.1)) in
     let passed = subst (λ (n : ℕ). AreEarlier n c.loop-i.passed.from c.loop-i.passed.to stack) (sym (number_at t bytes rows all i x c.loop-i-test.true c.index-rows-i.is c.requires.1.1.0)) c.loop-i.invariant.passed in
     (outlives, (c.requires.1.0, (take_rest rows i ∙ split, (left, (ahead, (lazy, (paid, (texts, (c.loop-i.invariant.stood, (c.loop-i.invariant.spans, passed))))))))))
 

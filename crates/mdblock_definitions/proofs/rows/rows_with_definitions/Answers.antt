@@ -35,10 +35,10 @@ loop-start-init g c =
       over = λ k d a b. absurd (omega (arith, b, e.depth));
       began = subst (λ (l : List Open). AllByRecursion (BeganBefore (length c.new-found.result.items + 1)) (map open_of l)) (sym e.stack) tt;
       placed = subst (λ (l : List RowAt). ArePlaced c.args.tab c.args.bytes.now 1 0 l 0) (sym c.new-found.ensures.items) refl;
-      kept = let none = ap columns_in c.new-found.ensures.items in let empty = ap (λ (l : List ℕ). length l) e.text in inl (omega (arith, e.over, none, empty));
+      kept = let none = ap columns_in c.new-found.ensures.items in let empty = ap (λ (l : List ℕ). length l) e.text in let no_last = ap (λ (l : List ℕ). length l) e.last in inl (omega (arith, e.over, none, empty, no_last));
       read = record {
         known = nothing;
-        is = record { before = none; text = e.text; filled = λ open_before. absurd (false≢true open_before) };
+        is = record { before = none; text = e.text; last = λ on open_before. absurd (false≢true open_before); filled = λ open_before. absurd (false≢true open_before) };
         before = known-init c.args.on.now c.args.tab c.args.bytes.now c.new-found.result.items nothing (length c.new-found.result.items + 1) c.new-found.ensures.items refl first;
       };
     }
@@ -71,13 +71,13 @@ loop-start-preserved g c =
           (subst (λ (n : ℕ). IsPlaced c.args.tab c.args.bytes.now n c.loop-start.start c.in_ok-at.at) one c.in_ok-at.ensures.placed);
       kept =
           let more = columns_push xs c.push.new.self.items c.in_ok-at.at c.in_ok-push.ensures.items in
-          let before = c.loop-start.turns + c.loop-start.known.before.over in
-          let turned = kept-more before (c.add_one.new.self + c.loop-start.known.before.over) (c.args.turns.now + 1706 * columns_in xs) (c.args.turns.now + 1706 * columns_in xs + 1) c.loop-start.known.text.items (omega (arith, c.add_one.ensures)) i.kept in
+          let before = c.loop-start.turns + c.loop-start.known.before.over + 3 * length c.loop-start.known.last.items in
+          let turned = kept-more before (c.add_one.new.self + c.loop-start.known.before.over + 3 * length c.loop-start.known.last.items) (c.args.turns.now + 1706 * columns_in xs) (c.args.turns.now + 1706 * columns_in xs + 1) c.loop-start.known.text.items (omega (arith, c.add_one.ensures)) i.kept in
           let placed = c.in_ok-at.ensures.placed in
           let size : c.in_ok-at.at.span.size ≡ length (line_bytes c.args.tab (c.len-number.result + 1) 1 c.loop-start.start (drop c.loop-start.start c.args.bytes.now)) = placed.size_is in
-          let read = kept-read (c.add_one.new.self + c.loop-start.known.before.over) (c.text_at.new.turns + c.loop-start.known.before.over) (c.row_of_text.new.turns + c.row_of_text.new.known.before.over) (c.args.turns.now + 1706 * columns_in xs + 1) c.in_ok-at.at.span.size c.in_ok-at.at.span.size
+          let read = kept-read (c.add_one.new.self + c.loop-start.known.before.over + 3 * length c.loop-start.known.last.items) (c.text_at.new.turns + c.loop-start.known.before.over + 3 * length c.loop-start.known.last.items) (c.row_of_text.new.turns + c.row_of_text.new.known.before.over + 3 * length c.row_of_text.new.known.last.items) (c.args.turns.now + 1706 * columns_in xs + 1) c.in_ok-at.at.span.size c.in_ok-at.at.span.size
           c.loop-start.known.text.items c.row_of_text.new.known.text.items (omega (arith, c.text_at.ensures.turns (c.len-number.result + 1), size)) refl turned (λ budget kept. c.in_ok-at.ensures.kept budget kept) in
-          kept-more (c.row_of_text.new.turns + c.row_of_text.new.known.before.over) (c.row_of_text.new.turns + c.row_of_text.new.known.before.over) (c.args.turns.now + 1706 * columns_in xs + 1 + 187 * c.in_ok-at.at.span.size + 1705) (c.args.turns.now + 1706 * columns_in c.push.new.self.items) c.row_of_text.new.known.text.items (omega (arith, more)) read;
+          kept-more (c.row_of_text.new.turns + c.row_of_text.new.known.before.over + 3 * length c.row_of_text.new.known.last.items) (c.row_of_text.new.turns + c.row_of_text.new.known.before.over + 3 * length c.row_of_text.new.known.last.items) (c.args.turns.now + 1706 * columns_in xs + 1 + 203 * c.in_ok-at.at.span.size + 1705) (c.args.turns.now + 1706 * columns_in c.push.new.self.items) c.row_of_text.new.known.text.items (omega (arith, more)) read;
       read = record {
         known = next;
         is = is;
@@ -97,7 +97,7 @@ returns g c =
       turns =
           let some : 0 < c.args.tab = omega (arith, c.get-tab_size.ensures.least, c.get-tab_size.ensures.columns) in
           let few = all_columns c.args.tab c.args.bytes.now some c.loop-start.found.items (subst (ArePlaced c.args.tab c.args.bytes.now 1 0 c.loop-start.found.items) all c.loop-start.invariant.placed) in
-          let kept = kept-turns (c.loop-start.turns + c.loop-start.known.before.over) (c.args.turns.now + 1706 * columns_in c.loop-start.found.items) c.loop-start.known.text.items c.loop-start.invariant.kept in
+          let kept = kept-turns (c.loop-start.turns + c.loop-start.known.before.over + 3 * length c.loop-start.known.last.items) (c.args.turns.now + 1706 * columns_in c.loop-start.found.items) c.loop-start.known.text.items c.loop-start.invariant.kept in
           omega (arith, kept, few);
     }
 
@@ -122,7 +122,7 @@ returns-in_err-text-clause-turns g c =
     let some : 0 < c.args.tab = omega (arith, c.get-tab_size.ensures.least, c.get-tab_size.ensures.columns) in
     let number : c.len-number.result + 1 ≡ 1 + length c.loop-start.found.items = omega (arith, c.len-number.ensures, c.loop-start.found.ok) in
     let few = next_columns c.args.tab c.args.bytes.now some c.loop-start.found.items (c.len-number.result + 1) c.loop-start.start c.loop-start.invariant.placed (omega arith) number in
-    let kept = kept-turns (c.loop-start.turns + c.loop-start.known.before.over) (c.args.turns.now + 1706 * columns_in c.loop-start.found.items) c.loop-start.known.text.items c.loop-start.invariant.kept in
+    let kept = kept-turns (c.loop-start.turns + c.loop-start.known.before.over + 3 * length c.loop-start.known.last.items) (c.args.turns.now + 1706 * columns_in c.loop-start.found.items) c.loop-start.known.text.items c.loop-start.invariant.kept in
     omega (arith, kept, c.add_one.ensures, c.text_at.ensures.turns (c.len-number.result + 1), few)
 
 pub returns-in_err-at-clause-turns : goal.returns-in_err-at-clause-turns
@@ -130,7 +130,7 @@ returns-in_err-at-clause-turns g c =
     let some : 0 < c.args.tab = omega (arith, c.get-tab_size.ensures.least, c.get-tab_size.ensures.columns) in
     let number : c.len-number.result + 1 ≡ 1 + length c.loop-start.found.items = omega (arith, c.len-number.ensures, c.loop-start.found.ok) in
     let few = next_columns c.args.tab c.args.bytes.now some c.loop-start.found.items (c.len-number.result + 1) c.loop-start.start c.loop-start.invariant.placed (omega arith) number in
-    let kept = kept-turns (c.loop-start.turns + c.loop-start.known.before.over) (c.args.turns.now + 1706 * columns_in c.loop-start.found.items) c.loop-start.known.text.items c.loop-start.invariant.kept in
+    let kept = kept-turns (c.loop-start.turns + c.loop-start.known.before.over + 3 * length c.loop-start.known.last.items) (c.args.turns.now + 1706 * columns_in c.loop-start.found.items) c.loop-start.known.text.items c.loop-start.invariant.kept in
     let long = ap (λ (l : List ℕ). length l) (c.in_ok-text.ensures.seats (c.len-number.result + 1)) in
     omega (arith, kept, c.add_one.ensures, c.text_at.ensures.turns (c.len-number.result + 1), c.row_of_text.ensures.turns, long, few)
 
@@ -139,6 +139,6 @@ returns-in_err-push-clause-turns g c =
     let some : 0 < c.args.tab = omega (arith, c.get-tab_size.ensures.least, c.get-tab_size.ensures.columns) in
     let number : c.len-number.result + 1 ≡ 1 + length c.loop-start.found.items = omega (arith, c.len-number.ensures, c.loop-start.found.ok) in
     let few = next_columns c.args.tab c.args.bytes.now some c.loop-start.found.items (c.len-number.result + 1) c.loop-start.start c.loop-start.invariant.placed (omega arith) number in
-    let kept = kept-turns (c.loop-start.turns + c.loop-start.known.before.over) (c.args.turns.now + 1706 * columns_in c.loop-start.found.items) c.loop-start.known.text.items c.loop-start.invariant.kept in
+    let kept = kept-turns (c.loop-start.turns + c.loop-start.known.before.over + 3 * length c.loop-start.known.last.items) (c.args.turns.now + 1706 * columns_in c.loop-start.found.items) c.loop-start.known.text.items c.loop-start.invariant.kept in
     let long = ap (λ (l : List ℕ). length l) (c.in_ok-text.ensures.seats (c.len-number.result + 1)) in
     omega (arith, kept, c.add_one.ensures, c.text_at.ensures.turns (c.len-number.result + 1), c.row_of_text.ensures.turns, long, few)

@@ -16,7 +16,7 @@ invariant-loop-start g l = record {
   over : AreOver (length l.found.items + 1) l.known.before.over l.known.before.depth l.known.before.stack.items;
   began : AllByRecursion (BeganBefore (length l.found.items + 1)) (before_of l.known.before).stack;
   placed : ArePlaced l.tab l.bytes 1 0 l.found.items l.start;
-  kept : IsKept (l.turns + l.known.before.over) (l.fn.turns + 1706 * columns_in l.found.items) l.known.text.items;
+  kept : IsKept (l.turns + l.known.before.over + 3 * length l.known.last.items) (l.fn.turns + 1706 * columns_in l.found.items) l.known.text.items;
   read : AreRead l.on l.tab l.bytes l.found.items l.known (length l.found.items + 1) l.start;
 }
 

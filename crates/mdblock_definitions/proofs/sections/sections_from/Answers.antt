@@ -7,20 +7,9 @@ use Rattle.mdblock_containers.proofs.AheadLemmas.{rows_length}
 use Rattle.mdblock_definitions.specs.Costs.{bytes_in, text_rows}
 use Rattle.mdblock_definitions.specs.Sections.{defined_in, paragraph_of, sections_in, text_in}
 use Rattle.mdinline_labels.specs.Definitions.{definitions}
-use Rattle.mdblock_definitions.specs.Seen.{AreThese}
-use Rattle.mdblock_definitions.proofs.SectionLemmas.{cut-end, cut-init, cut-more, defined-few, goes-on, next-line, these-back, these-front}
+use Rattle.mdblock_definitions.proofs.SectionLemmas.{cut-end, cut-init, cut-more, defined-few, goes-on, next-line, these-back, these-first, these-front, these-left}
 use Rattle.mdblock_definitions.proofs.SectionCosts.{bytes-cut, bytes-left, bytes-more, bytes-moved, bytes-some, debt-few, debt-none, found-text, none-left, passed-text, text-few}
 use Rattle.mdblock_definitions.proofs.sections.sections_from.Goals as goal
-
--- the lines that are left
-these-left : (t : ℕ) (bytes : List ℕ) (rows : List RowAt) (all : List Row) (i : ℕ) → AreThese t bytes rows all → AreThese t bytes (take (length rows - i) (drop i rows)) (drop i all)
-these-left t bytes rows all i h = subst (λ (l : List RowAt). AreThese t bytes l (drop i all)) (sym (take_rest rows i)) (these-back t bytes i rows all h)
-
--- and the first of them
-these-first : (t : ℕ) (bytes : List ℕ) (rows : List RowAt) (all : List Row) (i n e : ℕ) → e ≡ i + n → AreThese t bytes rows all → AreThese t bytes (take (e - i) (drop i rows)) (take n (drop i all))
-these-first t bytes rows all i n e h these =
-    let size : e - i ≡ n = omega (arith, h) in
-    subst (λ (k : ℕ). AreThese t bytes (take k (drop i rows)) (take n (drop i all))) (sym size) (these-front t bytes n (drop i rows) (drop i all) (these-back t bytes i rows all these))
 
 pub loop-i-init : goal.loop-i-init
 loop-i-init g c =

@@ -13,8 +13,9 @@ use Rattle.mdblock_definitions.specs.Sections.{Section, lines, sections_in}
 use Rattle.mdblock_definitions.specs.Seen.{AreSections, AreThese}
 use Rattle.mdblock_definitions.specs.Skeleton.{all_rows, labels_of_section, letters_of_section}
 use Rattle.mdblock_definitions.specs.Within.{last_of}
-use Rattle.mdblock_definitions.proofs.SectionFacts.{section-these}
+use Rattle.mdblock_definitions.proofs.SectionFacts.{none-tabled, section-these}
 use Rattle.mdblock_definitions.proofs.SectionSound.{cut-blank, cut-filled, part-sections}
+use Rattle.mdblock_definitions.proofs.SectionCosts.{bytes-some}
 use Rattle.mdblock_definitions.proofs.SectionLoop.{first-begun, has-end}
 use Rattle.mdblock_definitions.proofs.Sectioned.{blank-is}
 use Rattle.mdblock_definitions.proofs.Uncut.{found-none}
@@ -64,7 +65,7 @@ returns-then-found-rows-clause-end g c =
     let section = c.requires.1.1.1.0 in
     let filled = sym (blank-is t bytes some c.requires.1.0 stack c.args.first.now c.args.more.now g.part section) ∙ c.if-is_blank.false in
     let these = subst (λ (l : List RowAt). AreThese t bytes l (all_rows g.part)) (sym c.requires.1.1.0) (section-these t bytes stack c.args.first.now c.args.more.now g.part section) in
-    let once = found-none c.args.on.now g.part t bytes c.args.rows.now c.in_ok-found.found these c.in_ok-found.ensures.found c.if-found-rows.true filled c.requires.1.1.1.1.1.0 in
+    let once = found-none c.args.on.now g.part t bytes c.args.rows.now c.in_ok-found.found these c.in_ok-found.ensures.found c.if-found-rows.true filled c.requires.1.1.1.1.1.0 (none-tabled c.args.tab c.args.bytes.now (map open_of c.args.stack.now) c.args.first.now c.args.more.now g.part section c.args.rows.now c.requires.1.1.0 c.lines_before_table-before.result c.lines_before_table-before.ensures.value (omega (arith, c.lines_before_table-before.ensures.within, c.if-before-rows.false))) in
     subst (λ (l : List Section). HasEnd bytes (last_of g.part l) c.in_ok-only-2.only) (sym once)
     (has-end t bytes some c.requires.1.0 stack c.args.first.now c.args.more.now g.part section c.in_ok-only-2.only c.in_ok-only-2.ensures.end)
 
@@ -77,7 +78,7 @@ returns-then-found-rows-clause-events g c = λ rest all w.
     let section = c.requires.1.1.1.0 in
     let filled = sym (blank-is t bytes some c.requires.1.0 stack c.args.first.now c.args.more.now g.part section) ∙ c.if-is_blank.false in
     let these = subst (λ (l : List RowAt). AreThese t bytes l (all_rows g.part)) (sym c.requires.1.1.0) (section-these t bytes stack c.args.first.now c.args.more.now g.part section) in
-    let once = found-none c.args.on.now g.part t bytes c.args.rows.now c.in_ok-found.found these c.in_ok-found.ensures.found c.if-found-rows.true filled c.requires.1.1.1.1.1.0 in
+    let once = found-none c.args.on.now g.part t bytes c.args.rows.now c.in_ok-found.found these c.in_ok-found.ensures.found c.if-found-rows.true filled c.requires.1.1.1.1.1.0 (none-tabled c.args.tab c.args.bytes.now (map open_of c.args.stack.now) c.args.first.now c.args.more.now g.part section c.args.rows.now c.requires.1.1.0 c.lines_before_table-before.result c.lines_before_table-before.ensures.value (omega (arith, c.lines_before_table-before.ensures.within, c.if-before-rows.false))) in
     c.in_ok-only-2.ensures.events rest all (subst (λ (l : List Section). Written c.args.skeleton.now.events.items None false (inside_from bytes l rest) all) once w)
 
 pub returns-then-found-rows-clause-letters : goal.returns-then-found-rows-clause-letters
@@ -89,7 +90,7 @@ returns-then-found-rows-clause-letters g c =
     let section = c.requires.1.1.1.0 in
     let filled = sym (blank-is t bytes some c.requires.1.0 stack c.args.first.now c.args.more.now g.part section) ∙ c.if-is_blank.false in
     let these = subst (λ (l : List RowAt). AreThese t bytes l (all_rows g.part)) (sym c.requires.1.1.0) (section-these t bytes stack c.args.first.now c.args.more.now g.part section) in
-    let once = found-none c.args.on.now g.part t bytes c.args.rows.now c.in_ok-found.found these c.in_ok-found.ensures.found c.if-found-rows.true filled c.requires.1.1.1.1.1.0 in
+    let once = found-none c.args.on.now g.part t bytes c.args.rows.now c.in_ok-found.found these c.in_ok-found.ensures.found c.if-found-rows.true filled c.requires.1.1.1.1.1.0 (none-tabled c.args.tab c.args.bytes.now (map open_of c.args.stack.now) c.args.first.now c.args.more.now g.part section c.args.rows.now c.requires.1.1.0 c.lines_before_table-before.result c.lines_before_table-before.ensures.value (omega (arith, c.lines_before_table-before.ensures.within, c.if-before-rows.false))) in
     c.in_ok-only-2.ensures.letters ∙ ap (λ (l : List ℕ). c.args.skeleton.now.letters.items ++ l) (sym (append-nil (letters_of_section c.args.on.now (record { part = g.part; inside = lines false }))))
     ∙ ap (λ (l : List Section). c.args.skeleton.now.letters.items ++ flat_map (letters_of_section c.args.on.now) l) (sym once)
 
@@ -102,7 +103,7 @@ returns-then-found-rows-clause-labels g c = λ label.
     let section = c.requires.1.1.1.0 in
     let filled = sym (blank-is t bytes some c.requires.1.0 stack c.args.first.now c.args.more.now g.part section) ∙ c.if-is_blank.false in
     let these = subst (λ (l : List RowAt). AreThese t bytes l (all_rows g.part)) (sym c.requires.1.1.0) (section-these t bytes stack c.args.first.now c.args.more.now g.part section) in
-    let once = found-none c.args.on.now g.part t bytes c.args.rows.now c.in_ok-found.found these c.in_ok-found.ensures.found c.if-found-rows.true filled c.requires.1.1.1.1.1.0 in
+    let once = found-none c.args.on.now g.part t bytes c.args.rows.now c.in_ok-found.found these c.in_ok-found.ensures.found c.if-found-rows.true filled c.requires.1.1.1.1.1.0 (none-tabled c.args.tab c.args.bytes.now (map open_of c.args.stack.now) c.args.first.now c.args.more.now g.part section c.args.rows.now c.requires.1.1.0 c.lines_before_table-before.result c.lines_before_table-before.ensures.value (omega (arith, c.lines_before_table-before.ensures.within, c.if-before-rows.false))) in
     c.in_ok-only-2.ensures.labels label ∙ ap (λ (l : List Section). defines c.args.skeleton.now.labels label || is_one_of (flat_map labels_of_section l) label) (sym once)
 
 pub sections_from-requires : goal.sections_from-requires
@@ -148,22 +149,57 @@ pub returns-clause-end : goal.returns-clause-end
 returns-clause-end g c =
     let some : 0 < c.args.tab = omega (arith, c.get-tab_size.ensures.least, c.get-tab_size.ensures.columns) in
     let filled = sym (blank-is c.args.tab c.args.bytes.now some c.requires.1.0 (map open_of c.args.stack.now) c.args.first.now c.args.more.now g.part c.requires.1.1.1.0) ∙ c.if-is_blank.false in
-    subst (λ (l : List Section). HasEnd c.args.bytes.now (last_of g.part l) c.in_ok-end.end) (sym (cut-filled c.args.on.now g.part filled)) c.in_ok-end.ensures.end
+    let none = none-tabled c.args.tab c.args.bytes.now (map open_of c.args.stack.now) c.args.first.now c.args.more.now g.part c.requires.1.1.1.0 c.args.rows.now c.requires.1.1.0 c.lines_before_table-before.result c.lines_before_table-before.ensures.value (omega (arith, c.lines_before_table-before.ensures.within, c.if-before-rows.false)) in
+    subst (λ (l : List Section). HasEnd c.args.bytes.now (last_of g.part l) c.in_ok-end.end) (sym (cut-filled c.args.on.now g.part filled none)) c.in_ok-end.ensures.end
 
 pub returns-clause-events : goal.returns-clause-events
 returns-clause-events g c = λ rest all w.
     let some : 0 < c.args.tab = omega (arith, c.get-tab_size.ensures.least, c.get-tab_size.ensures.columns) in
     let filled = sym (blank-is c.args.tab c.args.bytes.now some c.requires.1.0 (map open_of c.args.stack.now) c.args.first.now c.args.more.now g.part c.requires.1.1.1.0) ∙ c.if-is_blank.false in
-    c.in_ok-end.ensures.events rest all (subst (λ (l : List Section). Written c.args.skeleton.now.events.items None false (inside_from c.args.bytes.now l rest) all) (cut-filled c.args.on.now g.part filled) w)
+    let none = none-tabled c.args.tab c.args.bytes.now (map open_of c.args.stack.now) c.args.first.now c.args.more.now g.part c.requires.1.1.1.0 c.args.rows.now c.requires.1.1.0 c.lines_before_table-before.result c.lines_before_table-before.ensures.value (omega (arith, c.lines_before_table-before.ensures.within, c.if-before-rows.false)) in
+    c.in_ok-end.ensures.events rest all (subst (λ (l : List Section). Written c.args.skeleton.now.events.items None false (inside_from c.args.bytes.now l rest) all) (cut-filled c.args.on.now g.part filled none) w)
 
 pub returns-clause-letters : goal.returns-clause-letters
 returns-clause-letters g c =
     let some : 0 < c.args.tab = omega (arith, c.get-tab_size.ensures.least, c.get-tab_size.ensures.columns) in
     let filled = sym (blank-is c.args.tab c.args.bytes.now some c.requires.1.0 (map open_of c.args.stack.now) c.args.first.now c.args.more.now g.part c.requires.1.1.1.0) ∙ c.if-is_blank.false in
-    c.in_ok-end.ensures.letters ∙ ap (λ (l : List Section). c.args.skeleton.now.letters.items ++ flat_map (letters_of_section c.args.on.now) l) (sym (cut-filled c.args.on.now g.part filled))
+    let none = none-tabled c.args.tab c.args.bytes.now (map open_of c.args.stack.now) c.args.first.now c.args.more.now g.part c.requires.1.1.1.0 c.args.rows.now c.requires.1.1.0 c.lines_before_table-before.result c.lines_before_table-before.ensures.value (omega (arith, c.lines_before_table-before.ensures.within, c.if-before-rows.false)) in
+    c.in_ok-end.ensures.letters ∙ ap (λ (l : List Section). c.args.skeleton.now.letters.items ++ flat_map (letters_of_section c.args.on.now) l) (sym (cut-filled c.args.on.now g.part filled none))
 
 pub returns-clause-labels : goal.returns-clause-labels
 returns-clause-labels g c = λ label.
     let some : 0 < c.args.tab = omega (arith, c.get-tab_size.ensures.least, c.get-tab_size.ensures.columns) in
     let filled = sym (blank-is c.args.tab c.args.bytes.now some c.requires.1.0 (map open_of c.args.stack.now) c.args.first.now c.args.more.now g.part c.requires.1.1.1.0) ∙ c.if-is_blank.false in
-    c.in_ok-end.ensures.labels label ∙ ap (λ (l : List Section). defines c.args.skeleton.now.labels label || is_one_of (flat_map labels_of_section l) label) (sym (cut-filled c.args.on.now g.part filled))
+    let none = none-tabled c.args.tab c.args.bytes.now (map open_of c.args.stack.now) c.args.first.now c.args.more.now g.part c.requires.1.1.1.0 c.args.rows.now c.requires.1.1.0 c.lines_before_table-before.result c.lines_before_table-before.ensures.value (omega (arith, c.lines_before_table-before.ensures.within, c.if-before-rows.false)) in
+    c.in_ok-end.ensures.labels label ∙ ap (λ (l : List Section). defines c.args.skeleton.now.labels label || is_one_of (flat_map labels_of_section l) label) (sym (cut-filled c.args.on.now g.part filled none))
+
+pub fill_tabled-requires : goal.fill_tabled-requires
+fill_tabled-requires g c = λ lifetimes outlives.
+    let some : 0 < c.args.tab = omega (arith, c.get-tab_size.ensures.least, c.get-tab_size.ensures.columns) in
+    let section = c.requires.1.1.1.0 in
+    let filled = sym (blank-is c.args.tab c.args.bytes.now some c.requires.1.0 (map open_of c.args.stack.now) c.args.first.now c.args.more.now g.part section) ∙ c.if-is_blank.false in
+    (outlives, (c.requires.1.0, (c.requires.1.1.0, (section, (c.requires.1.1.1.1.0 filled, (filled, (c.requires.1.1.1.1.1.1.0, c.requires.1.1.1.1.1.1.1)))))))
+
+pub returns-in_err-last-clause-turns : goal.returns-in_err-last-clause-turns
+returns-in_err-last-clause-turns g c = omega (arith, bytes-some c.args.tab c.args.bytes.now c.args.rows.now, c.lines_before_table-before.ensures.turns, c.fill_tabled.ensures.turns)
+
+pub returns-then-before-rows-clause-turns : goal.returns-then-before-rows-clause-turns
+returns-then-before-rows-clause-turns g c = omega (arith, bytes-some c.args.tab c.args.bytes.now c.args.rows.now, c.lines_before_table-before.ensures.turns, c.fill_tabled.ensures.turns)
+
+pub returns-in_err-found-clause-turns : goal.returns-in_err-found-clause-turns
+returns-in_err-found-clause-turns g c = omega (arith, bytes-some c.args.tab c.args.bytes.now c.args.rows.now, c.lines_before_table-before.ensures.turns, c.find_defined.ensures.turns)
+
+pub returns-in_err-only-2-clause-turns : goal.returns-in_err-only-2-clause-turns
+returns-in_err-only-2-clause-turns g c = omega (arith, bytes-some c.args.tab c.args.bytes.now c.args.rows.now, c.lines_before_table-before.ensures.turns, c.find_defined.ensures.turns, c.write_section-then-found-rows.ensures.turns)
+
+pub returns-then-found-rows-clause-turns : goal.returns-then-found-rows-clause-turns
+returns-then-found-rows-clause-turns g c = omega (arith, bytes-some c.args.tab c.args.bytes.now c.args.rows.now, c.lines_before_table-before.ensures.turns, c.find_defined.ensures.turns, c.write_section-then-found-rows.ensures.turns)
+
+pub returns-in_err-sections-clause-turns : goal.returns-in_err-sections-clause-turns
+returns-in_err-sections-clause-turns g c = omega (arith, bytes-some c.args.tab c.args.bytes.now c.args.rows.now, c.lines_before_table-before.ensures.turns, c.in_ok-found.ensures.paid, c.sections_from.ensures.turns)
+
+pub returns-in_err-end-clause-turns : goal.returns-in_err-end-clause-turns
+returns-in_err-end-clause-turns g c = omega (arith, bytes-some c.args.tab c.args.bytes.now c.args.rows.now, c.lines_before_table-before.ensures.turns, c.in_ok-found.ensures.paid, c.sections_from.ensures.turns, c.write_sections.ensures.turns)
+
+pub returns-clause-turns : goal.returns-clause-turns
+returns-clause-turns g c = omega (arith, bytes-some c.args.tab c.args.bytes.now c.args.rows.now, c.lines_before_table-before.ensures.turns, c.in_ok-found.ensures.paid, c.sections_from.ensures.turns, c.write_sections.ensures.turns)

@@ -1,4 +1,4 @@
-use Rattle.std.proofs.Common.{◌+◌, ◌-◌, ◌<◌, ◌++◌, List, drop, take, map, subst, sym, arith, ap}
+use Rattle.std.proofs.Common.{◌∙◌, ◌+◌, ◌-◌, ◌<◌, ◌++◌, List, drop, take, map, subst, sym, arith, ap, ◌≡◌, ◌≤◌, ◌*◌, ℕ, suc, length}
 use Rattle.std.specs.Prelude.{None, false}
 use Rattle.std.proofs.lemmas.List.{take_rest}
 use Rattle.mdblock_containers.specs.declared.spans.RowAt.{RowAt}
@@ -6,11 +6,10 @@ use Rattle.mdblock_containers.specs.Views.{open_of}
 use Rattle.mdblock_containers.specs.Written.{Written}
 use Rattle.mdblock_definitions.specs.Sectioned.{AreLater}
 use Rattle.mdblock_definitions.specs.Sections.{Inside}
-use Rattle.mdblock_definitions.specs.Skeleton.{inside_marks}
+use Rattle.mdblock_definitions.specs.Skeleton.{inside_marks, letters_of_section}
 use Rattle.mdblock_definitions.specs.Within.{within_marks}
 use Rattle.mdblock_definitions.proofs.SectionLoop.{has-end, section-at, turn-of}
 use Rattle.mdblock_definitions.specs.Costs.{bytes_in}
-use Rattle.mdblock_definitions.proofs.SectionCosts.{bytes-cut}
 use Rattle.mdblock_definitions.proofs.skeleton.write_one.Goals as goal
 
 pub go_on-requires : goal.go_on-requires
@@ -62,33 +61,39 @@ returns-in_err-end-clause-turns g c =
     let t = c.args.tab in
     let bytes = c.args.bytes.now in
     let left = c.args.left.now in
-    let n = c.index-sections-index.result.further + 1 in
+    let x = c.index-sections-index.result in
+    let n = x.further + 1 in
+    let is = section-at c.args.sections.now c.args.index x g.given.0 g.given.1 c.index-sections-index.is c.requires.1.1.0 in
     let first = ap (λ l. bytes_in t bytes (take 1 l)) (take_rest left n) in
-    let cut = bytes-cut t bytes n left in
-    let one = bytes-cut t bytes 1 (drop n left) in
-    omega (arith, cut, c.write_section.ensures.turns)
+    let same : n ≡ suc (length g.given.0.part.more) = omega (arith, is.further) in
+    let paid : c.write_section.new.turns ≤ c.args.turns.now + (25 * bytes_in t bytes (take n left) + 8 * bytes_in t bytes (take 1 (drop n left))) = omega (arith, c.write_section.ensures.turns) in
+    subst (λ (m : ℕ). c.write_section.new.turns ≤ c.args.turns.now + (25 * bytes_in t bytes (take m left) + 8 * bytes_in t bytes (take 1 (drop m left)))) same paid
 
 pub returns-in_err-next-clause-turns : goal.returns-in_err-next-clause-turns
 returns-in_err-next-clause-turns g c =
     let t = c.args.tab in
     let bytes = c.args.bytes.now in
     let left = c.args.left.now in
-    let n = c.index-sections-index.result.further + 1 in
+    let x = c.index-sections-index.result in
+    let n = x.further + 1 in
+    let is = section-at c.args.sections.now c.args.index x g.given.0 g.given.1 c.index-sections-index.is c.requires.1.1.0 in
     let first = ap (λ l. bytes_in t bytes (take 1 l)) (take_rest left n) in
-    let cut = bytes-cut t bytes n left in
-    let one = bytes-cut t bytes 1 (drop n left) in
-    omega (arith, cut, first, one, c.write_section.ensures.turns, c.go_on.ensures.turns)
+    let same : n ≡ suc (length g.given.0.part.more) = omega (arith, is.further) in
+    let paid : c.go_on.new.turns ≤ c.args.turns.now + (25 * bytes_in t bytes (take n left) + 8 * bytes_in t bytes (take 1 (drop n left))) = omega (arith, first, c.write_section.ensures.turns, c.go_on.ensures.turns) in
+    subst (λ (m : ℕ). c.go_on.new.turns ≤ c.args.turns.now + (25 * bytes_in t bytes (take m left) + 8 * bytes_in t bytes (take 1 (drop m left)))) same paid
 
 pub returns-clause-turns : goal.returns-clause-turns
 returns-clause-turns g c =
     let t = c.args.tab in
     let bytes = c.args.bytes.now in
     let left = c.args.left.now in
-    let n = c.index-sections-index.result.further + 1 in
+    let x = c.index-sections-index.result in
+    let n = x.further + 1 in
+    let is = section-at c.args.sections.now c.args.index x g.given.0 g.given.1 c.index-sections-index.is c.requires.1.1.0 in
     let first = ap (λ l. bytes_in t bytes (take 1 l)) (take_rest left n) in
-    let cut = bytes-cut t bytes n left in
-    let one = bytes-cut t bytes 1 (drop n left) in
-    omega (arith, cut, first, one, c.write_section.ensures.turns, c.go_on.ensures.turns)
+    let same : n ≡ suc (length g.given.0.part.more) = omega (arith, is.further) in
+    let paid : c.go_on.new.turns ≤ c.args.turns.now + (25 * bytes_in t bytes (take n left) + 8 * bytes_in t bytes (take 1 (drop n left))) = omega (arith, first, c.write_section.ensures.turns, c.go_on.ensures.turns) in
+    subst (λ (m : ℕ). c.go_on.new.turns ≤ c.args.turns.now + (25 * bytes_in t bytes (take m left) + 8 * bytes_in t bytes (take 1 (drop m left)))) same paid
 
 pub returns-clause-paid : goal.returns-clause-paid
 returns-clause-paid g c =
@@ -97,6 +102,10 @@ returns-clause-paid g c =
     let left = c.args.left.now in
     let n = c.index-sections-index.result.further + 1 in
     let first = ap (λ l. bytes_in t bytes (take 1 l)) (take_rest left n) in
-    let cut = bytes-cut t bytes n left in
-    let one = bytes-cut t bytes 1 (drop n left) in
-    omega (arith, cut, first, c.write_section.ensures.turns, c.go_on.ensures.turns)
+    omega (arith, first, c.write_section.ensures.turns, c.go_on.ensures.turns)
+
+pub returns-clause-letters : goal.returns-clause-letters
+returns-clause-letters g c =
+    let x = c.index-sections-index.result in
+    let is = section-at c.args.sections.now c.args.index x g.given.0 g.given.1 c.index-sections-index.is c.requires.1.1.0 in
+    c.in_ok-end.ensures.letters ∙ ap (λ (i : Inside). c.args.skeleton.now.letters.items ++ letters_of_section c.args.on.now (record { part = g.given.0.part; inside = i })) is.inside

@@ -1,4 +1,4 @@
-use Rattle.std.proofs.Common.{◌≡◌, ◌+◌, ◌-◌, ◌<◌, ◌++◌, ◌∷◌, Bool, true, false, [], List, drop, length, take, map, refl, subst, sym, ap, ◌∙◌, arith, ◌*◌, ◌≤◌}
+use Rattle.std.proofs.Common.{◌≡◌, ◌+◌, ◌-◌, ◌<◌, ◌++◌, ◌∷◌, Bool, true, false, [], List, drop, length, take, map, refl, subst, sym, ap, ◌∙◌, arith, ◌*◌, ◌≤◌, ℕ, suc}
 use Rattle.std.specs.Prelude.{◌||◌, None}
 use Rattle.std.proofs.lemmas.List.{append-nil, drop-drop, drop_all, length-drop, length-map, take_all, take_rest, length-take-le}
 use Rattle.std.specs.List.{flat_map}
@@ -16,7 +16,7 @@ use Rattle.mdblock_definitions.specs.Within.{last_of}
 use Rattle.mdblock_definitions.proofs.Sectioned.{last-number, last-size}
 use Rattle.mdblock_definitions.proofs.SectionLoop.{has-end, labels-next, last-next, letters-next, next-section, section-in-lines, section-of, sections-behind, sections-size}
 use Rattle.mdblock_definitions.specs.Costs.{bytes_in}
-use Rattle.mdblock_definitions.proofs.SectionCosts.{bytes-cut, bytes-more, bytes-some, bytes-within}
+use Rattle.mdblock_definitions.proofs.SectionCosts.{bytes-cut, bytes-more, bytes-some, bytes-within, first-some}
 use Rattle.mdblock_definitions.proofs.SectionFacts.{in-some}
 use Rattle.mdblock_definitions.proofs.skeleton.write_sections.Goals as goal
 
@@ -89,8 +89,8 @@ loop-k-preserved g c =
     let few : k < length ss = omega (arith, sections-size c.args.sections.now ss c.requires.1.1.1.1.1.0, test) in
     let next = next-section p ss k few in
     let behind : drop one.lines (take (length rows - i) (drop i rows)) ≡ drop (i + one.lines) rows = ap (drop one.lines) (take_rest rows i) ∙ drop-drop one.lines i rows in
-    let paid : c.write_one.new.turns ≤ c.add_one.new.self + (21 * bytes_in t bytes (take one.lines (drop i rows)) + 8 * bytes_in t bytes (take 1 (drop one.lines (drop i rows)))) =
-    subst (λ (l : List RowAt). c.write_one.new.turns ≤ c.add_one.new.self + (21 * bytes_in t bytes (take one.lines l) + 8 * bytes_in t bytes (take 1 (drop one.lines l)))) (take_rest rows i) is.paid in
+    let paid : c.write_one.new.turns ≤ c.add_one.new.self + (25 * bytes_in t bytes (take one.lines (drop i rows)) + 8 * bytes_in t bytes (take 1 (drop one.lines (drop i rows)))) =
+    subst (λ (l : List RowAt). c.write_one.new.turns ≤ c.add_one.new.self + (25 * bytes_in t bytes (take one.lines l) + 8 * bytes_in t bytes (take 1 (drop one.lines l)))) (take_rest rows i) is.paid in
     let first = bytes-within t bytes 1 one.lines (drop i rows) is.some in
     let long = length-take-le one.lines (drop i rows) (omega (arith, is.few, ap (λ (l : List RowAt). length l) (take_rest rows i))) in
     let some = bytes-some t bytes (take one.lines (drop i rows)) in
@@ -135,15 +135,18 @@ returns-in_err-one-clause-turns g c =
     let bytes = c.args.bytes.now in
     let rows = c.args.rows.now in
     let i = c.loop-k.i in
-    let cut = bytes-cut t bytes i rows in
-    let one = bytes-cut t bytes 1 (drop i rows) in
+    let n = suc (length (section-of g.given.0 g.given.1 c.loop-k.k).part.more) in
     let stack = map open_of c.args.stack.now in
     let k = c.loop-k.k in
     let ss = g.given.1 in
     let test = c.loop-k-test.true in
     let few : k < length ss = omega (arith, sections-size c.args.sections.now ss c.requires.1.1.1.1.1.0, test) in
     let some = in-some t bytes stack (drop i rows) (section-of g.given.0 ss k) (drop (k + 1) ss) (subst (λ (l : List Section). AreInLines t bytes stack (drop i rows) l) (next-section g.given.0 ss k few) c.loop-k.invariant.left) in
-    omega (arith, c.loop-k.invariant.turns, c.add_one.ensures, c.write_one.ensures.turns, ap (bytes_in t bytes) (take_rest rows i), cut, one, some)
+    let paid : c.write_one.new.turns ≤ c.add_one.new.self + (25 * bytes_in t bytes (take n (drop i rows)) + 8 * bytes_in t bytes (take 1 (drop n (drop i rows)))) =
+    subst (λ (l : List RowAt). c.write_one.new.turns ≤ c.add_one.new.self + (25 * bytes_in t bytes (take n l) + 8 * bytes_in t bytes (take 1 (drop n l)))) (take_rest rows i) c.write_one.ensures.turns in
+    let first = bytes-within t bytes 1 n (drop i rows) (omega arith) in
+    let begin = first-some t bytes (drop i rows) some in
+    omega (arith, c.loop-k.invariant.turns, c.add_one.ensures, paid, first, begin, bytes-cut t bytes i rows, bytes-cut t bytes n (drop i rows), bytes-cut t bytes 1 (drop n (drop i rows)))
 
 pub returns-clause-turns : goal.returns-clause-turns
 returns-clause-turns g c =

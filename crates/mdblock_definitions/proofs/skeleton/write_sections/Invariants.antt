@@ -16,7 +16,7 @@ use Rattle.mdblock_definitions.proofs.skeleton.write_sections.Given as goal
 abbrev pub invariant-loop-k : goal.invariant-loop-k
 invariant-loop-k g l = record {
   few : l.i ≤ length l.rows;
-  turns : l.turns ≤ l.fn.turns + (30 * bytes_in l.tab l.bytes (take l.i l.rows) + 8 * bytes_in l.tab l.bytes (take 1 (drop l.i l.rows)));
+  turns : l.turns ≤ l.fn.turns + (34 * bytes_in l.tab l.bytes (take l.i l.rows) + 8 * bytes_in l.tab l.bytes (take 1 (drop l.i l.rows)));
   left : AreInLines l.tab l.bytes (map open_of l.stack) (drop l.i l.rows) (drop l.k g.given.1);
   begun : AreBegun l.tab l.bytes (drop l.i l.rows) (drop l.k g.given.1) l.at;
   end : HasEnd l.bytes (last_of g.given.0 (take l.k g.given.1)) l.end;
