@@ -23,7 +23,7 @@ use Rattle.mdblock_definitions.proofs.Covered.{rows_of, sections-hold-lines}
 use Rattle.mdblock_definitions.proofs.PlainLetters.{letters-are-plain}
 use Rattle.mdblock_definitions.proofs.SectionTurns.{not-blank-some}
 use Rattle.mdblock_definitions.specs.Rows.{rows}
-use Rattle.mdblock_definitions.specs.Sections.{Inside, Section, defined, lines, sections}
+use Rattle.mdblock_definitions.specs.Sections.{Inside, Section, defined, lines, sections, table}
 use Rattle.mdblock_definitions.specs.Skeleton.{all_rows, letters}
 use Rattle.mdblock_paragraphs.proofs.OpenLines.{lines-of-rows, open-lines}
 use Rattle.mdblock_paragraphs.proofs.ReadLines.{AreLines, EndsLine, IsShown, ends-behind, ends-line, ends-shown, endings-shown, lines-of-all, whole-shown}
@@ -97,8 +97,9 @@ module _ (on : Constructs) (bytes at : List ℕ) where
   section-text : (s : Section) → is_one_paragraph s ≡ true → AllByRecursion IsText (all_rows s.part)
   section-text s h = by s.inside h
     where
-      by : (i : Inside) → (elim i as (λ _. Bool) [ lines x ↦ not x && list_all (λ (row : Row). is_paragraph row.leaf) (all_rows s.part) | defined ds ↦ false ]) ≡ true → AllByRecursion IsText (all_rows s.part)
+      by : (i : Inside) → (elim i as (λ _. Bool) [ lines x ↦ not x && list_all (λ (row : Row). is_paragraph row.leaf) (all_rows s.part) | defined ds ↦ false | table ↦ false ]) ≡ true → AllByRecursion IsText (all_rows s.part)
       by (defined ds) h = absurd (false≢true h)
+      by table h = absurd (false≢true h)
       by (lines true) h = absurd (false≢true h)
       by (lines false) h = all-text (all_rows s.part) h
 

@@ -16,7 +16,7 @@ use Rattle.mdblock_containers.specs.Letters.{lazy_underline, lettered_seat}
 use Rattle.mdblock_containers.specs.Rows.{Row, is_paragraph, nothing_known, rest_of}
 use Rattle.mdblock_containers.specs.Skeleton.{Piece, is_held, pieces_of}
 use Rattle.mdblock_definitions.specs.Rows.{Known, known_after, row_of, rows, rows_from}
-use Rattle.mdblock_definitions.specs.Sections.{Inside, Section, defined, lines, sections}
+use Rattle.mdblock_definitions.specs.Sections.{Inside, Section, defined, lines, sections, table}
 use Rattle.mdblock_definitions.specs.Skeleton.{all_rows, letters}
 use Rattle.mdblock_definitions.proofs.Covered.{rows_of, sections-hold-lines}
 use Rattle.mdblock_paragraphs.proofs.LineOrder.{AreInOrder, lines-in-order}
@@ -66,11 +66,12 @@ module _ (on : Constructs) (bytes at : List ℕ) where
   one-section : (s : Section) → SectionSaid on s → SectionOwn on at s → AllByRecursion (IsKept on) (all_rows s.part) → IsWholeParagraph s
   one-section s said own kept = by s.inside said own
     where
-      by : (i : Inside) → (elim i as (λ _. Type 0) [ lines x ↦ (x ≡ false → AreSaid on none_open (all_rows s.part)) | defined ds ↦ Unit {0} ])
+      by : (i : Inside) → (elim i as (λ _. Type 0) [ lines x ↦ (x ≡ false → AreSaid on none_open (all_rows s.part)) | defined ds ↦ Unit {0} | table ↦ Unit {0} ])
           → AllByRecursion (λ (l : Lettered). HasOwn at l.1 l.0.line) (lettered on (record s { inside = i }))
-          → (elim i as (λ _. Bool) [ lines x ↦ not x && list_all (λ (row : Row). is_paragraph row.leaf) (all_rows s.part) | defined ds ↦ false ]) ≡ true
+          → (elim i as (λ _. Bool) [ lines x ↦ not x && list_all (λ (row : Row). is_paragraph row.leaf) (all_rows s.part) | defined ds ↦ false | table ↦ false ]) ≡ true
           → leaf_blocks on (lines_shown bytes at s.part) ≡ paragraph (lines_shown bytes at s.part) ∷ []
       by (defined ds) said own h = absurd (false≢true h)
+      by table said own h = absurd (false≢true h)
       by (lines true) said own h = absurd (false≢true h)
       by (lines false) said own h =
           let first = s.part.first in

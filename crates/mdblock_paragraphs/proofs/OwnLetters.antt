@@ -14,7 +14,7 @@ use Rattle.mdblock_leaf_blocks.specs.LeafBlocks.{Line}
 use Rattle.mdblock_leaf_blocks.specs.LineKinds.{indent, underline_rank}
 use Rattle.mdblock_containers.specs.Letters.{lazy_underline}
 use Rattle.mdblock_containers.specs.Rows.{Row, rest_of}
-use Rattle.mdblock_definitions.specs.Sections.{Section, Inside, defined, lines}
+use Rattle.mdblock_definitions.specs.Sections.{Section, Inside, defined, lines, table}
 use Rattle.mdblock_definitions.specs.Skeleton.{all_rows, letters_of_section, text_begin}
 use Rattle.mdblock_definitions.proofs.Covered.{rows_of}
 use Rattle.mdblock_paragraphs.proofs.LineOrder.{AreInOrder, IsBehind}
@@ -107,6 +107,7 @@ module _ (on : Constructs) where
   lettered s = elim s.inside as (λ _. List Lettered) [
     | lines x ↦ (s.part.first, cond x (text_begin s.part.first) (lazy_underline on s.part.first)) ∷ map (λ (r : Row). (r, lazy_underline on r)) s.part.more
     | defined ds ↦ map (λ (r : Row). (r, [])) (all_rows s.part)
+    | table ↦ map (λ (r : Row). (r, [])) (all_rows s.part)
   ]
 
   rows-back : (f : Row → List ℕ) (rs : List Row) → map (λ (l : Lettered). l.0) (map (λ (r : Row). (r, f r)) rs) ≡ rs
@@ -123,9 +124,11 @@ module _ (on : Constructs) where
       by : (i : Inside) → map (λ (l : Lettered). l.0) (elim i as (λ _. List Lettered) [
         | lines x ↦ (s.part.first, cond x (text_begin s.part.first) (lazy_underline on s.part.first)) ∷ map (λ (r : Row). (r, lazy_underline on r)) s.part.more
         | defined ds ↦ map (λ (r : Row). (r, [])) (all_rows s.part)
+        | table ↦ map (λ (r : Row). (r, [])) (all_rows s.part)
       ]) ≡ all_rows s.part
       by (lines x) = ap (λ l. s.part.first ∷ l) (rows-back (lazy_underline on) s.part.more)
       by (defined ds) = rows-back (λ _. []) (all_rows s.part)
+      by table = rows-back (λ _. []) (all_rows s.part)
 
   lettered-letters : (s : Section) → letters_in (lettered s) ≡ letters_of_section on s
   lettered-letters s = by s.inside
@@ -133,9 +136,11 @@ module _ (on : Constructs) where
       by : (i : Inside) → letters_in (elim i as (λ _. List Lettered) [
         | lines x ↦ (s.part.first, cond x (text_begin s.part.first) (lazy_underline on s.part.first)) ∷ map (λ (r : Row). (r, lazy_underline on r)) s.part.more
         | defined ds ↦ map (λ (r : Row). (r, [])) (all_rows s.part)
-      ]) ≡ elim i as (λ _. List ℕ) [ lines x ↦ cond x (text_begin s.part.first) (lazy_underline on s.part.first) ++ flat_map (lazy_underline on) s.part.more | defined ds ↦ [] ]
+        | table ↦ map (λ (r : Row). (r, [])) (all_rows s.part)
+      ]) ≡ elim i as (λ _. List ℕ) [ lines x ↦ cond x (text_begin s.part.first) (lazy_underline on s.part.first) ++ flat_map (lazy_underline on) s.part.more | defined ds ↦ [] | table ↦ [] ]
       by (lines x) = ap (λ l. cond x (text_begin s.part.first) (lazy_underline on s.part.first) ++ l) (flat_map-map (λ (l : Lettered). l.1) (λ (r : Row). (r, lazy_underline on r)) s.part.more)
       by (defined ds) = no-letters (all_rows s.part)
+      by table = no-letters (all_rows s.part)
 
   -- letters are of bytes of their lines
   less-mapped : (k : ℕ) (ss : List Seat) → AllByRecursion (λ (p : Seat). p.point.index < k) ss → AllByRecursion (λ (i : ℕ). i < k) (map (λ (p : Seat). p.point.index) ss)
@@ -178,9 +183,11 @@ module _ (on : Constructs) where
       by : (i : Inside) → AllByRecursion IsOwn (elim i as (λ _. List Lettered) [
         | lines x ↦ (s.part.first, cond x (text_begin s.part.first) (lazy_underline on s.part.first)) ∷ map (λ (r : Row). (r, lazy_underline on r)) s.part.more
         | defined ds ↦ map (λ (r : Row). (r, [])) (all_rows s.part)
+        | table ↦ map (λ (r : Row). (r, [])) (all_rows s.part)
       ])
       by (lines x) = (first x, own-each (lazy_underline on) own-lazy s.part.more)
       by (defined ds) = own-each (λ _. []) own-none (all_rows s.part)
+      by table = own-each (λ _. []) own-none (all_rows s.part)
 
   -- ---- all sections
 

@@ -1,7 +1,7 @@
 -- What is said of the lines of sections that do not come directly behind definitions.
-use Rattle.std.proofs.Common.{◌≡◌, ◌∙◌, ℕ, zero, suc, Bool, true, false, cond, List, [], ◌∷◌, ◌++◌, ap, arith, drop, inl, inr, length, map, refl, subst, sym, take}
+use Rattle.std.proofs.Common.{◌≡◌, ◌∙◌, ℕ, zero, suc, Bool, true, false, cond, List, [], ◌∷◌, ◌++◌, ap, arith, drop, inl, inr, length, map, refl, subst, sym, take, ◌+◌}
 use Rattle.std.specs.Prelude.{◌&&◌, nat_le}
-use Rattle.std.specs.List.{AllByRecursion, flat_map}
+use Rattle.std.specs.List.{AllByRecursion, flat_map, prefix_len}
 use Rattle.std.proofs.Math.Bool.{and-false}
 use Rattle.std.proofs.lemmas.Bool.{false≢true}
 use Rattle.markdown_base.proofs.Common.{every-append, every-drop, every-take}
@@ -9,16 +9,18 @@ use Rattle.markdown_base.specs.declared.configuration.Constructs.{Constructs}
 use Rattle.mdblock_leaf_blocks.proofs.Lines.WholeLines.{IsWhole}
 use Rattle.mdblock_leaf_blocks.specs.LeafBlocks.{Line}
 use Rattle.mdblock_containers.proofs.RowSpans.{head_same}
-use Rattle.mdblock_containers.specs.Rows.{Row, has_none, is_paragraph, nothing_known}
+use Rattle.mdblock_containers.specs.Rows.{Row, has_none, is_paragraph, nothing_known, Leaf, closed, is_table, open_fence, open_html, open_paragraph, open_table}
 use Rattle.mdblock_containers.specs.Skeleton.{Part, further, parts, parts_in}
+use Rattle.mdblock_table_marks.specs.TableCuts.{before_table, begins_in_table, cut_at_tables, table_lines}
 use Rattle.mdinline_labels.specs.declared.definitions.Definition.{Definition}
 use Rattle.mdinline_labels.specs.Definitions.{definitions}
 use Rattle.mdblock_definitions.specs.Rows.{rows}
-use Rattle.mdblock_definitions.specs.Sections.{Section, before_defined, begins_text, cut, defined, defined_in, defining, in_same, lines, paragraph_of, sections, sections_in, sections_of, text_in, undefined}
+use Rattle.mdblock_definitions.specs.Sections.{Section, before_defined, begins_text, cut, defined, defined_in, defining, in_same, lines, paragraph_of, sections, sections_in, sections_of, text_in, undefined, table, is_in_table, sections_of_cut, tabled}
 use Rattle.mdblock_definitions.specs.Skeleton.{all_rows}
 use Rattle.mdblock_definitions.proofs.CutAlike.{undefined-is}
+use Rattle.mdblock_definitions.proofs.SectionSound.{begins-behind}
 use Rattle.mdblock_paragraphs.proofs.SaidRows.{AreSaid, Mode, Ready, StaysOn, goes_on, mode_behind, none_open, not_said, ready-apart, ready-unsaid, said-before}
-use Rattle.mdblock_paragraphs.proofs.ToldRows.{AreTold, IsKept, rows-told, text_behind, told-drop, told-kept, told-take}
+use Rattle.mdblock_paragraphs.proofs.ToldRows.{AreTold, HasTold, IsKept, rows-told, text_behind, told-drop, told-kept, told-take}
 
 -- ---- lines that a stretch goes on with
 
@@ -124,7 +126,7 @@ module _ (on : Constructs) where
   -- ---- sections of a part
 
   abbrev pub SectionSaid : Section → Type 0
-  SectionSaid s = elim s.inside as (λ _. Type 0) [ lines x ↦ (x ≡ false → AreSaid on none_open (all_rows s.part)) | defined ds ↦ Unit {0} ]
+  SectionSaid s = elim s.inside as (λ _. Type 0) [ lines x ↦ (x ≡ false → AreSaid on none_open (all_rows s.part)) | defined ds ↦ Unit {0} | table ↦ Unit {0} ]
 
   others-said : (around : Part) (ps : List Part) → AllByRecursion PartSaid ps → AllByRecursion SectionSaid (map (λ p. record { part = p; inside = lines false }) (map (in_same around) ps))
   others-said around [] h = tt
@@ -182,16 +184,6 @@ module _ (on : Constructs) where
     pub stay : AllByRecursion StaysOn p.more
     pub lone : p.first.is_blank ≡ true → p.more ≡ []
 
-  cut-said : (p : Part) → PartTold p → AllByRecursion SectionSaid (cut on p)
-  cut-said p h = by p.first.is_blank refl
-    where
-      by : (x : Bool) → p.first.is_blank ≡ x → AllByRecursion SectionSaid (cond x (record { part = p; inside = lines false } ∷ []) (sections_in on (suc (length p.more)) false p (p.first ∷ p.more)))
-      by true e =
-          let first = h.told.0 in
-          let mode = mode_behind none_open (is_paragraph p.first.leaf) in
-          ((λ _. ((λ k. absurd (false≢true (sym (first.blank e) ∙ k))), subst (λ (l : List Row). AreSaid on mode l) (sym (h.lone e)) tt)), tt)
-      by false e = sections-said (suc (length p.more)) false p h.is_open h.so_far (p.first ∷ p.more) h.told (ready-apart on h.is_open h.so_far p.first p.more h.apart) h.stay
-
   record HasApart (rs : List Row) : Type 0 where
     pub is_open : Bool
     pub so_far : List ℕ
@@ -201,6 +193,76 @@ module _ (on : Constructs) where
   apart-shut : (is_open : Bool) (rs : List Row) → is_open ≡ false → Apart is_open rs
   apart-shut is_open [] e = tt
   apart-shut is_open (r ∷ rs) e = λ _. ap (λ b. r.stays && b) e ∙ and-false r.stays
+
+  -- ---- lines cut at tables
+
+  -- behind a table no paragraph is open
+  record ToldShut (rs : List Row) : Type 0 where
+    pub so_far : List ℕ
+    pub told : AreTold on false so_far rs
+
+  table-shut : (leaf : Leaf) → is_table leaf ≡ true → is_paragraph leaf ≡ false
+  table-shut closed h = absurd (false≢true h)
+  table-shut open_paragraph h = absurd (false≢true h)
+  table-shut (open_fence f) h = absurd (false≢true h)
+  table-shut (open_html kind) h = absurd (false≢true h)
+  table-shut open_table h = refl
+
+  told-behind : (is_open : Bool) (so_far : List ℕ) (q : Row) (qs : List Row) → is_in_table q ≡ true → AreTold on is_open so_far (q ∷ qs) → ToldShut (drop (prefix_len is_in_table qs) qs)
+  told-behind is_open so_far q [] e told = record { so_far = []; told = tt }
+  told-behind is_open so_far q (x ∷ xs) e told = by (λ k. told-behind (is_paragraph q.leaf) (text_behind on is_open so_far q) x xs k told.1) (is_in_table x) refl
+    where
+      by : (is_in_table x ≡ true → ToldShut (drop (prefix_len is_in_table xs) xs)) → (b : Bool) → is_in_table x ≡ b → ToldShut (drop (cond b (1 + prefix_len is_in_table xs) 0) (x ∷ xs))
+      by more true ex = let one : suc (prefix_len is_in_table xs) ≡ 1 + prefix_len is_in_table xs = omega arith in subst (λ (n : ℕ). ToldShut (drop n (x ∷ xs))) one (more ex)
+      by more false ex = record { so_far = text_behind on is_open so_far q; told = subst (λ (o : Bool). AreTold on o (text_behind on is_open so_far q) (x ∷ xs)) (table-shut q.leaf e) told.1 }
+
+  -- what comes behind the first table of these lines, which begin with its header row
+  table-behind : (behind : List Row) → HasTold on behind → ((rows : List Row) (header : Row) → behind ≡ header ∷ rows → begins_in_table is_in_table rows ≡ true) → ToldShut (drop (table_lines is_in_table behind) behind)
+  table-behind [] h begins = record { so_far = []; told = tt }
+  table-behind (header ∷ []) h begins = absurd (false≢true (begins [] header refl))
+  table-behind (header ∷ q ∷ qs) h begins =
+      let is : is_in_table q ≡ true = begins (q ∷ qs) header refl in
+      let k = prefix_len is_in_table qs in
+      let one : 1 + k ≡ suc k = omega arith in
+      let many : prefix_len is_in_table (q ∷ qs) ≡ suc k = ap (λ b. cond b (1 + k) 0) is ∙ one in
+      subst (λ (n : ℕ). ToldShut (drop n (q ∷ qs))) (sym many) (told-behind (is_paragraph header.leaf) (text_behind on h.is_open h.so_far header) q qs is h.told.1)
+
+  tabled-said : (around : Part) (rs : List Row) → AllByRecursion SectionSaid (tabled around rs)
+  tabled-said around [] = tt
+  tabled-said around (r ∷ rs) = (tt, tt)
+
+  front-said : (around : Part) (n : ℕ) (is_open : Bool) (so_far : List ℕ) (r : Row) (rs : List Row) → AreTold on is_open so_far (r ∷ rs) → Apart is_open (r ∷ rs) → AllByRecursion StaysOn rs
+      → AllByRecursion SectionSaid (sections_in on (length (take n (r ∷ rs))) false around (take n (r ∷ rs)))
+  front-said around zero is_open so_far r rs told apart stay = tt
+  front-said around (suc n) is_open so_far r rs told apart stay =
+      sections-said (suc (length (take n rs))) false around is_open so_far (r ∷ take n rs) (told-take on is_open so_far (suc n) (r ∷ rs) told) (ready-apart on is_open so_far r (take n rs) apart) (every-take StaysOn n rs stay)
+
+  pieces-said : (b : ℕ) (around : Part) (is_open : Bool) (so_far : List ℕ) (rs : List Row) → AreTold on is_open so_far rs → Apart is_open rs → AllByRecursion StaysOn (drop 1 rs)
+      → AllByRecursion SectionSaid (flat_map (sections_of_cut on around) (cut_at_tables is_in_table b rs))
+  pieces-said zero around is_open so_far rs told apart stay = tt
+  pieces-said (suc b) around is_open so_far [] told apart stay = tt
+  pieces-said (suc b) around is_open so_far (r ∷ rs) told apart stay =
+      let all : List Row = r ∷ rs in
+      let n = before_table is_in_table all in
+      let behind = drop n all in
+      let m = table_lines is_in_table behind in
+      let front = sections_in on (length (take n all)) false around (take n all) in
+      let middle = tabled around (take m behind) in
+      let back = flat_map (sections_of_cut on around) (cut_at_tables is_in_table b (drop m behind)) in
+      let next = table-behind behind (told-drop on n all (record { is_open = is_open; so_far = so_far; told = told })) (λ rows header. begins-behind on all rows header) in
+      every-append SectionSaid front (middle ++ back) (front-said around n is_open so_far r rs told apart stay)
+      (every-append SectionSaid middle back (tabled-said around (take m behind))
+      (pieces-said b around false next.so_far (drop m behind) next.told (apart-shut false (drop m behind) refl) (stay-drop m behind (stay-drop n all stay))))
+
+  cut-said : (p : Part) → PartTold p → AllByRecursion SectionSaid (cut on p)
+  cut-said p h = by p.first.is_blank refl
+    where
+      by : (x : Bool) → p.first.is_blank ≡ x → AllByRecursion SectionSaid (cond x (record { part = p; inside = lines false } ∷ []) (flat_map (sections_of_cut on p) (cut_at_tables is_in_table (suc (length p.more)) (p.first ∷ p.more))))
+      by true e =
+          let first = h.told.0 in
+          let mode = mode_behind none_open (is_paragraph p.first.leaf) in
+          ((λ _. ((λ k. absurd (false≢true (sym (first.blank e) ∙ k))), subst (λ (l : List Row). AreSaid on mode l) (sym (h.lone e)) tt)), tt)
+      by false e = pieces-said (suc (length p.more)) p h.is_open h.so_far (p.first ∷ p.more) h.told h.apart h.stay
 
   -- behind a part
   next-apart : (is_open : Bool) (so_far : List ℕ) (r : Row) (rs : List Row) → AreTold on is_open so_far (r ∷ rs) → HasApart (drop (cond r.is_blank 0 (further rs)) rs)

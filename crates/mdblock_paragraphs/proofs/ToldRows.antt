@@ -14,10 +14,11 @@ use Rattle.mdblock_leaf_blocks.specs.LineKinds.{LineKind, blank, closes, fence, 
 use Rattle.mdblock_containers.proofs.FrameFacts.{lazy_is, lazy_stays, left_is}
 use Rattle.mdblock_containers.proofs.RowFacts.{columns_within}
 use Rattle.mdblock_containers.specs.Prefixes.{containers_of}
-use Rattle.mdblock_containers.specs.Rows.{Before, Leaf, Row, closed, has_none, is_paragraph, leaf_after, open_fence, open_html, open_paragraph, opened_by, rest_of}
+use Rattle.mdblock_containers.specs.Rows.{Before, Leaf, Row, closed, has_none, is_paragraph, leaf_after, open_fence, open_html, open_paragraph, opened_by, rest_of, open_table, is_table}
 use Rattle.mdblock_containers.specs.Rows as without
 use Rattle.mdblock_definitions.proofs.PlainLetters.{open-not-blank}
 use Rattle.mdblock_definitions.proofs.SectionTurns.{IsOpenWithText}
+use Rattle.mdblock_definitions.proofs.FilledTexts.{text-without}
 use Rattle.mdblock_definitions.specs.Rows.{Known, is_behind_text, is_used_up, known_after, row_of, rows_from, underlines_nothing}
 
 not-so : (x : Bool) → not x ≡ true → x ≡ false
@@ -70,6 +71,7 @@ module _ (on : Constructs) where
       → ((s && is_paragraph leaf) ≡ true → ends t ≡ false) × ((s && is_paragraph leaf) ≡ false → line_kind on t ≡ text)
   goes false leaf t h = ((λ e. absurd (false≢true e)), (λ e. opened-text (line_kind on t) t h))
   goes true closed t h = ((λ e. absurd (false≢true e)), (λ e. opened-text (line_kind on t) t h))
+  goes true open_table t h = ((λ e. absurd (false≢true e)), (λ e. opened-text (line_kind on t) t h))
   goes true (open_fence f) t h = absurd (by (closes on f t) h)
     where
       by : (x : Bool) → is_paragraph (cond x closed (open_fence f)) ≡ true → ⊥
@@ -143,10 +145,14 @@ module _ (on : Constructs) where
       full = open-not-blank on k n line;
       blank = blank-shut;
       left = λ h. blank-shut (left_is on k.before n line h).0;
-      more = λ h s. more (underlines_nothing on k plain) refl h s;
-      begins = λ h s. begins (underlines_nothing on k plain) refl h s;
+      more = λ h s. more (underlines_nothing on k plain) refl (alone h) s;
+      begins = λ h s. begins (underlines_nothing on k plain) refl (alone h) s;
     }
       where
+        -- it is in no table
+        alone : is_paragraph here.leaf ≡ true → is_paragraph (cond (underlines_nothing on k plain) open_paragraph plain.leaf) ≡ true
+        alone h = text-without on k n line (ap (λ b. b || is_table here.leaf) h)
+
         more : (u : Bool) → underlines_nothing on k plain ≡ u → is_paragraph (cond u open_paragraph plain.leaf) ≡ true → (plain.stays && open_before) ≡ true → IsMore here ⊎ IsUnderDefinitions k.text here
         more true e h s = inr (nothing-is e).1
         more false e h s = inl ((plain-told h).0 s)

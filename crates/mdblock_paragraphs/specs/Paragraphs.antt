@@ -10,7 +10,7 @@ use Rattle.mdblock_leaf_blocks.specs.LineKinds.{line_kind, text}
 use Rattle.mdblock_containers.specs.Letters.{lettered_seat, with_letters}
 use Rattle.mdblock_containers.specs.Rows.{is_paragraph}
 use Rattle.mdblock_containers.specs.Skeleton.{Part, is_held, pieces_of}
-use Rattle.mdblock_definitions.specs.Sections.{Section, defined, lines}
+use Rattle.mdblock_definitions.specs.Sections.{Section, defined, lines, table}
 use Rattle.mdblock_definitions.specs.Skeleton.{all_rows, letters, sections_in_seats}
 
 -- A line of text, and lines that neither underline it nor interrupt a paragraph, are one paragraph (CommonMark, 4.8)
@@ -23,6 +23,7 @@ abbrev pub is_one_paragraph : Section → Bool
 is_one_paragraph s = elim s.inside [
   | lines is_behind ↦ not is_behind && list_all (λ row. is_paragraph row.leaf) (all_rows s.part)
   | defined ds ↦ false
+  | table ↦ false
 ]
 
 -- The lines of a part as leaf blocks are read of them: what is behind their prefixes, with letters at these indices
