@@ -39,10 +39,10 @@ use Rattle.mdblock_definitions.proofs.SectionTurns.{AreCut, InsideIs, RowIs, Sec
 use Rattle.mdblock_definitions.specs.Blocks.{document_skeleton, shown_as_text}
 use Rattle.mdblock_definitions.specs.Blocks as old
 use Rattle.mdblock_definitions.specs.Rows.{rows}
-use Rattle.mdblock_definitions.specs.Sections.{Inside, Section, defined, lines, sections}
+use Rattle.mdblock_definitions.specs.Sections.{Inside, Section, defined, lines, sections, table}
 use Rattle.mdblock_definitions.specs.Skeleton.{all_rows, letters}
 use Rattle.mdblock_text_lines.specs.Asked.{BlocksAreThose}
-use Rattle.mdblock_text_lines.specs.DocumentBlocks.{document_blocks, has_number, texts_of_section}
+use Rattle.mdblock_text_lines.specs.DocumentBlocks.{has_number, texts_of_section}
 use Rattle.mdblock_text_lines.specs.TextLines.{flow_events}
 use Rattle.mdblock_text_lines.proofs.ChunkRuns.{chains-good}
 use Rattle.mdblock_text_lines.proofs.LetterBlocks.{AllAlike, IsAlike, IsBehind, behind-alike, events-alike}
@@ -208,16 +208,19 @@ module _ (g : Given) (is : IsDocument g) where
           → AllByRecursion (IsTold numbers at) (elim i as (λ _. List Flagged) [
             | lines is_behind ↦ (s.part.first, is_behind || is_lazy_underline on s.part.first) ∷ map (λ (x : Row). (x, is_lazy_underline on x)) s.part.more
             | defined ds ↦ map (λ (x : Row). (x, false)) (all_rows s.part)
+            | table ↦ map (λ (x : Row). (x, false)) (all_rows s.part)
           ])
           → (elim i as (λ _. Type 0) [
             | lines is_behind ↦ cond is_behind (Q (drop (indent (rest_of r)) (texts (is_held s.part) r s.part.more)) × BehindTails g some Q (is_held s.part) s.part.more) (r.is_blank ≡ false → TextTails g.bytes Q (is_held s.part) r s.part.more)
             | defined ds ↦ Unit {0}
+            | table ↦ Unit {0}
           ])
       by (lines false) h k = λ e. tails (is_held s.part) r s.part.more (rows-left r s.part.more rs ends k.0 k.1)
       by (lines true) h k =
           let filled : is_blank_line (rest_of r) ≡ false = sym rs.0.fits.blank ∙ h refl in
           (behind-left (first-left on numbers at r true k.0 whole few refl filled) s.part.more rs.1 ends k.1, more-left s.part.more rs.1 ends k.1)
       by (defined ds) h k = tt
+      by table h k = tt
 
   all-fine : (fs : List Frame) (ss : List Section) → AreCut g.bytes fs ss → AllByRecursion RowIs (rows_of ss) → LinesEnd (lines_in_all g.tab g.bytes ss) → AllByRecursion (IsTold numbers at) (flat_map (flagged on) ss) → AllByRecursion (IsFine g some Q) ss
   all-fine fs [] are-cut rs ends told = tt

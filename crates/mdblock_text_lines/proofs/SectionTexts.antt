@@ -38,7 +38,9 @@ use Rattle.mdblock_definitions.proofs.SectionGoes.{all-seats, ending, ends-front
 use Rattle.mdblock_definitions.proofs.SectionTurns.{AreCut, InsideIs, RowIs, SectionIs, all-of-sections, document-cut, document-lines}
 use Rattle.mdblock_definitions.specs.Definitions.{definitions_marks, places_in}
 use Rattle.mdblock_definitions.specs.Rows.{rows}
-use Rattle.mdblock_definitions.specs.Sections.{Inside, Section, defined, lines, sections}
+use Rattle.mdblock_table_marks.proofs.TableShapes.{tables-are-shaped}
+use Rattle.mdblock_table_marks.specs.TableMarks.{table_marks}
+use Rattle.mdblock_definitions.specs.Sections.{Inside, Section, defined, lines, sections, table}
 use Rattle.mdblock_definitions.specs.Skeleton.{all_rows, behind_definitions, behind_marks, inside_marks, section_marks, sections_marks}
 use Rattle.mdblock_text_lines.proofs.ChunkRuns.{Good, run}
 use Rattle.mdblock_text_lines.proofs.StretchLines.{RestTails, Tails, TextTails, all_seats, joined-rest, joined-seats, joined-tails, pieces-tails, pieces-texts, texts}
@@ -194,6 +196,7 @@ module _ (g : Given) (some : 0 < g.tab) (Q : List Seat → Type 0) where
       elim s.inside as (λ _. Type 0) [
         | lines is_behind ↦ cond is_behind (Q (drop (indent (rest_of r)) (texts held r s.part.more)) × BehindTails held s.part.more) (r.is_blank ≡ false → TextTails bytes Q held r s.part.more)
         | defined ds ↦ Unit {0}
+        | table ↦ Unit {0}
       ]
 
   module _ (s : Section) (is : SectionIs bytes s) (fits : AllByRecursion RowIs (all_rows s.part)) (ends : LinesEnd (lines_of (all_rows s.part))) where
@@ -314,11 +317,13 @@ module _ (g : Given) (some : 0 < g.tab) (Q : List Seat → Type 0) where
             → (elim i as (λ _. Type 0) [
               | lines is_behind ↦ cond is_behind (Q (drop (indent (rest_of r)) (texts held r p.more)) × BehindTails held p.more) (r.is_blank ≡ false → TextTails bytes Q held r p.more)
               | defined ds ↦ Unit {0}
+              | table ↦ Unit {0}
             ]) → IsGood (inside_marks bytes p i ++ ms)
         by (lines true) h k = behind-good (h refl) ms pre after whole k.0 k.1 good
         by (lines false) h k = lines-good ms pre after whole k good
         by (defined ds) h k =
             unlinked-good (definitions_marks bytes ds (places_in bytes (all_rows p))) ms (definitions-are-shaped bytes ds (all_rows p) h.0.laid (first-fits t bytes s is fits ends, others-fit t bytes s is fits ends)).1 good
+        by table h k = unlinked-good (table_marks bytes p) ms (tables-are-shaped bytes r p.more).1 good
 
     section-good : (ms : List Mark) (pre after : List Seat) → V ≡ pre ++ (own ++ after) → IsFine s → IsGood ms → IsGood (section_marks bytes s ++ ms)
     section-good ms pre after whole fine good =

@@ -14,7 +14,7 @@ use Rattle.mdblock_leaf_blocks.specs.LineKinds.{indent, underline_rank}
 use Rattle.mdblock_containers.specs.Rows.{Row, nothing_known, rest_of}
 use Rattle.mdblock_definitions.proofs.Covered.{rows_of, sections-hold-lines}
 use Rattle.mdblock_definitions.specs.Rows.{rows}
-use Rattle.mdblock_definitions.specs.Sections.{Inside, Section, defined, lines, sections}
+use Rattle.mdblock_definitions.specs.Sections.{Inside, Section, defined, lines, sections, table}
 use Rattle.mdblock_definitions.specs.Skeleton.{all_rows, letters, sections_in_seats, text_begin}
 use Rattle.mdblock_text_lines.specs.DocumentBlocks.{texts_of_section}
 use Rattle.mdblock_text_lines.proofs.LaidLines.{AreApart, AreRowsLaid, IsLaid, rows-laid, virtual-laid}
@@ -31,6 +31,7 @@ module _ (on : Constructs) where
   flagged s = elim s.inside [
     | lines is_behind ↦ (s.part.first, is_behind || is_lazy_underline s.part.first) ∷ map (λ (r : Row). (r, is_lazy_underline r)) s.part.more
     | defined ds ↦ map (λ (r : Row). (r, false)) (all_rows s.part)
+    | table ↦ map (λ (r : Row). (r, false)) (all_rows s.part)
   ]
 
   rows-flagged : (s : Section) → map (λ (z : Flagged). z.0) (flagged s) ≡ all_rows s.part
@@ -43,9 +44,11 @@ module _ (on : Constructs) where
       by : (i : Inside) → map (λ (z : Flagged). z.0) (elim i as (λ _. List Flagged) [
         | lines is_behind ↦ (s.part.first, is_behind || is_lazy_underline s.part.first) ∷ map (λ (r : Row). (r, is_lazy_underline r)) s.part.more
         | defined ds ↦ map (λ (r : Row). (r, false)) (all_rows s.part)
+        | table ↦ map (λ (r : Row). (r, false)) (all_rows s.part)
       ]) ≡ all_rows s.part
       by (lines b) = ap (λ xs. s.part.first ∷ xs) (same is_lazy_underline s.part.more)
       by (defined ds) = same (λ r. false) (all_rows s.part)
+      by table = same (λ r. false) (all_rows s.part)
 
   pub all-rows-flagged : (ss : List Section) → map (λ (z : Flagged). z.0) (flat_map flagged ss) ≡ rows_of ss
   all-rows-flagged [] = refl
@@ -60,7 +63,7 @@ module _ (on : Constructs) where
     write_lazy r = cond (is_lazy_underline r) (write r) []
 
     abbrev written : Section → List ℕ
-    written s = elim s.inside [ lines is_behind ↦ cond is_behind (write s.part.first) (write_lazy s.part.first) ++ flat_map write_lazy s.part.more | defined ds ↦ [] ]
+    written s = elim s.inside [ lines is_behind ↦ cond is_behind (write s.part.first) (write_lazy s.part.first) ++ flat_map write_lazy s.part.more | defined ds ↦ [] | table ↦ [] ]
 
     section-picked : (s : Section) → written s ≡ picked (flagged s)
     section-picked s = by s.inside
@@ -77,13 +80,15 @@ module _ (on : Constructs) where
         first true = refl
         first false = refl
 
-        by : (i : Inside) → (elim i as (λ _. List ℕ) [ lines is_behind ↦ cond is_behind (write s.part.first) (write_lazy s.part.first) ++ flat_map write_lazy s.part.more | defined ds ↦ [] ])
+        by : (i : Inside) → (elim i as (λ _. List ℕ) [ lines is_behind ↦ cond is_behind (write s.part.first) (write_lazy s.part.first) ++ flat_map write_lazy s.part.more | defined ds ↦ [] | table ↦ [] ])
             ≡ picked (elim i as (λ _. List Flagged) [
               | lines is_behind ↦ (s.part.first, is_behind || is_lazy_underline s.part.first) ∷ map (λ (r : Row). (r, is_lazy_underline r)) s.part.more
               | defined ds ↦ map (λ (r : Row). (r, false)) (all_rows s.part)
+              | table ↦ map (λ (r : Row). (r, false)) (all_rows s.part)
             ])
         by (lines b) = λ i. first b i ++ lazy s.part.more i
         by (defined ds) = none (all_rows s.part)
+        by table = none (all_rows s.part)
 
     pub all-picked : (ss : List Section) → flat_map written ss ≡ picked (flat_map flagged ss)
     all-picked [] = refl

@@ -9,7 +9,7 @@ use Rattle.mdblock_definitions.specs.Blocks as lettered
 use Rattle.mdblock_definitions.specs.Rows.{rows}
 use Rattle.mdblock_definitions.specs.Skeleton as by_counts_defined
 use Rattle.mdblock_definitions.specs.BlankLines.{parts}
-use Rattle.mdblock_text_lines.specs.DocumentBlocks.{document_blocks}
+use Rattle.mdblock_text_lines.specs.DocumentBlocks.{document_leaf_blocks}
 use Rattle.mdblock_text_lines.specs.DocumentSections.{sections_in_seats}
 
 -- The parts of a document are those that are found by how many containers go on
@@ -20,6 +20,6 @@ PartsAreThose = (on : Constructs) (lines : List Line) → parts (rows on lines) 
 abbrev pub SectionsAreThose : Type 0
 SectionsAreThose = (on : Constructs) (seats : List Seat) → sections_in_seats on seats ≡ by_counts_defined.sections_in_seats on seats
 
--- The blocks of a document are those that are read of it with a letter in each line that is text
+-- The leaf blocks of a document are those that are read of it with a letter in each line that is text
 abbrev pub BlocksAreThose : Type 0
-BlocksAreThose = (g : Given) → IsDocument g → document_blocks g ≡ lettered.document_blocks g
+BlocksAreThose = (g : Given) → IsDocument g → document_leaf_blocks g ≡ lettered.document_blocks g

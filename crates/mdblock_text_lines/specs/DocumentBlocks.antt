@@ -12,7 +12,8 @@ use Rattle.markdown_children.specs.Reads.{text_from}
 use Rattle.mdblock_leaf_blocks.specs.LeafBlocks.{Line}
 use Rattle.mdblock_leaf_blocks.specs.LineKinds.{underline_rank}
 use Rattle.mdblock_containers.specs.Rows.{Row, rest_of}
-use Rattle.mdblock_definitions.specs.Sections.{Section, defined, lines}
+use Rattle.mdblock_table_marks.specs.Cells.{with_cells}
+use Rattle.mdblock_definitions.specs.Sections.{Section, defined, lines, table}
 use Rattle.mdblock_text_lines.specs.DocumentSections.{document_skeleton, sections_in_seats}
 use Rattle.mdblock_text_lines.specs.TextLines.{flow_events}
 
@@ -27,6 +28,7 @@ module _ (on : Constructs) where
   texts_of_section s = elim s.inside [
     | lines is_behind ↦ cond is_behind (s.part.first.number ∷ []) (lazy_underline s.part.first) ++ flat_map lazy_underline s.part.more
     | defined ds ↦ []
+    | table ↦ []
   ]
 
   -- those of a document, by its virtual bytes
@@ -38,9 +40,13 @@ abbrev pub has_number : List ℕ → Line → Bool
 has_number numbers [] = false
 has_number numbers (s ∷ ss) = list_any (λ n. n == s.point.line) numbers
 
--- The blocks of a document: in place of each chain of its skeleton stand the leaf blocks of the chain's text (CommonMark, 4 and 5)
-abbrev pub document_blocks : Given → List Event
-document_blocks g =
+-- The leaf blocks of a document, in its containers: in place of each chain of its skeleton stand those of the chain's text (CommonMark, 4 and 5)
+abbrev pub document_leaf_blocks : Given → List Event
+document_leaf_blocks g =
     let on = g.options.constructs in
     let is_text = has_number (text_lines on (virtual g.tab g.bytes)) in
     with_children (Some Content) (document_skeleton g) (map (λ c. flow_events on is_text g.bytes (text_from g (document_skeleton g) c).seats) (fitting_starts (Some Content) (document_skeleton g)))
+
+-- The blocks of a document: the text of each cell of its tables is a chain of its own (GFM 0.29, 4.10)
+abbrev pub document_blocks : Given → List Event
+document_blocks g = with_cells g.options.constructs (document_leaf_blocks g)

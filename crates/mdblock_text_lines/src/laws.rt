@@ -9,7 +9,7 @@ pub fn blank_lines_stand_in_what_is_around_them()
     ensures sections { SectionsAreThose }
 {}
 
-/// The blocks of each document are those that are read of it with a letter in each line that is text whatever it looks like.
+/// The leaf blocks of each document are those that are read of it with a letter in each line that is text whatever it looks like.
 pub fn blocks_need_no_letters()
     ensures { BlocksAreThose }
 {}
