@@ -2,7 +2,12 @@
 pub mod AtOnce
 pub mod Blocks
 pub mod BlocksFormed
+pub mod CellLinks
+pub mod Celled
+pub mod CellsKeep
+pub mod CellsWoven
 pub mod Chosen
+pub mod FlowPlain
 pub mod InlineHolds
 pub mod InlinePlaces
 pub mod KeptChains
@@ -16,6 +21,7 @@ pub mod Places
 pub mod Ranges
 pub mod Removed
 pub mod Rising
+pub mod SkeletonCells
 pub mod Skeletons
 pub mod Texts
 pub mod TextsFormed

@@ -16,7 +16,7 @@ use Rattle.mdconstructs_machines.specs.LineEvents.{line_events, data_events, bac
 use Rattle.mdconstructs_machines.specs.ParagraphEvents.{paragraph_events}
 use Rattle.mdinline_text_machine.specs.ParagraphTexts.{paragraph_texts}
 use Rattle.mdinline_text_machine.specs.TextEvents.{seat_events}
-use Rattle.mdblock_text_lines.specs.DocumentBlocks.{document_blocks}
+use Rattle.mdblock_text_lines.specs.DocumentBlocks.{document_blocks, document_leaf_blocks}
 use Rattle.mddocument.specs.DocumentEvents.{document_events}
 use Rattle.mddocument.specs.FlowTexts.{flow_inlines}
 use Rattle.mddocument.specs.declared.choice.Choice.{Choice}
@@ -50,6 +50,10 @@ module _ (options : ParseOptions) (bytes : List ℕ) where
   AreFlowInlines events = events ≡ flow_inlines options.constructs bytes virtual_bytes
 
   -- Containers and the leaf blocks in them
+  abbrev pub AreDocumentLeafBlocks : List Event → Type 0
+  AreDocumentLeafBlocks events = events ≡ document_leaf_blocks (document options bytes)
+
+  -- and with the text of each cell of a table as a chain of its own
   abbrev pub AreDocumentBlocks : List Event → Type 0
   AreDocumentBlocks events = events ≡ document_blocks (document options bytes)
 

@@ -13,7 +13,7 @@ ghost use Rattle.mdblock_leaf_rows.specs.FlowKnows.{flow_rules};
 ghost use Rattle.mdinline_machine.specs.InlineRules.{inlines_rules};
 ghost use Rattle.mdinline_labels.specs.Defined.{defines};
 ghost use Rattle.mddocument.specs.DocumentEvents.{document_events_by};
-ghost use Rattle.mddocument.specs.Documents.{document, AreDocumentBlocks, AreDocumentEvents};
+ghost use Rattle.mddocument.specs.Documents.{document, AreDocumentBlocks, AreDocumentEvents, AreDocumentLeafBlocks};
 ghost use Rattle.mddocument.specs.Runs.{HasChildren, HasOnlyContent, HasOnlyTexts};
 
 use crate::making::{Unmade, with_ready_children};
@@ -22,6 +22,7 @@ use markdown_base::event::Event;
 use mdblock_containers::letters::with_letters;
 use mdblock_definitions::parts::skeleton_with_definitions;
 use mdblock_leaf_machine::flow::Flow;
+use mdblock_table_marks::cells::with_cells;
 use mdinline_labels::labels::Labels;
 use mdinline_link_strings::strings::with_strings;
 use mdinline_machine::inlines::Inlines;
@@ -70,7 +71,8 @@ fn read_blocks_and_labels(
     let labels = skeleton.labels;
     let bare = skeleton.events;
     let letters = skeleton.letters.as_slice();
-    let events = with_blocks(alloc, bytes, options, bare, letters)?;
+    let mut events = with_blocks(alloc, bytes, options, bare, letters)?;
+    with_cells(&options.constructs, &mut events);
     Ok(Blocks { events, labels })
 }
 
@@ -88,9 +90,8 @@ fn with_blocks(
     requires limit { IsWithinLimit options.now.tab_size bytes.now }
     requires skeleton { skeleton.items ≡ document_skeleton (document options.now bytes.now) }
     requires letters { letters.now ≡ letters_of options.now.constructs (virtual options.now.tab_size bytes.now) }
-    ensures events { IfOk result (λ events. AreDocumentBlocks options.now bytes.now events.items) }
+    ensures events { IfOk result (λ events. AreDocumentLeafBlocks options.now bytes.now events.items) }
     ensures err { IfErr result (λ unmade. unmade ≡ Unmade.Fault Memory) }
-    ensures formed { IfOk result (λ events. IsWellFormed (document options.now bytes.now) events.items) }
 {
     is_document(bytes, options);
     if letters.is_empty() {

@@ -7,11 +7,9 @@ use Rattle.markdown_children.proofs.Parts.AtPlaces.{with_children_at_places}
 use Rattle.markdown_children.proofs.Parts.InShape.{children_fit}
 use Rattle.markdown_children.specs.LawStatements.{IsWholeFrom}
 use Rattle.mddocument.proofs.InContainers.Skeletons.{SkeletonLaws}
-use Rattle.mdblock_definitions.specs.Blocks as lettered
-use Rattle.mdblock_text_lines.proofs.BlocksAreThose.{blocks-are-those}
 use Rattle.mdblock_text_lines.specs.DocumentBlocks.{document_blocks}
 use Rattle.mdinline_text_machine.proofs.Paragraphs.ChainEvents.{all-begin, is-text}
-use Rattle.mddocument.proofs.InContainers.Blocks.{at, bare, blocks-next, blocks_at, content-ready, shown, shown-is}
+use Rattle.mddocument.proofs.InContainers.Blocks.{at, bare, blocks-are-celled, blocks-next, blocks_at, celled_blocks, content-ready, shown, shown-is}
 use Rattle.mddocument.proofs.InContainers.Letters.{formed-back, formed-there}
 use Rattle.mddocument.proofs.InContainers.Ordered.{IsPutWell, ordered-children}
 use Rattle.mddocument.proofs.InContainers.Parts.{InChunks}
@@ -51,8 +49,8 @@ module _ (laws : SkeletonLaws) (g : Given) (is : IsDocument g) where
   each-of P holds [] b = tt
   each-of P holds (c ∷ cs) b = (holds (blocks_of c) (each-well c b.0), each-of P holds cs b.1)
 
-  lettered-well : IsWellFormed g (lettered.document_blocks g)
-  lettered-well =
+  celled-well : IsWellFormed g (celled_blocks laws g is)
+  celled-well =
       let ready = content-ready laws g is in
       let begin = all-begin s sk (shown-is laws g is) content.Content ready in
       let fit = starts_fit s.tab s.bytes wanted sk ready (range_with_len 0 (length sk)) in
@@ -60,7 +58,7 @@ module _ (laws : SkeletonLaws) (g : Given) (is : IsDocument g) where
       let old : IsWellFormed s sk = formed-there (at laws g is) g (laws.plain g is) sk (laws.formed g is) in
       let children = map blocks_of starts in
       let next = blocks-next laws g is None (laws.all_ready g is) in
-      formed-back (at laws g is) g (laws.plain g is) (lettered.document_blocks g) (record {
+      formed-back (at laws g is) g (laws.plain g is) (celled_blocks laws g is) (record {
         balanced = next.ready.balanced;
         void_tight = (children_fit s.tab s.bytes wanted sk ready children).tight old.void_tight (each-of IsVoidTight (λ es h. h.void_tight) starts begin) next.none_torn;
         at_places = with_children_at_places s.tab s.bytes wanted sk children old.at_places (each-of (AreAtPlaces s.tab s.bytes) (λ es h. h.at_places) starts begin);
@@ -68,4 +66,4 @@ module _ (laws : SkeletonLaws) (g : Given) (is : IsDocument g) where
       })
 
   pub blocks-well : IsWellFormed g (document_blocks g)
-  blocks-well = subst (IsWellFormed g) (sym (blocks-are-those g is)) lettered-well
+  blocks-well = subst (IsWellFormed g) (sym (blocks-are-celled laws g is)) celled-well

@@ -1,5 +1,5 @@
 -- The texts and strings of a document's blocks: what the machine of inline text makes of them, all at once.
-use Rattle.mddocument.proofs.Prelude.{Bool, ◌≡◌, ℕ, [], false, true, List, Option, Some, None, refl, sym, ap, ◌∙◌, subst, none-some, not, slice_get_within, Content, StringContent, TextContent, Event, IsBalanced, content_at, fits, fitting_starts, some_fits, IsReady, IsSubtokenized, Subresult, ParseOptions, HasChildren, Given, IsDocument, document, inline-alone, inline_events, string-alone, string_events, inlines_rules}
+use Rattle.mddocument.proofs.Prelude.{Bool, inl, inr, ◌≡◌, ℕ, [], false, true, List, Option, Some, None, refl, sym, ap, ◌∙◌, subst, none-some, not, slice_get_within, Content, StringContent, TextContent, Event, IsBalanced, content_at, fits, fitting_starts, some_fits, IsReady, IsSubtokenized, Subresult, ParseOptions, HasChildren, Given, IsDocument, document, inline-alone, inline_events, string-alone, string_events, inlines_rules}
 use Rattle.std.proofs.lemmas.List.{length-map}
 use Rattle.std.specs.Prelude.{is_some}
 use Rattle.markdown_base.specs.declared.event.Content.TheVariants as content
@@ -9,8 +9,6 @@ use Rattle.markdown_children.proofs.Parts.Staying.{ts}
 use Rattle.markdown_children.specs.Children.{child_changes}
 use Rattle.markdown_edits.proofs.Edits.Survivors.{stays_unless_removed}
 use Rattle.markdown_edits.specs.Woven.{of_list, place_in}
-use Rattle.mdblock_definitions.specs.Blocks as lettered
-use Rattle.mdblock_text_lines.proofs.BlocksAreThose.{blocks-are-those}
 use Rattle.mdblock_text_lines.specs.DocumentBlocks.{document_blocks}
 use Rattle.mdinline_machine.specs.LawStatements.{with_inlines, with_strings as with_string_chunks}
 use Rattle.mddocument.specs.DocumentEvents.{document_texts_by}
@@ -19,7 +17,7 @@ use Rattle.mddocument.specs.Runs.{HasOnlyTexts}
 use Rattle.mddocument.proofs.FlowTexts.AllChildren.{read-at-once, read-string, read-text, read_at}
 use Rattle.mddocument.proofs.FlowTexts.Textual.{flow-textual}
 use Rattle.mddocument.proofs.InContainers.AtOnce.{all-at-once}
-use Rattle.mddocument.proofs.InContainers.Blocks.{bare, blocks-ready, content-ready, shown}
+use Rattle.mddocument.proofs.InContainers.Blocks.{bare, blocks-are-celled, blocks-ready, celled_blocks, content-ready, shown}
 use Rattle.mddocument.proofs.InContainers.InlineHolds.{inlines-hold-text}
 use Rattle.mddocument.proofs.InContainers.Removed.{listed, of_kid, origin-of, removed-fits}
 use Rattle.mddocument.proofs.InContainers.Skeletons.{SkeletonLaws}
@@ -46,10 +44,10 @@ module _ (laws : SkeletonLaws) (g : Given) (is : IsDocument g) where
   sk-ready : IsReady g.tab s.bytes of_content sk
   sk-ready = content-ready laws g is
 
-  -- no chunk of the skeleton is left
-  none-left : (n p : ℕ) (c : Content) → content_at sk n ≡ Some c → place_in (of_list n) (ts g.tab s.bytes of_content sk sk-ready (leaves laws g is)) ≡ Some p → ⊥
-  none-left n p c at place =
-      let fit : fits of_content sk n ≡ true = ap (some_fits of_content) (at ∙ ap Some (laws.of_content g is n c at)) in
+  -- no chunk of content is left of the skeleton
+  none-left : (n p : ℕ) (c : Content) → content_at sk n ≡ Some c → c ≡ content.Content → place_in (of_list n) (ts g.tab s.bytes of_content sk sk-ready (leaves laws g is)) ≡ Some p → ⊥
+  none-left n p c at same place =
+      let fit : fits of_content sk n ≡ true = ap (some_fits of_content) (at ∙ ap Some same) in
       let long = sym (length-map (fitting_starts of_content sk) _) in
       let gone = removed-fits g.tab s.bytes of_content sk sk-ready (leaves laws g is) long n fit in
       let chunk = sk-ready.chunks n c at in
@@ -58,9 +56,12 @@ module _ (laws : SkeletonLaws) (g : Given) (is : IsDocument g) where
       cc
 
   -- chunks of leaf blocks are of texts and of strings
-  lettered-textual : HasOnlyTexts (lettered.document_blocks g)
-  lettered-textual p c at = elim (origin-of g.tab s.bytes of_content sk sk-ready (leaves laws g is) p c at) [
-    | listed n place old ↦ absurd (none-left n p c old place)
+  celled-textual : HasOnlyTexts (celled_blocks laws g is)
+  celled-textual p c at = elim (origin-of g.tab s.bytes of_content sk sk-ready (leaves laws g is) p c at) [
+    | listed n place old ↦ elim (laws.of_contents g is n c old) [
+      | inl same ↦ absurd (none-left n p c old same place)
+      | inr text ↦ inl text
+    ]
     | of_kid d n own ↦
         (let none : HasOnlyTexts [] = λ k o e. absurd (none-some o e) in
         let textual = child-all HasOnlyTexts none (fitting_starts of_content sk) (leaves laws g is) (each-leaf laws g is HasOnlyTexts (λ text one. flow-textual s text) (fitting_starts of_content sk) (all-start laws g is)) d in
@@ -68,7 +69,7 @@ module _ (laws : SkeletonLaws) (g : Given) (is : IsDocument g) where
   ]
 
   pub blocks-textual : HasOnlyTexts blocks
-  blocks-textual = subst HasOnlyTexts (sym (blocks-are-those g is)) lettered-textual
+  blocks-textual = subst HasOnlyTexts (sym (blocks-are-celled laws g is)) celled-textual
 
   -- ---- and are read as texts, and then as strings
   abbrev reads : (defined : List ℕ → Bool) → ℕ → List Event

@@ -9,8 +9,7 @@ use Rattle.markdown_children.proofs.Parts.InShape.{children_fit}
 use Rattle.markdown_children.proofs.Parts.Staying.{each-ready, stays-ready}
 use Rattle.markdown_children.specs.LawStatements.{IsWholeFrom}
 use Rattle.markdown_edits.proofs.Balanced.{balanced_from_open}
-use Rattle.mddocument.proofs.InContainers.Skeletons.{SkeletonLaws}
-use Rattle.mdblock_definitions.specs.Blocks.{document_skeleton}
+use Rattle.mddocument.proofs.InContainers.Skeletons.{SkeletonLaws, skeleton_chains}
 use Rattle.mdblock_text_lines.specs.DocumentBlocks.{document_blocks}
 use Rattle.mdinline_machine.specs.LawStatements.{with_inlines, with_strings as with_string_chunks}
 use Rattle.mdinline_text_machine.proofs.Paragraphs.ChainEvents.{all-begin, is-text}
@@ -124,7 +123,7 @@ module _ (laws : SkeletonLaws) (g : Given) (is : IsDocument g) where
   blocks = document_blocks g
 
   pub content-ready : (wanted : Content) → IsReady g.tab g.bytes (Some wanted) blocks
-  content-ready wanted = blocks-ready laws g is (Some wanted) (each-ready g.tab g.bytes (document_skeleton g) (laws.all_ready g is) wanted)
+  content-ready wanted = blocks-ready laws g is (Some wanted) (each-ready g.tab g.bytes (skeleton_chains g) (laws.all_ready g is) wanted)
 
   string-stands : (At : Point → Type 0) (text : Text) → IsText g text → AllByRecursion (EndsAt At g.bytes) text.seats → AllByRecursion (λ (e : Event). At e.point) (string_events g text)
   string-stands At text one ends = string-at At g.bytes g.options.constructs text.seats ends

@@ -1,5 +1,5 @@
 -- Void spans of the events of a document are empty: there is text where something is between two chunks of a text, and strings are one chunk.
-use Rattle.mddocument.proofs.Prelude.{subst, sym, ◌≡◌, ℕ, Bool, ◌<◌, List, [], ◌∷◌, Option, Some, true, map, inl, ap, ◌∙◌, arith, AllByRecursion, Content, StringContent, TextContent, Event, IsVoidTight, begins, content_at, some_fits, fitting_starts, IsReady, Given, IsDocument, IsText, Text, chain_text, flow_events, blocks-meet, inline_events, string_events, inline-alone, tight-at}
+use Rattle.mddocument.proofs.Prelude.{◌⊎◌, inr, subst, sym, ◌≡◌, ℕ, Bool, ◌<◌, List, [], ◌∷◌, Option, Some, true, map, inl, ap, ◌∙◌, arith, AllByRecursion, Content, StringContent, TextContent, Event, IsVoidTight, begins, content_at, some_fits, fitting_starts, IsReady, Given, IsDocument, IsText, Text, chain_text, flow_events, blocks-meet, inline_events, string_events, inline-alone, tight-at}
 use Rattle.std.specs.List.{AllZip}
 use Rattle.markdown_base.specs.declared.event.Content.TheVariants as content
 use Rattle.markdown_children.proofs.Parts.InShape.{children_fit}
@@ -9,8 +9,6 @@ use Rattle.markdown_children.proofs.Parts.Untorn.{none-cut, none-torn}
 use Rattle.markdown_children.specs.LawStatements.{NoneTorn}
 use Rattle.markdown_children.specs.NextContent.{CanBeReadNext, HasTextInGaps, HoldsOnlyText}
 use Rattle.mddocument.proofs.InContainers.Skeletons.{SkeletonLaws}
-use Rattle.mdblock_definitions.specs.Blocks as lettered
-use Rattle.mdblock_text_lines.proofs.BlocksAreThose.{blocks-are-those}
 use Rattle.mdblock_text_lines.specs.DocumentBlocks.{document_blocks}
 use Rattle.mdinline_machine.specs.LawStatements.{with_inlines, with_strings as with_string_chunks}
 use Rattle.mdinline_text_machine.proofs.Paragraphs.ChainEvents.{all-begin, is-content, is-text}
@@ -18,7 +16,7 @@ use Rattle.mdinline_link_strings.proofs.Kept.{strings_keep}
 use Rattle.mddocument.specs.DocumentEvents.{DocumentEventsAreTight, document_texts, is_defined_in}
 use Rattle.mddocument.proofs.FlowChains.Blocks.{blocks-read-next}
 use Rattle.mddocument.proofs.FlowTexts.InlineTight.{inline-tight}
-use Rattle.mddocument.proofs.InContainers.Blocks.{bare, blocks-next, blocks_at, content-ready, shown, shown-is, shown-ready}
+use Rattle.mddocument.proofs.InContainers.Blocks.{bare, blocks-are-celled, blocks-next, blocks_at, celled_blocks, content-ready, shown, shown-is, shown-ready}
 use Rattle.mddocument.proofs.InContainers.BlocksFormed.{blocks-well}
 use Rattle.mddocument.proofs.InContainers.LoneStrings.{flow-lone}
 use Rattle.mddocument.proofs.InContainers.TextsFormed.{content-ready as blocks-ready-for, inline-orderly, string-tight, strings-ready}
@@ -64,31 +62,28 @@ module _ (laws : SkeletonLaws) (g : Given) (is : IsDocument g) where
   leaves-torn : (next : Content) → NoneTorn of_content sk leaves
   leaves-torn next = (blocks-next laws g is (Some next) (for-content next)).none_torn
 
-  -- all chunks of a skeleton are of content
-  of-skeleton : (k : ℕ) (next : Content) → some_fits (Some next) (content_at sk k) ≡ true → next ≡ content.Content
-  of-skeleton k next fit = laws.of_content g is k next (is-content next (content_at sk k) fit)
+  -- all chunks of a skeleton are of content, or of text
+  of-skeleton : (k : ℕ) (next : Content) → some_fits (Some next) (content_at sk k) ≡ true → (next ≡ content.Content) ⊎ (next ≡ TextContent)
+  of-skeleton k next fit = laws.of_contents g is k next (is-content next (content_at sk k) fit)
 
-  skeleton-gaps : (next : Content) → HasTextInGaps (Some next) sk
-  skeleton-gaps next k d fit e = laws.gaps g is k d (ap (some_fits of_content) (is-content next (content_at sk k) fit ∙ ap Some (of-skeleton k next fit))) e
-
-  lettered-gaps : (next : Content) → HasTextInGaps (Some next) (lettered.document_blocks g)
-  lettered-gaps next =
+  celled-gaps : (next : Content) → HasTextInGaps (Some next) (celled_blocks laws g is)
+  celled-gaps next =
       text-in-gaps g.tab s.bytes of_content sk sk-ready leaves (Some next) (shown-ready laws g is (Some next) (for-content next)) (leaves-ready next) (none-cut of_content sk leaves (leaves-torn next))
-      (skeleton-gaps next) (each-leaf (HasTextInGaps (Some next)) (λ text one k d fit e. inl ((blocks-meet s text one).next k d e).is) (fitting_starts of_content sk) all-start)
+      (laws.gaps g is (Some next)) (each-leaf (HasTextInGaps (Some next)) (λ text one k d fit e. inl ((blocks-meet s text one).next k d e).is) (fitting_starts of_content sk) all-start)
 
   pub blocks-gaps : (next : Content) → HasTextInGaps (Some next) (document_blocks g)
-  blocks-gaps next = subst (HasTextInGaps (Some next)) (sym (blocks-are-those g is)) (lettered-gaps next)
+  blocks-gaps next = subst (HasTextInGaps (Some next)) (sym (blocks-are-celled laws g is)) (celled-gaps next)
 
   skeleton-lone : HasLoneChunks (Some StringContent) sk
-  skeleton-lone k d fit e = let same = of-skeleton k StringContent fit in absurd (cc)
+  skeleton-lone k d fit e = elim (of-skeleton k StringContent fit) [ inl same ↦ absurd (cc) | inr same ↦ absurd (cc) ]
 
-  lettered-lone : HasLoneChunks (Some StringContent) (lettered.document_blocks g)
-  lettered-lone =
+  celled-lone : HasLoneChunks (Some StringContent) (celled_blocks laws g is)
+  celled-lone =
       stay-lone g.tab s.bytes of_content sk sk-ready leaves (Some StringContent) (shown-ready laws g is (Some StringContent) (for-content StringContent)) (leaves-ready StringContent) (none-cut of_content sk leaves (leaves-torn StringContent))
       skeleton-lone (each-leaf (HasLoneChunks (Some StringContent)) (λ text one. flow-lone g.options.constructs s.bytes text.seats) (fitting_starts of_content sk) all-start)
 
   pub blocks-lone : HasLoneChunks (Some StringContent) (document_blocks g)
-  blocks-lone = subst (HasLoneChunks (Some StringContent)) (sym (blocks-are-those g is)) lettered-lone
+  blocks-lone = subst (HasLoneChunks (Some StringContent)) (sym (blocks-are-celled laws g is)) celled-lone
 
   -- ---- their texts
   abbrev blocks : List Event

@@ -1,4 +1,4 @@
--- What lists of marks have, if lists of spans with such names have it, and data and chunks: the marks of containers, of definitions and of sections have it.
+-- What lists of marks have, if lists of spans with such names have it, and data, chunks and tables: the marks of containers, of definitions and of sections have it.
 use Rattle.std.proofs.Common.{ℕ, ◌+◌, ◌-◌, ◌==◌, List, [], ◌∷◌, ◌++◌, Bool, true, false, cond, Some, None, Option, take, drop, length, map, reverse}
 use Rattle.std.proofs.lemmas.Bool.{cond_both}
 use Rattle.std.specs.List.{AllByRecursion, flat_map, prefix_len}
@@ -19,7 +19,8 @@ use Rattle.mdblock_lines.specs.Containers.{Container, Prefix, item, quote}
 use Rattle.mdblock_containers.specs.Prefixes.{columns_of}
 use Rattle.mdblock_containers.specs.Rows.{Row, has_none, rest_of}
 use Rattle.mdblock_containers.specs.Skeleton.{Frame, Part, Piece, begin_of, begun_all, begun_marks, chunks_of, end_of, ending_marks, enters_of, exits, going_marks, inside_of, is_held, joined_pieces, last_line, list_name, pieces_of, prefixes_marks, shared}
-use Rattle.mdblock_definitions.specs.Sections.{Inside, Section, defined, lines}
+use Rattle.mdblock_table_marks.specs.TableMarks.{table_marks}
+use Rattle.mdblock_definitions.specs.Sections.{Inside, Section, defined, lines, table}
 use Rattle.mdblock_definitions.specs.Skeleton.{all_rows, behind_definitions, behind_marks, inside_marks, section_marks, sections_marks}
 use Rattle.markdown_base.specs.declared.event.Kind.{Kind}
 use Rattle.markdown_base.specs.declared.event.Name.TheVariants as name
@@ -42,7 +43,7 @@ module _ (May : Name → Type 0) where
   MayHold (quote q) = May name.BlockQuote × May name.BlockQuotePrefix × May name.BlockQuoteMarker
   MayHold (item i) = May (list_name i) × May name.ListItem × May name.ListItemPrefix × May name.ListItemValue × May name.ListItemMarker
 
-  prefix-may : (c : Container) → MayHold c → MayPrefix c
+  pub prefix-may : (c : Container) → MayHold c → MayPrefix c
   prefix-may (quote q) m = (m.1, m.2)
   prefix-may (item i) m = (m.2, m.3, m.4)
 
@@ -83,10 +84,11 @@ module _ (May : Name → Type 0) where
 abbrev pub RowAt : (Seat → Type 0) → Row → Type 0
 RowAt At row = AllByRecursion At (line_text row.line)
 
--- where definitions are, there are such virtual bytes alone
-module _ (May : Name → Type 0) (At : Seat → Type 0) where
+-- where definitions are, there are such virtual bytes alone; and this is said of tables
+module _ (May : Name → Type 0) (At : Seat → Type 0) (Table : Part → Type 0) where
   abbrev pub InsideMay : Part → Inside → Type 0
   InsideMay part (lines is_behind) = Unit {0}
+  InsideMay part table = Table part
   InsideMay part (defined ds) = AreOfDefinition May × AllByRecursion (RowAt At) (all_rows part)
 
   pub record SectionMay (s : Section) : Type 0 where
@@ -256,7 +258,7 @@ module _ (bytes : List ℕ) (Are : List Mark → Type 0) where
 -- Lists of marks, where data is at such virtual bytes, and chunks anywhere
 module _ (bytes : List ℕ) (Are : List Mark → Type 0) (May : Name → Type 0) (w : Walk bytes Are May AnySeat)
     (mark : (k : Kind) (n : Name) (place : Point) → May n → Are ((event bytes k n place, None) ∷ [])) (At : Seat → Type 0) (some-data : (seats : List Seat) → AllByRecursion At seats → Are (leaf_marks bytes name.Data seats))
-    (chunk : (c : Chunk) (seats : List Seat) → Are (chunk_span bytes (Some c) name.Data seats [])) where
+    (chunk : (c : Chunk) (seats : List Seat) → Are (chunk_span bytes (Some c) name.Data seats [])) (Table : Part → Type 0) (tables : (part : Part) → PartMay May part → Table part → Are (table_marks bytes part)) where
   held : (ps : List Prefix) (seats : List Seat) → PrefixesMay May ps → Are (prefixes_marks bytes ps seats)
   held ps seats m = prefixes w (MayHold May) (prefix-may May) ps seats m
 
@@ -293,13 +295,14 @@ module _ (bytes : List ℕ) (Are : List Mark → Type 0) (May : Name → Type 0)
       by (p ∷ ps) k = w.both _ _ (spaces w (take (indent (rest_of part.first)) p.seats)) (chunks false (record p { before = []; seats = drop (indent (rest_of part.first)) p.seats } ∷ ps) (w.none, k.1))
 
   -- ---- sections
-  in-section : (part : Part) → PartMay May part → (inside : Inside) → InsideMay May At part inside → Are (inside_marks bytes part inside)
+  in-section : (part : Part) → PartMay May part → (inside : Inside) → InsideMay May At Table part inside → Are (inside_marks bytes part inside)
+  in-section part m table i = tables part m i
   in-section part m (lines is_behind) i = cond_both is_behind (behind_definitions bytes part) (inside_of bytes part) Are (λ b. behind-defined part m) (λ b. insides part m)
   in-section part m (defined ds) i =
       definitions-are w (MayHold May) (prefix-may May) At some-data i.0.inside Are w.none w.both (λ ms h. h) (λ seats inside h. over w name.Definition seats i.0.definition h) ds (places_in bytes (all_rows part))
       (places w (MayHold May) (prefix-may May) At some-data (all_rows part) m.rows i.1)
 
-  of-section : (s : Section) → SectionMay May At s → Are (section_marks bytes s)
+  of-section : (s : Section) → SectionMay May At Table s → Are (section_marks bytes s)
   of-section s m =
       let first = s.part.first in
       let n = length s.part.stands in
@@ -318,13 +321,13 @@ module _ (bytes : List ℕ) (Are : List Mark → Type 0) (May : Name → Type 0)
       cond_both (is_held part) [] _ Are (λ e. w.none)
       (λ e. bare w (cond part.first.is_blank name.BlankLineEnding name.LineEnding) (ending_of (last_line bytes part)) (cond_both part.first.is_blank name.BlankLineEnding name.LineEnding May (λ b. w.blank_ending) (λ b. w.line_ending)))
 
-  behind : (part : Part) (ss : List Section) → FramesMay May part.frames → AllByRecursion (SectionMay May At) ss → Are (behind_marks bytes part ss)
+  behind : (part : Part) (ss : List Section) → FramesMay May part.frames → AllByRecursion (SectionMay May At Table) ss → Are (behind_marks bytes part ss)
   behind part [] fs m = w.both _ _ (all-exit part.frames (end_of bytes part) fs) (ends part)
   behind part (next ∷ more) fs m =
       let n = shared part.frames next.part.frames in
       w.both _ _ (all-exit (drop n part.frames) (end_of bytes part) (every-drop (λ (f : Frame). May f.name) n part.frames fs)) (w.both _ _ (ends part) (w.both _ _ (of-section next m.0) (behind next.part more m.0.part.frames m.1)))
 
   -- The marks of sections have it
-  pub sections-are : (ss : List Section) → AllByRecursion (SectionMay May At) ss → Are (sections_marks bytes ss)
+  pub sections-are : (ss : List Section) → AllByRecursion (SectionMay May At Table) ss → Are (sections_marks bytes ss)
   sections-are [] m = w.none
   sections-are (s ∷ more) m = w.both _ _ (of-section s m.0) (behind s.part more m.0.part.frames m.1)
