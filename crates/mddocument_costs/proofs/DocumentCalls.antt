@@ -3,12 +3,15 @@ use Rattle.mddocument_costs.proofs.Prelude.{Some, None, [], ap, arith, false, in
 use Rattle.markdown_base.specs.declared.event.Content.TheVariants as content
 use Rattle.mdblock_containers.proofs.LetterPlaces.{virtual_kept}
 use Rattle.mdblock_containers.specs.Letters.{lettered_seat, with_letters}
+use Rattle.mdblock_definitions.proofs.SectionsReady.{skeletons-are-formed, skeletons-are-ready, skeletons-have-one-content}
+use Rattle.mdblock_table_marks.specs.Cells.{with_cells}
 use Rattle.mdblock_definitions.specs.Blocks.{document_skeleton, shown_as_text}
 use Rattle.mdblock_definitions.specs.Skeleton.{letters}
 use Rattle.mdblock_definitions.specs.SkeletonLaws.{SkeletonsAccount}
-use Rattle.mdblock_text_lines.specs.DocumentBlocks.{document_blocks}
-use Rattle.mddocument.proofs.InContainers.Blocks.{blocks-are, shown-is, shown-ready}
+use Rattle.mdblock_text_lines.specs.DocumentBlocks.{document_blocks, document_leaf_blocks}
+use Rattle.mddocument.proofs.InContainers.Blocks.{leaf-blocks-are, shown-is}
 use Rattle.mddocument.proofs.InContainers.BlocksFormed.{blocks-well}
+use Rattle.mddocument.proofs.InContainers.Letters.{ready-there}
 use Rattle.mddocument.proofs.InContainers.Skeletons.{skeleton-laws}
 use Rattle.mddocument.proofs.InContainers.Texts.{all-ready, blocks-textual}
 use Rattle.mddocument.specs.Documents.{document}
@@ -46,7 +49,7 @@ module _ (g : Given) (is : IsDocument g) where
   bare = document_skeleton g
 
   bare-ready : IsReady s.tab s.bytes None bare
-  bare-ready = shown-ready skeleton-laws g is None (skeleton-laws.all_ready g is)
+  bare-ready = ready-there (letters g.options.constructs (virtual g.tab g.bytes)) g (skeleton-laws.plain g is) None bare (skeletons-are-ready g is None)
 
   -- letters add no byte
   same-bytes : length (virtual s.tab s.bytes) ≡ n
@@ -55,7 +58,7 @@ module _ (g : Given) (is : IsDocument g) where
       ap length (virtual_kept at g.tab 1 1 0 g.bytes (skeleton-laws.plain g is)) ∙ length-map (virtual g.tab g.bytes) (lettered_seat at)
 
   bare-bytes : chain_bytes s None bare ≤ n
-  bare-bytes = let few = bytes-within s None bare bare-ready (skeleton-laws.formed g is).in_order.0 in omega (arith, few, same-bytes)
+  bare-bytes = let few = bytes-within s None bare bare-ready (skeletons-are-formed g is).in_order.0 in omega (arith, few, same-bytes)
 
   bare-chains : SkeletonsAccount → chain_count None bare ≤ n
   bare-chains account = count-within s.tab s.bytes None bare bare-ready g.bytes (virtual g.tab g.bytes) (account g is)
@@ -64,7 +67,7 @@ module _ (g : Given) (is : IsDocument g) where
     blocks-linear : SkeletonsAccount → ReadsWithin flow_rules (content.Content ∷ []) 9 10 → 9 * n + 10 < 2 ^ 64 - 1 → calls_of_blocks g defined passes ≤ 19 * n
     blocks-linear account linear few =
         let all : calls_of_blocks g defined passes ≤ 9 * chain_bytes s None bare + 10 * chain_count None bare =
-        linear s None bare passes.blocks passes.found (shown-is skeleton-laws g is) bare-ready (only-content bare (skeleton-laws.of_content g is)) (omega (arith, few, bare-bytes)) passes.leaf_blocks in
+        linear s None bare passes.blocks passes.found (shown-is skeleton-laws g is) bare-ready (only-content bare (skeletons-have-one-content g is)) (omega (arith, few, bare-bytes)) passes.leaf_blocks in
         omega (arith, all, bare-bytes, bare-chains account)
 
     -- ---- texts and strings
@@ -73,18 +76,22 @@ module _ (g : Given) (is : IsDocument g) where
     by-options j = record { bytes = g.bytes; options = g.options; tab = is.one_size j }
 
     -- what the first pass makes
-    abbrev pub blocks : List Event
-    blocks = passes.blocks
-
-    pub are-blocks : blocks ≡ document_blocks g
-    are-blocks =
+    are-leaf-blocks : passes.blocks ≡ document_leaf_blocks g
+    are-leaf-blocks =
         let d = document g.options g.bytes in
         let there : IsDocument d = subst IsDocument by-options is in
-        let made = subst (λ (d : Given). IsSubtokenized (shown_as_text d) flow_rules None (document_skeleton d) blocks passes.found) by-options passes.leaf_blocks in
-        let ready = shown-ready skeleton-laws d there None (skeleton-laws.all_ready d there) in
+        let made = subst (λ (d : Given). IsSubtokenized (shown_as_text d) flow_rules None (document_skeleton d) passes.blocks passes.found) by-options passes.leaf_blocks in
         let at = letters g.options.constructs (virtual d.tab g.bytes) in
-        let are : blocks ≡ document_blocks d = blocks-are skeleton-laws g.options g.bytes there (with_letters at g.bytes) refl (document_skeleton d) blocks refl (ready, (passes.found, made)) in
-        are ∙ sym (ap document_blocks by-options)
+        let ready = ready-there at d (skeleton-laws.plain d there) None (document_skeleton d) (skeletons-are-ready d there None) in
+        let are : passes.blocks ≡ document_leaf_blocks d = leaf-blocks-are g.options g.bytes there (with_letters at g.bytes) refl (document_skeleton d) passes.blocks refl (ready, (passes.found, made)) in
+        are ∙ sym (ap document_leaf_blocks by-options)
+
+    -- and with the texts of cells as chains
+    abbrev pub blocks : List Event
+    blocks = with_cells g.options.constructs passes.blocks
+
+    pub are-blocks : blocks ≡ document_blocks g
+    are-blocks = ap (with_cells g.options.constructs) are-leaf-blocks
 
     blocks-ready : IsReady g.tab g.bytes None blocks
     blocks-ready = subst (IsReady g.tab g.bytes None) (sym are-blocks) (all-ready skeleton-laws g is)

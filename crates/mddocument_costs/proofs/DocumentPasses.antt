@@ -5,6 +5,7 @@ use Rattle.markdown_children.specs.Reads.{IsRead}
 use Rattle.markdown_tokenizer.proofs.Readings.Bounds.{one-end}
 use Rattle.markdown_tokenizer.specs.Reading.{Reading}
 use Rattle.mdblock_leaf_rows.specs.FlowKnows.{flow_rules}
+use Rattle.mdblock_table_marks.specs.Cells.{with_cells}
 use Rattle.mdblock_definitions.specs.Blocks.{document_skeleton, shown_as_text}
 use Rattle.mdinline_link_strings.specs.Strings.{with_strings}
 use Rattle.mdinline_machine.specs.InlineRules.{inlines_rules}
@@ -55,7 +56,7 @@ passes-are g defined passes is = record {
   events = ap (with_strings g.options.constructs g.tab g.bytes) (leaves-texts g is defined passes);
   calls = λ others. (
     made-same (shown_as_text g) flow_rules None (document_skeleton g) (document_skeleton g) passes.blocks others.blocks passes.found others.found refl passes.leaf_blocks others.leaf_blocks,
-    made-same g (inlines_rules defined) None passes.blocks others.blocks passes.events others.events passes.more others.more
+    made-same g (inlines_rules defined) None (with_cells g.options.constructs passes.blocks) (with_cells g.options.constructs others.blocks) passes.events others.events passes.more others.more
         (are-blocks g is defined passes ∙ sym (are-blocks g is defined others)) passes.texts others.texts,
   );
 }
