@@ -23,10 +23,12 @@ use Rattle.mdinline_labels.specs.Defined.{is_same}
 use Rattle.mdblock_definitions.specs.Labelled.{is_one_of}
 use Rattle.mdinline_link_strings.specs.StringItems.{string_seat_events}
 use Rattle.mdblock_text_lines.proofs.SectionsAreThose.{skeleton-is-that}
-use Rattle.mdblock_text_lines.specs.DocumentBlocks.{has_number, text_lines}
+use Rattle.mdblock_text_lines.specs.DocumentBlocks.{document_leaf_blocks, has_number, text_lines}
 use Rattle.mdblock_text_lines.specs.DocumentSections.{document_skeleton}
 use Rattle.mdblock_text_lines.specs.TextLines as told
+use Rattle.mdblock_definitions.specs.Sections.{table}
 use Rattle.mddocument.proofs.DefinedLabels.{labels-are-defined}
+use Rattle.mddocument.proofs.InContainers.CellsKeep.{cells-each}
 use Rattle.mddocument.proofs.FlowTexts.InlineSteps.{Steps, steps-virtual}
 use Rattle.mddocument.specs.DocumentEvents.{document_events, document_texts, is_defined_in}
 use Rattle.mddocument_laws.specs.Names.{may_be_named}
@@ -99,9 +101,10 @@ module _ (on : Constructs) (label : List ℕ) where
     | inr more ↦ one-of-both xs ys (λ m. h (or_right (is_same label x) (is_one_of xs label) m)) k more
   ]
 
-  of-inside : (s : Section) (inside : Inside) → InsideIsOn on inside → is_one_of (elim inside [ lines is_behind ↦ [] | defined ds ↦ labels_in ds (text_in (all_rows s.part)) ]) label ≡ true → on.definition ≡ true
+  of-inside : (s : Section) (inside : Inside) → InsideIsOn on inside → is_one_of (elim inside [ lines is_behind ↦ [] | defined ds ↦ labels_in ds (text_in (all_rows s.part)) | table ↦ [] ]) label ≡ true → on.definition ≡ true
   of-inside s (lines is_behind) h e = absurd (false≢true e)
   of-inside s (defined ds) h e = h
+  of-inside s table h e = absurd (false≢true e)
 
   of-sections : (ss : List Section) → SectionsAreOn on ss → is_one_of (flat_map labels_of_section ss) label ≡ true → on.definition ≡ true
   of-sections [] h e = absurd (false≢true e)
@@ -134,13 +137,18 @@ module _ (g : Given) where
       All-from_recursion In (chain_text g events c).seats (pieces-in (pieces_of events ks) text tt)
 
 -- ---- documents
-blocks-named : (g : Given) → Named (May g.options.constructs) (document_blocks g)
-blocks-named g =
+leaf-blocks-are-named : (g : Given) → Named (May g.options.constructs) (document_leaf_blocks g)
+leaf-blocks-are-named g =
     let on = g.options.constructs in
     let is_text = has_number (text_lines on (virtual g.tab g.bytes)) in
     let bare = document_skeleton g in
     children-named (May on) (Some Content) bare (λ c. told.flow_events on is_text g.bytes (text_from g bare c).seats) (subst (Named (May on)) (sym (skeleton-is-that g)) (bare-named on g.bytes (virtual g.tab g.bytes)))
     (λ c. told-named-by on on (λ block h. h) is_text g.bytes (text_from g bare c).seats)
+
+blocks-named : (g : Given) → Named (May g.options.constructs) (document_blocks g)
+blocks-named g =
+    let on = g.options.constructs in
+    record { all = cells-each (λ (e : Event). may_be_named on e.name ≡ true) (λ e h. h) on (document_leaf_blocks g) (leaf-blocks-are-named g).all }
 
 texts-named : (g : Given) → Named (May g.options.constructs) (document_texts g)
 texts-named g =

@@ -1,11 +1,13 @@
 -- The events of documents tell the ranks of their headings: what is around leaf blocks and in their texts has no event that tells of them.
-use Rattle.mddocument_laws.proofs.Prelude.{◌≡◌, ℕ, ◌≤◌, ◌⊎◌, List, [], ◌∷◌, ◌++◌, Bool, true, false, cond, Option, Some, map, arith, refl, sym, ap, ◌∙◌, subst, and_parts, flat_map-append, map-append, All-from_recursion, none-some, AllByRecursion, flat_map, ◌&&◌, IsSomeAnd, slice_get, every-append, every-map, Constructs, Event, IsVoidTight, is_enter, same_name, virtual, same_name-true, Given, IsDocument, Text, fitting_starts, text_from, all-begin, is-text, chain_text, lines_in, LeafBlock, atx_heading, leaf_blocks, setext_heading, flow_events, blocks-are-those, document_blocks, document_skeleton, shown_as_text, letters, inline_events, with_inlines, string_events, in_string_after, is_data, line_as_string, seats_between, with_strings_from, inlines-hold-text, skeleton-laws, content-ready as text-ready, strings-ready, events-tight, document_events, document_texts, is_defined_in, EachHeadingTellsItsRank, HasRank, HeadingsHaveRanks, HeadingsTellTheirRanks, enters_heading, leaf_blocks_of, rank_at, rank_of, ranks_in, not}
+use Rattle.mddocument_laws.proofs.Prelude.{◌≡◌, ℕ, ◌≤◌, ◌⊎◌, List, [], ◌∷◌, ◌++◌, Bool, true, false, cond, Option, Some, map, arith, refl, sym, ap, ◌∙◌, subst, and_parts, flat_map-append, map-append, All-from_recursion, none-some, AllByRecursion, flat_map, ◌&&◌, IsSomeAnd, slice_get, every-append, every-map, Constructs, Event, IsVoidTight, is_enter, same_name, virtual, same_name-true, Given, IsDocument, Text, fitting_starts, text_from, all-begin, is-text, chain_text, lines_in, LeafBlock, atx_heading, leaf_blocks, setext_heading, flow_events, document_blocks, document_skeleton, shown_as_text, letters, inline_events, with_inlines, string_events, in_string_after, is_data, line_as_string, seats_between, with_strings_from, inlines-hold-text, skeleton-laws, content-ready as text-ready, strings-ready, events-tight, document_events, document_texts, is_defined_in, EachHeadingTellsItsRank, HasRank, HeadingsHaveRanks, HeadingsTellTheirRanks, enters_heading, leaf_blocks_of, rank_at, rank_of, ranks_in, not}
 use Rattle.markdown_base.specs.declared.event.Content.TheVariants as content
 use Rattle.markdown_base.specs.declared.event.Name.TheVariants as name
 use Rattle.markdown_children.specs.Chains.{begins}
 use Rattle.mdinline_text_machine.proofs.Paragraphs.Formed.{void-append}
 use Rattle.mdblock_leaf_blocks.proofs.Marks.BlocksFormed.{blocks-are-formed}
-use Rattle.mddocument.proofs.InContainers.Blocks.{content-ready, shown-is}
+use Rattle.mddocument.proofs.InContainers.Blocks.{blocks-are-celled, content-ready, shown-is, starts-are, texts-are}
+use Rattle.mddocument.proofs.InContainers.CellsKeep.{cells-each}
+use Rattle.mddocument.proofs.InContainers.Skeletons.{skeleton_chains}
 use Rattle.mddocument_laws.proofs.ChildEvents.{children-are}
 use Rattle.mddocument_laws.proofs.Chosen.{bare, chosen-behind, chosen-flat, chosen-of-children}
 use Rattle.mddocument_laws.proofs.DocumentNames.{chain-in, defined-if-on, inline-inside, skeleton-inside, string-inside}
@@ -56,7 +58,7 @@ module _ (g : Given) (is : IsDocument g) where
   s = shown_as_text g
 
   abbrev sk : List Event
-  sk = document_skeleton g
+  sk = skeleton_chains g
 
   abbrev starts : List ℕ
   starts = fitting_starts (Some content.Content) sk
@@ -74,7 +76,7 @@ module _ (g : Given) (is : IsDocument g) where
   inlines = with_inlines (is_defined_in g) g blocks
 
   sk-other : AreOther sk
-  sk-other = other-names on sk (skeleton-inside on g.bytes (virtual g.tab g.bytes))
+  sk-other = cells-each (λ (e : Event). is_of_heading e.name ≡ false) (λ e h. h) on (document_skeleton g) (other-names on (document_skeleton g) (skeleton-inside on g.bytes (virtual g.tab g.bytes)))
 
   inline-other : (c : ℕ) → AreOther (inline_events (is_defined_in g) g (chain_text g blocks c))
   inline-other c = other-names on (inline_events (is_defined_in g) g (chain_text g blocks c)) (inline-inside (is_defined_in g) g (chain_text g blocks c) (defined-if-on g) (chain-in g blocks c))
@@ -87,14 +89,14 @@ module _ (g : Given) (is : IsDocument g) where
 
   blocks-plain : AllByRecursion IsOtherIfLinked blocks
   blocks-plain =
-      subst (AllByRecursion IsOtherIfLinked) (sym (blocks-are-those g is))
+      subst (AllByRecursion IsOtherIfLinked) (sym (blocks-are-celled skeleton-laws g is))
       (children-are IsOtherIfLinked other-moved (Some content.Content) sk flow (all-linked sk sk-other) (λ c. flow-plain on s.bytes (text c).seats))
 
   inlines-plain : AllByRecursion IsOtherIfLinked inlines
   inlines-plain = children-are IsOtherIfLinked other-moved (Some content.Text) blocks (λ c. inline_events (is_defined_in g) g (chain_text g blocks c)) blocks-plain (λ c. all-linked _ (inline-other c))
 
   blocks-heads : heads blocks ≡ flat_map (λ c. heads (flow c)) starts
-  blocks-heads = ap heads (blocks-are-those g is) ∙ chosen-of-children is_of_heading g.tab s.bytes (Some content.Content) sk (content-ready skeleton-laws g is) flow sk-other
+  blocks-heads = ap heads (blocks-are-celled skeleton-laws g is) ∙ chosen-of-children is_of_heading g.tab s.bytes (Some content.Content) sk (content-ready skeleton-laws g is) flow sk-other
 
   inlines-heads : heads inlines ≡ heads blocks
   inlines-heads = heads-kept g.tab g.bytes (Some content.Text) blocks (text-ready skeleton-laws g is content.Text) (λ c. inline_events (is_defined_in g) g (chain_text g blocks c)) blocks-plain inline-other
@@ -137,10 +139,18 @@ module _ (g : Given) (is : IsDocument g) where
   begin : AllByRecursion (λ c. begins (Some content.Content) sk c ≡ true) starts
   begin = all-begin s sk (shown-is skeleton-laws g is) content.Content (content-ready skeleton-laws g is)
 
+  -- leaf blocks of chains are those of the skeleton's chains
+  leaf-blocks-same : flat_map leafs starts ≡ leaf_blocks_of g
+  leaf-blocks-same = ap (λ cs. flat_map leafs cs) (starts-are skeleton-laws g is) ∙ each (fitting_starts (Some content.Content) (document_skeleton g))
+    where
+      each : (cs : List ℕ) → flat_map leafs cs ≡ flat_map (λ c. leaf_blocks on (lines_in (text_from s (document_skeleton g) c).seats)) cs
+      each [] = refl
+      each (c ∷ cs) = λ i. leaf_blocks on (lines_in (texts-are skeleton-laws g is s c i).seats) ++ each cs i
+
   document-ranks : ranks_in g.bytes (document_events g) ≡ map Some (flat_map rank_of (leaf_blocks_of g))
   document-ranks =
       sym (ranks-heads g.bytes (document_events g) (events-tight skeleton-laws inlines-hold-text g is)) ∙ ap (ranks_in g.bytes) events-heads
-      ∙ ranks-heads g.bytes (flat_map flow starts) (all-tight starts begin) ∙ all-ranks starts begin
+      ∙ ranks-heads g.bytes (flat_map flow starts) (all-tight starts begin) ∙ all-ranks starts begin ∙ ap (λ l. map Some (flat_map rank_of l)) leaf-blocks-same
 
   all-within : (cs : List ℕ) → AllByRecursion (λ c. begins (Some content.Content) sk c ≡ true) cs → AllByRecursion HasRank (flat_map leafs cs)
   all-within [] b = tt
@@ -148,7 +158,7 @@ module _ (g : Given) (is : IsDocument g) where
       every-append HasRank (leafs c) (flat_map leafs cs) (every-map (IsRanked s.bytes g.bytes same on) HasRank (λ block k. k.0) (leafs c) (ranked c b.0)) (all-within cs b.1)
 
   within : AllByRecursion HasRank (leaf_blocks_of g)
-  within = all-within starts begin
+  within = subst (AllByRecursion HasRank) leaf-blocks-same (all-within starts begin)
 
 pub headings-tell-their-ranks : HeadingsTellTheirRanks
 headings-tell-their-ranks = document-ranks

@@ -1,5 +1,8 @@
 -- Each character reference of a document has its events side by side, from its enter to its exit directly behind `;`, and the document's bytes there.
-use Rattle.mddocument_laws.proofs.Prelude.{◌≡◌, ℕ, suc, ◌+◌, List, [], ◌∷◌, ◌++◌, Bool, true, false, drop, Some, refl, sym, ap, ◌∙◌, subst, arith, cond, inl, inr, map, take, and_parts, false_from_ne_true, false≢true, All-from_recursion, recursion_from_All, AllByRecursion, flat_map, ◌&&◌, AllPairs, slice_index, Constructs, Event, Name, Point, is_enter, same_name, IsPointOf, shown, stands_before, Seat, end_after, virtual, same_name-true, every-back, Given, IsDocument, IsText, Text, empty_text, followed_by, pushed, fitting_starts, text_from, all-begin, is-text, chain_text, Course, course-every, course-on, text-course, AcrossGap, flow_events, blocks-are-those, document_blocks, document_skeleton, shown_as_text, inline_events, inline_items, string_events, in_string_after, is_data, line_as_string, with_strings_from, skeleton-laws, content-ready as text-ready, strings-ready, texts-orderly, document_events, document_texts, is_defined_in, may_be_named, enters, BeginsWithReference, ReferencesOfDocumentsStand, IsWholeReference, ReferencesOfDocumentsEnd, string_seat_events, Found, item_events, inlines-hold-text, all-texts, inlines-lone, texts-torn, not}
+use Rattle.mddocument_laws.proofs.Prelude.{◌≡◌, ℕ, suc, ◌+◌, List, [], ◌∷◌, ◌++◌, Bool, true, false, drop, Some, refl, sym, ap, ◌∙◌, subst, arith, cond, inl, inr, map, take, and_parts, false_from_ne_true, false≢true, All-from_recursion, recursion_from_All, AllByRecursion, flat_map, ◌&&◌, AllPairs, slice_index, Constructs, Event, Name, Point, is_enter, same_name, IsPointOf, shown, stands_before, Seat, end_after, virtual, same_name-true, every-back, Given, IsDocument, IsText, Text, empty_text, followed_by, pushed, fitting_starts, text_from, all-begin, is-text, chain_text, Course, course-every, course-on, text-course, AcrossGap, flow_events, document_blocks, document_skeleton, shown_as_text, inline_events, inline_items, string_events, in_string_after, is_data, line_as_string, with_strings_from, skeleton-laws, content-ready as text-ready, strings-ready, texts-orderly, document_events, document_texts, is_defined_in, may_be_named, enters, BeginsWithReference, ReferencesOfDocumentsStand, IsWholeReference, ReferencesOfDocumentsEnd, string_seat_events, Found, item_events, inlines-hold-text, all-texts, inlines-lone, texts-torn, not}
+use Rattle.mddocument.proofs.InContainers.Blocks.{blocks-are-celled}
+use Rattle.mddocument.proofs.InContainers.CellsKeep.{cells-each}
+use Rattle.mddocument.proofs.InContainers.Skeletons.{skeleton_chains}
 use Rattle.markdown_base.specs.declared.event.Content.TheVariants as content
 use Rattle.markdown_base.specs.declared.event.Name.TheVariants as name
 use Rattle.markdown_tokenizer.proofs.Positions.Cursors.{same-self, upto-order}
@@ -145,18 +148,18 @@ module _ (g : Given) (is : IsDocument g) where
   blocks = document_blocks g
 
   abbrev sk : List Event
-  sk = document_skeleton g
+  sk = skeleton_chains g
 
   abbrev AreOther : List Event → Type 0
   AreOther es = AllByRecursion (λ (e : Event). NoReference e.name) es
 
   sk-other : AreOther sk
-  sk-other = (weaker (around-other on) sk (skeleton-around on g.bytes (virtual g.tab g.bytes))).all
+  sk-other = cells-each (λ (e : Event). NoReference e.name) (λ e h. h) on (document_skeleton g) (weaker (around-other on) (document_skeleton g) (skeleton-around on g.bytes (virtual g.tab g.bytes))).all
 
   -- blocks have no references
   blocks-other : AreOther blocks
   blocks-other =
-      subst AreOther (sym (blocks-are-those g is))
+      subst AreOther (sym (blocks-are-celled skeleton-laws g is))
       (children-are (λ (e : Event). NoReference e.name) (λ f e p. p) (Some content.Content) sk (λ c. flow_events on (shown_as_text g).bytes (text_from (shown_as_text g) sk c).seats) sk-other
       (λ c. (flow-other on (shown_as_text g).bytes (text_from (shown_as_text g) sk c).seats).all))
 

@@ -90,7 +90,6 @@ pub use Rattle.mdblock_definitions.specs.Blocks.{document_skeleton, shown_as_tex
 pub use Rattle.mdblock_definitions.specs.Rows.{Known, known_after, row_of, rows, rows_from}
 pub use Rattle.mdblock_definitions.specs.Sections.{Inside, Section, before_defined, begins_text, defined, defined_in, defining, in_same, lines, lines_defined, paragraph_of, sections, sections_in, sections_of, text_in, undefined}
 pub use Rattle.mdblock_definitions.specs.Skeleton.{all_rows, behind_definitions, behind_marks, inside_marks, labels_in, labels_of_section, letters, section_marks, sections_in_seats, sections_marks, skeleton}
-pub use Rattle.mdblock_text_lines.proofs.BlocksAreThose.{blocks-are-those}
 pub use Rattle.mdblock_text_lines.specs.DocumentBlocks.{document_blocks}
 pub use Rattle.mddocument.proofs.InContainers.InlineHolds.{inlines-hold-text}
 pub use Rattle.mddocument.proofs.InContainers.Skeletons.{skeleton-laws}

@@ -1,21 +1,28 @@
 -- The containers of lines, the spans of parts and the definitions in sections are of constructs that are on.
 use Rattle.mddocument_laws.proofs.Prelude.{◌≡◌, ℕ, zero, suc, ◌==◌, List, [], ◌∷◌, ◌++◌, Bool, true, false, cond, Some, None, Option, take, drop, length, map, reverse, and_parts, cond_both, AllByRecursion, flat_map, ◌&&◌, ◌||◌, nat_le, nat_lt, every-append, every-drop, every-reverse, every-take, Constructs, Name, ListOrdered, ListUnordered, Definition, definitions, Line, text_of, begins_with, indent, is_blank_line, is_thematic_break, unindented, Container, Item, Prefix, goes_on, item, item_at, may_begin_item, quote, quote_size, beginning, columns_of, containers_of, going_on, in_place_of, with_list, Before, Row, is_paragraph, is_raw, nothing_known, Frame, Part, frames_at, frames_of, further, going_on_at, left_in, list_at, list_begun, list_name, parts_in, standing, Known, known_after, row_of, rows, rows_from, Inside, Section, before_defined, begins_text, defined, defined_in, defining, in_same, lines, lines_defined, paragraph_of, sections, sections_in, sections_of, text_in, undefined}
-use Rattle.std.proofs.Common.{subst, sym}
+use Rattle.std.proofs.Common.{refl, subst, sym}
+use Rattle.std.specs.List.{prefix_len}
+use Rattle.std.proofs.lemmas.Bool.{false≢true}
 use Rattle.mdblock_lines.specs.Containers.{begins}
+use Rattle.mdblock_containers.specs.Rows.{is_table}
 use Rattle.mdblock_containers.specs.Rows as without
 use Rattle.mdblock_containers.specs.Skeleton.{parts}
 use Rattle.mdblock_definitions.proofs.CutAlike.{undefined-is}
-use Rattle.mdblock_definitions.specs.Sections.{cut}
+use Rattle.mdblock_definitions.proofs.FilledTexts.{table-on}
+use Rattle.mdblock_definitions.proofs.SectionSound.{begins-behind}
+use Rattle.mdblock_definitions.specs.Sections.{cut, is_in_table, sections_of_cut, table, tabled}
+use Rattle.mdblock_table_marks.specs.TableCuts.{before_table, begins_in_table, cut_at_tables, table_lines}
 use Rattle.mddocument_laws.proofs.PlainNames.{stands_bare}
 
--- constructs of containers and definitions that are on are on in others too
+-- constructs of containers, definitions and tables that are on are on in others too
 pub record AreStillOn (on other : Constructs) : Type 0 where
   pub quotes : on.block_quote ≡ true → other.block_quote ≡ true
   pub items : on.list_item ≡ true → other.list_item ≡ true
   pub definitions : on.definition ≡ true → other.definition ≡ true
+  pub tables : on.gfm_table ≡ true → other.gfm_table ≡ true
 
 pub own : (on : Constructs) → AreStillOn on on
-own on = record { quotes = λ h. h; items = λ h. h; definitions = λ h. h }
+own on = record { quotes = λ h. h; items = λ h. h; definitions = λ h. h; tables = λ h. h }
 
 module _ (other : Constructs) where
   abbrev May : Name → Type 0
@@ -62,6 +69,7 @@ module _ (other : Constructs) where
   pub record RowIsOn (row : Row) : Type 0 where
     pub went_on : PrefixesAreOn row.went_on
     pub begun : PrefixesAreOn row.begun
+    pub table : is_table row.leaf ≡ true → other.gfm_table ≡ true
 
   abbrev pub RowsAreOn : List Row → Type 0
   RowsAreOn rows = AllByRecursion RowIsOn rows
@@ -97,6 +105,7 @@ module _ (other : Constructs) where
           begun =
               cond_both (all_go_on && is_raw b.leaf) [] (with_list (drop (length went_on) b.stack) begun) PrefixesAreOn (λ e. tt)
               (λ e. listed-on (drop (length went_on) b.stack) begun (all-begin-on (length r) number (all_go_on && is_paragraph b.leaf) r));
+          table = λ is. still.tables (table-on on k number line is);
         }
 
     known-on : (b : Before) (row : Row) → AreOn b.stack → RowIsOn row → AreOn (without.known_after on b row).stack
@@ -178,6 +187,7 @@ module _ (other : Constructs) where
   abbrev pub InsideIsOn : Inside → Type 0
   InsideIsOn (lines is_behind) = Unit {0}
   InsideIsOn (defined ds) = other.definition ≡ true
+  InsideIsOn table = other.gfm_table ≡ true
 
   pub record SectionIsOn (s : Section) : Type 0 where
     pub part : PartIsOn s.part
@@ -227,10 +237,34 @@ module _ (other : Constructs) where
         every-append SectionIsOn (undefined is_behind around (take n all)) (defining ds around (take d behind) ++ sections_in on bound true around (drop d behind)) (undefined-on is_behind around (take n all) f (every-take RowIsOn n all h))
         (every-append SectionIsOn (defining ds around (take d behind)) (sections_in on bound true around (drop d behind)) (defined-on ds around behind f k) (sections-in-on bound true around (drop d behind) f (every-drop RowIsOn d behind k)))
 
+    -- lines of a table
+    tabled-on : (around : Part) (behind : List Row) → FramesAreOn around.frames → RowsAreOn behind → ((rows : List Row) (header : Row) → behind ≡ header ∷ rows → begins_in_table is_in_table rows ≡ true)
+        → SectionsAreOn (tabled around (take (table_lines is_in_table behind) behind))
+    tabled-on around [] f h begins = tt
+    tabled-on around (header ∷ []) f h begins = absurd (false≢true (begins [] header refl))
+    tabled-on around (header ∷ r ∷ rs) f h begins =
+        let m = prefix_len is_in_table (r ∷ rs) in
+        (record { part = record { first = h.0; more = every-take RowIsOn m (r ∷ rs) h.1; frames = f }; inside = h.1.0.table (begins (r ∷ rs) header refl) }, tt)
+
+    cuts-on : (bound : ℕ) (around : Part) (all : List Row) → FramesAreOn around.frames → RowsAreOn all → SectionsAreOn (flat_map (sections_of_cut on around) (cut_at_tables is_in_table bound all))
+    cuts-on zero around all f h = tt
+    cuts-on (suc bound) around [] f h = tt
+    cuts-on (suc bound) around (row ∷ more) f h =
+        let all : List Row = row ∷ more in
+        let n = before_table is_in_table all in
+        let behind = drop n all in
+        let m = table_lines is_in_table behind in
+        let front = sections_in on (length (take n all)) false around (take n all) in
+        let middle = tabled around (take m behind) in
+        let back = flat_map (sections_of_cut on around) (cut_at_tables is_in_table bound (drop m behind)) in
+        let k = every-drop RowIsOn n all h in
+        every-append SectionIsOn front (middle ++ back) (sections-in-on (length (take n all)) false around (take n all) f (every-take RowIsOn n all h))
+        (every-append SectionIsOn middle back (tabled-on around behind f k (λ rows header. begins-behind on all rows header)) (cuts-on bound around (drop m behind) f (every-drop RowIsOn m behind k)))
+
     cut-on : (part : Part) → PartIsOn part → SectionsAreOn (cut on part)
     cut-on part h =
-        cond_both part.first.is_blank (record { part = part; inside = lines false } ∷ []) (sections_in on (suc (length part.more)) false part (part.first ∷ part.more)) SectionsAreOn (λ e. (record { part = h; inside = tt }, tt))
-        (λ e. sections-in-on (suc (length part.more)) false part (part.first ∷ part.more) h.frames (h.first, h.more))
+        cond_both part.first.is_blank (record { part = part; inside = lines false } ∷ []) (flat_map (sections_of_cut on part) (cut_at_tables is_in_table (suc (length part.more)) (part.first ∷ part.more))) SectionsAreOn
+        (λ e. (record { part = h; inside = tt }, tt)) (λ e. cuts-on (suc (length part.more)) part (part.first ∷ part.more) h.frames (h.first, h.more))
 
     all-cut : (ps : List Part) → AllByRecursion PartIsOn ps → SectionsAreOn (flat_map (cut on) ps)
     all-cut [] h = tt

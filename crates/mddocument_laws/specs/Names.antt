@@ -3,7 +3,7 @@
 use Rattle.std.specs.Prelude.{◌&&◌, ◌||◌, Bool, false, true}
 use Rattle.markdown_base.specs.declared.configuration.Constructs.{Constructs}
 use Rattle.markdown_base.specs.declared.event.Name.{Name}
-use Rattle.markdown_base.specs.declared.event.Name.TheVariants.{Autolink, AutolinkEmail, AutolinkMarker, AutolinkProtocol, BlankLineEnding, BlockQuote, BlockQuoteMarker, BlockQuotePrefix, CharacterEscape, CharacterEscapeMarker, CharacterEscapeValue, CharacterReference, CharacterReferenceMarker, CharacterReferenceMarkerHexadecimal, CharacterReferenceMarkerNumeric, CharacterReferenceMarkerSemi, CharacterReferenceValue, CodeFenced, CodeFencedFence, CodeFencedFenceInfo, CodeFencedFenceMeta, CodeFencedFenceSequence, CodeFlowChunk, CodeIndented, CodeText, CodeTextData, CodeTextSequence, Data, Definition, DefinitionDestination, DefinitionDestinationLiteral, DefinitionDestinationLiteralMarker, DefinitionDestinationRaw, DefinitionDestinationString, DefinitionLabel, DefinitionLabelMarker, DefinitionLabelString, DefinitionMarker, DefinitionTitle, DefinitionTitleMarker, DefinitionTitleString, Emphasis, EmphasisSequence, EmphasisText, GfmStrikethrough, GfmStrikethroughSequence, GfmStrikethroughText, HardBreakEscape, HardBreakTrailing, HeadingAtx, HeadingAtxSequence, HeadingAtxText, HeadingSetext, HeadingSetextText, HeadingSetextUnderline, HeadingSetextUnderlineSequence, HtmlFlow, HtmlFlowData, HtmlText, HtmlTextData, Image, Label, LabelEnd, LabelImage, LabelImageMarker, LabelLink, LabelMarker, LabelText, LineEnding, Link, ListItem, ListItemMarker, ListItemPrefix, ListItemValue, ListOrdered, ListUnordered, Paragraph, Reference, ReferenceMarker, ReferenceString, Resource, ResourceDestination, ResourceDestinationLiteral, ResourceDestinationLiteralMarker, ResourceDestinationRaw, ResourceDestinationString, ResourceMarker, ResourceTitle, ResourceTitleMarker, ResourceTitleString, SpaceOrTab, Strong, StrongSequence, StrongText, ThematicBreak, ThematicBreakSequence}
+use Rattle.markdown_base.specs.declared.event.Name.TheVariants.{Autolink, AutolinkEmail, AutolinkMarker, AutolinkProtocol, BlankLineEnding, BlockQuote, BlockQuoteMarker, BlockQuotePrefix, CharacterEscape, CharacterEscapeMarker, CharacterEscapeValue, CharacterReference, CharacterReferenceMarker, CharacterReferenceMarkerHexadecimal, CharacterReferenceMarkerNumeric, CharacterReferenceMarkerSemi, CharacterReferenceValue, CodeFenced, CodeFencedFence, CodeFencedFenceInfo, CodeFencedFenceMeta, CodeFencedFenceSequence, CodeFlowChunk, CodeIndented, CodeText, CodeTextData, CodeTextSequence, Data, Definition, DefinitionDestination, DefinitionDestinationLiteral, DefinitionDestinationLiteralMarker, DefinitionDestinationRaw, DefinitionDestinationString, DefinitionLabel, DefinitionLabelMarker, DefinitionLabelString, DefinitionMarker, DefinitionTitle, DefinitionTitleMarker, DefinitionTitleString, Emphasis, EmphasisSequence, EmphasisText, GfmStrikethrough, GfmStrikethroughSequence, GfmStrikethroughText, GfmTable, GfmTableBody, GfmTableCell, GfmTableCellDivider, GfmTableCellText, GfmTableDelimiterCell, GfmTableDelimiterCellValue, GfmTableDelimiterFiller, GfmTableDelimiterMarker, GfmTableDelimiterRow, GfmTableHead, GfmTableRow, HardBreakEscape, HardBreakTrailing, HeadingAtx, HeadingAtxSequence, HeadingAtxText, HeadingSetext, HeadingSetextText, HeadingSetextUnderline, HeadingSetextUnderlineSequence, HtmlFlow, HtmlFlowData, HtmlText, HtmlTextData, Image, Label, LabelEnd, LabelImage, LabelImageMarker, LabelLink, LabelMarker, LabelText, LineEnding, Link, ListItem, ListItemMarker, ListItemPrefix, ListItemValue, ListOrdered, ListUnordered, Paragraph, Reference, ReferenceMarker, ReferenceString, Resource, ResourceDestination, ResourceDestinationLiteral, ResourceDestinationLiteralMarker, ResourceDestinationRaw, ResourceDestinationString, ResourceMarker, ResourceTitle, ResourceTitleMarker, ResourceTitleString, SpaceOrTab, Strong, StrongSequence, StrongText, ThematicBreak, ThematicBreakSequence}
 
 -- links and images are on: a bracket that no end of a label follows is text, and so is a `]` that no bracket waits for
 abbrev pub has_links : Constructs → Bool
@@ -61,6 +61,19 @@ may_be_named on DefinitionMarker = on.definition
 may_be_named on DefinitionTitle = on.definition
 may_be_named on DefinitionTitleMarker = on.definition
 may_be_named on DefinitionTitleString = on.definition
+-- Tables (GFM, 4.10)
+may_be_named on GfmTable = on.gfm_table
+may_be_named on GfmTableBody = on.gfm_table
+may_be_named on GfmTableCell = on.gfm_table
+may_be_named on GfmTableCellDivider = on.gfm_table
+may_be_named on GfmTableCellText = on.gfm_table
+may_be_named on GfmTableDelimiterCell = on.gfm_table
+may_be_named on GfmTableDelimiterCellValue = on.gfm_table
+may_be_named on GfmTableDelimiterFiller = on.gfm_table
+may_be_named on GfmTableDelimiterMarker = on.gfm_table
+may_be_named on GfmTableDelimiterRow = on.gfm_table
+may_be_named on GfmTableHead = on.gfm_table
+may_be_named on GfmTableRow = on.gfm_table
 -- Block quotes (5.1)
 may_be_named on BlockQuote = on.block_quote
 may_be_named on BlockQuoteMarker = on.block_quote

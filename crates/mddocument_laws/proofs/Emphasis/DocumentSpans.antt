@@ -1,5 +1,8 @@
 -- The spans of emphasis of a document are those of its texts, one behind another, and so those of the pairs of each.
-use Rattle.mddocument_laws.proofs.Prelude.{◌≡◌, ℕ, List, [], ◌∷◌, ◌++◌, Bool, true, false, cond, not, Some, refl, sym, ap, ◌∙◌, subst, inl, inr, and_parts, cases_Bool, recursion_from_All, IsPermutation-append_left, IsPermutation-append_right, IsPermutation-refl, IsPermutation-trans, flat_map, IsPermutation, ◌&&◌, Constructs, String, Event, Name, Data, is_enter, same_name, Seat, virtual, same_name-true, Given, IsDocument, Text as TextOf, text_from, IsReady, blocks-are-those, document_blocks, document_skeleton, shown_as_text, flow_events, inline_events, read_events, with_inlines, string_events, in_string_after, is_data, line_as_string, seats_between, with_strings_from, chain_text, skeleton-laws, content-ready, strings-ready, document_events, document_texts, is_defined_in, DocumentsHaveSpansOfPairs, DocumentsHaveSpansOfTexts, TextsHaveSpansOfPairs, text_starts, EmphasisSpan, emphasis_spans, is_emphasis, spans_of_text}
+use Rattle.mddocument_laws.proofs.Prelude.{◌≡◌, ℕ, List, [], ◌∷◌, ◌++◌, Bool, true, false, cond, not, Some, refl, sym, ap, ◌∙◌, subst, inl, inr, and_parts, cases_Bool, recursion_from_All, IsPermutation-append_left, IsPermutation-append_right, IsPermutation-refl, IsPermutation-trans, flat_map, IsPermutation, ◌&&◌, Constructs, String, Event, Name, Data, is_enter, same_name, Seat, virtual, same_name-true, Given, IsDocument, Text as TextOf, text_from, IsReady, document_blocks, document_skeleton, shown_as_text, flow_events, inline_events, read_events, with_inlines, string_events, in_string_after, is_data, line_as_string, seats_between, with_strings_from, chain_text, skeleton-laws, content-ready, strings-ready, document_events, document_texts, is_defined_in, DocumentsHaveSpansOfPairs, DocumentsHaveSpansOfTexts, TextsHaveSpansOfPairs, text_starts, EmphasisSpan, emphasis_spans, is_emphasis, spans_of_text}
+use Rattle.mddocument.proofs.InContainers.Blocks.{blocks-are-celled}
+use Rattle.mddocument.proofs.InContainers.CellsKeep.{cells-each}
+use Rattle.mddocument.proofs.InContainers.Skeletons.{skeleton_chains}
 use Rattle.markdown_base.specs.declared.event.Content.TheVariants.{Content, Text}
 use Rattle.mdinline_link_strings.specs.StringItems.{string_seat_events}
 use Rattle.mddocument_laws.proofs.ChildNames.{children-named}
@@ -23,10 +26,10 @@ blocks-plain : (g : Given) → IsDocument g → NonePlain (document_blocks g)
 blocks-plain g is =
     let on = g.options.constructs in
     let shown = shown_as_text g in
-    let bare_list = document_skeleton g in
-    subst NonePlain (sym (blocks-are-those g is))
+    let bare_list = skeleton_chains g in
+    subst NonePlain (sym (blocks-are-celled skeleton-laws g is))
     (children-named (λ n. is_emphasis n ≡ false) (Some Content) bare_list (λ c. flow_events on shown.bytes (text_from shown bare_list c).seats)
-    (weaker (λ n h. plain-other on n (bare-plain on n h)) bare_list (skeleton-named on g.bytes (virtual g.tab g.bytes)))
+    (record { all = cells-each (λ (e : Event). is_emphasis e.name ≡ false) (λ e h. h) on (document_skeleton g) (weaker (λ n h. plain-other on n (bare-plain on n h)) (document_skeleton g) (skeleton-named on g.bytes (virtual g.tab g.bytes))).all })
     (λ c. flow-plain on shown.bytes (text_from shown bare_list c).seats)).all
 
 -- what is read of a text, before links are made
