@@ -6,9 +6,10 @@ use Rattle.markdown_children.specs.Reads.{text_from}
 use Rattle.mdblock_definitions.specs.Skeleton.{skeleton}
 use Rattle.mdblock_leaf_blocks.specs.LeafBlocks.{Line}
 use Rattle.mdblock_text_lines.proofs.SectionsAreThose.{skeleton-is-that}
-use Rattle.mdblock_text_lines.specs.DocumentBlocks.{has_number, text_lines}
+use Rattle.mdblock_text_lines.specs.DocumentBlocks.{document_leaf_blocks, has_number, text_lines}
 use Rattle.mdblock_text_lines.specs.DocumentSections.{document_skeleton}
 use Rattle.mdblock_text_lines.specs.TextLines.{flow_events}
+use Rattle.mddocument.proofs.InContainers.CellsKeep.{cells-each}
 use Rattle.mddocument_laws.proofs.ChildNames.{children-named}
 use Rattle.mddocument_laws.proofs.Chosen.{AreOther}
 use Rattle.mddocument_laws.proofs.FlowNames.{told-named-by}
@@ -37,18 +38,21 @@ module _ (names : List Name) (off : (on : Constructs) → AllByRecursion (λ (m 
 
   skeleton-other : (on : Constructs) (bytes : List ℕ) (seats : List Seat) → Named IsOther (skeleton on bytes seats)
   skeleton-other on bytes seats =
-      let still : AreStillOn on (without on) = record { quotes = λ h. h; items = λ h. h; definitions = λ h. h } in
+      let still : AreStillOn on (without on) = record { quotes = λ h. h; items = λ h. h; definitions = λ h. h; tables = λ h. h } in
       weaker (λ n h. other-name on n (plain-may (without on) n (bare-plain (without on) n h))) (skeleton on bytes seats) (skeleton-named-by (without on) bytes on still seats)
 
   flow-other : (on : Constructs) (is_text : Line → Bool) (bytes : List ℕ) (seats : List Seat) → Named IsOther (flow_events on is_text bytes seats)
   flow-other on is_text bytes seats = weaker (other-name on) (flow_events on is_text bytes seats) (told-named-by on (without on) (λ block h. h) is_text bytes seats)
 
-  pub blocks-named : (g : Given) → Named IsOther (document_blocks g)
-  blocks-named g =
+  leaf-blocks-are-named : (g : Given) → Named IsOther (document_leaf_blocks g)
+  leaf-blocks-are-named g =
       let on = g.options.constructs in
       let is_text = has_number (text_lines on (virtual g.tab g.bytes)) in
       let bare = document_skeleton g in
       children-named IsOther (Some Content) bare (λ c. flow_events on is_text g.bytes (text_from g bare c).seats) (subst (Named IsOther) (sym (skeleton-is-that g)) (skeleton-other on g.bytes (virtual g.tab g.bytes))) (λ c. flow-other on is_text g.bytes (text_from g bare c).seats)
+
+  pub blocks-named : (g : Given) → Named IsOther (document_blocks g)
+  blocks-named g = record { all = cells-each (λ (e : Event). IsOther e.name) (λ e h. h) g.options.constructs (document_leaf_blocks g) (leaf-blocks-are-named g).all }
 
 not-on : false ≡ true → ⊥
 not-on f = false≢true f

@@ -1,20 +1,43 @@
 -- Lists of marks that spans of free names keep: what is in prefixes and in definitions has such names.
-use Rattle.mddocument_rules.proofs.Prelude.{◌≡◌, ℕ, List, [], ◌++◌, true, refl, AllByRecursion, flat_map, Name, Seat, every-all, Definition, line_text, Mark, leaf_marks, span_marks, Container, Prefix, item, quote, Row, begun_marks, prefixes_marks, AnySeat, any-seats, Walk, leafs, AreInDefinition, MayPrefix, RowAt, definitions-are, places, prefixes}
+use Rattle.mddocument_rules.proofs.Prelude.{◌≡◌, ◌&&◌, ℕ, Bool, not, List, [], ◌∷◌, ◌++◌, true, false, and_parts, not-true, refl, AllByRecursion, flat_map, same_name, Part, all_rows, Name, Seat, every-all, Definition, line_text, Mark, leaf_marks, span_marks, Container, Prefix, item, quote, Row, begun_marks, prefixes_marks, AnySeat, any-seats, Walk, leafs, AreInDefinition, MayPrefix, RowAt, definitions-are, places, prefixes}
 use Rattle.markdown_base.specs.declared.event.Name.TheVariants as name
 use Rattle.mdblock_definitions.specs.Definitions.{Place, before_prefixes, between, definitions_marks, ending_marks, line_marks, parts_marks, places_in, string_lines}
 use Rattle.mdblock_definitions.proofs.StringEnds.{every-before}
 use Rattle.mddocument.proofs.Walks.SkeletonWalk.{PlaceIs, begins, endings, of-lines, of-parts, some-places, string-lines-are}
+use Rattle.mdblock_table_marks.specs.TableMarks.{table_marks}
+use Rattle.mddocument.proofs.Walks.TableWalk.{AreInTable, PrefixIs, tables-by}
 use Rattle.mddocument_rules.proofs.Places.{is_free}
 
+-- and no cell of a table has its text among them
+abbrev pub is_apart : Name → Bool
+is_apart n = is_free n && not (same_name n name.GfmTableCellText)
+
 abbrev pub FreeName : Name → Type 0
-FreeName n = is_free n ≡ true
+FreeName n = is_apart n ≡ true
+
+pub name-free : (n : Name) → FreeName n → is_free n ≡ true
+name-free n h = (and_parts (is_free n) (not (same_name n name.GfmTableCellText)) h).0
+
+pub name-apart : (n : Name) → FreeName n → same_name n name.GfmTableCellText ≡ false
+name-apart n h = not-true (same_name n name.GfmTableCellText) (and_parts (is_free n) (not (same_name n name.GfmTableCellText)) h).1
 
 abbrev pub IsKept : List ℕ → (List Mark → Type 0) → Type 0
 IsKept bytes Are = Walk bytes Are FreeName AnySeat
 
+-- where all spans of free names keep it
+abbrev pub IsKeptByAll : List ℕ → (List Mark → Type 0) → Type 0
+IsKeptByAll bytes Are = Walk bytes Are (λ n. is_free n ≡ true) AnySeat
+
 pub kept : {bytes : List ℕ} {Are : List Mark → Type 0} → Are [] → ((xs ys : List Mark) → Are xs → Are ys → Are (xs ++ ys))
     → ((n : Name) (seats : List Seat) (inside : List Mark) → FreeName n → Are inside → Are (span_marks bytes n seats inside)) → IsKept bytes Are
 kept none both over = record { none = none; both = both; over = λ n seats inside f q h. over n seats inside f h; space = refl; line_ending = refl; blank_ending = refl }
+
+pub kept-by-all : {bytes : List ℕ} {Are : List Mark → Type 0} → Are [] → ((xs ys : List Mark) → Are xs → Are ys → Are (xs ++ ys))
+    → ((n : Name) (seats : List Seat) (inside : List Mark) → is_free n ≡ true → Are inside → Are (span_marks bytes n seats inside)) → IsKeptByAll bytes Are
+kept-by-all none both over = record { none = none; both = both; over = λ n seats inside f q h. over n seats inside f h; space = refl; line_ending = refl; blank_ending = refl }
+
+pub some-kept : {bytes : List ℕ} {Are : List Mark → Type 0} → IsKeptByAll bytes Are → IsKept bytes Are
+some-kept w = kept w.none w.both (λ n seats inside f h. w.over n seats inside (name-free n f) (any-seats seats) h)
 
 -- each container has free names in its prefix
 abbrev AnyContainer : Container → Type 0
@@ -84,3 +107,29 @@ module _ {bytes : List ℕ} {Are : List Mark → Type 0} (w : IsKept bytes Are) 
       → ((seats : List Seat) (inside : List Mark) → Are inside → All (span_marks bytes name.Definition seats inside)) → (ds : List Definition) (rs : List Row) → All (definitions_marks bytes ds (places_in bytes rs))
   defined-in-rows All none both any one ds rs =
       definitions-are w AnyContainer free-prefix AnySeat data-is in-definition All none both any one ds (places_in bytes rs) (rows-are rs)
+
+-- ---- tables
+in-table : AreInTable (λ n. is_free n ≡ true)
+in-table = record {
+  head = refl;
+  body = refl;
+  row = refl;
+  cell = refl;
+  text = refl;
+  divider = refl;
+  delimiter_row = refl;
+  delimiter_cell = refl;
+  value = refl;
+  marker = refl;
+  filler = refl;
+}
+
+-- A table of a part, by its span
+pub table-in-part : {bytes : List ℕ} {Are : List Mark → Type 0} → IsKeptByAll bytes Are → (All : List Mark → Type 0) → ((ms : List Mark) → Are ms → All ms)
+    → ((seats : List Seat) (inside : List Mark) → Are inside → All (span_marks bytes name.GfmTable seats inside)) → (part : Part) → All (table_marks bytes part)
+table-in-part {bytes} {Are} w All any one part =
+    tables-by w AnySeat some-data in-table All any one part.first part.more (every-all (PrefixIs w AnySeat some-data in-table) (λ r. prefixes-are (some-kept w) r.went_on r.line) part.more)
+    (every-all (RowAt AnySeat) (λ r. any-seats (line_text r.line)) (all_rows part))
+  where
+    some-data : (seats : List Seat) → AllByRecursion AnySeat seats → Are (leaf_marks bytes name.Data seats)
+    some-data seats at = leafs w name.Data seats refl at

@@ -3,7 +3,7 @@ use Rattle.mddocument_rules.proofs.Prelude.{◌≡◌, ℕ, zero, suc, ◌+◌, 
 use Rattle.markdown_base.specs.declared.event.Name.TheVariants as name
 use Rattle.mdblock_leaf_blocks.proofs.Marks.MarkAccounts.{bare}
 use Rattle.mdblock_containers.proofs.SkeletonChains.{Due, Runs, a_chunk, alone_unlinked, an_exit, behind_alone, chunk_is, idle, next_due, no_next_of}
-use Rattle.mddocument_rules.proofs.Definitions.{IsKept, kept}
+use Rattle.mddocument_rules.proofs.Definitions.{IsKept, IsKeptByAll, kept, kept-by-all, name-free, some-kept}
 use Rattle.mddocument_rules.proofs.Places.{is_free}
 
 -- What is so of an event, by those behind it
@@ -114,8 +114,11 @@ module _ (Ok : Event → List Event → Type 0) where
         let exit : Mark = (event bytes Exit n (end_after s.end ss), None) in
         apart-both ((event bytes Enter n s.point, None) ∷ []) (inside ++ exit ∷ []) (apart-mark (event bytes Enter n s.point)) (apart-both inside (exit ∷ []) h (apart-mark (event bytes Exit n (end_after s.end ss))))
 
+    pub apart-by-all : IsKeptByAll bytes Apart
+    apart-by-all = kept-by-all apart-none apart-both (λ n seats inside f h. apart-span n seats inside h)
+
     pub apart-kept : IsKept bytes Apart
-    apart-kept = kept apart-none apart-both (λ n seats inside f h. apart-span n seats inside h)
+    apart-kept = some-kept apart-by-all
 
     -- a chunk, and what is behind it
     pub chunk-gapped : ((p : Point) (es : List Event) → Ok (event bytes Exit name.Data p) es) → (waits : Bool) (c : Chunk) (s : Seat) (ss : List Seat) (ys : List Mark) → Gapped c.has_next ys → Gapped waits (chunk_span bytes (Some c) name.Data (s ∷ ss) [] ++ ys)
@@ -144,4 +147,4 @@ module _ (bytes : List ℕ) where
       record { go = λ waits ys g. ((λ e. f), subst (Gapped IsFreeName waits) (sym (append_assoc inside (exit ∷ []) ys)) (h.go waits (exit ∷ ys) ((λ e. f), g))) }
 
   pub between-kept : IsKept bytes (BetweenChunks IsFreeName)
-  between-kept = kept (between-none IsFreeName) (between-both IsFreeName) between-span
+  between-kept = kept (between-none IsFreeName) (between-both IsFreeName) (λ n seats inside f h. between-span n seats inside (name-free n f) h)

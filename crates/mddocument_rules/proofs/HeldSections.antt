@@ -1,5 +1,5 @@
 -- What is in the definitions of a skeleton is what its sections have of them.
-use Rattle.mddocument_rules.proofs.Prelude.{◌≡◌, ◌∙◌, ℕ, suc, ◌+◌, ◌==◌, Bool, true, false, cond, not, List, [], ◌∷◌, ◌++◌, None, Option, Some, append_assoc, ap, drop, flat_map, length, map, refl, reverse, subst, sym, take, cond_both, false_from_ne_true, false≢true, AllByRecursion, every-all, every-append, every-drop, every-front, IsBalanced, empty, span, IsBalanced-append, Event, Enter, Exit, Name, Point, Seat, end_after, is_wanted, block_names, same_name-true, nat_le, ending_of, event, Definition, Chunk, Mark, chunk_span, leaf_marks, span_marks, white, indent, Container, Prefix, item, quote, Turn, all_entered, entered, Row, has_none, rest_of, Frame, Part, Piece, begin_of, begun_all, begun_marks, chained_from, chunks_of, end_of, ending_marks, enters_of, exits, is_held, joined_pieces, last_line, list_name, next_chunk, pieces_of, prefixes_marks, shared, stretch-is, PieceIs, Inside, Section, defined, lines, all_rows, behind_marks, inside_marks, section_marks, sections_marks}
+use Rattle.mddocument_rules.proofs.Prelude.{◌≡◌, ◌∙◌, ℕ, suc, ◌+◌, ◌==◌, Bool, true, false, cond, not, List, [], ◌∷◌, ◌++◌, None, Option, Some, append_assoc, ap, drop, flat_map, length, map, refl, reverse, subst, sym, take, cond_both, false_from_ne_true, false≢true, AllByRecursion, every-all, every-append, every-drop, every-front, IsBalanced, empty, span, IsBalanced-append, Event, Enter, Exit, Name, Point, Seat, end_after, is_wanted, block_names, same_name-true, nat_le, ending_of, event, Definition, Chunk, Mark, chunk_span, leaf_marks, span_marks, white, indent, Container, Prefix, item, quote, Turn, all_entered, entered, Row, has_none, rest_of, Frame, Part, Piece, begin_of, begun_all, begun_marks, chained_from, chunks_of, end_of, ending_marks, enters_of, exits, is_held, joined_pieces, last_line, list_name, next_chunk, pieces_of, prefixes_marks, shared, stretch-is, PieceIs, Inside, Section, defined, lines, table, all_rows, behind_marks, inside_marks, section_marks, sections_marks}
 use Rattle.std.proofs.lemmas.List.{map-append}
 use Rattle.markdown_base.proofs.Common.{every-reverse, every-take}
 use Rattle.markdown_base.specs.declared.event.Content.TheVariants as content
@@ -9,12 +9,12 @@ use Rattle.mdblock_definitions.proofs.SectionTurns.{AreCut}
 use Rattle.mdblock_definitions.specs.Definitions.{Place, between, definition_marks, definitions_marks, parts_marks, places_in, seats_of}
 use Rattle.mdblock_definitions.specs.Definitions as definitions
 use Rattle.mddocument_laws.proofs.Chosen.{AreOther}
-use Rattle.mddocument_rules.proofs.Definitions.{EndingIs, EndingsAre, FreeName, IsKept, begins-are, kept, line-ends, parts-are, prefixes-are, rows-are}
+use Rattle.mddocument_rules.proofs.Definitions.{EndingIs, EndingsAre, IsKept, IsKeptByAll, begins-are, kept, kept-by-all, line-ends, name-apart, name-free, parts-are, prefixes-are, rows-are, some-kept, table-in-part}
 use Rattle.mddocument_rules.proofs.Held.{AreAlone, IsAlone, held, held_one}
 use Rattle.mddocument_rules.proofs.HeldSpans.{Spans, spans-both}
 use Rattle.mddocument_rules.proofs.HeldStrings.{is_quiet}
-use Rattle.mddocument_rules.proofs.HeldTexts.{is_definition}
-use Rattle.mddocument_rules.proofs.Places.{free-parts}
+use Rattle.mddocument_rules.proofs.HeldTexts.{is_cell, is_definition}
+use Rattle.mddocument_rules.proofs.Places.{free-parts, is_free}
 use Rattle.mddocument_rules.specs.ReferenceLaws.{parts_of_definitions, parts_of_section}
 
 -- the events of marks
@@ -25,7 +25,7 @@ bare ms = map (λ (m : Mark). m.0) ms
 abbrev pub ArePlain : List Mark → Type 0
 ArePlain ms = AllByRecursion (λ (m : Mark). m.1 ≡ None) ms
 
-free-other : (n : Name) → FreeName n → is_definition n ≡ false
+free-other : (n : Name) → is_free n ≡ true → is_definition n ≡ false
 free-other n f = false_from_ne_true (is_definition n) (λ e. false≢true (sym (free-parts n f).1 ∙ ap (is_wanted block_names) (same_name-true n name.Definition e)))
 
 -- ---- lists of marks, by what is in definitions
@@ -64,8 +64,11 @@ module _ (bytes : List ℕ) where
       lacks-both ((event bytes Enter n s.point, None) ∷ []) (inside ++ (event bytes Exit n (end_after s.end ss), None) ∷ []) (lacks-mark (event bytes Enter n s.point) o)
       (lacks-both inside ((event bytes Exit n (end_after s.end ss), None) ∷ []) h (lacks-mark (event bytes Exit n (end_after s.end ss)) o))
 
+  lacks-by-all : IsKeptByAll bytes Lacks
+  lacks-by-all = kept-by-all lacks-none lacks-both (λ n seats inside f h. lacks-span n seats inside (free-other n f) h)
+
   lacks-kept : IsKept bytes Lacks
-  lacks-kept = kept lacks-none lacks-both (λ n seats inside f h. lacks-span n seats inside (free-other n f) h)
+  lacks-kept = some-kept lacks-by-all
 
   lacks-leaf : (n : Name) (seats : List Seat) → is_definition n ≡ false → Lacks (leaf_marks bytes n seats)
   lacks-leaf n seats o = lacks-span n seats [] o lacks-none
@@ -80,10 +83,11 @@ module _ (bytes : List ℕ) where
     pub balanced : IsBalanced (bare ms)
     pub other : AreOther is_definition (bare ms)
     pub alone : AreAlone (bare ms)
+    pub celless : AreOther is_cell (bare ms)
     pub plain : ArePlain ms
 
   inner-none : Inner []
-  inner-none = record { balanced = empty; other = tt; alone = tt; plain = tt }
+  inner-none = record { balanced = empty; other = tt; alone = tt; celless = tt; plain = tt }
 
   inner-both : (xs ys : List Mark) → Inner xs → Inner ys → Inner (xs ++ ys)
   inner-both xs ys h k =
@@ -92,12 +96,13 @@ module _ (bytes : List ℕ) where
         balanced = subst IsBalanced (sym both) (IsBalanced-append (bare xs) (bare ys) h.balanced k.balanced);
         other = subst (AreOther is_definition) (sym both) (every-append (λ (e : Event). is_definition e.name ≡ false) (bare xs) (bare ys) h.other k.other);
         alone = subst AreAlone (sym both) (every-append IsAlone (bare xs) (bare ys) h.alone k.alone);
+        celless = subst (AreOther is_cell) (sym both) (every-append (λ (e : Event). is_cell e.name ≡ false) (bare xs) (bare ys) h.celless k.celless);
         plain = every-append (λ (m : Mark). m.1 ≡ None) xs ys h.plain k.plain;
       }
 
-  inner-span : (n : Name) (seats : List Seat) (inside : List Mark) → is_definition n ≡ false → Inner inside → Inner (span_marks bytes n seats inside)
-  inner-span n [] inside o h = h
-  inner-span n (s ∷ ss) inside o h =
+  inner-span : (n : Name) (seats : List Seat) (inside : List Mark) → is_definition n ≡ false → is_cell n ≡ false → Inner inside → Inner (span_marks bytes n seats inside)
+  inner-span n [] inside o c h = h
+  inner-span n (s ∷ ss) inside o c h =
       let enter = event bytes Enter n s.point in
       let exit = event bytes Exit n (end_after s.end ss) in
       let both : bare (inside ++ (exit, None) ∷ []) ≡ bare inside ++ exit ∷ [] = map-append (λ (m : Mark). m.0) inside ((exit, None) ∷ []) in
@@ -105,11 +110,12 @@ module _ (bytes : List ℕ) where
         balanced = span enter exit (bare inside) [] (ap (λ l. enter ∷ l) both) refl refl refl h.balanced empty;
         other = (o, subst (AreOther is_definition) (sym both) (every-append (λ (e : Event). is_definition e.name ≡ false) (bare inside) (exit ∷ []) h.other (o, tt)));
         alone = (refl, subst AreAlone (sym both) (every-append IsAlone (bare inside) (exit ∷ []) h.alone (refl, tt)));
+        celless = (c, subst (AreOther is_cell) (sym both) (every-append (λ (e : Event). is_cell e.name ≡ false) (bare inside) (exit ∷ []) h.celless (c, tt)));
         plain = (refl, every-append (λ (m : Mark). m.1 ≡ None) inside ((exit, None) ∷ []) h.plain (refl, tt));
       }
 
   pub inner-kept : IsKept bytes Inner
-  inner-kept = kept inner-none inner-both (λ n seats inside f h. inner-span n seats inside (free-other n f) h)
+  inner-kept = kept inner-none inner-both (λ n seats inside f h. inner-span n seats inside (free-other n (name-free n f)) (name-apart n f) h)
 
   -- ---- marks with definitions, in which these are
   pub record Found (ms : List Mark) (uss : List (List Event)) : Type 0 where
@@ -117,10 +123,11 @@ module _ (bytes : List ℕ) where
     pub gives : Gives ms events
     pub spans : Spans events uss
     pub alone : AreAlone events
+    pub celless : AreOther is_cell events
     pub quiet : AllByRecursion (λ (us : List Event). is_quiet us ≡ true) uss
 
   found-none : (ms : List Mark) → Lacks ms → Found ms []
-  found-none ms h = record { events = []; gives = h.gives; spans = refl; alone = tt; quiet = tt }
+  found-none ms h = record { events = []; gives = h.gives; spans = refl; alone = tt; celless = tt; quiet = tt }
 
   found-both : (xs ys : List Mark) (uss vss : List (List Event)) → Found xs uss → Found ys vss → Found (xs ++ ys) (uss ++ vss)
   found-both xs ys uss vss h k = record {
@@ -129,6 +136,7 @@ module _ (bytes : List ℕ) where
         ap (λ l. held is_definition false (chained_from i previous l)) (append_assoc xs ys us) ∙ h.gives (ys ++ us) (k.events ++ zs) (k.gives us zs m) i previous ∙ sym (append_assoc h.events k.events zs);
     spans = spans-both h.events k.events uss vss h.spans k.spans;
     alone = every-append IsAlone h.events k.events h.alone k.alone;
+    celless = every-append (λ (e : Event). is_cell e.name ≡ false) h.events k.events h.celless k.celless;
     quiet = every-append (λ (us : List Event). is_quiet us ≡ true) uss vss h.quiet k.quiet;
   }
 
@@ -157,6 +165,7 @@ module _ (bytes : List ℕ) where
           refl,
         );
         alone = (refl, every-append IsAlone (bare inside) (exit ∷ []) h.alone (refl, tt));
+        celless = (refl, every-append (λ (e : Event). is_cell e.name ≡ false) (bare inside) (exit ∷ []) h.celless (refl, tt));
         quiet = (quiet, tt);
       }
 
@@ -219,6 +228,7 @@ module _ (bytes : List ℕ) where
   inside-found part (lines false) h =
       found-none (inside_marks bytes part (lines false)) (cond_both part.first.is_blank _ _ Lacks (λ e. white-lacks _) (λ e. stretch-lacks (joined_pieces bytes (pieces_of bytes (is_held part) part.first part.more)) (of-part part)))
   inside-found part (defined ds) h = found-definitions ds (places_in bytes (all_rows part)) (h ds refl) (rows-are inner-kept (all_rows part)) (rows-are lacks-kept (all_rows part))
+  inside-found part table h = found-none (inside_marks bytes part table) (table-in-part lacks-by-all Lacks (λ ms k. k) (λ seats inside k. lacks-span name.GfmTable seats inside refl k) part)
 
   ends-lack : (part : Part) → Lacks (ending_marks bytes part)
   ends-lack part =

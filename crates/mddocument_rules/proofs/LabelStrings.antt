@@ -1,5 +1,5 @@
 -- The label of a definition is what stands between its brackets, read as strings.
-use Rattle.mddocument_rules.proofs.Prelude.{◌≡◌, ◌∙◌, ℕ, ◌+◌, ◌-◌, Bool, true, false, cond, List, [], ◌∷◌, ◌++◌, None, Option, Some, append_assoc, ap, drop, flat_map, length, map, refl, subst, sym, take, and_parts, false_from_ne_true, false≢true, ◌&&◌, IsBalanced, Constructs, Event, Enter, Exit, Name, Seat, end_after, is_enter, same_name, same_name-true, event, Definition, Mark, leaf_marks, span_marks, lines_in, rows, Part, Inside, Section, all_rows, defined, lines, sections, virtual}
+use Rattle.mddocument_rules.proofs.Prelude.{◌≡◌, ◌∙◌, ℕ, ◌+◌, ◌-◌, Bool, true, false, cond, List, [], ◌∷◌, ◌++◌, None, Option, Some, append_assoc, ap, drop, flat_map, length, map, refl, subst, sym, take, and_parts, false_from_ne_true, false≢true, ◌&&◌, IsBalanced, Constructs, Event, Enter, Exit, Name, Seat, end_after, is_enter, same_name, same_name-true, event, Definition, Mark, leaf_marks, span_marks, lines_in, rows, Part, Inside, Section, all_rows, defined, lines, table, sections, virtual}
 use Rattle.std.proofs.lemmas.List.{map-append}
 use Rattle.markdown_base.proofs.Common.{every-drop, every-take}
 use Rattle.markdown_base.specs.declared.event.Name.TheVariants as name
@@ -164,6 +164,7 @@ module _ (on : Constructs) (t : ℕ) (bytes : List ℕ) where
 
   of-section : (part : Part) (i : Inside) → IsSound part i → map label_in (parts_of_section bytes (record { part = part; inside = i })) ≡ map label_of (label_events_of_section bytes (record { part = part; inside = i }))
   of-section part (lines is_behind) h = refl
+  of-section part table h = refl
   of-section part (defined ds) h = of-definitions ds (places_in bytes (all_rows part)) (section-labelled bytes part (defined ds) h ds refl) (rows-are (inner-kept bytes) (all_rows part))
 
   of-sections : (ss : List Section) → AreSound ss → map label_in (flat_map (parts_of_section bytes) ss) ≡ map label_of (flat_map (label_events_of_section bytes) ss)

@@ -1,5 +1,5 @@
 -- The label of each definition among the events is, where labels are compared, the one that its lines define.
-use Rattle.mddocument_rules.proofs.Prelude.{◌≡◌, ◌∙◌, ℕ, suc, ◌+◌, ◌-◌, Bool, true, false, cond, is_some, List, [], ◌∷◌, ◌++◌, append-nil, Option, Some, ap, drop, flat_map, map, refl, subst, sym, take, every-back, every-front, AllByRecursion, ◌&&◌, ◌||◌, Constructs, Event, Seat, virtual, lines_in, Definition, Known, nothing_known, rows, Part, Inside, Section, all_rows, defined, lines, sections}
+use Rattle.mddocument_rules.proofs.Prelude.{◌≡◌, ◌∙◌, ℕ, suc, ◌+◌, ◌-◌, Bool, true, false, cond, is_some, List, [], ◌∷◌, ◌++◌, append-nil, Option, Some, ap, drop, flat_map, map, refl, subst, sym, take, every-back, every-front, AllByRecursion, ◌&&◌, ◌||◌, Constructs, Event, Seat, virtual, lines_in, Definition, Known, nothing_known, rows, Part, Inside, Section, all_rows, defined, lines, table, sections}
 use Rattle.std.proofs.lemmas.List.{drop-map, map-append, take-append-drop, take-map}
 use Rattle.std.specs.List.{list_any}
 use Rattle.std.specs.Prelude.{◌<◌, bytes_eq}
@@ -59,6 +59,7 @@ module _ (on : Constructs) (t : ℕ) (bytes : List ℕ) (some : 0 < t) where
   of-section : (part : Part) (i : Inside) → IsSound part i → AllByRecursion (IsRow t bytes) (all_rows part) → RowsEnd (all_rows part)
       → map said (label_events_of_section bytes (record { part = part; inside = i })) ≡ map normalised (labels_of_section (record { part = part; inside = i }))
   of-section part (lines is_behind) h rs e = refl
+  of-section part table h rs e = refl
   of-section part (defined ds) h rs e =
       let laid = places-laid t bytes some (all_rows part) rs e in
       of-definitions ds (places_in bytes (all_rows part)) (text_in (all_rows part)) laid.0 (sym (text-is bytes (all_rows part))) (section-labelled bytes part (defined ds) h ds refl) laid.1 laid.2

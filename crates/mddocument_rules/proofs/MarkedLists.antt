@@ -32,13 +32,13 @@ use Rattle.mdblock_definitions.proofs.KnownReads.{known-reads, nothing}
 use Rattle.mdblock_definitions.proofs.SectionTurns.{AreCut, document-cut}
 use Rattle.mdblock_definitions.specs.Blocks.{document_skeleton}
 use Rattle.mdblock_definitions.specs.Rows.{Known, known_after, row_of, rows, rows_from}
-use Rattle.mdblock_definitions.specs.Sections.{Section, cut, lines, sections, sections_in}
+use Rattle.mdblock_definitions.specs.Sections.{Section, cut, lines, sections}
 use Rattle.mdblock_definitions.specs.Skeleton.{all_rows}
 use Rattle.mddocument_rules.proofs.ListItems.{AreMarked, IsIn, lists-are, lists-named}
 use Rattle.mddocument_rules.proofs.MarkedSections.{AllBegin, Begins, SectionIs, SectionsAre, container_marker, deep, deep-both, list-is, marker_at, marker_in, sections-are-marked, within, within-both}
 use Rattle.mddocument_rules.proofs.Markers.{AreOfTheirLists, line-items, open-items}
 use Rattle.mddocument_rules.proofs.OpenRows.{IsBehind, behind-next, first-behind}
-use Rattle.mddocument_rules.proofs.Skeletons.{InFrames, sections-in}
+use Rattle.mddocument_rules.proofs.Skeletons.{InFrames, in_cuts, part-in}
 use Rattle.mddocument_rules.proofs.WrittenMarkers.{AreWritten, IsByte, bytes-virtual, row-written}
 use Rattle.mdblock_definitions.specs.BlankLines.{containers_in}
 use Rattle.mddocument_rules.specs.MarkerLaws.{ListsAreNamedByMarkers, ListsAreOfOneType}
@@ -239,8 +239,7 @@ module _ (rs : List Row) (bytes : List ℕ) where
   cut-fits on p h none =
       let all : AllByRecursion (RowFits p.frames) (all_rows p) = (h, every-map (λ (r : Row). has_none r.begun ≡ true) (RowFits p.frames) (λ r e. inl e) p.more none) in
       sections-fit p.frames (cut on p)
-      (cond_both p.first.is_blank (record { part = p; inside = lines false } ∷ []) (sections_in on (suc (length p.more)) false p (p.first ∷ p.more)) (AllByRecursion (InFrames p.frames)) (λ e. (refl, tt))
-      (λ e. sections-in p.frames on (suc (length p.more)) false p (p.first ∷ p.more) refl))
+      (cond_both p.first.is_blank (record { part = p; inside = lines false } ∷ []) (in_cuts on p) (AllByRecursion (InFrames p.frames)) (λ e. (refl, tt)) (λ e. part-in p.frames on p refl))
       (subst (AllByRecursion (RowFits p.frames)) (sym (part-lines on p)) all)
 
   all-fit : (on : Constructs) (fs : List Frame) (ps : List Part) → AreTurned fs ps → AllByRecursion (λ (p : Part). RowFits p.frames p.first) ps → AllByRecursion SectionFits (flat_map (cut on) ps)

@@ -24,10 +24,10 @@ use Rattle.mdblock_containers.specs.declared.lists.Marker.{Marker}
 use Rattle.mdblock_containers.specs.Lists.{item_names, list_names}
 use Rattle.mdblock_containers.specs.Rows.{Row, has_none, rest_of}
 use Rattle.mdblock_containers.specs.Skeleton.{Part, Piece, begun_marks, chained_from, chunks_of, ending_marks, is_held, joined_pieces, last_line, pieces_of, prefixes_marks}
-use Rattle.mdblock_definitions.specs.Sections.{Inside, defined, lines}
+use Rattle.mdblock_definitions.specs.Sections.{Inside, defined, lines, table}
 use Rattle.mdblock_definitions.specs.Skeleton.{all_rows, inside_marks}
 use Rattle.mddocument.proofs.Walks.SkeletonWalk.{PieceIs, stretch-is}
-use Rattle.mddocument_rules.proofs.Definitions.{IsKept, begins-are, defined-in-rows, kept, prefixes-are}
+use Rattle.mddocument_rules.proofs.Definitions.{IsKept, IsKeptByAll, begins-are, defined-in-rows, kept-by-all, prefixes-are, some-kept, table-in-part}
 use Rattle.mddocument_rules.proofs.ListItems.{AreMarked}
 use Rattle.mddocument_rules.proofs.Places.{free-inside, free-parts, is_free}
 use Rattle.mddocument_rules.specs.MarkerLaws.{item_marker}
@@ -81,8 +81,11 @@ module _ (bytes : List ℕ) where
             (subst (MarksAre (None ∷ around)) (sym (append_assoc inside (exit ∷ []) ys)) (h.passes (None ∷ around) (exit ∷ ys) (λ i previous. (tt, w (suc i) previous))));
       }
 
+  plain-by-all : IsKeptByAll bytes Plain
+  plain-by-all = kept-by-all plain-none plain-both (λ n seats inside f h. plain-span n seats inside (free-plain n f) h)
+
   plain-kept : IsKept bytes Plain
-  plain-kept = kept plain-none plain-both (λ n seats inside f h. plain-span n seats inside (free-plain n f) h)
+  plain-kept = some-kept plain-by-all
 
   plain-leaf : (n : Name) (seats : List Seat) → IsPlain n → Plain (leaf_marks bytes n seats)
   plain-leaf n seats plain = plain-span n seats [] plain plain-none
@@ -124,6 +127,7 @@ module _ (bytes : List ℕ) where
   inside-plain part (lines true) = behind-plain (indent (rest_of part.first)) (joined_pieces bytes (pieces_of bytes (is_held part) part.first part.more)) (of-part part)
   inside-plain part (lines false) = cond_both part.first.is_blank _ _ Plain (λ e. white-plain _) (λ e. stretch-plain (joined_pieces bytes (pieces_of bytes (is_held part) part.first part.more)) (of-part part))
   inside-plain part (defined ds) = defined-in-rows plain-kept Plain plain-none plain-both (λ ms h. h) (λ seats inside h. plain-span name.Definition seats inside (refl, refl) h) ds (all_rows part)
+  inside-plain part table = table-in-part plain-by-all Plain (λ ms h. h) (λ seats inside h. plain-span name.GfmTable seats inside (refl, refl) h) part
 
   pub ends-plain : (part : Part) → Plain (ending_marks bytes part)
   ends-plain part =

@@ -2,7 +2,7 @@
 use Rattle.mddocument_rules.proofs.Prelude.{◌≡◌, ℕ, suc, ◌+◌, true, List, [], ◌∷◌, ◌++◌, Some, None, Option, append-nil, append_assoc, refl, sym, subst, flat_map, Content, Event, Exit, Name, Seat, end_after, content_of, event, Chunk, Mark, chunk_span, leaf_marks, linked_from, span_marks, chained_from, holds_blocks}
 use Rattle.markdown_base.specs.declared.event.Content.TheVariants as content
 use Rattle.markdown_base.specs.declared.event.Name.TheVariants as name
-use Rattle.mddocument_rules.proofs.Definitions.{IsKept, kept}
+use Rattle.mddocument_rules.proofs.Definitions.{IsKept, IsKeptByAll, kept-by-all, some-kept}
 use Rattle.mddocument_rules.proofs.Places.{NotInList, Stands, StandsAs, blocks-apart, free-inside, free-may, is_free}
 use Rattle.mddocument_rules.proofs.Walk.{IfEnter, Walks, behind_one}
 
@@ -81,8 +81,11 @@ module _ (bytes : List ℕ) where
   pub free-span : (n : Name) (seats : List Seat) (inside : List Mark) → is_free n ≡ true → Free inside → Free (span_marks bytes n seats inside)
   free-span n seats inside f h = record { passes = λ around ok. span-passes around n seats inside (free-may around n f ok, tt) (h.passes (n ∷ around) (free-inside n f)) (λ e. h.passes around ok) }
 
+  pub free-by-all : IsKeptByAll bytes Free
+  free-by-all = kept-by-all free-none free-both free-span
+
   pub free-kept : IsKept bytes Free
-  free-kept = kept free-none free-both free-span
+  free-kept = some-kept free-by-all
 
   pub free-leaf : (n : Name) (seats : List Seat) → is_free n ≡ true → Free (leaf_marks bytes n seats)
   free-leaf n seats f = free-span n seats [] f free-none

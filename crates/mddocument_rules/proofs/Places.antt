@@ -43,7 +43,7 @@ blocks-apart (n ∷ around) h = by-wanted (λ m. is_wanted list_names m ≡ fals
 
 pub texts-apart : (around : List Name) → is_in text_names around ≡ true → NotInList around
 texts-apart [] h = refl
-texts-apart (n ∷ around) h = by-wanted (λ m. is_wanted list_names m ≡ false) text_names n (refl, (refl, (refl, (refl, (refl, (refl, (refl, tt))))))) h
+texts-apart (n ∷ around) h = by-wanted (λ m. is_wanted list_names m ≡ false) text_names n (refl, (refl, (refl, (refl, (refl, (refl, (refl, (refl, tt)))))))) h
 
 -- ---- what may stand where
 abbrev pub ChunkFits : List Name → Option Content → Type 0

@@ -36,7 +36,7 @@ pub use Rattle.mdblock_containers.specs.Rows.{Row, has_none, nothing_known, rest
 pub use Rattle.mdblock_containers.specs.Skeleton.{Frame, Part, Piece, begin_of, begun_all, begun_marks, chained_from, chunks_of, end_of, ending_marks, enters_of, exits, frames_at, frames_of, further, going_marks, going_on_at, inside_of, is_held, joined_pieces, last_line, list_at, list_begun, list_name, next_chunk, parts, parts_in, pieces_of, prefixes_marks, shared, standing}
 pub use Rattle.mdblock_definitions.specs.Blocks.{document_skeleton}
 pub use Rattle.mdblock_definitions.specs.Rows.{Known, known_after, row_of, rows, rows_from}
-pub use Rattle.mdblock_definitions.specs.Sections.{Inside, Section, before_defined, begins_text, cut, defined, defined_in, defining, in_same, lines, paragraph_of, sections, sections_in, sections_of, text_in, undefined}
+pub use Rattle.mdblock_definitions.specs.Sections.{Inside, Section, before_defined, begins_text, cut, defined, defined_in, defining, in_same, lines, paragraph_of, sections, sections_in, sections_of, sections_of_cut, table, tabled, text_in, undefined}
 pub use Rattle.mdblock_definitions.specs.Skeleton.{all_rows, behind_marks, inside_marks, section_marks, sections_marks}
 pub use Rattle.mdblock_text_lines.proofs.BlocksAreThose.{blocks-are-those}
 pub use Rattle.mdblock_text_lines.specs.DocumentBlocks.{document_blocks}

@@ -1,11 +1,11 @@
 -- What stands between the chunks of a skeleton is between the lines of its sections: the prefixes of lines.
-use Rattle.mddocument_rules.proofs.Prelude.{◌≡◌, ◌∙◌, ◌==◌, ℕ, Bool, true, false, cond, not, List, [], ◌∷◌, ◌++◌, Some, None, append-nil, append_assoc, drop, every-back, every-front, length, map, refl, reverse, sym, ap, subst, take, cond_both, false≢true, not-true, AllByRecursion, flat_map, Event, Exit, Point, Seat, ending_of, event, Chunk, Mark, chunk_span, leaf_marks, white, indent, Container, Prefix, item, quote, Row, has_none, rest_of, Frame, Part, Piece, begin_of, begun_all, chunks_of, end_of, ending_marks, enters_of, is_held, joined_pieces, last_line, pieces_of, prefixes_marks, shared, Inside, Section, defined, lines, all_rows, behind_marks, inside_marks, section_marks, sections_marks, PieceIs, stretch-is}
+use Rattle.mddocument_rules.proofs.Prelude.{◌≡◌, ◌∙◌, ◌==◌, ℕ, Bool, true, false, cond, not, List, [], ◌∷◌, ◌++◌, Some, None, append-nil, append_assoc, drop, every-back, every-front, length, map, refl, reverse, sym, ap, subst, take, cond_both, false≢true, not-true, AllByRecursion, flat_map, Event, Exit, Point, Seat, ending_of, event, Chunk, Mark, chunk_span, leaf_marks, white, indent, Container, Prefix, item, quote, Row, has_none, rest_of, Frame, Part, Piece, begin_of, begun_all, chunks_of, end_of, ending_marks, enters_of, is_held, joined_pieces, last_line, pieces_of, prefixes_marks, shared, Inside, Section, defined, lines, table, all_rows, behind_marks, inside_marks, section_marks, sections_marks, PieceIs, stretch-is}
 use Rattle.markdown_base.specs.declared.event.Content.TheVariants as content
 use Rattle.markdown_base.specs.declared.event.Name.TheVariants as name
 use Rattle.mdblock_containers.specs.Prefixes.{columns_of}
 use Rattle.mdblock_definitions.proofs.Covered.{rows_of}
-use Rattle.mddocument_rules.proofs.Definitions.{begins-are, defined-in-rows, prefixes-are}
-use Rattle.mddocument_rules.proofs.Gaps.{Apart, BetweenChunks, Gapped, apart-both, apart-kept, apart-mark, apart-none, apart-span, between-none, chunk-gapped}
+use Rattle.mddocument_rules.proofs.Definitions.{begins-are, defined-in-rows, prefixes-are, table-in-part}
+use Rattle.mddocument_rules.proofs.Gaps.{Apart, BetweenChunks, Gapped, apart-both, apart-by-all, apart-kept, apart-mark, apart-none, apart-span, between-none, chunk-gapped}
 
 -- What is so of an event, by those behind it: of the exits of chunks, and of the events of prefixes of such lines
 module _ (bytes : List ℕ) (Ok : Event → List Event → Type 0) (exits_are : (p : Point) (es : List Event) → Ok (event bytes Exit name.Data p) es)
@@ -64,6 +64,7 @@ module _ (bytes : List ℕ) (Ok : Event → List Event → Type 0) (exits_are : 
   inside-apart part (lines false) h = cond_both part.first.is_blank _ _ (Apart Ok) (λ e. white-apart _) (λ e. stretch-apart (joined_pieces bytes (pieces_of bytes (is_held part) part.first part.more)) (of-part part h))
   inside-apart part (defined ds) h =
       defined-in-rows (apart-kept Ok bytes) (Apart Ok) (apart-none Ok) (apart-both Ok) (λ ms h. h) (λ seats inside h. apart-span Ok bytes name.Definition seats inside h) ds (all_rows part)
+  inside-apart part table h = table-in-part (apart-by-all Ok bytes) (Apart Ok) (λ ms h. h) (λ seats inside h. apart-span Ok bytes name.GfmTable seats inside h) part
 
   -- ---- sections
   enters-apart : (c : Container) (place : Point) → Apart Ok (enters_of bytes c place)

@@ -1,12 +1,12 @@
 -- The skeleton of a document: its containers, its definitions and its chunks stand where they may.
-use Rattle.mddocument_rules.proofs.Prelude.{◌≡◌, ◌∙◌, ◌⊎◌, ℕ, Bool, true, false, cond, not, List, [], ◌∷◌, ◌++◌, Some, append-nil, append_assoc, drop, inl, inr, length, refl, sym, ap, subst, take, cond_both, or_right, AllByRecursion, flat_map, Seat, ending_of, line_text, Chunk, Mark, chunk_span, leaf_marks, span_marks, white, indent, Turn, all_entered, Row, has_none, rest_of, Frame, Part, Piece, begun_all, chunks_of, end_of, ending_marks, exits, inside_of, is_held, joined_pieces, last_line, pieces_of, prefixes_marks, shared, Inside, Section, defined, lines, all_rows, behind_marks, inside_marks, section_marks, sections_marks, every-all, PieceIs, stretch-is, holds_blocks, is_in, may_stand, list_names}
+use Rattle.mddocument_rules.proofs.Prelude.{◌≡◌, ◌∙◌, ◌⊎◌, ℕ, Bool, true, false, cond, not, List, [], ◌∷◌, ◌++◌, Some, append-nil, append_assoc, drop, inl, inr, length, refl, sym, ap, subst, take, cond_both, or_right, AllByRecursion, flat_map, Seat, ending_of, line_text, Chunk, Mark, chunk_span, leaf_marks, span_marks, white, indent, Turn, all_entered, Row, has_none, rest_of, Frame, Part, Piece, begun_all, chunks_of, end_of, ending_marks, exits, inside_of, is_held, joined_pieces, last_line, pieces_of, prefixes_marks, shared, Inside, Section, defined, lines, table, all_rows, behind_marks, inside_marks, section_marks, sections_marks, every-all, PieceIs, stretch-is, holds_blocks, is_in, may_stand, list_names}
 use Rattle.std.proofs.Math.Seq.{drop-append_seam}
 use Rattle.markdown_base.specs.declared.event.Content.TheVariants as content
 use Rattle.markdown_base.specs.declared.event.Name.TheVariants as name
 use Rattle.mdblock_containers.specs.Prefixes.{columns_of}
-use Rattle.mddocument_rules.proofs.Definitions.{defined-in-rows}
+use Rattle.mddocument_rules.proofs.Definitions.{defined-in-rows, table-in-part}
 use Rattle.mddocument_rules.proofs.Frames.{Anywhere, Stacked, anywhere-free, anywhere-none, begun-stand, between-leaf, exits-stand, prefixes-pass, spaces, stacked-behind, within, within-both}
-use Rattle.mddocument_rules.proofs.Passes.{free-kept, AsBlocks, Free, MarksStand, Passes, blocks-both, blocks-none, chunk-passes, free-as-blocks, passes-both, span-passes}
+use Rattle.mddocument_rules.proofs.Passes.{free-by-all, free-kept, AsBlocks, Free, MarksStand, Passes, blocks-both, blocks-none, chunk-passes, free-as-blocks, passes-both, span-passes}
 use Rattle.mddocument_rules.proofs.Places.{blocks-apart, free-may}
 
 module _ (bytes : List ℕ) where
@@ -47,6 +47,9 @@ module _ (bytes : List ℕ) where
   definition-blocks : (seats : List Seat) (inside : List Mark) → Free inside → AsBlocks (span_marks bytes name.Definition seats inside)
   definition-blocks seats inside h = record { passes = λ around b. span-passes bytes around name.Definition seats inside (b, tt) (h.passes (name.Definition ∷ around) refl) (λ e. h.passes around (blocks-apart around b)) }
 
+  table-blocks : (seats : List Seat) (inside : List Mark) → Free inside → AsBlocks (span_marks bytes name.GfmTable seats inside)
+  table-blocks seats inside h = record { passes = λ around b. span-passes bytes around name.GfmTable seats inside (b, tt) (h.passes (name.GfmTable ∷ around) refl) (λ e. h.passes around (blocks-apart around b)) }
+
   -- a blank line stands anywhere; other sections where blocks may
   abbrev pub IsRoomy : Section → Type 0
   IsRoomy s = ((s.inside ≡ lines false) × (s.part.first.is_blank ≡ true)) ⊎ (holds_blocks (within [] s.part.frames) ≡ true)
@@ -64,6 +67,7 @@ module _ (bytes : List ℕ) where
   inside-blocks part (lines true) = behind-blocks (indent (rest_of part.first)) (joined_pieces bytes (pieces_of bytes (is_held part) part.first part.more)) (of-part part)
   inside-blocks part (lines false) = lines-blocks part
   inside-blocks part (defined ds) = defined-in-rows (free-kept bytes) AsBlocks blocks-none blocks-both free-as-blocks definition-blocks ds (all_rows part)
+  inside-blocks part table = table-in-part (free-by-all bytes) AsBlocks free-as-blocks table-blocks part
 
   inside-passes : (s : Section) → IsRoomy s → Passes (within [] s.part.frames) (inside_marks bytes s.part s.inside)
   inside-passes s h = elim h [

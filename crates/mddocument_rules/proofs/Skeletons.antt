@@ -1,6 +1,8 @@
 -- The sections of a document stand in the spans of containers around them; so its skeleton stands.
-use Rattle.mddocument_rules.proofs.Prelude.{◌≡◌, ◌∙◌, ℕ, zero, suc, Bool, true, false, cond, List, [], ◌∷◌, ◌++◌, None, drop, inl, inr, length, map, refl, sym, subst, take, cond_both, false_from_ne_true, false≢true, AllByRecursion, flat_map, ◌&&◌, every-append, every-drop, Constructs, virtual, Given, lines_in, Definition, Line, left_is, Row, nothing_known, Frame, Part, further, parts, parts_in, document_skeleton, Known, known_after, row_of, rows, rows_from, Section, before_defined, begins_text, cut, defined_in, defining, in_same, lines, paragraph_of, sections, sections_in, sections_of, text_in, undefined, sections_marks, holds_blocks, SkeletonsStand}
+use Rattle.mddocument_rules.proofs.Prelude.{◌≡◌, ◌∙◌, ℕ, zero, suc, Bool, true, false, cond, List, [], ◌∷◌, ◌++◌, None, drop, inl, inr, length, map, refl, sym, subst, take, cond_both, false_from_ne_true, false≢true, AllByRecursion, flat_map, ◌&&◌, every-append, every-drop, Constructs, virtual, Given, lines_in, Definition, Line, left_is, Row, nothing_known, Frame, Part, further, parts, parts_in, document_skeleton, Known, known_after, row_of, rows, rows_from, Section, before_defined, begins_text, cut, defined_in, defining, in_same, lines, paragraph_of, sections, sections_in, sections_of, sections_of_cut, tabled, text_in, undefined, sections_marks, holds_blocks, SkeletonsStand}
 use Rattle.mdblock_definitions.specs.BlankLines as blank_lines
+use Rattle.mdblock_definitions.specs.Sections.{is_in_table}
+use Rattle.mdblock_table_marks.specs.TableCuts.{Cut, cut_at_tables}
 use Rattle.mdinline_labels.specs.Definitions.{definitions}
 use Rattle.mdblock_containers.proofs.SeatFacts.{document_lines}
 use Rattle.mdblock_definitions.proofs.SectionTurns.{AreCut, document-cut}
@@ -48,7 +50,7 @@ module _ (fs : List Frame) where
   defining-in ds around [] e = tt
   defining-in ds around (row ∷ more) e = (e, tt)
 
-  pub sections-in : (on : Constructs) (bound : ℕ) (is_behind : Bool) (around : Part) (all : List Row) → around.frames ≡ fs → AllByRecursion InFrames (sections_in on bound is_behind around all)
+  sections-in : (on : Constructs) (bound : ℕ) (is_behind : Bool) (around : Part) (all : List Row) → around.frames ≡ fs → AllByRecursion InFrames (sections_in on bound is_behind around all)
   sections-in on zero is_behind around all e = tt
   sections-in on (suc bound) is_behind around [] e = tt
   sections-in on (suc bound) is_behind around (row ∷ more) e =
@@ -60,14 +62,35 @@ module _ (fs : List Frame) where
       every-append InFrames (undefined is_behind around (take n all)) (defining ds around (take d behind) ++ sections_in on bound true around (drop d behind)) (of-parts-in (is_behind && begins_text (take n all)) around (blank_lines.parts (take n all)) e)
       (every-append InFrames (defining ds around (take d behind)) (sections_in on bound true around (drop d behind)) (defining-in ds around (take d behind) e) (sections-in on bound true around (drop d behind) e))
 
+-- the sections of a part that is not blank
+abbrev pub in_cuts : Constructs → Part → List Section
+in_cuts on p = flat_map (sections_of_cut on p) (cut_at_tables is_in_table (suc (length p.more)) (p.first ∷ p.more))
+
+module _ (fs : List Frame) (on : Constructs) where
+  tabled-in : (around : Part) (all : List Row) → around.frames ≡ fs → AllByRecursion (InFrames fs) (tabled around all)
+  tabled-in around [] e = tt
+  tabled-in around (row ∷ more) e = (e, tt)
+
+  of-cut-in : (around : Part) (c : Cut) → around.frames ≡ fs → AllByRecursion (InFrames fs) (sections_of_cut on around c)
+  of-cut-in around c e =
+      cond_both c.is_table (tabled around c.rows) (sections_in on (length c.rows) false around c.rows) (AllByRecursion (InFrames fs)) (λ b. tabled-in around c.rows e)
+      (λ b. sections-in fs on (length c.rows) false around c.rows e)
+
+  cuts-in : (around : Part) (cs : List Cut) → around.frames ≡ fs → AllByRecursion (InFrames fs) (flat_map (sections_of_cut on around) cs)
+  cuts-in around [] e = tt
+  cuts-in around (c ∷ cs) e = every-append (InFrames fs) (sections_of_cut on around c) (flat_map (sections_of_cut on around) cs) (of-cut-in around c e) (cuts-in around cs e)
+
+  pub part-in : (p : Part) → p.frames ≡ fs → AllByRecursion (InFrames fs) (in_cuts on p)
+  part-in p e = cuts-in p (cut_at_tables is_in_table (suc (length p.more)) (p.first ∷ p.more)) e
+
 in-frames-stand : (bytes : List ℕ) (fs : List Frame) → Stacked [] fs → holds_blocks (within [] fs) ≡ true → (ss : List Section) → AllByRecursion (InFrames fs) ss → AllByRecursion (SectionStands bytes) ss
 in-frames-stand bytes fs k r [] h = tt
 in-frames-stand bytes fs k r (s ∷ ss) h = ((subst (Stacked []) (sym h.0) k, inr (subst (λ (l : List Frame). holds_blocks (within [] l) ≡ true) (sym h.0) r)), in-frames-stand bytes fs k r ss h.1)
 
 cut-stands : (bytes : List ℕ) (on : Constructs) (p : Part) → PartStands p → AllByRecursion (SectionStands bytes) (cut on p)
 cut-stands bytes on p h =
-    cond_both p.first.is_blank (record { part = p; inside = lines false } ∷ []) (sections_in on (suc (length p.more)) false p (p.first ∷ p.more)) (AllByRecursion (SectionStands bytes)) (λ e. ((h.stacked, inl (refl, e)), tt))
-    (λ e. in-frames-stand bytes p.frames h.stacked (h.roomy e) (sections_in on (suc (length p.more)) false p (p.first ∷ p.more)) (sections-in p.frames on (suc (length p.more)) false p (p.first ∷ p.more) refl))
+    cond_both p.first.is_blank (record { part = p; inside = lines false } ∷ []) (in_cuts on p) (AllByRecursion (SectionStands bytes)) (λ e. ((h.stacked, inl (refl, e)), tt))
+    (λ e. in-frames-stand bytes p.frames h.stacked (h.roomy e) (in_cuts on p) (part-in p.frames on p refl))
 
 all-cut-stand : (bytes : List ℕ) (on : Constructs) (ps : List Part) → AllByRecursion PartStands ps → AllByRecursion (SectionStands bytes) (flat_map (cut on) ps)
 all-cut-stand bytes on [] h = tt

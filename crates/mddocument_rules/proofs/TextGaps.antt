@@ -18,10 +18,15 @@ use Rattle.mdblock_leaf_blocks.proofs.Marks.ChunksJoin.{blocks-meet}
 use Rattle.mdblock_leaf_blocks.specs.ChunksJoin.{AcrossGap, ChunksMeet}
 use Rattle.mddocument.proofs.Emphasis.Pairs.{Opens, Shut}
 use Rattle.mddocument.proofs.Emphasis.Runs.{balanced-opens, balanced-shut}
-use Rattle.mddocument.proofs.InContainers.Skeletons.{skeleton-laws}
+use Rattle.mdblock_definitions.proofs.SectionsReady.{skeletons-are-ready, skeletons-have-one-content}
+use Rattle.mdblock_table_marks.specs.Cells.{celled, enters_cell}
+use Rattle.mdblock_text_lines.specs.DocumentBlocks.{document_leaf_blocks}
+use Rattle.mdinline_text_machine.specs.ChainTexts.{chain_text}
+use Rattle.mddocument.proofs.InContainers.CellsKeep.{with-cells-by}
+use Rattle.mddocument.proofs.InContainers.Skeletons.{skeleton-laws, skeleton_chains}
 use Rattle.mddocument.proofs.InContainers.TextsFormed.{content-ready}
 use Rattle.mddocument.proofs.InContainers.Tight.{all-start, each-leaf}
-use Rattle.mddocument.proofs.InContainers.Blocks.{blocks_at, shown}
+use Rattle.mddocument.proofs.InContainers.Blocks.{blocks_at, shown, starts-are, texts-are}
 use Rattle.mdinline_labels.specs.Labels.{is_label_white}
 use Rattle.mdinline_text_machine.proofs.Paragraphs.ChainEvents.{is-content}
 use Rattle.mddocument_link_targets.specs.Strings.{as_written}
@@ -121,6 +126,23 @@ module _ (bytes : List ℕ) where
       same : (us : List Tagged) → GivesWhite bytes u.event (untagged us) → GivesWhite bytes (relinked (placed_end ts u.identity) u.event) (placed_in ts us)
       same [] h = tt
       same (x ∷ us) h = h
+
+  -- ---- where texts of cells come to be chains
+  fewer : (o : Option Bool) (w v : Bool) → (v ≡ true → w ≡ true) → (is_asked o v ≡ true → is_asked o w ≡ true) × (waits_behind o v ≡ true → waits_behind o w ≡ true)
+  fewer None w v h = (h, h)
+  fewer (Some next) w v h = ((λ e. e), (λ e. e))
+
+  celled-spaced : (b : Bool) (es : List Event) (w v : Bool) → (v ≡ true → w ≡ true) → Spaced w es → Spaced v (celled b es)
+  celled-spaced b [] w v h s = tt
+  celled-spaced true (e ∷ es) w v h s = ((λ asked. absurd (false≢true asked)), celled-spaced (enters_cell e) es (waits_behind (begins_text e) w) false (λ f. absurd (false≢true f)) s.1)
+  celled-spaced false (e ∷ es) w v h s =
+      let less = fewer (begins_text e) w v h in
+      ((λ asked. white (enters_cell e) es (s.0 (less.0 asked))), celled-spaced (enters_cell e) es (waits_behind (begins_text e) w) (waits_behind (begins_text e) v) less.1 s.1)
+    where
+      white : (b : Bool) (es : List Event) → GivesWhite bytes e es → GivesWhite bytes e (celled b es)
+      white b [] k = k
+      white true (f ∷ es) k = k
+      white false (f ∷ es) k = k
 
 -- ---- contents and ends of links
 text-content : (c : Content) (next : Option ℕ) (b : Bool) → text_next c next ≡ Some b → c ≡ content.Text
@@ -264,10 +286,10 @@ module _ (g : Given) (is : IsDocument g) where
   of_content = Some content.Content
 
   bare-ready : IsReady g.tab g.bytes of_content sk
-  bare-ready = skeleton-laws.ready g is
+  bare-ready = skeletons-are-ready g is of_content
 
   others : AreOthers sk
-  others = all-other sk (skeleton-laws.of_content g is)
+  others = all-other sk (skeletons-have-one-content g is)
 
   some-others : (i k : ℕ) → AreOthers (between i k sk)
   some-others i k = every-take (λ (e : Event). begins_text e ≡ None) (k - i) (drop i sk) (every-drop (λ (e : Event). begins_text e ≡ None) i sk others)
@@ -302,20 +324,29 @@ module _ (g : Given) (is : IsDocument g) where
       let behind : Spaced g.bytes false (p ++ rest) = direct-before g.bytes false p (joined ps) rest direct (λ w k. through c (0 + length p) c ks more ps ws w fit lead (omega (arith, e)) sp.1 keeps k) in
       subst (Spaced g.bytes false) (sym (part_after sk c 0 i c ks p ps ws sp.0)) (others-before g.bytes first (p ++ rest) (some-others i c) behind)
 
-  each-direct : AllByRecursion (Direct false) (map (blocks_at skeleton-laws g is) (fitting_starts of_content sk))
+  -- the leaf blocks of its chains, whether the texts of cells are chains or not
+  abbrev leaf_at : ℕ → List Event
+  leaf_at c = let s = shown skeleton-laws g is in flow_events g.options.constructs s.bytes (chain_text s sk c).seats
+
+  same-leaves : (cs : List ℕ) → map (blocks_at skeleton-laws g is) cs ≡ map leaf_at cs
+  same-leaves [] = refl
+  same-leaves (c ∷ cs) = λ i. flow_events g.options.constructs (shown skeleton-laws g is).bytes (texts-are skeleton-laws g is (shown skeleton-laws g is) c i).seats ∷ same-leaves cs i
+
+  each-direct : AllByRecursion (Direct false) (map leaf_at (fitting_starts of_content sk))
   each-direct =
-      each-leaf skeleton-laws g is (Direct false)
+      subst (AllByRecursion (Direct false)) (same-leaves (fitting_starts of_content (skeleton_chains g)) ∙ ap (map leaf_at) (starts-are skeleton-laws g is))
+      (each-leaf skeleton-laws g is (Direct false)
       (λ text one.
       let s = shown skeleton-laws g is in
       let es = flow_events g.options.constructs s.bytes text.seats in
       let meets = blocks-meet s text one in
       direct-from es (flow-chunks es meets (blocks-are-formed.blocks s text one).void_tight) (λ k d next. let m = meets.next k d next in (m.is, m.content)) 0 es refl)
-      (fitting_starts of_content sk) (all-start skeleton-laws g is)
+      (fitting_starts of_content (skeleton_chains g)) (all-start skeleton-laws g is))
 
-  blocks-spaced : Spaced g.bytes false (document_blocks g)
-  blocks-spaced =
+  leaf-blocks-spaced : Spaced g.bytes false (document_leaf_blocks g)
+  leaf-blocks-spaced =
       let n = length sk in
-      let children = map (blocks_at skeleton-laws g is) (fitting_starts of_content sk) in
+      let children = map leaf_at (fitting_starts of_content sk) in
       let ws : List Change = child_changes of_content sk children in
       let kept : Keeps ws 0 =
       with_children_holds g.tab g.bytes of_content sk bare-ready Keeps (Direct false) (λ ks ps. Unit {0}) last-keeps one-chain children each-direct (every-all (λ (d : Divided). Unit {0}) (λ d. tt) (divided_over sk (fitting_starts of_content sk) children)) in
@@ -324,6 +355,9 @@ module _ (g : Given) (is : IsDocument g) where
       let ts = woven ws 0 sk in
       subst (Spaced g.bytes false) (sym (blocks-are-those g is))
       (spaced-placed g.bytes ts ts false false (λ e. e) (subst (λ (us : List Tagged). Spaced g.bytes false (untagged us)) (sym (woven-pass ws 0 sk apart)) kept))
+
+  blocks-spaced : Spaced g.bytes false (document_blocks g)
+  blocks-spaced = with-cells-by (Spaced g.bytes false) g.options.constructs (document_leaf_blocks g) (celled-spaced g.bytes false (document_leaf_blocks g) false false (λ e. e) leaf-blocks-spaced) leaf-blocks-spaced
 
   -- ---- between two chunks of a text
   abbrev blocks : List Event

@@ -13,7 +13,7 @@ pub texts-tight : (around : List Name) → is_in text_names around ≡ true → 
 texts-tight [] h = absurd (false≢true h)
 texts-tight (n ∷ around) h =
     by-wanted (λ m. (is_wanted list_names m ≡ false) × (is_wanted (name.BlockQuote ∷ name.ListItem ∷ []) m ≡ false)) text_names n
-    ((refl, refl), ((refl, refl), ((refl, refl), ((refl, refl), ((refl, refl), ((refl, refl), ((refl, refl), tt))))))) h
+    ((refl, refl), ((refl, refl), ((refl, refl), ((refl, refl), ((refl, refl), ((refl, refl), ((refl, refl), ((refl, refl), tt)))))))) h
 
 -- ---- what stands there
 -- it is no item, and no block

@@ -10,7 +10,7 @@ use Rattle.markdown_children.specs.Chains.{begins}
 use Rattle.mdblock_leaf_blocks.specs.LeafEvents.{Mark}
 use Rattle.mdblock_definitions.specs.Blocks.{labels_of}
 use Rattle.mdblock_definitions.specs.Definitions.{Place, before_prefixes, line_marks, parts_marks, places_in, string_lines}
-use Rattle.mdblock_definitions.specs.Sections.{Section, defined, lines}
+use Rattle.mdblock_definitions.specs.Sections.{Section, defined, lines, table}
 use Rattle.mdblock_definitions.specs.Skeleton.{all_rows, sections_in_seats}
 use Rattle.mdinline_emphasis.specs.Runs.{runs_in}
 use Rattle.mdinline_labels.specs.declared.definitions.Definition.{Definition}
@@ -45,6 +45,7 @@ abbrev pub parts_of_section : (bytes : List ℕ) → Section → List (List Even
 parts_of_section bytes s = elim s.inside [
   | lines is_behind ↦ []
   | defined ds ↦ parts_of_definitions bytes ds (places_in bytes (all_rows s.part))
+  | table ↦ []
 ]
 
 -- The definitions of a document are those of its sections, in their order: in each is its label, its destination and its title, with their strings read
@@ -64,6 +65,7 @@ abbrev pub label_events_of_section : (bytes : List ℕ) → Section → List (Li
 label_events_of_section bytes s = elim s.inside [
   | lines is_behind ↦ []
   | defined ds ↦ labels_of_definitions bytes ds (places_in bytes (all_rows s.part))
+  | table ↦ []
 ]
 
 -- The label of each of them is what stands between the brackets of a definition of the sections, with its data read as strings

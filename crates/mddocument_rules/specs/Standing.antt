@@ -22,12 +22,12 @@ abbrev pub is_top : (around : List Name) → Bool
 is_top [] = true
 is_top (n ∷ around) = false
 
--- what is inline text alone (6), with strikethrough (GFM, 6.5); and the spans in which it stands
+-- what is inline text alone (6), with strikethrough (GFM, 6.5); and the spans in which it stands, with those of cells (GFM, 4.10)
 abbrev pub inline_names : List Name
 inline_names = name.Autolink ∷ name.CodeText ∷ name.Emphasis ∷ name.Strong ∷ name.GfmStrikethrough ∷ name.Link ∷ name.Image ∷ name.HtmlText ∷ name.HardBreakEscape ∷ name.HardBreakTrailing ∷ []
 
 abbrev pub text_names : List Name
-text_names = name.Paragraph ∷ name.HeadingAtxText ∷ name.HeadingSetextText ∷ name.EmphasisText ∷ name.StrongText ∷ name.GfmStrikethroughText ∷ name.LabelText ∷ []
+text_names = name.Paragraph ∷ name.HeadingAtxText ∷ name.HeadingSetextText ∷ name.EmphasisText ∷ name.StrongText ∷ name.GfmStrikethroughText ∷ name.LabelText ∷ name.GfmTableCellText ∷ []
 
 -- what stands between blocks, items and lines
 abbrev pub between_names : List Name
