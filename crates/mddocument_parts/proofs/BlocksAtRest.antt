@@ -25,7 +25,7 @@ use Rattle.mdblock_definitions.proofs.PlainLetters.{letters-are-plain}
 use Rattle.mdblock_definitions.specs.Blocks.{document_blocks, document_skeleton, shown_as_text}
 use Rattle.mdblock_definitions.specs.Skeleton.{letters}
 use Rattle.mddocument.proofs.FlowTexts.Segments.{HasByte}
-use Rattle.mddocument.proofs.InContainers.Blocks.{content-ready, shown-is}
+use Rattle.mddocument.proofs.InContainers.Blocks.{shown-is, skeleton-ready}
 use Rattle.mddocument.proofs.InContainers.Skeletons.{skeleton-laws}
 use Rattle.mddocument.specs.Documents.{document}
 use Rattle.mddocument_parts.proofs.BlocksJoin.{AreWhole, behind, blocks_in, joined-blocks, lone_chunk, between_places, lone-leaves, text-lettered}
@@ -118,10 +118,10 @@ module _ (options : ParseOptions) (a b : List ℕ) (is : IsDocument (document op
   skeleton_second = document_skeleton (document options b)
 
   ready-first : IsReady t shown_first wanted skeleton_first
-  ready-first = content-ready skeleton-laws (document options a) (front-document options a b is)
+  ready-first = skeleton-ready skeleton-laws (document options a) (front-document options a b is)
 
   ready-second : IsReady t shown_second wanted skeleton_second
-  ready-second = content-ready skeleton-laws (document options b) (behind-document options a b is)
+  ready-second = skeleton-ready skeleton-laws (document options b) (behind-document options a b is)
 
   end-first : EndUpTo wanted (length a) skeleton_first
   end-first = let tab = is.tab.0 in subst (λ (n : ℕ). EndUpTo wanted n skeleton_first) size (ready-up-to t shown_first wanted skeleton_first ready-first (omega (arith, tab)))

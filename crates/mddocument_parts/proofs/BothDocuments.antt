@@ -26,11 +26,18 @@ use Rattle.mdblock_definitions.specs.Rows.{rows}
 use Rattle.mdblock_definitions.specs.Sections.{Section, lines, sections}
 use Rattle.mdblock_definitions.specs.Skeleton.{letters, letters_of_section, sections_marks, text_begin}
 use Rattle.mdblock_text_lines.proofs.BlocksAreThose.{blocks-are-those}
+use Rattle.mdblock_text_lines.specs.DocumentBlocks.{document_leaf_blocks}
+use Rattle.mdblock_table_marks.specs.Cells.{celled, with_cells}
+use Rattle.mdinline_link_strings.specs.Strings.{with_strings}
+use Rattle.mdinline_machine.specs.InlineChains.{with_inlines, with_strings as with_string_chunks}
+use Rattle.mddocument.proofs.InContainers.BlocksFormed.{blocks-well}
+use Rattle.mddocument.proofs.InContainers.Skeletons.{skeleton-laws}
 use Rattle.mddocument.specs.DocumentEvents.{is_defined_in}
 use Rattle.mddocument.specs.Documents.{document}
 use Rattle.mddocument_parts.proofs.BlocksAtRest.{blocks-apart, whole, joined-leaves, leaves, lettered_blocks, marks_of_seats, with_letter}
 use Rattle.mddocument_parts.proofs.BlocksJoin.{AreWhole, apart, chunk-whole, lone_chunk, whole-both}
 use Rattle.mddocument_parts.proofs.BothTexts.{events-both}
+use Rattle.mddocument_parts.proofs.CellsOfBoth.{cells-of-both}
 use Rattle.mddocument_parts.proofs.DocumentBytes.{document-first-line-tells}
 use Rattle.mddocument_parts.proofs.DocumentParts.{behind-document, front-document}
 use Rattle.mddocument_parts.proofs.JoinedChunks.{at-rest, first-plain, first-read, goes-behind, marks-apart, seam_chunk, seam_row, seam_rows, sections-join, DocumentPlace}
@@ -336,8 +343,9 @@ blocks-without-stretch options a b is rest off =
     let g = whole options a b is rest in
     ap (with_chains_read (Some content.Content) g (flow_events options.constructs g.bytes)) (skeleton-of-both options.constructs options.tab_size a b rest off) ∙ blocks-apart options a b is rest
 
-pub document-blocks-of-both : DocumentBlocksOfBoth
-document-blocks-of-both options a b is rest =
+-- the leaf blocks of the whole are those of its parts
+leaf-blocks-of-both : (options : ParseOptions) (a b : List ℕ) → IsDocument (document options (a ++ b)) → is_rest options a b ≡ true → IsOfBoth (λ bytes. document_leaf_blocks (document options bytes)) a b
+leaf-blocks-of-both options a b is rest =
     let first = sym (blocks-are-those (document options a) (front-document options a b is)) in
     let second = sym (blocks-are-those (document options b) (behind-document options a b is)) in
     blocks-are-those (document options (a ++ b)) is
@@ -348,11 +356,29 @@ document-blocks-of-both options a b is rest =
     by true e = blocks-with-stretch options a b is rest e
     by false e = blocks-without-stretch options a b is rest e
 
+-- and so are its blocks, with the texts of cells
+pub document-blocks-of-both : DocumentBlocksOfBoth
+document-blocks-of-both options a b is rest =
+    let first = document_leaf_blocks (document options a) in
+    let second = document_leaf_blocks (document options b) in
+    ap (with_cells options.constructs) (leaf-blocks-of-both options a b is rest)
+    ∙ cells-of-both options.constructs (line_endings a) (length a) first second (blocks-well skeleton-laws (document options a) (front-document options a b is)).balanced
+
 pub document-events-of-both : DocumentEventsOfBoth
 document-events-of-both defined options a b is rest = events-both defined options a b is (rest-begins options a b rest) (document-blocks-of-both options a b is rest)
+
+-- no bytes have no events
+no-events : (defined : List ℕ → Bool) (options : ParseOptions) → events_by options defined [] ≡ []
+no-events defined options =
+    let g = document options [] in
+    ap (λ (blocks : List Event). with_strings options.constructs options.tab_size [] (with_string_chunks g (with_inlines defined g blocks))) (by options.constructs.gfm_table)
+  where
+    by : (b : Bool) → let leaf_blocks = document_leaf_blocks (document options []) in cond b (celled false leaf_blocks) leaf_blocks ≡ []
+    by true = refl
+    by false = refl
 
 pub document-sections-give-events : DocumentSectionsGiveEvents
 document-sections-give-events options sections is h =
     let defined = is_defined_in (document options (document_of sections)) in
     sym (give (is_rest options) (rest-begins options) (document-first-line-tells options.constructs options.tab_size) (λ bytes. IsDocument (document options bytes)) (λ a b ok. behind-document options a b ok)
-    (events_by options defined) refl (document-events-of-both defined options) sections is h)
+    (events_by options defined) (no-events defined options) (document-events-of-both defined options) sections is h)

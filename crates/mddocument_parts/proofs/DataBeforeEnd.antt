@@ -39,19 +39,24 @@ use Rattle.mdblock_leaf_blocks.proofs.Marks.Courses.{Course, course-every, text-
 use Rattle.mdblock_leaf_blocks.specs.ChunksJoin.{AcrossGap}
 use Rattle.mdblock_leaf_blocks.specs.LeafBlocks.{Line}
 use Rattle.mdblock_containers.specs.Letters.{ArePlainFrom, is_plain, letter, lettered_from}
-use Rattle.mdblock_text_lines.proofs.BlocksAreThose.{blocks-are-those}
+use Rattle.mdblock_definitions.proofs.SectionsReady.{skeletons-have-one-content}
+use Rattle.mdblock_definitions.specs.Blocks.{document_skeleton}
 use Rattle.mdblock_text_lines.specs.DocumentBlocks.{document_blocks}
 use Rattle.mdblock_definitions.specs.Skeleton.{sections_in_seats, sections_marks}
 use Rattle.mddocument.proofs.FlowTexts.InlineSteps.{Steps, steps-virtual}
-use Rattle.mddocument.proofs.InContainers.Blocks.{at, bare, blocks_at, content-ready, shown as lettered, shown-is}
+use Rattle.mddocument.proofs.InContainers.Blocks.{at, bare, blocks-are-celled, blocks_at, content-ready, shown as lettered, shown-is}
+use Rattle.mddocument.proofs.InContainers.CellLinks.{fits-same}
+use Rattle.mddocument.proofs.InContainers.CellsKeep.{with-cells-by}
 use Rattle.mddocument.proofs.InContainers.InlinePlaces.{inline-at, string-at}
 use Rattle.mddocument.proofs.InContainers.Order.{Upto}
 use Rattle.mddocument.proofs.InContainers.Parts.{InChunks}
 use Rattle.mddocument.proofs.InContainers.Places.{EndsAt}
 use Rattle.mddocument.proofs.InContainers.Ranges.{IsWithin, SeatIn, chain-seats-in, range-within}
 use Rattle.mddocument.proofs.InContainers.Removed.{removed-fits}
+use Rattle.mddocument.proofs.InContainers.SkeletonCells.{skeleton-free}
 use Rattle.mddocument.proofs.InContainers.Skeletons.{SkeletonLaws, skeleton-laws}
 use Rattle.mddocument.proofs.InContainers.TextsFormed.{content-ready as ready-for, strings-ready, texts-orderly}
+use Rattle.mddocument_parts.proofs.CellsLeft.{text-is-data, was}
 use Rattle.mddocument_parts.proofs.EventsLeft.{AtData, Each, StandsAt, all-left, each-all, exit-removed, none-stand, stands-moved, flow-stands, chained-left, skeleton-stands}
 use Rattle.mddocument_parts.proofs.LetteredBoth.{lettered-many}
 use Rattle.mddocument_parts.proofs.MovedReads.{shown-before}
@@ -253,13 +258,18 @@ module _ (laws : SkeletonLaws) (g : Given) (is : IsDocument g) (b : List ℕ) (e
   each-leaf (c ∷ cs) h = (leaf-at c h.0, each-leaf cs h.1)
 
   -- ---- the skeleton: its chunks go, and data of definitions stands before the end
-  chunk-fits : (k : ℕ) (c : Content) → content_at sk k ≡ Some c → fits of_content sk k ≡ true
-  chunk-fits k c here = ap (some_fits of_content) (here ∙ ap Some (laws.of_content g is k c here))
+  abbrev plain : List Event
+  plain = document_skeleton g
+
+  chunk-fits : (k : ℕ) (c : Content) → content_at plain k ≡ Some c → fits of_content sk k ≡ true
+  chunk-fits k c here =
+      let there : fits of_content plain k ≡ true = ap (some_fits of_content) (here ∙ ap Some (skeletons-have-one-content g is k c here)) in
+      with-cells-by (λ es. fits of_content es k ≡ true) g.options.constructs plain (fits-same plain (skeleton-free g is) k ∙ there) there
 
   gone : (k : ℕ) → fits of_content sk k ≡ true → is_removed (child_changes of_content sk leaves) k ≡ true
   gone = removed-fits g.tab s.bytes of_content sk sk-ready leaves (sym (length-map sk_starts (blocks_at laws g is)))
 
-  chunk-gone : (k : ℕ) (c : Content) → content_at sk k ≡ Some c → (is_removed (child_changes of_content sk leaves) k ≡ true) × (is_removed (child_changes of_content sk leaves) (k + 1) ≡ true)
+  chunk-gone : (k : ℕ) (c : Content) → content_at plain k ≡ Some c → (is_removed (child_changes of_content sk leaves) k ≡ true) × (is_removed (child_changes of_content sk leaves) (k + 1) ≡ true)
   chunk-gone k c here =
       let fit = chunk-fits k c here in
       (gone k fit, exit-removed g.tab s.bytes of_content sk sk-ready leaves k fit (gone k fit))
@@ -268,14 +278,19 @@ module _ (laws : SkeletonLaws) (g : Given) (is : IsDocument g) (b : List ℕ) (e
   skeleton-left k e here stays =
       let marks = sections_marks g.bytes (sections_in_seats g.options.constructs (virtual g.tab g.bytes)) in
       let stand = skeleton-stands At g.bytes g.options.constructs g.tab (document-lines g.bytes b ends g.tab wide) in
-      record {
-        named = λ c linked. absurd (false≢true (sym stays ∙ gone k (chunk-fits k c (ap (option_and_then content_of) here ∙ linked))));
-        at = chained-left At marks stand (child_changes of_content sk leaves) chunk-gone k e here stays;
-      }
+      let it = was g.options.constructs plain k e here in
+      let old : AtData At it.event = chained-left At marks stand (child_changes of_content sk leaves) chunk-gone k it.event it.there stays in
+      let linked-data : (c : Content) → content_of e ≡ Some c → e.name ≡ Data = λ c linked.
+      let at : content_at sk k ≡ Some c = ap (option_and_then content_of) here ∙ linked in
+      elim (laws.of_contents g is k c at) [
+        | inl same ↦ absurd (false≢true (sym stays ∙ gone k (ap (some_fits of_content) (at ∙ ap Some same))))
+        | inr same ↦ text-is-data g is k e here (at ∙ ap Some same)
+      ] in
+      record { named = linked-data; at = λ data_name. subst At (sym it.place) (old (ap (λ n. same_name n Data) (sym it.named) ∙ data_name)) }
 
   blocks-stand : Each (StandsAt At) (document_blocks g)
   blocks-stand =
-      subst (Each (StandsAt At)) (sym (blocks-are-those g is))
+      subst (Each (StandsAt At)) (sym (blocks-are-celled laws g is))
       (all-left g.tab s.bytes of_content sk sk-ready leaves (StandsAt At) (stands-moved At) skeleton-left
       (each-leaf sk_starts (all-begin s sk (shown-is laws g is) content.Content sk-ready)))
 

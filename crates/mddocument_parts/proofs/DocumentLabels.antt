@@ -1,5 +1,7 @@
 -- Sections and labels of a document that is cut at a rest: those of both parts.
-use Rattle.std.proofs.Common.{Bool, List, [], ap, append_assoc, arith, cond, drop, false, length, nat_le, not, refl, subst, suc, sym, take, true, zero, ℕ, ◌&&◌, ◌++◌, ◌+◌, ◌∙◌, ◌∷◌, ◌≡◌}
+use Rattle.std.proofs.Common.{Bool, List, [], ap, append_assoc, arith, cond, drop, false, length, nat_le, not, refl, subst, suc, sym, take, true, zero, ℕ, ◌&&◌, ◌||◌, ◌++◌, ◌+◌, ◌∙◌, ◌∷◌, ◌≡◌}
+use Rattle.std.proofs.Math.Bool.{and-false}
+use Rattle.std.proofs.lemmas.Bool.{false≢true}
 use Rattle.std.proofs.lemmas.Grind.{flat_map-append}
 use Rattle.std.proofs.lemmas.List.{append-nil, drop-map, length-map, map-append, take-map, map-id}
 use Rattle.std.specs.List.{AllByRecursion, flat_map, prefix_len, AllZip}
@@ -16,18 +18,23 @@ use Rattle.mdblock_leaf_blocks.specs.LineKinds.{indent, is_blank_line, underline
 use Rattle.mdblock_containers.proofs.FrameFacts.{none_is}
 use Rattle.mdblock_containers.specs.Letters.{lazy_underline}
 use Rattle.mdblock_containers.specs.Prefixes.{containers_of}
-use Rattle.mdblock_containers.specs.Rows.{Before, Row, closed, has_none, holds_ending, is_paragraph, rest_of}
+use Rattle.mdblock_containers.specs.Rows.{Before, Row, closed, has_none, holds_ending, is_paragraph, is_table, open_table, rest_of}
 use Rattle.mdblock_containers.specs.Skeleton.{Part, frames_at, further, parts, parts_in, standing}
 use Rattle.mdblock_definitions.proofs.Covered.{lines-of-parts}
 use Rattle.mdblock_definitions.proofs.CutAlike.{undefined-is}
-use Rattle.mdblock_definitions.specs.Rows.{Known, known_after, row_of, rows, rows_from}
-use Rattle.mdblock_definitions.specs.Sections.{Section, before_defined, begins_text, cut, defined, defined_in, defining, in_same, lines, lines_defined, paragraph_of, sections, sections_in, sections_of, text_in, undefined}
+use Rattle.mdblock_definitions.specs.Rows.{Known, begins_table, is_row_of_table, known_after, row_of, row_without, rows, rows_from}
+use Rattle.mdblock_definitions.specs.Sections.{Section, before_defined, begins_text, cut, defined, defined_in, defining, in_same, is_in_table, lines, lines_defined, paragraph_of, sections, sections_in, sections_of, sections_of_cut, table, tabled, text_in, undefined}
+use Rattle.mdblock_table_marks.specs.TableCuts.{Cut, before_table, begins_in_table, table_lines}
+use Rattle.mdblock_tables.specs.Tables.{is_row}
+use Rattle.mdblock_definitions.proofs.FilledTexts.{plain-none, without-none}
+use Rattle.mdblock_definitions.proofs.KnownReads.{blank-same}
 use Rattle.mdblock_definitions.specs.Skeleton.{all_rows, labels_in, labels_of_section, letters_of_section, text_begin, written_labels}
 use Rattle.mddocument_parts.proofs.DocumentBytes.{counted, document-rows-of-both}
 use Rattle.mddocument_parts.proofs.DocumentRests.{anew-same, begins-anew, closed-is, first-row, is-not-blank, not-left, row_new}
 use Rattle.mddocument_parts.proofs.MovedBlocks.{text-moved}
 use Rattle.mddocument_parts.proofs.MovedRows.{none-alike, rest-moved}
-use Rattle.mddocument_parts.proofs.SectionRows.{Follows, LeftIsBlank, cut_off, going, joined, of_definitions, of_lines, of_part, of_parts, of_rows, parts-append}
+use Rattle.mddocument_parts.proofs.CutsJoined.{cuts}
+use Rattle.mddocument_parts.proofs.SectionRows.{Follows, LeftIsBlank, cut_off, going, joined, of_cut, of_cuts, of_definitions, of_lines, of_part, of_parts, of_rows, parts-append}
 use Rattle.mddocument_parts.specs.DocumentLabels.{LabelsOfBoth, LettersOfBoth}
 use Rattle.mddocument_parts.specs.DocumentRests.{begins_anew, begins_at_document_rest, first_at_document_rest, first_stays, goes_on_behind, is_at_document_rest, is_closed, known_at_start, known_behind, moved_row}
 use Rattle.mddocument_parts.specs.Moved.{begins_line, line_endings, moved_line, moved_seat}
@@ -38,7 +45,7 @@ use Rattle.std.proofs.lemmas.List.Elements.{length_all_zip}
 -- ---- what is said of sections is said of their rows
 module _ {A : Type 0} (on : Constructs) (h : Bool → Row → List A) (d : List Definition → List Row → List A) (f : Section → List A)
     (of-lines : (b : Bool) (p : Part) → f (record { part = p; inside = lines b }) ≡ h b p.first ++ flat_map (h false) p.more)
-    (of-defined : (ds : List Definition) (p : Part) → f (record { part = p; inside = defined ds }) ≡ d ds (all_rows p)) where
+    (of-defined : (ds : List Definition) (p : Part) → f (record { part = p; inside = defined ds }) ≡ d ds (all_rows p)) (of-table : (p : Part) → f (record { part = p; inside = table }) ≡ []) where
   plain-are : (around : Part) (ps : List Part) → flat_map f (map (λ p. record { part = p; inside = lines false }) (map (in_same around) ps)) ≡ flat_map (h false) (flat_map all_rows ps)
   plain-are around [] = refl
   plain-are around (p ∷ ps) = (λ i. of-lines false (in_same around p) i ++ plain-are around ps i) ∙ sym (flat_map-append (h false) (all_rows p) (flat_map all_rows ps))
@@ -70,13 +77,28 @@ module _ {A : Type 0} (on : Constructs) (h : Bool → Row → List A) (d : List 
       ∙ ap (λ l. flat_map f (undefined b around (take n all)) ++ l) (flat_map-append f (defining ds around (take k behind)) (sections_in on bound true around (drop k behind)))
       ∙ (λ i. undefined-are b around (take n all) i ++ (defining-are ds around (take k behind) i ++ sections-are bound true around (drop k behind) i))
 
+  tabled-are : (around : Part) (rs : List Row) → flat_map f (tabled around rs) ≡ []
+  tabled-are around [] = refl
+  tabled-are around (r ∷ rs) = ap (λ l. l ++ []) (of-table (record around { first = r; more = rs }))
+
+  cut-is : (around : Part) (c : Cut) → flat_map f (sections_of_cut on around c) ≡ of_cut on h d c
+  cut-is around c = by c.is_table
+    where
+      by : (b : Bool) → flat_map f (cond b (tabled around c.rows) (sections_in on (length c.rows) false around c.rows)) ≡ cond b [] (of_lines on h d (length c.rows) false c.rows)
+      by true = tabled-are around c.rows
+      by false = sections-are (length c.rows) false around c.rows
+
+  cuts-are : (around : Part) (cs : List Cut) → flat_map f (flat_map (sections_of_cut on around) cs) ≡ flat_map (of_cut on h d) cs
+  cuts-are around [] = refl
+  cuts-are around (c ∷ cs) = flat_map-append f (sections_of_cut on around c) (flat_map (sections_of_cut on around) cs) ∙ (λ i. cut-is around c i ++ cuts-are around cs i)
+
   part-is : (p : Part) → flat_map f (cut on p) ≡ of_part on h d p.first p.more
   part-is p = by p.first.is_blank
     where
-      by : (b : Bool) → flat_map f (cond b (record { part = p; inside = lines false } ∷ []) (sections_in on (suc (length p.more)) false p (p.first ∷ p.more)))
-          ≡ cond b (of_rows on h d false (p.first ∷ p.more)) (of_lines on h d (suc (length p.more)) false (p.first ∷ p.more))
+      by : (b : Bool) → flat_map f (cond b (record { part = p; inside = lines false } ∷ []) (flat_map (sections_of_cut on p) (cuts (suc (length p.more)) (p.first ∷ p.more))))
+          ≡ cond b (of_rows on h d false (p.first ∷ p.more)) (of_cuts on h d (suc (length p.more)) (p.first ∷ p.more))
       by true = ap (λ l. l ++ []) (of-lines false p) ∙ append-nil (h false p.first ++ flat_map (h false) p.more)
-      by false = sections-are (suc (length p.more)) false p (p.first ∷ p.more)
+      by false = cuts-are p (cuts (suc (length p.more)) (p.first ∷ p.more))
 
   parts-are : (bound : ℕ) (rs : List Row) → flat_map f (flat_map (cut on) (parts_in bound rs)) ≡ of_parts on h d bound rs
   parts-are zero rs = refl
@@ -94,6 +116,7 @@ module _ {A : Type 0} (on : Constructs) (h : Bool → Row → List A) (d : List 
   pub record IsLike (r q : Row) : Type 0 where
     pub blank : q.is_blank ≡ r.is_blank
     pub leaf : is_paragraph q.leaf ≡ is_paragraph r.leaf
+    pub tabled : is_in_table q ≡ is_in_table r
     pub rest : rest_of q ≡ rest_of r
     pub said : (b : Bool) → h b q ≡ map g (h b r)
 
@@ -211,10 +234,56 @@ module _ {A : Type 0} (on : Constructs) (h : Bool → Row → List A) (d : List 
         ∙ ap (λ a. map g front ++ a) (sym (map-append g middle last))
         ∙ sym (map-append g front (middle ++ last))
 
+    -- they are cut alike at tables
+    like-table : (rs qs : List Row) → AreLike rs qs → begins_in_table is_in_table qs ≡ begins_in_table is_in_table rs
+    like-table [] [] l = refl
+    like-table [] (q ∷ qs) l = absurd l
+    like-table (r ∷ rs) [] l = absurd l
+    like-table (r ∷ rs) (q ∷ qs) l = l.0.tabled
+
+    like-before-table : (rs qs : List Row) → AreLike rs qs → before_table is_in_table qs ≡ before_table is_in_table rs
+    like-before-table [] [] l = refl
+    like-before-table [] (q ∷ qs) l = absurd l
+    like-before-table (r ∷ rs) [] l = absurd l
+    like-before-table (r ∷ rs) (q ∷ qs) l = (λ i. cond (like-table rs qs l.1 i) 0 (suc (like-before-table rs qs l.1 i)))
+
+    like-in-table : (rs qs : List Row) → AreLike rs qs → prefix_len is_in_table qs ≡ prefix_len is_in_table rs
+    like-in-table [] [] l = refl
+    like-in-table [] (q ∷ qs) l = absurd l
+    like-in-table (r ∷ rs) [] l = absurd l
+    like-in-table (r ∷ rs) (q ∷ qs) l = (λ i. cond (l.0.tabled i) (1 + like-in-table rs qs l.1 i) 0)
+
+    like-table-lines : (rs qs : List Row) → AreLike rs qs → table_lines is_in_table qs ≡ table_lines is_in_table rs
+    like-table-lines [] [] l = refl
+    like-table-lines [] (q ∷ qs) l = absurd l
+    like-table-lines (r ∷ rs) [] l = absurd l
+    like-table-lines (r ∷ rs) (q ∷ qs) l = ap suc (like-in-table rs qs l.1)
+
+    like-cuts : (bound : ℕ) (rs qs : List Row) → AreLike rs qs → of_cuts on h d bound qs ≡ map g (of_cuts on h d bound rs)
+    like-cuts zero rs qs l = refl
+    like-cuts (suc bound) [] [] l = refl
+    like-cuts (suc bound) [] (q ∷ qs) l = absurd l
+    like-cuts (suc bound) (r ∷ rs) [] l = absurd l
+    like-cuts (suc bound) (r ∷ rs) (q ∷ qs) l =
+        let all = r ∷ rs in
+        let others = q ∷ qs in
+        let n = before_table is_in_table all in
+        let behind = drop n all in
+        let after = drop n others in
+        let back = all-drop IsLike n all others l in
+        let k = table_lines is_in_table behind in
+        let front = of_lines on h d (length (take n all)) false (take n all) in
+        let last = of_cuts on h d bound (drop k behind) in
+        let alike = like-take n all others l in
+        (λ i. let n = like-before-table all others l i in let after = drop n others in of_lines on h d (length (take n others)) false (take n others) ++ of_cuts on h d bound (drop (table_lines is_in_table after) after))
+        ∙ (λ i. of_lines on h d (like-length (take n all) (take n others) alike i) false (take n others) ++ of_cuts on h d bound (drop (like-table-lines behind after back i) after))
+        ∙ (λ i. like-lines (length (take n all)) false (take n all) (take n others) alike i ++ like-cuts bound (drop k behind) (drop k after) (all-drop IsLike k behind after back) i)
+        ∙ sym (map-append g front last)
+
     like-part : (r q : Row) (rs qs : List Row) → IsLike r q → AreLike rs qs → of_part on h d q qs ≡ map g (of_part on h d r rs)
     like-part r q rs qs here l =
-        (λ i. cond (here.blank i) (like-rows false (r ∷ rs) (q ∷ qs) (here, l) i) (((ap (λ n. of_lines on h d (suc n) false (q ∷ qs)) (like-length rs qs l)) ∙ like-lines (suc (length rs)) false (r ∷ rs) (q ∷ qs) (here, l)) i))
-        ∙ cond-of (map g) r.is_blank (of_rows on h d false (r ∷ rs)) (of_lines on h d (suc (length rs)) false (r ∷ rs))
+        (λ i. cond (here.blank i) (like-rows false (r ∷ rs) (q ∷ qs) (here, l) i) (((ap (λ n. of_cuts on h d (suc n) (q ∷ qs)) (like-length rs qs l)) ∙ like-cuts (suc (length rs)) (r ∷ rs) (q ∷ qs) (here, l)) i))
+        ∙ cond-of (map g) r.is_blank (of_rows on h d false (r ∷ rs)) (of_cuts on h d (suc (length rs)) (r ∷ rs))
 
     like-further : (rs qs : List Row) → StayAlike rs qs → further qs ≡ further rs
     like-further [] [] s = refl
@@ -247,7 +316,7 @@ module _ (on : Constructs) (not-blank : (k : Known) (n : ℕ) (line : Line) → 
   left-is-blank k n line left =
       let row = row_of on k n line in
       let blank : row.is_blank ≡ true = and-left row.is_blank (has_none row.begun && not (row.stays && holds_ending k.before.leaf)) left in
-      (blank, by (is_paragraph row.leaf) refl blank)
+      (blank, by (is_paragraph row.leaf) refl blank, ap is_table (blank-same on k n line blank) ∙ plain-none on k.before n line)
     where
       by : (b : Bool) → is_paragraph (row_of on k n line).leaf ≡ b → (row_of on k n line).is_blank ≡ true → b ≡ false
       by true e blank = let both : true ≡ false = sym blank ∙ not-blank k n line e in absurd (cc)
@@ -294,6 +363,37 @@ module _ (on : Constructs) (not-blank : (k : Known) (n : ℕ) (line : Line) → 
             ap (λ (r : Row). r.is_blank) is ∙ ap (λ ps. (row_new on n line ps row.stays).is_blank) none ∙ full;
       }
 
+  -- a line that is in no table is as without tables
+  pub own-row : (k : Known) (n : ℕ) (line : Line) → is_in_table (row_of on k n line) ≡ false → row_of on k n line ≡ row_without on k n line
+  own-row k n line e = by (is_row_of_table on k own) e
+    where
+      own : Row
+      own = row_without on k n line
+
+      by : (b : Bool) → is_table (cond b open_table own.leaf) ≡ false → record own { leaf = cond b open_table own.leaf } ≡ own
+      by true e = absurd (false≢true (sym e))
+      by false e = refl
+
+  -- one that goes on with no stretch is in none
+  pub stay-untabled : (k : Known) (n : ℕ) (line : Line) → (row_of on k n line).stays ≡ false → is_in_table (row_of on k n line) ≡ false
+  stay-untabled k n line e =
+      let row = row_without on k n line in
+      ap (λ s. is_table (cond (on.gfm_table && (s && (is_paragraph row.leaf && ((is_paragraph k.before.leaf && begins_table on k row) || (is_table k.before.leaf && is_row (rest_of row)))))) open_table row.leaf)) e
+      ∙ ap (λ b. is_table (cond b open_table row.leaf)) (and-false on.gfm_table) ∙ without-none on k n line
+
+  -- where no leaf block is open before it, a line is in no table
+  pub anew-untabled : (k : Known) (n : ℕ) (line : Line) → k.before.leaf ≡ closed → is_in_table (row_of on k n line) ≡ false
+  anew-untabled k n line shut =
+      let row = row_without on k n line in
+      ap (λ leaf. is_table (cond (on.gfm_table && (row.stays && (is_paragraph row.leaf && ((is_paragraph leaf && begins_table on k row) || (is_table leaf && is_row (rest_of row)))))) open_table row.leaf)) shut
+      ∙ ap (λ b. is_table (cond b open_table row.leaf)) (none on.gfm_table row.stays (is_paragraph row.leaf)) ∙ without-none on k n line
+    where
+      none : (a b c : Bool) → (a && (b && (c && false))) ≡ false
+      none true true true = refl
+      none true true false = refl
+      none true false c = refl
+      none false b c = refl
+
   follows : (q : Row) (qs : List Row) → Starts q → Follows q qs
   follows q qs s = by q.stays refl
     where
@@ -304,7 +404,7 @@ module _ (on : Constructs) (not-blank : (k : Known) (n : ℕ) (line : Line) → 
   -- ---- what is said of both
   module _ {A : Type 0} (h : Bool → Row → List A) (d : List Definition → List Row → List A) (f : Section → List A)
       (of-lines : (b : Bool) (p : Part) → f (record { part = p; inside = lines b }) ≡ h b p.first ++ flat_map (h false) p.more)
-      (of-defined : (ds : List Definition) (p : Part) → f (record { part = p; inside = defined ds }) ≡ d ds (all_rows p))
+      (of-defined : (ds : List Definition) (p : Part) → f (record { part = p; inside = defined ds }) ≡ d ds (all_rows p)) (of-table : (p : Part) → f (record { part = p; inside = table }) ≡ [])
       (bytes : ℕ) (g : A → A)
       (said-moved : (m : ℕ) (stays : Bool) (r : Row) (b : Bool) → h b (moved_row m bytes (record r { stays = stays })) ≡ map g (h b r))
       (d-said : (ds : List Definition) (rs qs : List Row) → AreLike on h d g rs qs → d ds qs ≡ map g (d ds rs)) where
@@ -312,7 +412,7 @@ module _ (on : Constructs) (not-blank : (k : Known) (n : ℕ) (line : Line) → 
     said rs = flat_map f (sections on rs)
 
     like-moved : (m : ℕ) (stays : Bool) (r : Row) → IsLike on h d g r (moved_row m bytes (record r { stays = stays }))
-    like-moved m stays r = record { blank = refl; leaf = refl; rest = rest-moved m on bytes (record r { stays = stays }); said = said-moved m stays r }
+    like-moved m stays r = record { blank = refl; leaf = refl; tabled = refl; rest = rest-moved m on bytes (record r { stays = stays }); said = said-moved m stays r }
 
     are-moved : (m : ℕ) (rs : List Row) → AreLike on h d g rs (map (moved_row m bytes) rs)
     are-moved m [] = tt
@@ -339,13 +439,14 @@ module _ (on : Constructs) (not-blank : (k : Known) (n : ℕ) (line : Line) → 
         let there = anew-same on k (suc n) (moved_line n bytes line) line (text-moved n bytes line) ∙ rest in
         let begins = subst Starts row (starts k (suc n) (moved_line n bytes line) there) in
         let shut : k.before.leaf ≡ closed = closed-is k.before.leaf (and-left (is_closed k.before.leaf) _ rest) in
+        let plain : is_in_table q ≡ false = anew-untabled start 1 line refl in
         let apart : joined false x (q ∷ qs) ≡ false = joined-known start 1 before (q ∷ qs) false refl ∙ ap (λ leaf. is_paragraph leaf && begins_text (q ∷ qs)) shut in
         let size : length qs ≡ length rs = length-map rs (moved_row n bytes) in
-        said-of-sections on h d f of-lines of-defined (x ++ (q ∷ qs))
-        ∙ parts-append on h d (length (x ++ (q ∷ qs))) (length x) (length (q ∷ qs)) x q qs (omega arith) (omega arith) (omega arith) (rows-left start 1 before) (follows q qs begins) apart
-        ∙ (λ i. sym (said-of-sections on h d f of-lines of-defined x) i ++ like-first on h d g d-said (length qs) r q rs qs (like-moved n stays r) (are-moved n rs) (stay-moved n rs) i)
+        said-of-sections on h d f of-lines of-defined of-table (x ++ (q ∷ qs))
+        ∙ parts-append on h d (length (x ++ (q ∷ qs))) (length x) (length (q ∷ qs)) x q qs (omega arith) (omega arith) (omega arith) (rows-left start 1 before) (follows q qs begins) plain apart
+        ∙ (λ i. sym (said-of-sections on h d f of-lines of-defined of-table x) i ++ like-first on h d g d-said (length qs) r q rs qs (like-moved n stays r) (are-moved n rs) (stay-moved n rs) i)
         ∙ ap (λ m. said x ++ map g (of_parts on h d (suc m) (r ∷ rs))) size
-        ∙ ap (λ l. said x ++ map g l) (sym (said-of-sections on h d f of-lines of-defined (r ∷ rs)))
+        ∙ ap (λ l. said x ++ map g l) (sym (said-of-sections on h d f of-lines of-defined of-table (r ∷ rs)))
 
     said-behind : (n : ℕ) (before behind : List Line) → n ≡ length before → first_at_document_rest on before behind ≡ true
         → said (rows on before ++ map (moved_row n bytes) (first_stays (goes_on_behind on before behind) (rows on behind))) ≡ said (rows on before) ++ map g (said (rows on behind))
@@ -384,7 +485,7 @@ none-said (r ∷ rs) = none-said rs
 pub labels-of-both : BlankEndsParagraphs → LabelsOfBoth
 unfolding no-labels labels-of
 labels-of-both ends on t a b rest =
-    said-of-both on (ends on) no-labels labels-of labels_of_section (λ b p. none-said p.more) (λ ds p. refl) (length a) (λ x. x) (λ m stays r b. refl)
+    said-of-both on (ends on) no-labels labels-of labels_of_section (λ b p. none-said p.more) (λ ds p. refl) (λ p. refl) (length a) (λ x. x) (λ m stays r b. refl)
     (λ ds rs qs l. ap (labels_in ds) (like-text on no-labels labels-of (λ x. x) rs qs l) ∙ sym (map-id (labels_in ds (text_in rs)))) t a b refl rest
     ∙ ap (λ l. written_labels on (virtual t a) ++ l) (map-id (written_labels on (virtual t b)))
 
@@ -421,5 +522,5 @@ module _ (m n : ℕ) where
 pub letters-of-both : BlankEndsParagraphs → LettersOfBoth
 unfolding letters-by no-definitions
 letters-of-both ends on t a b rest =
-    said-of-both on (ends on) (letters-by on) no-definitions (letters_of_section on) (λ b p. refl) (λ ds p. refl) (length a) (λ i. i + length a)
+    said-of-both on (ends on) (letters-by on) no-definitions (letters_of_section on) (λ b p. refl) (λ ds p. refl) (λ p. refl) (length a) (λ i. i + length a)
     (λ m stays r b. letter-moved m (length a) on (record r { stays = stays }) b) (λ ds rs qs l. refl) t a b refl rest

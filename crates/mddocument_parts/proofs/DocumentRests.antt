@@ -12,9 +12,10 @@ use Rattle.mdblock_leaf_blocks.specs.LineKinds.{blank, indented, is_blank_line, 
 use Rattle.mdblock_lines.specs.Containers.{Container, Prefix, item, quote}
 use Rattle.mdblock_containers.proofs.FrameFacts.{none_is}
 use Rattle.mdblock_containers.specs.Prefixes.{beginning, columns_of, containers_of, going_on, in_place_of, with_list}
-use Rattle.mdblock_containers.specs.Rows.{Before, Leaf, Row, closed, has_none, holds_ending, is_lazily, is_paragraph, is_raw, leaf_after, nothing_known, open_paragraph, rest_of, row_with}
+use Rattle.mdblock_containers.specs.Rows.{Before, Leaf, Row, closed, has_none, holds_ending, is_lazily, is_paragraph, is_raw, is_table, leaf_after, nothing_known, open_paragraph, open_table, rest_of, row_with}
 use Rattle.mdblock_containers.specs.Rows as without
-use Rattle.mdblock_definitions.specs.Rows.{Known, is_behind_text, is_used_up, known_after, row_of, rows_from, text_after}
+use Rattle.mdblock_definitions.specs.Rows.{Known, begins_table, is_behind_text, is_used_up, known_after, row_of, row_without, rows_from, text_after}
+use Rattle.mdblock_tables.specs.Tables.{is_row}
 use Rattle.mddocument_parts.specs.DocumentRests.{DocumentRestsForget, RowsOfBoth, StretchesGoOnAtTop, begins_anew, is_at_document_rest, is_closed, joins_list, known_at_start, known_behind, moved_container, moved_known, moved_prefix, moved_row}
 use Rattle.mddocument_parts.specs.Moved.{moved_line, moved_lines}
 use Rattle.mddocument_parts.specs.Rests.{begins_near, kind_of_line}
@@ -140,11 +141,21 @@ module _ (on : Constructs) (number : ℕ) (line : Line) where
   not-behind : (b : Before) (row : Row) → b.leaf ≡ closed → is_behind_text b row ≡ false
   not-behind b row e = ap (λ leaf. row.stays && is_paragraph leaf) e ∙ and-false row.stays
 
+  -- where no leaf block is open, a line is in no table
+  none-tabled : (a b c : Bool) → (a && (b && (c && false))) ≡ false
+  none-tabled true true true = refl
+  none-tabled true true false = refl
+  none-tabled true false c = refl
+  none-tabled false b c = refl
+
   row-same : (k : Known) → k.before.leaf ≡ closed → row_of on k number line ≡ without.row_of on k.before number line
   row-same k e =
       let row = without.row_of on k.before number line in
+      let own = row_without on k number line in
       let u = is_some (underline_rank on (rest_of row)) && is_used_up k.text in
-      (λ i. record row { leaf = cond (on.definition && (not-behind k.before row e i && u)) open_paragraph row.leaf })
+      (λ i. record own { leaf = cond (on.gfm_table && (own.stays && (is_paragraph own.leaf && ((is_paragraph (e i) && begins_table on k own) || (is_table (e i) && is_row (rest_of own)))))) open_table own.leaf })
+      ∙ ap (λ c. record own { leaf = cond c open_table own.leaf }) (none-tabled on.gfm_table own.stays (is_paragraph own.leaf))
+      ∙ (λ i. record row { leaf = cond (on.definition && (not-behind k.before row e i && u)) open_paragraph row.leaf })
       ∙ ap (λ c. record row { leaf = cond c open_paragraph row.leaf }) (and-false on.definition)
 
   -- what is known behind the line

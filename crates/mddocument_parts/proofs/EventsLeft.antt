@@ -7,7 +7,7 @@ use Rattle.std.specs.Cmp.Derive.{both_true}
 use Rattle.std.specs.List.{AllByRecursion, flat_map}
 use Rattle.std.specs.Option.{option_and_then, option_map}
 use Rattle.std.specs.Prelude.{is_some, nat_le, nat_lt, not, slice_get, ◌&&◌, ◌||◌}
-use Rattle.markdown_base.proofs.Common.{every-append, every-get}
+use Rattle.markdown_base.proofs.Common.{every-append, every-get, every-map}
 use Rattle.markdown_base.specs.Events.{relinked, same_name}
 use Rattle.markdown_base.specs.Virtual.{Seat, virtual}
 use Rattle.markdown_base.specs.declared.configuration.Constructs.{Constructs}
@@ -51,12 +51,13 @@ use Rattle.mdblock_lines.specs.Containers.{Container, Item, Prefix, item, quote}
 use Rattle.mdblock_containers.proofs.FrameFacts.{Turn, all_entered, entered}
 use Rattle.mdblock_containers.proofs.SeatFacts.{document_lines}
 use Rattle.mdblock_containers.specs.Rows.{Row}
-use Rattle.mdblock_containers.specs.Skeleton.{Frame, Part, chained_from, list_name}
+use Rattle.mdblock_containers.specs.Skeleton.{Frame, Part, chained_from, list_name, prefixes_marks}
+use Rattle.mdblock_table_marks.specs.TableMarks.{table_marks}
 use Rattle.mdblock_definitions.proofs.Covered.{rows_of}
 use Rattle.mdblock_definitions.proofs.SectionTurns.{AreCut, all-of-sections, document-cut}
 use Rattle.mdblock_text_lines.specs.DocumentBlocks.{document_blocks}
 use Rattle.mdblock_definitions.specs.Rows.{rows}
-use Rattle.mdblock_definitions.specs.Sections.{Inside, Section, defined, lines as lines_inside, sections}
+use Rattle.mdblock_definitions.specs.Sections.{Inside, Section, defined, lines as lines_inside, sections, table as table_inside}
 use Rattle.mdblock_definitions.specs.Skeleton.{all_rows, sections_marks}
 use Rattle.mddocument.proofs.FlowTexts.Segments.{IsTextual}
 use Rattle.mddocument.proofs.InContainers.Places.{EndsAt, last-end}
@@ -68,7 +69,8 @@ use Rattle.mddocument.specs.DocumentEvents.{document_events, document_texts, is_
 use Rattle.mddocument.proofs.Walks.BlockWalk.{MayBlock, block-are}
 use Rattle.mddocument.proofs.Walks.InnerTexts.{AnySeat, any-each}
 use Rattle.mddocument.proofs.Walks.MarksWalk.{Walk, walk-of-marks}
-use Rattle.mddocument.proofs.Walks.SkeletonWalk.{AreOfDefinition, InsideMay, MayHold, PrefixesMay, RowAt, SectionMay, sections-are}
+use Rattle.mddocument.proofs.Walks.SkeletonWalk.{AreOfDefinition, InsideMay, MayHold, PartMay, PrefixesMay, RowAt, SectionMay, prefix-may, prefixes, sections-are}
+use Rattle.mddocument.proofs.Walks.TableWalk.{AreOfTable, tables-are}
 use Rattle.mddocument_parts.proofs.TextLines.{AreInner, AreTextLines, AreTextSeats, lines-of-texts, text-blocks}
 
 -- ==== Where chains are replaced by children, each event is one of the list that no chunk removes, or one of a child, but for the ends of its link.
@@ -391,6 +393,12 @@ of-definition = record {
   };
 }
 
+of-table : AreOfTable IsOther
+of-table = record {
+  table = refl;
+  inside = record { head = refl; body = refl; row = refl; cell = refl; text = refl; divider = refl; delimiter_row = refl; delimiter_cell = refl; value = refl; marker = refl; filler = refl };
+}
+
 module _ (At : Point → Type 0) (bytes : List ℕ) where
   abbrev Ends : Seat → Type 0
   Ends = EndsAt At bytes
@@ -413,17 +421,29 @@ module _ (At : Point → Type 0) (bytes : List ℕ) where
   chunk c (s ∷ ss) = record { all = tt }
 
   -- ---- sections
-  inside-may : (part : Part) (inside : Inside) → AllByRecursion (RowAt Ends) (all_rows part) → InsideMay IsOther Ends part inside
+  -- the texts of a table's lines stand there
+  abbrev Table : Part → Type 0
+  Table part = AllByRecursion (RowAt Ends) (all_rows part)
+
+  row-prefixes : (r : Row) → PrefixesMay IsOther r.went_on → Are (prefixes_marks bytes r.went_on r.line)
+  row-prefixes r h = prefixes walk (MayHold IsOther) (prefix-may IsOther) r.went_on r.line h
+
+  tabled : (part : Part) → PartMay IsOther part → Table part → Are (table_marks bytes part)
+  tabled part m h =
+      tables-are walk Ends some-data of-table part.first part.more (every-map (λ (r : Row). PrefixesMay IsOther r.went_on) (λ (r : Row). Are (prefixes_marks bytes r.went_on r.line)) row-prefixes part.more m.rows.1) h
+
+  inside-may : (part : Part) (inside : Inside) → AllByRecursion (RowAt Ends) (all_rows part) → InsideMay IsOther Ends Table part inside
   inside-may part (lines_inside is_behind) h = tt
+  inside-may part table_inside h = h
   inside-may part (defined ds) h = (of-definition, h)
 
-  section-may : (s : Section) → AreOther s.part.frames → AllByRecursion (RowAt Ends) (all_rows s.part) → SectionMay IsOther Ends s
+  section-may : (s : Section) → AreOther s.part.frames → AllByRecursion (RowAt Ends) (all_rows s.part) → SectionMay IsOther Ends Table s
   section-may s fs h = record {
     part = record { rows = every-all (λ (r : Row). PrefixesMay IsOther r.went_on) (λ r. all-hold r.went_on) (all_rows s.part); begun = all-hold s.part.first.begun; frames = fs };
     inside = inside-may s.part s.inside h;
   }
 
-  sections-may : (fs : List Frame) (ss : List Section) → AreOther fs → AreCut bytes fs ss → AllByRecursion (RowAt Ends) (rows_of ss) → AllByRecursion (SectionMay IsOther Ends) ss
+  sections-may : (fs : List Frame) (ss : List Section) → AreOther fs → AreCut bytes fs ss → AllByRecursion (RowAt Ends) (rows_of ss) → AllByRecursion (SectionMay IsOther Ends Table) ss
   sections-may fs [] other cut h = tt
   sections-may fs (s ∷ more) other cut h =
       let turned = turned-other fs s.part.frames s.part.first.begun cut.0 other in
@@ -440,4 +460,4 @@ module _ (At : Point → Type 0) (bytes : List ℕ) where
       let ls = lines_in (virtual t bytes) in
       let at = rows-at (rows_of (sections on (rows on ls))) (subst (AllByRecursion (λ (line : Line). AllByRecursion Ends (line_text line))) (sym (all-of-sections bytes on ls)) h) in
       let ss = sections on (rows on ls) in
-      (sections-are bytes Are IsOther walk mark Ends some-data chunk ss (sections-may [] ss tt (document-cut bytes on ls (document_lines t bytes)) at)).all
+      (sections-are bytes Are IsOther walk mark Ends some-data chunk Table tabled ss (sections-may [] ss tt (document-cut bytes on ls (document_lines t bytes)) at)).all

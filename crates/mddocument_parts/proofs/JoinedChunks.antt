@@ -1,5 +1,5 @@
 -- Marks of a document at a rest where a stretch of lines goes on: those of its parts, but for the chunk at the seam.
-use Rattle.std.proofs.Common.{Bool, List, [], ap, append_assoc, arith, cond, drop, false, length, not, refl, subst, suc, sym, take, true, zero, ℕ, ◌&&◌, ◌++◌, ◌+◌, ◌<◌, ◌==◌, ◌||◌, ◌∙◌, ◌∷◌, ◌≡◌, ◌≤◌}
+use Rattle.std.proofs.Common.{Bool, List, [], ap, append_assoc, arith, cond, drop, false, length, length-drop, not, refl, subst, suc, sym, take, true, zero, ℕ, ◌&&◌, ◌++◌, ◌+◌, ◌<◌, ◌==◌, ◌||◌, ◌∙◌, ◌∷◌, ◌≡◌, ◌≤◌}
 use Rattle.std.proofs.Math.Bool.{and-false}
 use Rattle.std.proofs.lemmas.List.{length-map, map-append, take-append-le}
 use Rattle.std.proofs.lemmas.List.Sums.{prefix_len-le-length}
@@ -26,7 +26,10 @@ use Rattle.mdblock_containers.specs.Rows.{Before, Row, closed, has_none, holds_e
 use Rattle.mdblock_containers.specs.Skeleton.{Part, ending_marks, frames_at, further, is_held, last_of, standing}
 use Rattle.mdblock_definitions.proofs.KnownLemmas.{paragraph-is}
 use Rattle.mdblock_definitions.specs.Rows.{Known, known_after, row_of, rows, rows_from}
-use Rattle.mdblock_definitions.specs.Sections.{Section, before_defined, begins_text, defined_in, sections}
+use Rattle.mdblock_definitions.specs.Sections.{Section, before_defined, begins_text, defined_in, is_in_table, sections}
+use Rattle.mdblock_table_marks.specs.TableCuts.{before_table, begins_in_table, table_lines}
+use Rattle.mddocument_parts.proofs.CutsJoined.{behind_table}
+use Rattle.mddocument_parts.proofs.NoUnderlines.{NoTable}
 use Rattle.mdblock_definitions.specs.Skeleton.{all_rows, sections_marks}
 use Rattle.mddocument_parts.proofs.DocumentBytes.{counted}
 use Rattle.mddocument_parts.proofs.DocumentRests.{stretches-go-on-at-top}
@@ -34,7 +37,7 @@ use Rattle.mddocument_parts.proofs.JoinedDocument.{bare-from, goes-on, sections-
 use Rattle.mddocument_parts.proofs.JoinedMarks.{IsPlainPart, IsPlainRow, after_marks, blank_marks, first-marks, lines_of, part_white, same-held, second-marks, white_columns, whole-marks}
 use Rattle.mddocument_parts.proofs.JoinedSections.{lefts, real-parts, Placed, Placing, its_frames, its_parts, its_stands}
 use Rattle.mddocument_parts.proofs.MarksOfBoth.{apart, rows-are, sections-are}
-use Rattle.mddocument_parts.proofs.StretchStarts.{Begins, NextStarts, StartsAt, StartsClosed, State, all-next, behind-on, closed-starts, deep-on, further-none, left-leaf, none-starts, part-begins, rows-on, rows_at, state_on, Found, Used, found-closed, found-used, used-behind}
+use Rattle.mddocument_parts.proofs.StretchStarts.{Begins, NextStarts, StartsAt, StartsClosed, State, all-next, behind-on, closed-starts, deep-on, first-untabled, further-none, left-leaf, none-starts, part-begins, rows-on, rows_at, state_on, table-deep, table-known, table-rows, table-starts, table_state, Found, Used, found-closed, found-used, used-behind}
 use Rattle.mddocument_parts.proofs.WithoutContainers.PlainParts.{IsBare}
 use Rattle.mddocument_parts.specs.DocumentRests.{begins_at_document_rest, document_rows, first_at_document_rest, goes_on_behind, is_at_document_rest, is_closed, known_at_start, known_behind, moved_prefix, moved_row}
 use Rattle.mddocument_parts.specs.JoinedStretches.{AllStay, ChunkSeam, IsBlankPart, IsSame, SectionSeam, SectionsJoin, at_top, firsts, joined_part, marks_between, may_stay, stretch_chunk}
@@ -94,7 +97,7 @@ module _ (on : Constructs) where
   -- a line that may stay, and is not blank: no paragraph is open before it
   not-open : (k : Known) (n : ℕ) (ls : List Line) (q : Row) (x : List Row) → StartsClosed on k n ls → rows_from on k n ls ≡ q ∷ x → may_stay q ≡ true → q.is_blank ≡ false → is_paragraph k.before.leaf ≡ false
   not-open k n [] q x starts e stay full = absurd (cc)
-  not-open k n (line ∷ ls) q x starts e stay full = ap is_paragraph (starts kept (sym (ap (λ b. b || row.stays) kept) ∙ (ap may_stay same ∙ stay)))
+  not-open k n (line ∷ ls) q x starts e stay full = (starts kept (sym (ap (λ b. b || row.stays) kept) ∙ (ap may_stay same ∙ stay))).0.text
     where
       row : Row
       row = row_of on k n line
@@ -116,6 +119,19 @@ module _ (on : Constructs) where
   found-at-used k n [] used less = absurd (omega (arith, less))
   found-at-used k n (line ∷ ls) used less = found-used on k n line ls used less
 
+  -- no table begins in rows: then none behind the first is in one
+  untabled-behind : (q : Row) (x : List Row) → before_table is_in_table (q ∷ x) ≡ length (q ∷ x) → NoTable on x
+  untabled-behind q [] e = tt
+  untabled-behind q (r ∷ x) e = by (untabled-behind r x) (is_in_table r) refl e
+    where
+      by : (before_table is_in_table (r ∷ x) ≡ length (r ∷ x) → NoTable on x) → (b : Bool) → is_in_table r ≡ b → cond b 0 (suc (before_table is_in_table (r ∷ x))) ≡ suc (suc (length x)) → NoTable on (r ∷ x)
+      by later true f e = absurd (omega (arith, e))
+      by later false f e = (f, later (omega (arith, e)))
+
+  some-lines : (z : List Row) → 1 ≤ length z → 1 ≤ table_lines is_in_table z
+  some-lines [] h = absurd (omega (arith, h))
+  some-lines (q ∷ z) h = omega arith
+
   -- ---- rows to the end, by what is known behind them
   module _ (end : Known) where
     pub record At (Is : State on → Type 0) (rows : List Row) : Type 0 where
@@ -128,10 +144,14 @@ module _ (on : Constructs) where
     abbrev pub UsedAt : State on → Type 0
     UsedAt s = Used on s.known (rows_at on s)
 
-    -- before rows that may be in a stretch: where a part begins, and directly behind definitions
+    -- before rows that may be in a stretch: where a part begins, or behind a table
+    abbrev pub BeforeAt : List Row → Type 0
+    BeforeAt rows = At (StartsAt on) rows × AllStay (drop 1 rows)
+
+    -- and without tables there, and directly behind definitions
     abbrev pub KnownAt : Bool → List Row → Type 0
-    KnownAt false rows = At (StartsAt on) rows × AllStay (drop 1 rows)
-    KnownAt true rows = At UsedAt rows × AllStay rows
+    KnownAt false rows = At (StartsAt on) rows × AllStay (drop 1 rows) × NoTable on rows
+    KnownAt true rows = At UsedAt rows × AllStay rows × NoTable on rows
 
     pub data Good (is_behind : Bool) (s : State on) : Type 0 where
       anew : is_behind ≡ false → StartsAt on s → Good is_behind s
@@ -139,12 +159,39 @@ module _ (on : Constructs) where
 
     -- where a stretch is: no definitions begin in it
     abbrev pub PlaceAt : Bool → List Row → Type 0
-    PlaceAt is_behind rows = At (Good is_behind) rows × (before_defined on false rows ≡ length rows)
+    PlaceAt is_behind rows = At (Good is_behind) rows × (before_defined on false rows ≡ length rows) × NoTable on rows
+
+    -- behind the first table of rows
+    behind-tables : (q : Row) (x : List Row) → BeforeAt (q ∷ x) → before_table is_in_table (q ∷ x) < length (q ∷ x) → BeforeAt (behind_table (q ∷ x))
+    behind-tables q x h less =
+        let s = h.0.state in
+        let are = h.0.are in
+        let n = before_table is_in_table (q ∷ x) in
+        let z = drop n (q ∷ x) in
+        let long = length-drop n (q ∷ x) in
+        let some = some-lines z (omega (arith, less, long)) in
+        let few : before_table is_in_table (rows_at on s) < length (rows_at on s) = subst (λ rows. before_table is_in_table rows < length rows) are less in
+        let t = table_state on s.known s.number s.lines in (
+          record {
+            state = t;
+            are = ap behind_table are ∙ table-rows on s.known s.number s.lines;
+            known = sym (table-known on s.known s.number s.lines) ∙ h.0.known;
+            deep = table-deep on s.known s.number s.lines h.0.deep;
+            is = table-starts on s.known s.number s.lines few;
+          },
+          every-drop (λ (r : Row). may_stay r ≡ true) 1 (behind_table (q ∷ x)) (later-stay (table_lines is_in_table z) z some (tail-stay n q x h.1)),
+        )
+
+    -- rows without a table
+    without-table : (q : Row) (x : List Row) → BeforeAt (q ∷ x) → before_table is_in_table (q ∷ x) ≡ length (q ∷ x) → KnownAt false (q ∷ x)
+    without-table q x h whole =
+        let first : is_in_table q ≡ false = ap (begins_in_table is_in_table) h.0.are ∙ first-untabled on h.0.state h.0.is in
+        (h.0, h.1, (first, untabled-behind q x whole))
 
     -- directly behind the definitions that come next
-    step-from : (q : Row) (x : List Row) (s : State on) → q ∷ x ≡ rows_at on s → known_behind on s.known s.number s.lines ≡ end → IsDeep on s.known → AllStay x → Found on (before_defined on false (q ∷ x)) s.known s.number s.lines
+    step-from : (q : Row) (x : List Row) (s : State on) → q ∷ x ≡ rows_at on s → known_behind on s.known s.number s.lines ≡ end → IsDeep on s.known → AllStay x → NoTable on (q ∷ x) → Found on (before_defined on false (q ∷ x)) s.known s.number s.lines
         → let z = drop (before_defined on false (q ∷ x)) (q ∷ x) in KnownAt true (drop (defined_in on z) z)
-    step-from q x s are known deep stay f =
+    step-from q x s are known deep stay untabled f =
         let n = before_defined on false (q ∷ x) in
         let z = drop n (q ∷ x) in
         let s1 = state_on on n s.known s.number s.lines in
@@ -162,6 +209,7 @@ module _ (on : Constructs) where
             is = subst (Used on s2.known) back used;
           },
           later-stay (defined_in on z) z (subst (λ l. 1 ≤ defined_in on l) (sym z_is) f.some) behind,
+          every-drop (λ (r : Row). is_in_table r ≡ false) (defined_in on z) z (every-drop (λ (r : Row). is_in_table r ≡ false) n (q ∷ x) untabled),
         )
 
     step : (p : Bool) (q : Row) (x : List Row) → KnownAt p (q ∷ x) → let n = before_defined on false (q ∷ x) in n < length (q ∷ x) → KnownAt true (drop (defined_in on (drop n (q ∷ x))) (drop n (q ∷ x)))
@@ -169,23 +217,23 @@ module _ (on : Constructs) where
         let a = h.0 in
         let s = a.state in
         let few : before_defined on false (rows_at on s) < length (rows_at on s) = subst (λ rows. before_defined on false rows < length rows) a.are less in
-        step-from q x s a.are a.known a.deep h.1 (subst (λ rows. Found on (before_defined on false rows) s.known s.number s.lines) (sym a.are) (found-at-closed s.known s.number s.lines a.is few))
+        step-from q x s a.are a.known a.deep h.1 h.2 (subst (λ rows. Found on (before_defined on false rows) s.known s.number s.lines) (sym a.are) (found-at-closed s.known s.number s.lines a.is few))
     step true q x h less =
         let a = h.0 in
         let s = a.state in
         let few : before_defined on false (rows_at on s) < length (rows_at on s) = subst (λ rows. before_defined on false rows < length rows) a.are less in
-        step-from q x s a.are a.known a.deep h.1.1 (subst (λ rows. Found on (before_defined on false rows) s.known s.number s.lines) (sym a.are) (found-at-used s.known s.number s.lines a.is few))
+        step-from q x s a.are a.known a.deep h.1.1 h.2 (subst (λ rows. Found on (before_defined on false rows) s.known s.number s.lines) (sym a.are) (found-at-used s.known s.number s.lines a.is few))
 
     -- the last stretch, if it is the first of these rows
     at-first : (p : Bool) (q : Row) (x : List Row) → KnownAt p (q ∷ x) → before_defined on false (q ∷ x) ≡ length (q ∷ x) → PlaceAt (p && is_paragraph q.leaf) (q ∷ x)
-    at-first false q x h whole = let a = h.0 in (record { state = a.state; are = a.are; known = a.known; deep = a.deep; is = anew refl a.is }, whole)
-    at-first true q x h whole = let a = h.0 in (record { state = a.state; are = a.are; known = a.known; deep = a.deep; is = directly (ap begins_text a.are) a.is (subst AllStay a.are h.1) }, whole)
+    at-first false q x h whole = let a = h.0 in (record { state = a.state; are = a.are; known = a.known; deep = a.deep; is = anew refl a.is }, whole, h.2)
+    at-first true q x h whole = let a = h.0 in (record { state = a.state; are = a.are; known = a.known; deep = a.deep; is = directly (ap begins_text a.are) a.is (subst AllStay a.are h.1) }, whole, h.2)
 
     -- if it is not
-    at-later : (around : Part) (q : Row) (x : List Row) (s : State on) → q ∷ x ≡ rows_at on s → known_behind on s.known s.number s.lines ≡ end → IsDeep on s.known → AllStay x → NextStarts on s.known s.number s.lines → before_defined on false (q ∷ x) ≡ length (q ∷ x)
+    at-later : (around : Part) (q : Row) (x : List Row) (s : State on) → q ∷ x ≡ rows_at on s → known_behind on s.known s.number s.lines ≡ end → IsDeep on s.known → AllStay x → NoTable on (q ∷ x) → NextStarts on s.known s.number s.lines → before_defined on false (q ∷ x) ≡ length (q ∷ x)
         → (f : Part) (front : List Part) (begin : Part) (blanks : List Part) → its_parts around (length (q ∷ x)) (q ∷ x) ≡ f ∷ front ++ (begin ∷ blanks) → q ∷ x ≡ flat_map all_rows (f ∷ front) ++ (begin.first ∷ (begin.more ++ firsts blanks))
         → begin.first.is_blank ≡ false → PlaceAt false (begin.first ∷ (begin.more ++ firsts blanks))
-    at-later around q x s are known deep stay next whole f front begin blanks e rows_are full =
+    at-later around q x s are known deep stay untabled next whole f front begin blanks e rows_are full =
         let last = begin.first ∷ (begin.more ++ firsts blanks) in
         let b : Begins on s.known s.number s.lines (f ∷ front) =
         part-begins on (its_frames around) (its_stands around) (length (q ∷ x)) s.known s.number s.lines next (f ∷ front) (λ none. absurd (cc)) begin blanks (ap (its_parts around (length (q ∷ x))) (sym are) ∙ e) in
@@ -196,6 +244,7 @@ module _ (on : Constructs) where
         let all = b.whole false (λ none. absurd (cc)) (subst (λ rows. before_defined on false rows ≡ length rows) are whole) in (
           record { state = t; are = sym same; known = sym b.known ∙ known; deep = b.deep deep; is = anew refl b.starts },
           subst (λ rows. before_defined on false rows ≡ length rows) same (ap (λ c. before_defined on c (rows_at on t)) (sym shut) ∙ all),
+          every-back (λ (r : Row). is_in_table r ≡ false) (flat_map all_rows (f ∷ front)) last (subst (NoTable on) rows_are untabled),
         )
 
     last : (around : Part) (p : Bool) (q : Row) (x : List Row) → KnownAt p (q ∷ x) → before_defined on false (q ∷ x) ≡ length (q ∷ x) → Placed around PlaceAt p q x
@@ -203,14 +252,14 @@ module _ (on : Constructs) where
     last around false q x h whole (f ∷ front) begin blanks e are full stay =
         let a = h.0 in
         let s = a.state in
-        at-later around q x s a.are a.known a.deep h.1 (all-next on s.known s.number s.lines a.is) whole f front begin blanks e are full
+        at-later around q x s a.are a.known a.deep h.1 h.2 (all-next on s.known s.number s.lines a.is) whole f front begin blanks e are full
     last around true q x h whole (f ∷ front) begin blanks e are full stay =
         let a = h.0 in
         let s = a.state in
-        at-later around q x s a.are a.known a.deep h.1.1 (next-used s.known s.number s.lines a.is.is_open (subst AllStay a.are h.1)) whole f front begin blanks e are full
+        at-later around q x s a.are a.known a.deep h.1.1 h.2 (next-used s.known s.number s.lines a.is.is_open (subst AllStay a.are h.1)) whole f front begin blanks e are full
 
-    pub placing : (around : Part) → Placing on around KnownAt PlaceAt
-    placing around = record { step = step; last = last around }
+    pub placing : (around : Part) → Placing on around BeforeAt KnownAt PlaceAt
+    placing around = record { table = behind-tables; start = without-table; step = step; last = last around }
 
   -- ---- a document
   module _ (ls : List Line) where
@@ -220,7 +269,7 @@ module _ (on : Constructs) where
     abbrev pub known_at_end : Known
     known_at_end = known_behind on start 1 ls
 
-    pub begun : Begun (KnownAt known_at_end) (rows on ls)
+    pub begun : Begun (BeforeAt known_at_end) (rows on ls)
     begun front begin blanks e are full stay =
         let all = rows on ls in
         let last = begin.first ∷ (begin.more ++ firsts blanks) in
@@ -240,7 +289,7 @@ module _ (on : Constructs) where
   sections-with-places t a b rest goes r rs is =
       let one = lines_in (virtual t a) in
       let k = known_at_end one in
-      sections-placed on (KnownAt k) (PlaceAt k) (placing k) t a b (begun one) rest goes r rs is
+      sections-placed on (BeforeAt k) (KnownAt k) (PlaceAt k) (placing k) t a b (begun one) rest goes r rs is
 
 -- ==== Marks of a document at a rest where a stretch of lines goes on: those of its parts, but for the chunk at the seam.
 -- ---- the white space in front

@@ -26,23 +26,25 @@ use Rattle.mdblock_containers.proofs.FrameFacts.{none_is}
 use Rattle.mdblock_containers.specs.Prefixes.{columns_of, containers_of, going_on}
 use Rattle.mdblock_containers.specs.Rows as without
 use Rattle.mdblock_containers.specs.Rows as without
-use Rattle.mdblock_containers.specs.Rows.{Before, Row, closed, has_none, holds_ending, is_paragraph, leaf_after, open_paragraph, rest_of}
+use Rattle.mdblock_containers.specs.Rows.{Before, Row, closed, has_none, holds_ending, is_paragraph, leaf_after, open_paragraph, open_table, rest_of}
 use Rattle.mdblock_containers.specs.Skeleton.{Frame, Part, frames_at, frames_of, going_on_at, last_of, left_in, list_at, list_begun, parts, standing}
 use Rattle.mdblock_definitions.proofs.PlainLetters.{open-not-blank}
 use Rattle.mdblock_definitions.proofs.SectionCosts.{defined-text}
 use Rattle.mdblock_definitions.specs.BlankLines as blank_lines
-use Rattle.mdblock_definitions.specs.Rows.{Known, known_after, row_of, rows, rows_from, underlines_nothing}
-use Rattle.mdblock_definitions.specs.Sections.{Section, before_defined, begins_text, cut, defined, defined_in, defining, paragraph_of, sections, sections_in, sections_of, text_in}
+use Rattle.mdblock_definitions.specs.Rows.{Known, is_row_of_table, known_after, row_of, row_without, rows, rows_from, underlines_nothing}
+use Rattle.mdblock_definitions.specs.Sections.{Section, before_defined, begins_text, cut, defined, defined_in, defining, is_in_table, paragraph_of, sections, sections_in, sections_of, sections_of_cut, table, tabled, text_in}
+use Rattle.mdblock_table_marks.specs.TableCuts.{Cut}
 use Rattle.mdblock_definitions.specs.Skeleton.{all_rows}
 use Rattle.mddocument_parts.proofs.DocumentBytes.{counted, document-rows-of-both}
-use Rattle.mddocument_parts.proofs.DocumentLabels.{joined-known, rows-left, starts}
+use Rattle.mddocument_parts.proofs.CutsJoined.{cuts, cuts-none}
+use Rattle.mddocument_parts.proofs.DocumentLabels.{anew-untabled, joined-known, rows-left, starts}
 use Rattle.mddocument_parts.proofs.DocumentRests.{anew-same, begins-anew, closed-is, first-row, stretches-go-on-at-top}
-use Rattle.mddocument_parts.proofs.JoinedSections.{Behind, Joins, Placing, Seam, all-same, apart, follows, its_frames, its_parts, its_stands, joins-as, joins-back, joins-front, joins-longer, joins-same, left as behind_left, left-parts-by, lefts, parts-join, parts_by, real-parts, same-parts, seam, sections-fuel, sections-join, sections-none, sections-plain, stays as behind_stays}
+use Rattle.mddocument_parts.proofs.JoinedSections.{Behind, Joins, Placing, Seam, all-same, apart, cuts-in-fuel, cuts-plain, cuts-sections, cuts_in, follows, its_frames, its_parts, its_stands, joins-as, joins-back, joins-front, joins-longer, joins-same, left as behind_left, left-parts-by, lefts, parts-join, parts_by, real-parts, same-parts, seam, sections-none, sections-plain, stays as behind_stays}
 use Rattle.mddocument_parts.proofs.MarksOfBoth.{GoesOnWithNone, frames-apart, standing-apart}
 use Rattle.mddocument_parts.proofs.MovedBlocks.{text-moved}
 use Rattle.mddocument_parts.proofs.MovedRows.{columns-moved}
 use Rattle.mddocument_parts.proofs.MovedSections.{sections-move}
-use Rattle.mddocument_parts.proofs.SectionRows.{AllLeft, LeftIsBlank, joined, joined-first, joined-none, left-no-text}
+use Rattle.mddocument_parts.proofs.SectionRows.{AllLeft, LeftIsBlank, joined, joined-first, joined-none, left-no-text, left-untabled}
 use Rattle.mddocument_parts.proofs.WithoutContainers.PlainParts.{IsAlone, IsBare, parts-alone}
 use Rattle.mddocument_parts.specs.DocumentRests.{begins_anew, begins_at_document_rest, document_rows, first_at_document_rest, first_stays, goes_on_behind, is_at_document_rest, is_closed, known_at_start, known_behind, moved_prefix, moved_row}
 use Rattle.mddocument_parts.specs.JoinedStretches.{AllStay, IsBlankPart, IsSame, SectionsJoin, any_place, at_top, firsts, joined_part, may_stay, plain_section, plain_sections, section_seam, sections_apart}
@@ -56,6 +58,10 @@ no_row b row = []
 
 abbrev no_rows : List Definition → List Row → List Row
 no_rows ds rows = []
+
+-- and nothing is known of them
+abbrev any_rows : List Row → Type 0
+any_rows rows = Unit {0}
 
 -- ---- the spans in which a part stands are all that sections take of it
 around-any : (on : Constructs) (bound : ℕ) (p : Bool) (a b : Part) (rows : List Row) → a.frames ≡ b.frames → a.stands ≡ b.stands → sections_in on bound p a rows ≡ sections_in on bound p b rows
@@ -73,6 +79,20 @@ around-any on (suc bound) p a b (r ∷ rs) f s =
     defining-any : (ds : List Definition) (rows : List Row) → defining ds a rows ≡ defining ds b rows
     defining-any ds [] = refl
     defining-any ds (q ∷ qs) = (λ i. (let o : Section = record { part = record { first = q; more = qs; frames = f i; stands = s i }; inside = defined ds } in o) ∷ [])
+
+tabled-any : (a b : Part) (rows : List Row) → a.frames ≡ b.frames → a.stands ≡ b.stands → tabled a rows ≡ tabled b rows
+tabled-any a b [] f s = refl
+tabled-any a b (q ∷ qs) f s = (λ i. (let o : Section = record { part = record { first = q; more = qs; frames = f i; stands = s i }; inside = table } in o) ∷ [])
+
+cut-any : (on : Constructs) (a b : Part) (c : Cut) → a.frames ≡ b.frames → a.stands ≡ b.stands → sections_of_cut on a c ≡ sections_of_cut on b c
+cut-any on a b c f s = (λ i. cond c.is_table (tabled-any a b c.rows f s i) (around-any on (length c.rows) false a b c.rows f s i))
+
+cuts-any : (on : Constructs) (bound : ℕ) (a b : Part) (rows : List Row) → a.frames ≡ b.frames → a.stands ≡ b.stands → cuts_in on a bound rows ≡ cuts_in on b bound rows
+cuts-any on bound a b rows f s = by (cuts bound rows)
+  where
+    by : (cs : List Cut) → flat_map (sections_of_cut on a) cs ≡ flat_map (sections_of_cut on b) cs
+    by [] = refl
+    by (c ∷ cs) = (λ i. cut-any on a b c f s i ++ by cs i)
 
 -- ---- rows that are left blank are sections of their own
 -- no number that is none at least
@@ -105,18 +125,23 @@ module _ (around : Part) where
         sections-plain on around b false r y (left-before false all l k)
         ∙ ap (sections_of false) (same-parts around n [] all ∙ blanks-are (its_parts around n all) are.1 (all-same around n all) ∙ ap blank_parts are.0)
 
+    left-cuts : (b : ℕ) (y : List Row) → length y ≤ b → AllLeft y → AllByRecursion LeftIsBlank y → cuts_in on around b y ≡ plain_sections (blank_parts y)
+    left-cuts b [] m l k = ap (flat_map (sections_of_cut on around)) (cuts-none b)
+    left-cuts zero (r ∷ y) m l k = absurd (omega (arith, m))
+    left-cuts (suc b) (r ∷ y) m l k = cuts-plain on around b r y (left-untabled on no_row no_rows (r ∷ y) l k) ∙ left-sections (length (r ∷ y)) (r ∷ y) (omega arith) l k
+
     -- behind other rows
     with-blanks : (c b : ℕ) (q : Row) (x : List Row) (ps : List Part) → length (q ∷ (x ++ firsts ps)) ≤ c → length (q ∷ x) ≤ b → AllByRecursion LeftIsBlank (q ∷ x) → AllByRecursion LeftIsBlank (firsts ps) → AllByRecursion IsBlankPart ps → AllByRecursion (IsSame around) ps
-        → sections_in on c false around (q ∷ (x ++ firsts ps)) ≡ sections_in on b false around (q ∷ x) ++ plain_sections ps
-    with-blanks c b q x [] l m h g k same = ap (λ r. sections_in on c false around (q ∷ r)) (append-nil x) ∙ sections-fuel on around c b false (q ∷ x) (let size = ap (λ (l : List Row). length l) (append-nil x) in omega (arith, l, size)) m ∙ sym (append-nil (sections_in on b false around (q ∷ x)))
+        → cuts_in on around c (q ∷ (x ++ firsts ps)) ≡ cuts_in on around b (q ∷ x) ++ plain_sections ps
+    with-blanks c b q x [] l m h g k same = ap (λ r. cuts_in on around c (q ∷ r)) (append-nil x) ∙ cuts-in-fuel on around c b (q ∷ x) (let size = ap (λ (l : List Row). length l) (append-nil x) in omega (arith, l, size)) m ∙ sym (append-nil (cuts_in on around b (q ∷ x)))
     with-blanks c b q x (p ∷ ps) l m h g k same =
         let y = firsts (p ∷ ps) in
         let all = lefts (p ∷ ps) k in
-        by (sections-join on around any_place any_place any_placing p.first (firsts ps) (behind_left all) c b (length y) false (q ∷ x) l m (omega arith) (joined-none on no_row no_rows false (q ∷ x) y (left-no-text on no_row no_rows y all g)) h tt)
-        ∙ ap (λ l. sections_in on b false around (q ∷ x) ++ l) (left-sections (length y) y (omega arith) all g ∙ ap plain_sections (sym (blanks-are (p ∷ ps) k same)))
+        by (cuts-sections on around any_rows any_place any_place any_placing p.first (firsts ps) (behind_left all) (g.0 k.0.left).2 c b (length y) (q ∷ x) l m (omega arith) (joined-none on no_row no_rows false (q ∷ x) y (left-no-text on no_row no_rows y all g)) h tt)
+        ∙ ap (λ l. cuts_in on around b (q ∷ x) ++ l) (left-cuts (length y) y (omega arith) all g ∙ ap plain_sections (sym (blanks-are (p ∷ ps) k same)))
       where
-        any_placing : Placing on around any_place any_place
-        any_placing = record { step = λ p q x k less. tt; last = λ p q x k whole front begin blanks e f g h. tt }
+        any_placing : Placing on around any_rows any_place any_place
+        any_placing = record { table = λ q x k less. tt; start = λ q x k whole. tt; step = λ p q x k less. tt; last = λ p q x k whole front begin blanks e f g h. tt }
 
         by : {w f s : List Section} → SectionsJoin any_place around (q ∷ x) p.first (firsts ps) w f s → w ≡ f ++ s
         by (sections_apart e) = e
@@ -128,6 +153,7 @@ pub record GoesOn (r : Row) : Type 0 where
   pub full : r.is_blank ≡ false
   pub left : r.is_left_blank ≡ false
   pub stays_on : r.stays ≡ true
+  pub untabled : is_in_table r ≡ false
   pub bare : IsBare r
 
 -- where rows from one that is not blank to the end may all be in a stretch, they have no containers
@@ -135,10 +161,10 @@ abbrev pub BareBehind : List Row → Type 0
 BareBehind x = (above : List Row) (q : Row) (more : List Row) → x ≡ above ++ (q ∷ more) → q.is_blank ≡ false → AllStay more → AllByRecursion IsBare (q ∷ more)
 
 -- what is known of the rows from a part on to the end, if they may all be in a stretch
-abbrev pub Begun : (Known : Bool → List Row → Type 0) → List Row → Type 0
-Begun Known x =
+abbrev pub Begun : (Before : List Row → Type 0) → List Row → Type 0
+Begun Before x =
     (front : List Part) (begin : Part) (blanks : List Part) → parts x ≡ front ++ (begin ∷ blanks) → x ≡ flat_map all_rows front ++ (begin.first ∷ (begin.more ++ firsts blanks))
-    → begin.first.is_blank ≡ false → AllStay (begin.more ++ firsts blanks) → Known false (begin.first ∷ (begin.more ++ firsts blanks))
+    → begin.first.is_blank ≡ false → AllStay (begin.more ++ firsts blanks) → Before (begin.first ∷ (begin.more ++ firsts blanks))
 
 module _ (r : Row) (rs : List Row) (goes : GoesOn r) where
   abbrev y : List Row
@@ -161,10 +187,10 @@ module _ (r : Row) (rs : List Row) (goes : GoesOn r) where
 
     cut-blanks : (ps : List Part) → AllByRecursion IsBlankPart ps → flat_map (cut on) ps ≡ plain_sections ps
     cut-blanks [] h = refl
-    cut-blanks (p ∷ ps) h = (λ i. cond (h.0.blank i) (plain_section p ∷ []) (sections_in on (suc (length p.more)) false p (p.first ∷ p.more)) ++ cut-blanks ps h.1 i)
+    cut-blanks (p ∷ ps) h = (λ i. cond (h.0.blank i) (plain_section p ∷ []) (cuts_in on p (suc (length p.more)) (p.first ∷ p.more)) ++ cut-blanks ps h.1 i)
 
-    cut-full : (p : Part) → p.first.is_blank ≡ false → cut on p ≡ sections_in on (suc (length p.more)) false p (p.first ∷ p.more)
-    cut-full p e = ap (λ b. cond b (plain_section p ∷ []) (sections_in on (suc (length p.more)) false p (p.first ∷ p.more))) e
+    cut-full : (p : Part) → p.first.is_blank ≡ false → cut on p ≡ cuts_in on p (suc (length p.more)) (p.first ∷ p.more)
+    cut-full p e = ap (λ b. cond b (plain_section p ∷ []) (cuts_in on p (suc (length p.more)) (p.first ∷ p.more))) e
 
     joined-back : (p : Bool) (above : List Row) (q : Row) (z : List Row) (u v : List Row) → joined p (above ++ (q ∷ z)) (r ∷ u) ≡ joined false (q ∷ z) (r ∷ v)
     joined-back p [] q z u v = joined-first on no_row no_rows (is_paragraph q.leaf) z r u v
@@ -182,7 +208,7 @@ module _ (r : Row) (rs : List Row) (goes : GoesOn r) where
     alone-same [] h = tt
     alone-same (p ∷ ps) h = (record { frames = h.0.frames; stands = h.0.stands }, alone-same ps h.1)
 
-    module _ (Known Place : Bool → List Row → Type 0) (placing : Placing on top Known Place) (x : List Row) (begun : Begun Known x) (blank : AllByRecursion LeftIsBlank x) (bare : BareBehind x) (ends : joined false x y ≡ false) where
+    module _ (Before : List Row → Type 0) (Known Place : Bool → List Row → Type 0) (placing : Placing on top Before Known Place) (x : List Row) (begun : Begun Before x) (blank : AllByRecursion LeftIsBlank x) (bare : BareBehind x) (ends : joined false x y ≡ false) where
       abbrev Goal : Type 0
       Goal = SectionsJoin Place top x r rs (sections on (x ++ y)) (sections on x) (sections on y)
 
@@ -200,31 +226,32 @@ module _ (r : Row) (rs : List Row) (goes : GoesOn r) where
           let front = flat_map (cut on) h.front in
           let back = flat_map (cut on) h.back in
           let last = h.it.end.first ∷ z in
-          let begin-cut = sections_in on (suc (length h.it.begin.more)) false top (q ∷ h.it.begin.more) in
-          let end-cut = sections_in on (suc (length z)) false top last in
-          let all-cut = sections_in on (length all) false top all in
-          let whole-cut = sections_in on long false top (all ++ last) in
+          let begin-cut = cuts_in on top (suc (length h.it.begin.more)) (q ∷ h.it.begin.more) in
+          let end-cut = cuts_in on top (suc (length z)) last in
+          let all-cut = cuts_in on top (length all) all in
+          let whole-cut = cuts_in on top long (all ++ last) in
           let end_frames : h.it.end.frames ≡ [] = ap first-frames (sym h.second_is) ∙ end-frames in
           let end_stands : h.it.end.stands ≡ [] = ap first-stands (sym h.second_is) ∙ end-standing in
           let end_full : h.it.end.first.is_blank ≡ false = ap (λ (q : Row). q.is_blank) h.it.end_is ∙ goes.full in
           let whole : sections on (x ++ y) ≡ front ++ (whole-cut ++ back) =
           ap (flat_map (cut on)) h.whole_is
           ∙ flat_map-append (cut on) h.front (joined_part h.it.begin h.it.blanks h.it.end ∷ h.back)
-          ∙ ap (λ l. front ++ (l ++ back)) (cut-full (joined_part h.it.begin h.it.blanks h.it.end) h.it.full ∙ around-any on long false (joined_part h.it.begin h.it.blanks h.it.end) top (all ++ last) same.0.frames same.0.stands) in
+          ∙ ap (λ l. front ++ (l ++ back)) (cut-full (joined_part h.it.begin h.it.blanks h.it.end) h.it.full ∙ cuts-any on long (joined_part h.it.begin h.it.blanks h.it.end) top (all ++ last) same.0.frames same.0.stands) in
           let first : sections on x ≡ front ++ all-cut =
           ap (flat_map (cut on)) h.first_is
           ∙ flat_map-append (cut on) h.front (h.it.begin ∷ h.it.blanks)
-          ∙ (λ i. front ++ ((cut-full h.it.begin h.it.full ∙ around-any on (suc (length h.it.begin.more)) false h.it.begin top (q ∷ h.it.begin.more) same.0.frames same.0.stands) i ++ cut-blanks h.it.blanks h.it.are_blank i))
+          ∙ (λ i. front ++ ((cut-full h.it.begin h.it.full ∙ cuts-any on (suc (length h.it.begin.more)) h.it.begin top (q ∷ h.it.begin.more) same.0.frames same.0.stands) i ++ cut-blanks h.it.blanks h.it.are_blank i))
           ∙ ap (λ l. front ++ l)
           (sym (with-blanks top on (length all) (suc (length h.it.begin.more)) q h.it.begin.more h.it.blanks (omega arith) (omega arith) (every-front LeftIsBlank (q ∷ h.it.begin.more) (firsts h.it.blanks) few) (every-back LeftIsBlank (q ∷ h.it.begin.more) (firsts h.it.blanks) few) h.it.are_blank same.1)) in
           let second : sections on y ≡ end-cut ++ back =
           ap (flat_map (cut on)) h.second_is
-          ∙ ap (λ l. l ++ back) (cut-full h.it.end end_full ∙ around-any on (suc (length z)) false h.it.end top last end_frames end_stands) in
+          ∙ ap (λ l. l ++ back) (cut-full h.it.end end_full ∙ cuts-any on (suc (length z)) h.it.end top last end_frames end_stands) in
           let tail : Behind h.it.end.first z = subst (λ (q : Row). Behind q z) (sym h.it.end_is) (behind_stays goes.full goes.left goes.stays_on) in
           let apart : joined false all last ≡ false =
           ap (λ (q2 : Row). joined false all (q2 ∷ z)) h.it.end_is ∙ sym (joined-back false h.above q inner rs z) ∙ sym (ap (λ l. joined false l y) h.rows_are) ∙ ends in
           let size : long ≡ length (all ++ last) = refl in
-          let inside = sections-join on top Known Place placing h.it.end.first z tail long (length all) (suc (length z)) false all (omega arith) (omega arith) (omega arith) apart few (begun h.front h.it.begin h.it.blanks h.first_is (h.rows_are ∙ ap (λ l. l ++ all) h.above_is) h.it.full h.it.stay) in
+          let untabled : is_in_table h.it.end.first ≡ false = ap is_in_table h.it.end_is ∙ goes.untabled in
+          let inside = cuts-sections on top Before Known Place placing h.it.end.first z tail untabled long (length all) (suc (length z)) all (omega arith) (omega arith) (omega arith) apart few (begun h.front h.it.begin h.it.blanks h.first_is (h.rows_are ∙ ap (λ l. l ++ all) h.above_is) h.it.full h.it.stay) in
           joins-same Place top r rs (h.above ++ all) x (front ++ (whole-cut ++ back)) (sections on (x ++ y)) (front ++ all-cut) (sections on x) (end-cut ++ back) (sections on y)
           (sym h.rows_are) (sym whole) (sym first) (sym second)
           (joins-front Place top r rs front h.above all (whole-cut ++ back) all-cut (end-cut ++ back)
@@ -342,12 +369,14 @@ module _ (on : Constructs) where
     left-holds : row.is_left_blank ≡ true → holds_ending row.leaf ≡ false
     left-holds e =
         let plain = without.row_of on k.before n line in
-        ap (λ left. holds_ending (cond (underlines_nothing on k plain) open_paragraph (cond left closed (cond plain.is_lazy open_paragraph (leaf_after on (cond plain.stays k.before.leaf closed) (rest_of plain)))))) e
-        ∙ by (underlines_nothing on k plain)
+        let tabled = is_row_of_table on k (row_without on k n line) in
+        ap (λ left. holds_ending (cond tabled open_table (cond (underlines_nothing on k plain) open_paragraph (cond left closed (cond plain.is_lazy open_paragraph (leaf_after on (cond plain.stays k.before.leaf closed) (rest_of plain))))))) e
+        ∙ by tabled (underlines_nothing on k plain)
       where
-        by : (u : Bool) → holds_ending (cond u open_paragraph closed) ≡ false
-        by true = refl
-        by false = refl
+        by : (w u : Bool) → holds_ending (cond w open_table (cond u open_paragraph closed)) ≡ false
+        by true u = refl
+        by false true = refl
+        by false false = refl
 
     -- nor before it, where it stays
     before-left : IsDeep k → k.before.stack ≡ [] → row.is_left_blank ≡ true → holds_ending k.before.leaf ≡ false
@@ -560,6 +589,7 @@ module _ (on : Constructs) where
           full = ap (λ (r : Row). r.is_blank) (sym is) ∙ at.full (ap (λ (r : Row). r.stays) is);
           left = ap (λ (r : Row). r.is_left_blank) (sym is) ∙ at.left;
           stays_on = refl;
+          untabled = anew-untabled on (open-not-blank on) start 1 line refl;
           bare = (ap (λ (r : Row). r.went_on) (sym is) ∙ ap (λ (r : Row). r.went_on) new.row, ap (map (moved_prefix n)) (none_is first.begun at-end.1));
         }
 
@@ -573,14 +603,14 @@ module _ (on : Constructs) where
         ∙ ap (λ leaf. is_paragraph leaf && begins_text (moved ∷ others)) (closed-is known.before.leaf (and-left (is_closed known.before.leaf) _ rest))
 
     -- by what is known of the rows before
-    module _ (Known Place : Bool → List Row → Type 0) (placing : Placing on (at_top moved) Known Place) (begun : Begun Known (rows on before)) where
+    module _ (Before : List Row → Type 0) (Known Place : Bool → List Row → Type 0) (placing : Placing on (at_top moved) Before Known Place) (begun : Begun Before (rows on before)) where
       pub sections-at-seam : SectionsJoin Place (at_top moved) (rows on before) moved others (sections on (rows on before ++ (moved ∷ others))) (sections on (rows on before)) (map (moved_section n bytes) (sections on (rows on (line ∷ behind))))
       sections-at-seam =
           let moves : sections on (moved ∷ others) ≡ map (moved_section n bytes) (sections on (rows on (line ∷ behind))) =
           sections-move on n bytes (record first { stays = true } ∷ rows_from on (known_after on start first) 2 behind)
           ∙ ap (λ (r : Row). map (moved_section n bytes) (sections on (r ∷ rows_from on (known_after on start first) 2 behind))) first-is in
           subst (λ ss. SectionsJoin Place (at_top moved) (rows on before) moved others (sections on (rows on before ++ (moved ∷ others))) (sections on (rows on before)) ss) moves
-          (sections-of-joined moved others goes-on on Known Place placing (rows on before) begun (rows-left on (open-not-blank on) start 1 before) (bare-from start 1 before at-end.0) rows-apart)
+          (sections-of-joined moved others goes-on on Before Known Place placing (rows on before) begun (rows-left on (open-not-blank on) start 1 before) (bare-from start 1 before at-end.0) rows-apart)
 
 -- ---- in bytes
 module _ (Place : Bool → List Row → Type 0) (x : List Row) (whole first second : List Section) where
@@ -588,18 +618,18 @@ module _ (Place : Bool → List Row → Type 0) (x : List Row) (whole first seco
   JoinAt [] = Unit {0}
   JoinAt (q ∷ qs) = SectionsJoin Place (at_top q) x q qs whole first second
 
-module _ (on : Constructs) (Known Place : Bool → List Row → Type 0) (placing : (around : Part) → Placing on around Known Place) where
-  pub at-lines : (bytes n : ℕ) (before behind : List Line) → n ≡ length before → Begun Known (rows on before) → first_at_document_rest on before behind ≡ true → goes_on_behind on before behind ≡ true
+module _ (on : Constructs) (Before : List Row → Type 0) (Known Place : Bool → List Row → Type 0) (placing : (around : Part) → Placing on around Before Known Place) where
+  pub at-lines : (bytes n : ℕ) (before behind : List Line) → n ≡ length before → Begun Before (rows on before) → first_at_document_rest on before behind ≡ true → goes_on_behind on before behind ≡ true
       → JoinAt Place (rows on before) (sections on (rows on before ++ map (moved_row n bytes) (first_stays true (rows on behind)))) (sections on (rows on before)) (map (moved_section n bytes) (sections on (rows on behind))) (map (moved_row n bytes) (rows on behind))
   at-lines bytes n before [] e begun rest goes = tt
   at-lines bytes n before (line ∷ behind) e begun rest goes =
       subst (λ m. JoinAt Place (rows on before) (sections on (rows on before ++ map (moved_row m bytes) (first_stays true (rows on (line ∷ behind))))) (sections on (rows on before)) (map (moved_section m bytes) (sections on (rows on (line ∷ behind)))) (map (moved_row m bytes) (rows on (line ∷ behind)))) (sym e)
       (subst (JoinAt Place (rows on before) (sections on (rows on before ++ map (moved_row (length before) bytes) (first_stays true (rows on (line ∷ behind))))) (sections on (rows on before)) (map (moved_section (length before) bytes) (sections on (rows on (line ∷ behind)))))
       (λ i. moved_row (length before) bytes (first-is on bytes before line behind rest goes i) ∷ others on bytes before line behind rest goes)
-      (sections-at-seam on bytes before line behind rest goes Known Place (placing (at_top (moved on bytes before line behind rest goes))) begun))
+      (sections-at-seam on bytes before line behind rest goes Before Known Place (placing (at_top (moved on bytes before line behind rest goes))) begun))
 
   -- with what is known of the rows before
-  pub sections-placed : (t : ℕ) (a b : List ℕ) → Begun Known (document_rows on t a) → begins_at_document_rest on t a b ≡ true → goes_on_behind on (lines_in (virtual t a)) (lines_in (virtual t b)) ≡ true
+  pub sections-placed : (t : ℕ) (a b : List ℕ) → Begun Before (document_rows on t a) → begins_at_document_rest on t a b ≡ true → goes_on_behind on (lines_in (virtual t a)) (lines_in (virtual t b)) ≡ true
       → (r : Row) (rs : List Row) → map (moved_row (line_endings a) (length a)) (document_rows on t b) ≡ r ∷ rs
       → SectionsJoin Place (at_top r) (document_rows on t a) r rs (sections on (document_rows on t (a ++ b))) (sections on (document_rows on t a)) (map (moved_section (line_endings a) (length a)) (sections on (document_rows on t b)))
   sections-placed t a b begun rest goes r rs is =

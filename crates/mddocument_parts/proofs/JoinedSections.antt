@@ -3,6 +3,7 @@ use Rattle.std.proofs.Common.{Bool, List, [], ap, append_assoc, arith, cond, dro
 use Rattle.std.proofs.Math.Seq.{drop-append-add, drop-length, take-append-add, take-length, drop-nil, take-nil}
 use Rattle.std.proofs.lemmas.List.{append-nil, drop-append-le, length-take-le, map-append, take-append-drop, take-append-le}
 use Rattle.std.proofs.lemmas.List.Sums.{prefix_len-le-length}
+use Rattle.std.proofs.lemmas.Grind.{flat_map-append}
 use Rattle.std.specs.List.{AllByRecursion, flat_map}
 use Rattle.std.specs.Prelude.{map}
 use Rattle.markdown_base.proofs.Common.{every-drop}
@@ -14,9 +15,12 @@ use Rattle.mdblock_containers.specs.Rows.{Row, is_paragraph}
 use Rattle.mdblock_containers.specs.Skeleton.{Frame, Part, frames_at, further, parts_in, standing}
 use Rattle.mdblock_definitions.proofs.Covered.{fewer-left}
 use Rattle.mdblock_definitions.specs.BlankLines as blank_lines
-use Rattle.mdblock_definitions.specs.Sections.{Section, before_defined, begins_text, defined_in, defining, in_same, lines, paragraph_of, sections_in, sections_of, text_in, undefined}
+use Rattle.mdblock_definitions.specs.Sections.{Section, before_defined, begins_text, defined_in, defining, in_same, is_in_table, lines, paragraph_of, sections_in, sections_of, sections_of_cut, text_in, undefined}
+use Rattle.mdblock_table_marks.proofs.TableCuts.{cuts_need_tables}
+use Rattle.mdblock_table_marks.specs.TableCuts.{Cut, before_table, table_lines, tabled, untabled}
+use Rattle.mddocument_parts.proofs.CutsJoined.{CutsJoin, behind_table, cut_seam, cuts, cuts-fuel, cuts-join, cuts_apart}
 use Rattle.mdblock_definitions.specs.Skeleton.{all_rows}
-use Rattle.mddocument_parts.proofs.SectionRows.{AllLeft, Apart, Follows, FurtherApart, LeftIsBlank, before-apart, cut_off, defined-apart, defined-within, further-apart, further-cut, going, joined, joined-behind, joined-drop, left-behind, paragraph-apart, text-taken}
+use Rattle.mddocument_parts.proofs.SectionRows.{AllLeft, Apart, Follows, FurtherApart, LeftIsBlank, before-apart, cut_off, defined-apart, defined-within, further-apart, further-cut, going, joined, joined-begin, joined-behind, joined-drop, joined-left, left-behind, paragraph-apart, text-taken}
 use Rattle.mddocument_parts.specs.JoinedStretches.{AllStay, Begin, IsBlankPart, IsSame, SectionsJoin, Stretch, firsts, joined_part, plain_section, plain_sections, section_seam, sections_apart}
 
 -- ==== Parts of rows behind others. Where the second go on with a stretch with which the first end, it is one part of the whole: in the parts it is two, and blank lines between them.
@@ -446,12 +450,25 @@ module _ (on : Constructs) (around : Part) where
       ∙ ap (λ l. undefined p around all ++ l) (from-none b)
       ∙ append-nil (undefined p around all)
 
-  -- what is known of rows before lines, and what it says of the last stretch
-  pub record Placing (Known Place : Bool → List Row → Type 0) : Type 0 where
+  -- lines of a part, cut at tables
+  abbrev pub cuts_in : (bound : ℕ) → List Row → List Section
+  cuts_in bound rows = flat_map (sections_of_cut on around) (cuts bound rows)
+
+  pub cuts-in-fuel : (b c : ℕ) (rows : List Row) → length rows ≤ b → length rows ≤ c → cuts_in b rows ≡ cuts_in c rows
+  cuts-in-fuel b c rows l m = ap (flat_map (sections_of_cut on around)) (cuts-fuel b c rows l m)
+
+  -- lines without a table
+  pub cuts-plain : (b : ℕ) (q : Row) (x : List Row) → AllByRecursion (λ (row : Row). is_in_table row ≡ false) (q ∷ x) → cuts_in (suc b) (q ∷ x) ≡ sections_in on (length (q ∷ x)) false around (q ∷ x)
+  cuts-plain b q x none = ap (flat_map (sections_of_cut on around)) (cuts_need_tables is_in_table b q x none) ∙ append-nil (sections_in on (length (q ∷ x)) false around (q ∷ x))
+
+  -- what is known of rows before lines that are cut at tables, of rows before lines without one, and what it says of the last stretch
+  pub record Placing (Before : List Row → Type 0) (Known Place : Bool → List Row → Type 0) : Type 0 where
+    pub table : (q : Row) (x : List Row) → Before (q ∷ x) → before_table is_in_table (q ∷ x) < length (q ∷ x) → Before (behind_table (q ∷ x))
+    pub start : (q : Row) (x : List Row) → Before (q ∷ x) → before_table is_in_table (q ∷ x) ≡ length (q ∷ x) → Known false (q ∷ x)
     pub step : (p : Bool) (q : Row) (x : List Row) → Known p (q ∷ x) → let n = before_defined on false (q ∷ x) in n < length (q ∷ x) → Known true (drop (defined_in on (drop n (q ∷ x))) (drop n (q ∷ x)))
     pub last : (p : Bool) (q : Row) (x : List Row) → Known p (q ∷ x) → before_defined on false (q ∷ x) ≡ length (q ∷ x) → Placed around Place p q x
 
-  module _ (Known Place : Bool → List Row → Type 0) (placing : Placing Known Place) (r : Row) (rs : List Row) (tail : Behind r rs) where
+  module _ (Before : List Row → Type 0) (Known Place : Bool → List Row → Type 0) (placing : Placing Before Known Place) (r : Row) (rs : List Row) (tail : Behind r rs) where
     abbrev ys : List Row
     ys = r ∷ rs
 
@@ -533,3 +550,55 @@ module _ (on : Constructs) (around : Part) where
             rows (sym whole) refl refl
             (joins-front Place around r rs front (take n all) (take k z ++ left) (mid ++ sections_in on c true around (left ++ ys)) (mid ++ sections_in on b true around left) (sections_in on (suc b2) false around ys)
             (joins-front Place around r rs mid (take k z) left (sections_in on c true around (left ++ ys)) (sections_in on b true around left) (sections_in on (suc b2) false around ys) (more h.0 (sym (joined-behind k z ys within) ∙ apart))))
+
+-- ---- lines of a part, cut before and behind tables
+module _ (on : Constructs) (around : Part) (Before : List Row → Type 0) (Known Place : Bool → List Row → Type 0) (placing : Placing on around Before Known Place) (r : Row) (rs : List Row) (tail : Behind r rs) (none : is_in_table r ≡ false) where
+  -- what is known of rows before the others
+  record Ends (rows : List Row) : Type 0 where
+    apart : joined false rows (r ∷ rs) ≡ false
+    blank : AllByRecursion LeftIsBlank rows
+    known : Before rows
+
+  ends-behind : (q : Row) (x : List Row) → Ends (q ∷ x) → before_table is_in_table (q ∷ x) < length (q ∷ x) → Ends (behind_table (q ∷ x))
+  ends-behind q x h less =
+      let n = before_table is_in_table (q ∷ x) in
+      let z = drop n (q ∷ x) in
+      let m = table_lines is_in_table z in
+      record {
+        apart = joined-left false m z (r ∷ rs) (joined-left false n (q ∷ x) (r ∷ rs) h.apart);
+        blank = every-drop LeftIsBlank m z (every-drop LeftIsBlank n (q ∷ x) h.blank);
+        known = placing.table q x h.known less;
+      }
+
+  abbrev one_cut : List Cut → List Section
+  one_cut cs = flat_map (sections_of_cut on around) cs
+
+  pub cuts-sections : (c b b2 : ℕ) (x : List Row) → length (x ++ (r ∷ rs)) ≤ c → length x ≤ b → length (r ∷ rs) ≤ b2 → joined false x (r ∷ rs) ≡ false → AllByRecursion LeftIsBlank x → Before x
+      → SectionsJoin Place around x r rs (cuts_in on around c (x ++ (r ∷ rs))) (cuts_in on around b x) (cuts_in on around b2 (r ∷ rs))
+  cuts-sections c b b2 x l m m2 e blank known = by (cuts-join r rs none Ends ends-behind c b b2 x l m m2 (record { apart = e; blank = blank; known = known }))
+    where
+      by : CutsJoin r rs none Ends x (cuts c (x ++ (r ∷ rs))) (cuts b x) (cuts b2 (r ∷ rs)) → SectionsJoin Place around x r rs (cuts_in on around c (x ++ (r ∷ rs))) (cuts_in on around b x) (cuts_in on around b2 (r ∷ rs))
+      by (cuts_apart k) = sections_apart (ap one_cut k ∙ flat_map-append (sections_of_cut on around) (cuts b x) (cuts b2 (r ∷ rs)))
+      by (cut_seam h) =
+          let all = h.q ∷ h.last in
+          let now = take h.many (r ∷ rs) in
+          let front = one_cut h.front in
+          let back = one_cut h.back in
+          let joint = sections_in on (length (all ++ now)) false around (all ++ now) in
+          let one = sections_in on (length all) false around all in
+          let two = sections_in on (length now) false around now in
+          let whole : cuts_in on around c (x ++ (r ∷ rs)) ≡ front ++ (joint ++ back) = ap one_cut h.whole_is ∙ flat_map-append (sections_of_cut on around) h.front (untabled (all ++ now) ∷ h.back) in
+          let first : cuts_in on around b x ≡ front ++ one = ap one_cut h.first_is ∙ flat_map-append (sections_of_cut on around) h.front (untabled all ∷ tabled [] ∷ []) ∙ ap (λ l. front ++ l) (append-nil one) in
+          let second : cuts_in on around b2 (r ∷ rs) ≡ two ++ back = ap one_cut h.second_is in
+          joins-same Place around r rs (h.above ++ all) x (front ++ (joint ++ back)) (cuts_in on around c (x ++ (r ∷ rs))) (front ++ one) (cuts_in on around b x) (two ++ back) (cuts_in on around b2 (r ∷ rs)) (sym h.rows_are) (sym whole) (sym first) (sym second)
+          (joins-front Place around r rs front h.above all (joint ++ back) one (two ++ back) (joins-back Place around r rs all joint one two back (inside h.many all h.known (placing.start h.q h.last h.known.known h.alone))))
+        where
+          inside : (n : ℕ) (all : List Row) → Ends all → Known false all → let now = take n (r ∷ rs) in
+              SectionsJoin Place around all r rs (sections_in on (length (all ++ now)) false around (all ++ now)) (sections_in on (length all) false around all) (sections_in on (length now) false around now)
+          inside zero all ends known =
+              sections_apart
+              (ap (λ l. sections_in on (length l) false around l) (append-nil all) ∙ sym (append-nil (sections_in on (length all) false around all)))
+          inside (suc n) all ends known =
+              let z = take n rs in
+              joins-longer Place around r z rs (drop n rs) (sym (take-append-drop n rs)) all (sections_in on (length (all ++ (r ∷ z))) false around (all ++ (r ∷ z))) (sections_in on (length all) false around all) (sections_in on (length (r ∷ z)) false around (r ∷ z))
+              (sections-join on around Before Known Place placing r z (front-behind n r rs tail) (length (all ++ (r ∷ z))) (length all) (length (r ∷ z)) false all (omega arith) (omega arith) (omega arith) (joined-begin false all r z rs ∙ ends.apart) ends.blank known)

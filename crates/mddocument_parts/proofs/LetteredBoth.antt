@@ -18,7 +18,7 @@ use Rattle.mdblock_containers.specs.Rows.{Row, rest_of}
 use Rattle.mdblock_definitions.proofs.Covered.{rows_of, sections-hold-lines}
 use Rattle.mdblock_definitions.proofs.PlainLetters.{letters-are-plain, open-not-blank}
 use Rattle.mdblock_definitions.specs.Rows.{Known, known_after, row_of, rows, rows_from}
-use Rattle.mdblock_definitions.specs.Sections.{Inside, Section, defined, lines, sections}
+use Rattle.mdblock_definitions.specs.Sections.{Inside, Section, defined, lines, sections, table}
 use Rattle.mdblock_definitions.specs.Skeleton.{all_rows, letters, letters_of_section, text_begin}
 use Rattle.mddocument_parts.proofs.DocumentLabels.{letters-of-both}
 use Rattle.mddocument_parts.proofs.Events.{in-lines}
@@ -319,9 +319,10 @@ module _ (P : ℕ → Type 0) where
       first true = one-in (s.part.first.columns + indent (rest_of s.part.first)) s.part.first.line h.0
       first false = underline-in on s.part.first h.0
 
-      by : (i : Inside) → AllByRecursion P (elim i as (λ _. List ℕ) [ lines is_behind ↦ cond is_behind (text_begin s.part.first) (lazy_underline on s.part.first) ++ flat_map (lazy_underline on) s.part.more | defined ds ↦ [] ])
+      by : (i : Inside) → AllByRecursion P (elim i as (λ _. List ℕ) [ lines is_behind ↦ cond is_behind (text_begin s.part.first) (lazy_underline on s.part.first) ++ flat_map (lazy_underline on) s.part.more | defined ds ↦ [] | table ↦ [] ])
       by (lines x) = every-append P (cond x (text_begin s.part.first) (lazy_underline on s.part.first)) (flat_map (lazy_underline on) s.part.more) (first x) (underlines-in on s.part.more h.1)
       by (defined ds) = tt
+      by table = tt
 
   pub letters-in : (on : Constructs) (ss : List Section) → AllByRecursion IsRowIn (rows_of ss) → AllByRecursion P (flat_map (letters_of_section on) ss)
   letters-in on [] h = tt

@@ -28,6 +28,7 @@ pub mod NoUnderlines
 pub mod SeamEnds
 pub mod SeamLetters
 pub mod SeamSeats
+pub mod CutsJoined
 pub mod SeamText
 pub mod Seams
 pub mod StretchStarts
@@ -38,6 +39,8 @@ pub mod BothTexts
 -- without containers
 pub mod WithoutContainers
 -- skeletons: rows, letters, marks and skeletons of both parts
+pub mod CellsLeft
+pub mod CellsOfBoth
 pub mod Chained
 pub mod LetteredBoth
 pub mod MarksOfBoth

@@ -24,7 +24,9 @@ use Rattle.mdblock_containers.specs.Rows.{Before, Row, closed, is_paragraph, is_
 use Rattle.mdblock_containers.specs.Skeleton.{Frame, Part, end_of, ending_marks, exits, frames_at, frames_of, further, going_on_at, left_in, list_at, list_begun, list_name, parts, parts_in, shared, standing}
 use Rattle.mdblock_definitions.specs.BlankLines as blank_lines
 use Rattle.mdblock_definitions.specs.Rows.{Known, known_after, row_of, rows, rows_from}
-use Rattle.mdblock_definitions.specs.Sections.{Section, before_defined, begins_text, cut, defined_in, defining, in_same, lines, paragraph_of, sections, sections_in, sections_of, text_in, undefined}
+use Rattle.mdblock_definitions.specs.Sections.{Section, before_defined, begins_text, cut, defined_in, defining, in_same, lines, paragraph_of, sections, sections_in, sections_of, sections_of_cut, tabled, text_in, undefined}
+use Rattle.mdblock_table_marks.specs.TableCuts.{Cut}
+use Rattle.mddocument_parts.proofs.CutsJoined.{cuts}
 use Rattle.mdblock_definitions.specs.Skeleton.{behind_marks, section_marks, sections_marks}
 use Rattle.mddocument_parts.proofs.DocumentBytes.{counted, document-rows-of-both}
 use Rattle.mddocument_parts.proofs.DocumentRests.{anew-same, begins-anew, first-row, is-not-blank, new, not-left}
@@ -224,12 +226,27 @@ module _ (P : ℕ → Type 0) where
       every-append SectionIs first (middle ++ last) (several-in around h (b && begins_text (take n all)) (blank_lines.parts (take n all)))
       (every-append SectionIs middle last (defining-in ds around h (take d behind)) (cut-in on bound true around h (drop d behind)))
 
+  tabled-in : (around : Part) → PartIs around → (rows : List Row) → AllByRecursion SectionIs (tabled around rows)
+  tabled-in around h [] = tt
+  tabled-in around h (row ∷ rows) = (h, tt)
+
+  of-cut-in : (on : Constructs) (around : Part) → PartIs around → (c : Cut) → AllByRecursion SectionIs (sections_of_cut on around c)
+  of-cut-in on around h c = by c.is_table
+    where
+      by : (b : Bool) → AllByRecursion SectionIs (cond b (tabled around c.rows) (sections_in on (length c.rows) false around c.rows))
+      by true = tabled-in around h c.rows
+      by false = cut-in on (length c.rows) false around h c.rows
+
+  cuts-in : (on : Constructs) (around : Part) → PartIs around → (cs : List Cut) → AllByRecursion SectionIs (flat_map (sections_of_cut on around) cs)
+  cuts-in on around h [] = tt
+  cuts-in on around h (c ∷ cs) = every-append SectionIs (sections_of_cut on around c) (flat_map (sections_of_cut on around) cs) (of-cut-in on around h c) (cuts-in on around h cs)
+
   cut-is : (on : Constructs) (part : Part) → PartIs part → AllByRecursion SectionIs (cut on part)
   cut-is on part h = by part.first.is_blank
     where
-      by : (b : Bool) → AllByRecursion SectionIs (cond b (record { part = part; inside = lines false } ∷ []) (sections_in on (suc (length part.more)) false part (part.first ∷ part.more)))
+      by : (b : Bool) → AllByRecursion SectionIs (cond b (record { part = part; inside = lines false } ∷ []) (flat_map (sections_of_cut on part) (cuts (suc (length part.more)) (part.first ∷ part.more))))
       by true = (h, tt)
-      by false = cut-in on (suc (length part.more)) false part h (part.first ∷ part.more)
+      by false = cuts-in on part h (cuts (suc (length part.more)) (part.first ∷ part.more))
 
   all-cut : (on : Constructs) (ps : List Part) → AllByRecursion PartIs ps → AllByRecursion SectionIs (flat_map (cut on) ps)
   all-cut on [] h = tt

@@ -7,12 +7,13 @@ use Rattle.std.specs.Prelude.{is_some, map}
 use Rattle.std.proofs.lemmas.Bool.Decides.{nat_tests}
 use Rattle.markdown_base.specs.declared.configuration.Constructs.{Constructs}
 use Rattle.mdblock_leaf_blocks.specs.LeafBlocks.{Line, text_of}
-use Rattle.mdblock_leaf_blocks.specs.LineKinds.{begins_with, indent, is_blank_line, is_thematic_break, underline_rank, unindented}
+use Rattle.mdblock_leaf_blocks.specs.LineKinds.{begins_with, indent, is_blank_line, is_far, is_thematic_break, underline_rank, unindented}
 use Rattle.mdblock_lines.specs.Containers.{Container, Item, Prefix, begins, goes_on, item, item_at, may_begin_item, quote, quote_size}
 use Rattle.mdblock_containers.specs.Prefixes.{beginning, columns_of, containers_of, going_on, in_place_of, with_list}
-use Rattle.mdblock_containers.specs.Rows.{Before, Row, closed, has_none, holds_ending, is_lazily, is_paragraph, is_raw, leaf_after, open_paragraph, rest_of, row_with}
+use Rattle.mdblock_containers.specs.Rows.{Before, Row, closed, has_none, holds_ending, is_lazily, is_paragraph, is_raw, is_table, leaf_after, open_paragraph, open_table, rest_of, row_with}
 use Rattle.mdblock_containers.specs.Rows as without
-use Rattle.mdblock_definitions.specs.Rows.{Known, is_behind_text, is_used_up, known_after, row_of, rows_from, text_after}
+use Rattle.mdblock_definitions.specs.Rows.{Known, is_behind_text, is_used_up, known_after, last_line, row_of, row_without, rows_from, text_after}
+use Rattle.mdblock_tables.specs.Tables.{is_row, matched}
 use Rattle.mddocument_parts.specs.DocumentRests.{RowsMove, known_behind, moved_before, moved_container, moved_known, moved_prefix, moved_row}
 use Rattle.mddocument_parts.specs.Moved.{moved_line, moved_lines}
 use Rattle.mddocument_parts.proofs.MovedBlocks.{text-moved}
@@ -183,11 +184,25 @@ module _ (l : ℕ) where
       abbrev row_read : Known → Row → (rest : List ℕ) → Row
       row_read k row rest = record row { leaf = cond (on.definition && (is_behind_text k.before row && (is_some (underline_rank on rest) && is_used_up k.text))) open_paragraph row.leaf }
 
-      pub row-moved : (k : Known) (number n2 : ℕ) (line : Line) → n2 ≡ number + l → row_of on (moved_known l k) n2 (ml line) ≡ mr (row_of on k number line)
-      row-moved k number n2 line e =
+      without-moved : (k : Known) (number n2 : ℕ) (line : Line) → n2 ≡ number + l → row_without on (moved_known l k) n2 (ml line) ≡ mr (row_without on k number line)
+      without-moved k number n2 line e =
           let row = without.row_of on k.before number line in
           (λ i. row_read (moved_known l k) (plain-moved k.before number n2 line e i) (rest_of (plain-moved k.before number n2 line e i)))
           ∙ (λ i. row_read (moved_known l k) (mr row) (rest-moved row i))
+
+      -- the same with tables
+      abbrev table_read : Known → Row → (rest : List ℕ) → Row
+      table_read k row rest =
+          record row {
+            leaf = cond (on.gfm_table && (row.stays && (is_paragraph row.leaf
+                && ((is_paragraph k.before.leaf && ((not row.is_lazy && (not (is_far on rest) && is_some (matched (last_line k.text) rest))) && not (on.definition && is_used_up k.text))) || (is_table k.before.leaf && is_row rest))))) open_table row.leaf;
+          }
+
+      pub row-moved : (k : Known) (number n2 : ℕ) (line : Line) → n2 ≡ number + l → row_of on (moved_known l k) n2 (ml line) ≡ mr (row_of on k number line)
+      row-moved k number n2 line e =
+          let row = row_without on k number line in
+          (λ i. table_read (moved_known l k) (without-moved k number n2 line e i) (rest_of (without-moved k number n2 line e i)))
+          ∙ (λ i. table_read (moved_known l k) (mr row) (rest-moved row i))
 
       -- ---- what is known behind them
       before-moved : (b : Before) (row : Row) → without.known_after on (moved_before l b) (mr row) ≡ moved_before l (without.known_after on b row)

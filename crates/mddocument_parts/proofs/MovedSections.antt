@@ -12,7 +12,8 @@ use Rattle.mdblock_containers.specs.Prefixes.{containers_of}
 use Rattle.mdblock_containers.specs.Rows.{Row, is_paragraph}
 use Rattle.mdblock_containers.specs.Skeleton.{Frame, Part, frames_at, frames_of, further, going_on_at, left_in, list_at, list_begun, list_name, parts, parts_in, standing}
 use Rattle.mdblock_definitions.proofs.CutAlike.{undefined-is}
-use Rattle.mdblock_definitions.specs.Sections.{Section, before_defined, begins_text, cut, defined_in, defining, in_same, lines, lines_defined, paragraph_of, sections_in, sections_of, text_in, undefined}
+use Rattle.mdblock_definitions.specs.Sections.{Section, before_defined, begins_text, cut, defined_in, defining, in_same, is_in_table, lines, lines_defined, paragraph_of, sections_in, sections_of, sections_of_cut, tabled, text_in, undefined}
+use Rattle.mdblock_table_marks.specs.TableCuts.{Cut, before_table, begins_in_table, cut_at_tables, table_lines, tabled as a_table, untabled}
 use Rattle.mddocument_parts.specs.DocumentRests.{moved_container, moved_prefix, moved_row}
 use Rattle.mddocument_parts.specs.MovedSections.{SectionsMove, moved_frame, moved_part, moved_section}
 use Rattle.mddocument_parts.proofs.MovedRows.{containers-moved, none-alike, rest-moved}
@@ -113,6 +114,40 @@ module _ (l n : ℕ) where
   all-parts-moved : (rows : List Row) → parts (mrs rows) ≡ map (moved_part l n) (parts rows)
   all-parts-moved rows = ap (λ b. parts_in b (mrs rows)) (length-map rows (moved_row l n)) ∙ parts-moved (length rows) rows
 
+  -- ---- tables
+  abbrev mcut : Cut → Cut
+  mcut c = record c { rows = mrs c.rows }
+
+  begins-table-moved : (rows : List Row) → begins_in_table is_in_table (mrs rows) ≡ begins_in_table is_in_table rows
+  begins-table-moved [] = refl
+  begins-table-moved (row ∷ rows) = refl
+
+  before-table-moved : (rows : List Row) → before_table is_in_table (mrs rows) ≡ before_table is_in_table rows
+  before-table-moved [] = refl
+  before-table-moved (row ∷ rows) = (λ i. cond (begins-table-moved rows i) 0 (suc (before-table-moved rows i)))
+
+  in-table-moved : (rows : List Row) → prefix_len is_in_table (mrs rows) ≡ prefix_len is_in_table rows
+  in-table-moved [] = refl
+  in-table-moved (row ∷ rows) = ap (λ k. cond (is_in_table row) (1 + k) 0) (in-table-moved rows)
+
+  table-lines-moved : (rows : List Row) → table_lines is_in_table (mrs rows) ≡ table_lines is_in_table rows
+  table-lines-moved [] = refl
+  table-lines-moved (row ∷ rows) = ap suc (in-table-moved rows)
+
+  cuts-moved : (bound : ℕ) (rows : List Row) → cut_at_tables is_in_table bound (mrs rows) ≡ map mcut (cut_at_tables is_in_table bound rows)
+  cuts-moved zero rows = refl
+  cuts-moved (suc bound) [] = refl
+  cuts-moved (suc bound) (row ∷ rows) =
+      let all = row ∷ rows in
+      let k = before_table is_in_table all in
+      let behind = drop k all in
+      let j = table_lines is_in_table behind in
+      (λ i. let k = before-table-moved all i in let behind = drop k (mrs all) in let j = table_lines is_in_table behind in untabled (take k (mrs all)) ∷ a_table (take j behind) ∷ cut_at_tables is_in_table bound (drop j behind))
+      ∙ (λ i. let behind = drop-map (moved_row l n) k all i in let j = table_lines is_in_table behind in untabled (take-map (moved_row l n) k all i) ∷ a_table (take j behind) ∷ cut_at_tables is_in_table bound (drop j behind))
+      ∙ (λ i. let j = table-lines-moved behind i in untabled (mrs (take k all)) ∷ a_table (take j (mrs behind)) ∷ cut_at_tables is_in_table bound (drop j (mrs behind)))
+      ∙ (λ i. untabled (mrs (take k all)) ∷ a_table (take-map (moved_row l n) j behind i) ∷ cut_at_tables is_in_table bound (drop-map (moved_row l n) j behind i))
+      ∙ ap (λ cs. untabled (mrs (take k all)) ∷ a_table (mrs (take j behind)) ∷ cs) (cuts-moved bound (drop j behind))
+
   -- ---- definitions
   abbrev is_text_row : Row → Bool
   is_text_row row = is_paragraph row.leaf
@@ -189,12 +224,26 @@ module _ (l n : ℕ) where
         ∙ ap (λ ss. mss front ++ ss) (sym (map-append (moved_section l n) middle last))
         ∙ sym (map-append (moved_section l n) front (middle ++ last))
 
+    tabled-moved : (around : Part) (rows : List Row) → tabled (moved_part l n around) (mrs rows) ≡ mss (tabled around rows)
+    tabled-moved around [] = refl
+    tabled-moved around (row ∷ rows) = refl
+
+    of-cut-moved : (around : Part) (c : Cut) → sections_of_cut on (moved_part l n around) (mcut c) ≡ mss (sections_of_cut on around c)
+    of-cut-moved around c =
+        (λ i. cond c.is_table (tabled-moved around c.rows i) (sections_in on (length-map c.rows (moved_row l n) i) false (moved_part l n around) (mrs c.rows)))
+        ∙ (λ i. cond c.is_table (mss (tabled around c.rows)) (sections-in-moved (length c.rows) false around c.rows i))
+        ∙ cond-of (map (moved_section l n)) c.is_table (tabled around c.rows) (sections_in on (length c.rows) false around c.rows)
+
     cut-moved : (part : Part) → cut on (moved_part l n part) ≡ mss (cut on part)
     cut-moved part =
         let one : List Section = record { part = part; inside = lines false } ∷ [] in
-        (λ i. cond part.first.is_blank (mss one) (sections_in on (suc (length-map part.more (moved_row l n) i)) false (moved_part l n part) (mrs (part.first ∷ part.more))))
-        ∙ (λ i. cond part.first.is_blank (mss one) (sections-in-moved (suc (length part.more)) false part (part.first ∷ part.more) i))
-        ∙ cond-of (map (moved_section l n)) part.first.is_blank one (sections_in on (suc (length part.more)) false part (part.first ∷ part.more))
+        let moved = moved_part l n part in
+        let all = part.first ∷ part.more in
+        let cuts = cut_at_tables is_in_table (suc (length part.more)) all in
+        (λ i. cond part.first.is_blank (mss one) (flat_map (sections_of_cut on moved) (cut_at_tables is_in_table (suc (length-map part.more (moved_row l n) i)) (mrs all))))
+        ∙ (λ i. cond part.first.is_blank (mss one) (flat_map (sections_of_cut on moved) (cuts-moved (suc (length part.more)) all i)))
+        ∙ (λ i. cond part.first.is_blank (mss one) (flat-mapped (sections_of_cut on part) (sections_of_cut on moved) mcut (moved_section l n) (of-cut-moved part) cuts i))
+        ∙ cond-of (map (moved_section l n)) part.first.is_blank one (flat_map (sections_of_cut on part) cuts)
 
 pub sections-move : SectionsMove
 sections-move on l n rows =

@@ -32,7 +32,9 @@ use Rattle.mdblock_containers.specs.Skeleton.{Frame, Part, Piece, begin_of, begu
 use Rattle.mdblock_definitions.specs.Definitions as those
 use Rattle.mdblock_definitions.proofs.StringEnds.{every-before, every-last}
 use Rattle.mdblock_definitions.specs.Definitions.{Place, StringLine, all_seats, before_prefixes, between, byte_at, definitions_marks, destination_marks, ending_at, ending_marks as place_ending_marks, further_line, gap_marks, is_byte, last_prefixes, line_marks, marked, parts_marks, places_in, places_of, seats_of, string_lines, text_of}
-use Rattle.mdblock_definitions.specs.Sections.{Inside, Section, defined, lines as lines_inside}
+use Rattle.mdblock_definitions.specs.Sections.{Inside, Section, defined, lines as lines_inside, table as table_inside}
+use Rattle.mdblock_table_marks.proofs.TableMoves.{AreMovedBy, IsMovedBy, table-moved}
+use Rattle.mdblock_table_marks.specs.TableMarks.{table_marks}
 use Rattle.mdblock_definitions.specs.Skeleton.{all_rows, behind_definitions, behind_marks, inside_marks, section_marks, sections_marks}
 use Rattle.mddocument.proofs.FlowTexts.Segments.{HasByte}
 use Rattle.mddocument_parts.proofs.MovedMarks as marks
@@ -551,10 +553,28 @@ module _ (m : Shift) where
           two _ _ _ _ _ (whites m _ _ (tk m _ _ n n refl (whole m p.seats k.0)))
           (ap (λ (l : List Seat). chunks_of m.places.new false ((let q : Piece m.places.new = record { before = []; seats = l } in q) ∷ map (mpiece m) ps)) left.is ∙ chunks m false ((let q : Piece m.places.old = record { before = []; seats = drop n p.seats } in q) ∷ ps) (left.ok, k.1))
 
+  -- a table
+  is-mark : (k : Kind) (n : Name) (p : Point) → IsOk m p → (event m.places.new k n (m.places.to p), None) ≡ fm m (event m.places.old k n p, None)
+  is-mark k n p h = let e = event-moved m k n p h in (λ i. (e i, None))
+
+  abbrev IsMovedRow : Row → Row → Type 0
+  IsMovedRow r s = IsMovedBy m.places.old m.places.new m.places.to m.places.known (fm m) is-mark r s
+
+  row-moves : (r : Row) → IsRowOk m r → IsMovedRow r (mr m r)
+  row-moves r h = record { line = refl; columns = refl; prefixes = columns-same m r.went_on; marks = prefixes m r.went_on _ _ (whole m r.line h.seats); known_line = h.seats }
+
+  rows-move : (rs : List Row) → AreRowsOk m rs → AreMovedBy m.places.old m.places.new m.places.to m.places.known (fm m) is-mark rs (mrs m rs)
+  rows-move [] h = tt
+  rows-move (r ∷ rs) h = (row-moves r h.0, rows-move rs h.1)
+
+  tabled : (part : Part) → IsPartOk m part → table_marks m.places.new (mpart m part) ≡ mk m (table_marks m.places.old part)
+  tabled part h = table-moved m.places.old m.places.new m.places.to m.places.known (fm m) is-mark part.first (mr m part.first) part.more (mrs m part.more) (row-moves part.first h.0) (rows-move part.more h.1)
+
   inside-of : (part : Part) (i : Inside) → IsPartOk m part → inside_marks m.places.new (mpart m part) i ≡ mk m (inside_marks m.places.old part i)
   inside-of part (lines_inside true) h = behind part h
   inside-of part (lines_inside false) h = inside m part h
   inside-of part (defined ds) h = definitions m ds _ _ (lines-places m (all_rows part) h)
+  inside-of part table_inside h = tabled part h
 
   -- ---- where a part ends
   turned : (fs : List Frame) → reverse (map (mf m) fs) ≡ map (mf m) (reverse fs)

@@ -23,10 +23,10 @@ use Rattle.mdblock_definitions.proofs.PlainLetters.{open-not-blank}
 use Rattle.mdblock_definitions.proofs.SectionLemmas.{tens}
 use Rattle.mdblock_definitions.proofs.SectionTurns.{not-blank-some}
 use Rattle.mdblock_definitions.specs.Rows.{Known, is_behind_text, is_used_up, known_after, row_of, rows_from, underlines_nothing}
-use Rattle.mdblock_definitions.specs.Sections.{before_defined, defined_in, lines_defined, lines_of, paragraph_of, text_in}
+use Rattle.mdblock_definitions.specs.Sections.{before_defined, defined_in, is_in_table, lines_defined, lines_of, paragraph_of, text_in}
 use Rattle.mdblock_paragraphs.proofs.SaidRows.{full-line, full-more, none-here, paragraph-more, some-long, text_after}
 use Rattle.mdblock_paragraphs.proofs.ShownLines.{text-twice}
-use Rattle.mddocument_parts.proofs.DocumentLabels.{leaf-behind}
+use Rattle.mddocument_parts.proofs.DocumentLabels.{leaf-behind, own-row}
 use Rattle.mddocument_parts.proofs.Rests.{rests-cut-blocks}
 use Rattle.mddocument_parts.proofs.WithoutContainers.Stretch.{shut-behind, cut_last, IsStretch, front-dropped, front-taken, held-both, held_lines, last-both, stretch}
 use Rattle.mddocument_parts.proofs.WithoutContainers.CutOff.{lines-held, lines-whole}
@@ -122,21 +122,26 @@ module _ (on : Constructs) where
   NoneUnderlines k n [] = Unit {0}
   NoneUnderlines k n (line ∷ ls) = (underlines_nothing on k (without.row_of on k.before n line) ≡ false) × NoneUnderlines (known_after on k (row_of on k n line)) (suc n) ls
 
+  -- no row is in a table
+  abbrev pub NoTable : List Row → Type 0
+  NoTable rows = AllByRecursion (λ (row : Row). is_in_table row ≡ false) rows
+
   -- ---- rows behind a line in a stretch without containers
   pub record ArePlain (k : Known) (n : ℕ) (ls : List Line) (leaf : Leaf) : Type 0 where
     pub rows_are : rows_from on k n ls ≡ plain_rows on leaf n ls
     pub known : (known_behind on k n ls).before ≡ plain_before on (leaf_behind on leaf ls)
 
-  pub are-plain : (k : Known) (n : ℕ) (ls : List Line) (leaf : Leaf) → k.before ≡ plain_before on leaf → AllByRecursion IsBare (rows_from on k n ls) → NoneUnderlines k n ls → ArePlain k n ls leaf
-  are-plain k n [] leaf e bare none = record { rows_are = refl; known = e }
-  are-plain k n (line ∷ ls) leaf e bare none =
+  pub are-plain : (k : Known) (n : ℕ) (ls : List Line) (leaf : Leaf) → k.before ≡ plain_before on leaf → AllByRecursion IsBare (rows_from on k n ls) → NoTable (rows_from on k n ls) → NoneUnderlines k n ls → ArePlain k n ls leaf
+  are-plain k n [] leaf e bare untabled none = record { rows_are = refl; known = e }
+  are-plain k n (line ∷ ls) leaf e bare untabled none =
       let row = row_of on k n line in
       let plain = without.row_of on k.before n line in
       let begun : has_none (without.row_of on (plain_before on leaf) n line).begun ≡ true = ap (λ b. has_none (without.row_of on b n line).begun) (sym e) ∙ ap has_none bare.0.1 in
       let first : row ≡ plain_row on leaf n line =
-      ap (λ u. record plain { leaf = cond u open_paragraph plain.leaf }) none.0 ∙ ap (λ b. without.row_of on b n line) e ∙ row-plain on leaf n line begun in
+      own-row on (open-not-blank on) k n line untabled.0
+      ∙ ap (λ u. record plain { leaf = cond u open_paragraph plain.leaf }) none.0 ∙ ap (λ b. without.row_of on b n line) e ∙ row-plain on leaf n line begun in
       let next : (known_after on k row).before ≡ plain_before on (leaf_next on leaf line) = (λ i. without.known_after on (e i) (first i)) ∙ known-plain on leaf n line in
-      let rest = are-plain (known_after on k row) (suc n) ls (leaf_next on leaf line) next bare.1 none.1 in
+      let rest = are-plain (known_after on k row) (suc n) ls (leaf_next on leaf line) next bare.1 untabled.1 none.1 in
       record { rows_are = (λ i. first i ∷ rest.rows_are i); known = rest.known }
 
   -- ---- lines with the same texts
@@ -207,8 +212,8 @@ module _ (on : Constructs) (defines : on.definition ≡ true) where
     pub full : EndsFull k.text
 
   -- so no line is an underline of definitions alone: they would have all lines before it
-  not-here : (k : Known) (n : ℕ) (line : Line) (rows : List Row) → (is_paragraph k.before.leaf ≡ true → Inside k (row_of on k n line ∷ rows)) → underlines_nothing on k (without.row_of on k.before n line) ≡ false
-  not-here k n line rows inside = by (underlines_nothing on k plain) refl
+  not-here : (k : Known) (n : ℕ) (line : Line) (rows : List Row) → is_in_table (row_of on k n line) ≡ false → (is_paragraph k.before.leaf ≡ true → Inside k (row_of on k n line ∷ rows)) → underlines_nothing on k (without.row_of on k.before n line) ≡ false
+  not-here k n line rows untabled inside = by (underlines_nothing on k plain) refl
     where
       plain : Row
       plain = without.row_of on k.before n line
@@ -224,7 +229,7 @@ module _ (on : Constructs) (defines : on.definition ≡ true) where
           let row = row_of on k n line in
           let is-open = and-right plain.stays (is_paragraph k.before.leaf) behind in
           let there = inside is-open in
-          let text : is_paragraph row.leaf ≡ true = ap (λ u. is_paragraph (cond u open_paragraph plain.leaf)) e in
+          let text : is_paragraph row.leaf ≡ true = ap (λ (r : Row). is_paragraph r.leaf) (own-row on (open-not-blank on) k n line untabled) ∙ ap (λ u. is_paragraph (cond u open_paragraph plain.leaf)) e in
           let more = paragraph-more row rows text in
           let many = none-here on k.text (rest_of plain) (text_after (paragraph_of rows)) there.full (and-right underline used last) (and-left underline used last) in
           let few = there.few in
@@ -288,17 +293,17 @@ module _ (on : Constructs) (defines : on.definition ≡ true) where
           by true e = goes-more e
           by false e = begins (ap (λ b. row.stays && b) e ∙ and-false row.stays) (ap (λ b. not b && nat_le 1 (defined_in on (row ∷ rows))) (sym e) ∙ none)
 
-  pub none-underlines : (k : Known) (n : ℕ) (ls : List Line) → AllStay (rows_from on k n ls) → (is_paragraph k.before.leaf ≡ true → Inside k (rows_from on k n ls))
+  pub none-underlines : (k : Known) (n : ℕ) (ls : List Line) → AllStay (rows_from on k n ls) → NoTable on (rows_from on k n ls) → (is_paragraph k.before.leaf ≡ true → Inside k (rows_from on k n ls))
       → before_defined on (is_paragraph k.before.leaf) (rows_from on k n ls) ≡ length (rows_from on k n ls) → NoneUnderlines on k n ls
-  none-underlines k n [] stay inside whole = tt
-  none-underlines k n (line ∷ ls) stay inside whole =
+  none-underlines k n [] stay untabled inside whole = tt
+  none-underlines k n (line ∷ ls) stay untabled inside whole =
       let row = row_of on k n line in
       let next = known_after on k row in
       let rows = rows_from on next (suc n) ls in
       let same = leaf-behind on (open-not-blank on) k n line in
       let parts = by (not (is_paragraph k.before.leaf) && nat_le 1 (defined_in on (row ∷ rows))) refl whole in (
-        not-here k n line rows inside,
-        none-underlines next (suc n) ls stay.1 (λ e. inside-next k n line rows (sym same ∙ e) inside parts.0 stay.0) (ap (λ b. before_defined on b rows) same ∙ parts.1),
+        not-here k n line rows untabled.0 inside,
+        none-underlines next (suc n) ls stay.1 untabled.1 (λ e. inside-next k n line rows (sym same ∙ e) inside parts.0 stay.0) (ap (λ b. before_defined on b rows) same ∙ parts.1),
       )
     where
       row : Row

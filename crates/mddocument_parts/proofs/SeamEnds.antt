@@ -18,14 +18,16 @@ use Rattle.mdblock_containers.specs.Rows as without
 use Rattle.mdblock_containers.specs.Rows.{Before, Leaf, Row, closed, has_none, holds_ending, is_paragraph, leaf_after, open_paragraph, opened_by, rest_of}
 use Rattle.mdblock_containers.specs.Skeleton.{further}
 use Rattle.mdblock_definitions.proofs.KnownLemmas.{paragraph-is}
-use Rattle.mdblock_definitions.specs.Rows.{Known, known_after, row_of, rows_from, underlines_nothing}
-use Rattle.mdblock_definitions.specs.Sections.{Section, before_defined, begins_text}
+use Rattle.mdblock_definitions.proofs.PlainLetters.{open-not-blank}
+use Rattle.mdblock_definitions.specs.Rows.{Known, known_after, row_of, row_without, rows_from, underlines_nothing}
+use Rattle.mdblock_definitions.specs.Sections.{Section, before_defined, begins_text, is_in_table}
 use Rattle.mddocument_parts.proofs.DocumentRests.{stretches-go-on-at-top}
 use Rattle.mddocument_parts.proofs.JoinedDocument.{all-bare, bare-from, first-of, IsDeep, deep-next, leaf-next-is}
 use Rattle.mddocument_parts.proofs.JoinedMarks.{lines_of}
 use Rattle.mddocument_parts.proofs.JoinedSections.{lefts}
 use Rattle.mddocument_parts.proofs.MovedBlocks.{text-moved}
-use Rattle.mddocument_parts.proofs.NoUnderlines.{goes-on, EndsBefore}
+use Rattle.mddocument_parts.proofs.DocumentLabels.{own-row}
+use Rattle.mddocument_parts.proofs.NoUnderlines.{goes-on, EndsBefore, NoTable}
 use Rattle.mddocument_parts.proofs.JoinedChunks.{DocumentPlace, Good, PlaceAt, anew, directly, known_at_end}
 use Rattle.mddocument_parts.proofs.SectionRows.{AllLeft}
 use Rattle.mddocument_parts.proofs.StretchStarts.{stretch-ends, stretch-ends-before, StartsClosed, State, rows_at, whole-next, Used}
@@ -88,7 +90,11 @@ module _ (on : Constructs) where
         (λ i. let b : Before = record { stack = stack i; depth = depth i; leaf = leaf i } in b)
 
     -- directly behind definitions, a line that is no text opens what it opens alone
-    module _ (used : Used on k (row ∷ behind)) (stays : row.stays ≡ true) (full : row.is_blank ≡ false) (none : is_paragraph row.leaf ≡ false) where
+    module _ (used : Used on k (row ∷ behind)) (stays : row.stays ≡ true) (full : row.is_blank ≡ false) (none : is_paragraph row.leaf ≡ false) (untabled : is_in_table row ≡ false) where
+      -- it is as without tables
+      own : row ≡ row_without on k n line
+      own = own-row on (open-not-blank on) k n line untabled
+
       abbrev rest : List ℕ
       rest = rest_of plain
 
@@ -96,7 +102,7 @@ module _ (on : Constructs) where
       under = is_some (underline_rank on rest)
 
       no-nothing : underlines_nothing on k plain ≡ false
-      no-nothing = false_from_ne_true (underlines_nothing on k plain) (λ e. false≢true (sym none ∙ ap (λ b. is_paragraph (cond b open_paragraph plain.leaf)) e))
+      no-nothing = false_from_ne_true (underlines_nothing on k plain) (λ e. false≢true (sym none ∙ ap (λ (r : Row). is_paragraph r.leaf) own ∙ ap (λ b. is_paragraph (cond b open_paragraph plain.leaf)) e))
 
       no-underline : under ≡ false
       no-underline = by under refl
@@ -112,7 +118,7 @@ module _ (on : Constructs) where
       leaf_by lazy = cond lazy open_paragraph (leaf_after on (cond plain.stays k.before.leaf closed) rest)
 
       leaf-lazy : row.leaf ≡ leaf_by plain.is_lazy
-      leaf-lazy = ap (λ u. cond u open_paragraph plain.leaf) no-nothing ∙ ap (λ b. cond b closed (leaf_by plain.is_lazy)) (kept full)
+      leaf-lazy = ap (λ (r : Row). r.leaf) own ∙ ap (λ u. cond u open_paragraph plain.leaf) no-nothing ∙ ap (λ b. cond b closed (leaf_by plain.is_lazy)) (kept full)
 
       not-lazy : plain.is_lazy ≡ false
       not-lazy = false_from_ne_true plain.is_lazy (λ e. false≢true (sym none ∙ ap is_paragraph leaf-lazy ∙ ap (λ b. is_paragraph (leaf_by b)) e))
@@ -144,20 +150,20 @@ module _ (on : Constructs) where
     abbrev Goal : Type 0
     Goal = EndsBefore on (x ∷ lines_of more) (lines_of bs) l
 
-    ends-anew : (k : Known) (n : ℕ) (ls : List Line) → q ∷ (more ++ bs) ≡ rows_from on k n ls → known_behind on k n ls ≡ end → IsDeep on k → is_behind ≡ false → StartsClosed on k n ls → Goal
-    ends-anew k n [] are known deep plain starts = absurd (cc)
-    ends-anew k n (line ∷ ls) are known deep plain starts =
+    ends-anew : (k : Known) (n : ℕ) (ls : List Line) → q ∷ (more ++ bs) ≡ rows_from on k n ls → known_behind on k n ls ≡ end → IsDeep on k → NoTable on (q ∷ (more ++ bs)) → is_behind ≡ false → StartsClosed on k n ls → Goal
+    ends-anew k n [] are known deep untabled plain starts = absurd (cc)
+    ends-anew k n (line ∷ ls) are known deep untabled plain starts =
         let r = row_of on k n line in
         let rs = rows_from on (known_after on k r) (suc n) ls in
         let both = first-of on q r (more ++ bs) rs are in
         let first : r.line ≡ x = sym (ap (λ (r : Row). r.line) both.0) ∙ sym (same plain) in
         subst (λ y. EndsBefore on (y ∷ lines_of more) (lines_of bs) l) first
-        (stretch-ends-before on k n line ls starts (sym (ap (λ (r : Row). r.is_blank) both.0) ∙ full) (subst (λ rows. before_defined on false rows ≡ length rows) are whole) (subst (AllByRecursion IsBare) are bare) (subst AllStay both.1 stay) deep more bs (sym both.1) lefts
+        (stretch-ends-before on k n line ls starts (sym (ap (λ (r : Row). r.is_blank) both.0) ∙ full) (subst (NoTable on) both.1 untabled.1) (subst (λ rows. before_defined on false rows ≡ length rows) are whole) (subst (AllByRecursion IsBare) are bare) (subst AllStay both.1 stay) deep more bs (sym both.1) lefts
         (sym (ap further both.1) ∙ reach) (ap (λ (k : Known). k.before.stack) known ∙ stack) (ap (λ (k : Known). is_closed k.before.leaf) known ∙ shut) l near)
 
-    ends-directly : (k : Known) (n : ℕ) (ls : List Line) → q ∷ (more ++ bs) ≡ rows_from on k n ls → known_behind on k n ls ≡ end → IsDeep on k → is_behind ≡ begins_text (rows_from on k n ls) → Used on k (rows_from on k n ls) → AllStay (rows_from on k n ls) → Goal
-    ends-directly k n [] are known deep flag used all-stay = absurd (cc)
-    ends-directly k n (line ∷ ls) are known deep flag used all-stay =
+    ends-directly : (k : Known) (n : ℕ) (ls : List Line) → q ∷ (more ++ bs) ≡ rows_from on k n ls → known_behind on k n ls ≡ end → IsDeep on k → NoTable on (q ∷ (more ++ bs)) → is_behind ≡ begins_text (rows_from on k n ls) → Used on k (rows_from on k n ls) → AllStay (rows_from on k n ls) → Goal
+    ends-directly k n [] are known deep untabled flag used all-stay = absurd (cc)
+    ends-directly k n (line ∷ ls) are known deep untabled flag used all-stay =
         let both = first-of on q r (more ++ bs) rs are in
         let r_full : r.is_blank ≡ false = sym (ap (λ (r : Row). r.is_blank) both.0) ∙ full in
         let bares = subst (AllByRecursion IsBare) are bare in
@@ -168,7 +174,8 @@ module _ (on : Constructs) where
         let none = ap (λ (k : Known). k.before.stack) known ∙ stack in
         let parts = whole-next on false r rs (subst (λ rows. before_defined on false rows ≡ length rows) are whole) in
         let one : is_blank_line (text_of x) ≡ false = first-full is_behind refl (λ e. ap (λ (r : Row). r.line) both.0) here in
-        stretch-ends on k n line ls x (known-bare k n line ls r_full deep all-stay.1 none) one (first-leaf is_behind refl (ap (λ (r : Row). r.line) both.0) r_full text here stays)
+        let plain = subst (NoTable on) are untabled in
+        stretch-ends on k n line ls plain.1 x (known-bare k n line ls r_full deep all-stay.1 none) one (first-leaf is_behind refl (ap (λ (r : Row). r.line) both.0) r_full text here stays)
         (λ defines e. goes-on on defines k n line rs e (λ i. stays i && used.is_open i) used.few used.text) parts.1 bares.1 all-stay.1 deep more bs (sym both.1) lefts
         (sym (ap further both.1) ∙ reach) none (ap (λ (k : Known). is_closed k.before.leaf) known ∙ shut) l near
       where
@@ -188,14 +195,14 @@ module _ (on : Constructs) where
             ap (leaf_next on closed) (same e ∙ first)
             ∙ ap (λ b. cond (b && true) closed (leaf_after on closed (text_of line))) here
             ∙ ap (leaf_after on closed) (sym text)
-            ∙ sym (opens-alone k n line ls used stays r_full (sym flag ∙ e))
+            ∙ sym (opens-alone k n line ls used stays r_full (sym flag ∙ e) (subst (NoTable on) are untabled).0)
 
     ends-at : PlaceAt on end is_behind (q ∷ (more ++ bs)) → Goal
-    ends-at h = let a = h.0 in by a.state a.are a.known a.deep a.is
+    ends-at h = let a = h.0 in by h.2 a.state a.are a.known a.deep a.is
       where
-        by : (s : State on) → q ∷ (more ++ bs) ≡ rows_at on s → known_behind on s.known s.number s.lines ≡ end → IsDeep on s.known → Good on end is_behind s → Goal
-        by s are known deep (anew plain starts) = ends-anew s.known s.number s.lines are known deep plain starts
-        by s are known deep (directly flag used all) = ends-directly s.known s.number s.lines are known deep flag used all
+        by : NoTable on (q ∷ (more ++ bs)) → (s : State on) → q ∷ (more ++ bs) ≡ rows_at on s → known_behind on s.known s.number s.lines ≡ end → IsDeep on s.known → Good on end is_behind s → Goal
+        by untabled s are known deep (anew plain starts) = ends-anew s.known s.number s.lines are known deep untabled plain starts
+        by untabled s are known deep (directly flag used all) = ends-directly s.known s.number s.lines are known deep untabled flag used all
 
 -- ---- at a seam of a document
 module _ (on : Constructs) (t : ℕ) (a b : List ℕ) (rest : begins_at_document_rest on t a b ≡ true) (goes : goes_on_behind on (lines_in (virtual t a)) (lines_in (virtual t b)) ≡ true) (line : Line) (behind : List Line) (are : lines_in (virtual t b) ≡ line ∷ behind)

@@ -23,7 +23,7 @@ use Rattle.mdblock_containers.proofs.SeatFacts.{LinesEnd, document_lines, lines_
 use Rattle.mdblock_containers.specs.Letters.{lazy_underline, letter, lettered_seat}
 use Rattle.mdblock_containers.specs.Rows.{Row, has_none, rest_of}
 use Rattle.mdblock_definitions.proofs.Covered.{rows_of}
-use Rattle.mdblock_definitions.specs.Sections.{Section, defined, lines}
+use Rattle.mdblock_definitions.specs.Sections.{Section, defined, lines, table}
 use Rattle.mdblock_definitions.specs.Skeleton.{letters_of_section, text_begin}
 use Rattle.mddocument_parts.proofs.JoinedMarks.{lines_of}
 use Rattle.mddocument_parts.proofs.LetteredBoth.{IsRowIn, begin-before, letters-in, one-in}
@@ -175,7 +175,7 @@ module _ (on : Constructs) (t : ℕ) (some : 0 < t) (bytes : List ℕ) (front ba
 
   own : letters_of_section on section ≡ cond is_behind (text_begin q) []
   own =
-      (λ i. elim (is i) as (λ _. List ℕ) [ lines b ↦ cond b (text_begin q) (none-lazy on q lazy.0 i) ++ all-none-lazy on section.part.more lazy.1 i | defined ds ↦ [] ])
+      (λ i. elim (is i) as (λ _. List ℕ) [ lines b ↦ cond b (text_begin q) (none-lazy on q lazy.0 i) ++ all-none-lazy on section.part.more lazy.1 i | defined ds ↦ [] | table ↦ [] ])
       ∙ append-nil (cond is_behind (text_begin q) [])
 
   pub letters-are : letters_here ≡ (front_letters ++ cond is_behind (text_begin q) []) ++ back_letters

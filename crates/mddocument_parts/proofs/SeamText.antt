@@ -8,7 +8,7 @@ use Rattle.std.proofs.lemmas.Grind.{flat_map-append}
 use Rattle.std.proofs.lemmas.List.{length-drop, map-append}
 use Rattle.std.proofs.lemmas.List.Folds.{list_any-append}
 use Rattle.std.specs.List.{AllByRecursion, flat_map, list_any}
-use Rattle.std.specs.Prelude.{is_some}
+use Rattle.std.specs.Prelude.{◌||◌, is_some}
 use Rattle.markdown_base.proofs.Common.{every-append}
 use Rattle.markdown_base.specs.Virtual.{Seat, virtual}
 use Rattle.markdown_base.specs.declared.configuration.Constructs.{Constructs}
@@ -26,11 +26,14 @@ use Rattle.mdblock_containers.proofs.TightMarks.{Tight, leaf_tight, tight_more}
 use Rattle.mdblock_containers.specs.Letters.{letter, lettered_seat}
 use Rattle.mdblock_containers.specs.Prefixes.{containers_of}
 use Rattle.mdblock_containers.specs.Rows as without
-use Rattle.mdblock_containers.specs.Rows.{Before, Leaf, Row, closed, has_none, holds_ending, is_paragraph, leaf_after, open_fence, open_html, open_paragraph, opened_by, rest_of}
+use Rattle.mdblock_containers.specs.Rows.{Before, Leaf, Row, closed, has_none, holds_ending, is_paragraph, is_table, leaf_after, open_fence, open_html, open_paragraph, opened_by, rest_of, open_table}
 use Rattle.mdblock_containers.specs.Skeleton.{Part, frames_at, further, is_held, last_of, parts_in, standing}
 use Rattle.mdblock_definitions.proofs.Covered.{rows_of, sections-hold-lines}
-use Rattle.mdblock_definitions.specs.Rows.{Known, is_used_up, known_after, row_of, rows, rows_from, underlines_nothing}
-use Rattle.mdblock_definitions.specs.Sections.{Section, before_defined, cut, defined_in, defining, lines, paragraph_of, sections, sections_in, text_in, undefined}
+use Rattle.mdblock_definitions.specs.Rows.{Known, begins_table, is_row_of_table, is_used_up, known_after, row_of, row_without, rows, rows_from, underlines_nothing}
+use Rattle.mdblock_tables.specs.Tables.{is_row}
+use Rattle.mdblock_definitions.specs.Sections.{Section, before_defined, cut, defined_in, defining, is_in_table, lines, paragraph_of, sections, sections_in, sections_of_cut, text_in, undefined}
+use Rattle.mdblock_table_marks.specs.TableCuts.{before_table, begins_in_table, table_lines, tabled}
+use Rattle.mddocument_parts.proofs.CutsJoined.{cuts, pieces}
 use Rattle.mdblock_definitions.specs.Skeleton.{all_rows, text_begin}
 use Rattle.mddocument_parts.proofs.BlocksJoin.{AreWhole}
 use Rattle.mddocument_parts.proofs.DocumentRests.{stretches-go-on-at-top}
@@ -195,6 +198,19 @@ module _ (on : Constructs) where
       by true e = some (defined_in on all) e
       by false e = λ k. part-kept row (take m rows) left
 
+  -- cut at tables
+  cuts-kept : (bound : ℕ) (around : Part) (row : Row) (rows : List Row) → row.is_left_blank ≡ false → FirstKept (flat_map (sections_of_cut on around) (cuts (suc bound) (row ∷ rows)))
+  cuts-kept bound around row rows left = by (begins_in_table is_in_table rows)
+    where
+      by : (b : Bool) → FirstKept (flat_map (sections_of_cut on around) (pieces bound (cond b 0 (suc (before_table is_in_table rows))) (row ∷ rows)))
+      by true = λ k. absurd (cc)
+      by false =
+          let n = before_table is_in_table rows in
+          let z = drop n rows in
+          let front = take n rows in
+          kept-append (sections_in on (suc (length front)) false around (row ∷ front))
+          (flat_map (sections_of_cut on around) (tabled (take (table_lines is_in_table z) z) ∷ cuts bound (drop (table_lines is_in_table z) z))) (first-kept (length front) around row front left)
+
   sections-kept : (row : Row) (rows : List Row) → row.is_left_blank ≡ false → FirstKept (sections on (row ∷ rows))
   sections-kept row rows left = kept-append (cut on p) (flat_map (cut on) (parts_in (length rows) (drop n rows))) (by row.is_blank)
     where
@@ -204,9 +220,9 @@ module _ (on : Constructs) where
       p : Part
       p = record { first = row; more = take n rows; frames = frames_at row rows; stands = standing row rows }
 
-      by : (b : Bool) → FirstKept (cond b (record { part = p; inside = lines false } ∷ []) (sections_in on (suc (length p.more)) false p (row ∷ p.more)))
+      by : (b : Bool) → FirstKept (cond b (record { part = p; inside = lines false } ∷ []) (flat_map (sections_of_cut on p) (cuts (suc (length p.more)) (row ∷ p.more))))
       by true = λ k. part-kept row rows left
-      by false = first-kept (length p.more) p row p.more left
+      by false = cuts-kept (length p.more) p row p.more left
 
 last-map : (f : Row → Row) (q : Row) (more : List Row) → last_of (f q) (map f more) ≡ f (last_of q more)
 last-map f q [] = refl
@@ -233,6 +249,7 @@ module _ (on : Constructs) where
 
   after-long : (leaf : Leaf) (t : List ℕ) → IsLong leaf → IsLong (leaf_after on leaf t)
   after-long closed t h = opened-long (line_kind on t) t (fence-long on t)
+  after-long open_table t h = opened-long (line_kind on t) t (fence-long on t)
   after-long open_paragraph t h =
       let opened = opened_by on (line_kind on t) t in
       cond-long (is_some (underline_rank on t)) closed (cond (interrupts (line_kind on t)) opened open_paragraph) tt (cond-long (interrupts (line_kind on t)) opened open_paragraph (opened-long (line_kind on t) t (fence-long on t)) tt)
@@ -243,6 +260,7 @@ module _ (on : Constructs) where
   held-goes : (leaf : Leaf) → IsLong leaf → holds_ending leaf ≡ true → holds_ending (leaf_after on leaf []) ≡ true
   held-goes closed long h = absurd (cc)
   held-goes open_paragraph long h = absurd (cc)
+  held-goes open_table long h = absurd (cc)
   held-goes (open_fence f) long h = by (closes on f []) refl
     where
       by : (b : Bool) → closes on f [] ≡ b → holds_ending (cond b closed (open_fence f)) ≡ true
@@ -259,6 +277,16 @@ module _ (on : Constructs) where
   held-no-text open_paragraph h = absurd (cc)
   held-no-text leaf h = refl
 
+  held-no-table : (leaf : Leaf) → holds_ending leaf ≡ true → is_table leaf ≡ false
+  held-no-table open_table h = absurd (cc)
+  held-no-table leaf h = refl
+
+  none-tabled : (a b c : Bool) → (a && (b && (c && false))) ≡ false
+  none-tabled true true true = refl
+  none-tabled true true false = refl
+  none-tabled true false c = refl
+  none-tabled false b c = refl
+
   module _ (k : Known) (n : ℕ) (line : Line) where
     abbrev row : Row
     row = row_of on k n line
@@ -267,14 +295,15 @@ module _ (on : Constructs) where
     plain = without.row_of on k.before n line
 
     row-long : IsLong k.before.leaf → IsLong row.leaf
-    row-long h = by (underlines_nothing on k plain) plain.is_left_blank plain.is_lazy plain.stays
+    row-long h = by (is_row_of_table on k (row_without on k n line)) (underlines_nothing on k plain) plain.is_left_blank plain.is_lazy plain.stays
       where
-        by : (u left lazy stays : Bool) → IsLong (cond u open_paragraph (cond left closed (cond lazy open_paragraph (leaf_after on (cond stays k.before.leaf closed) (rest_of plain)))))
-        by true left lazy stays = tt
-        by false true lazy stays = tt
-        by false false true stays = tt
-        by false false false true = after-long k.before.leaf (rest_of plain) h
-        by false false false false = after-long closed (rest_of plain) tt
+        by : (w u left lazy stays : Bool) → IsLong (cond w open_table (cond u open_paragraph (cond left closed (cond lazy open_paragraph (leaf_after on (cond stays k.before.leaf closed) (rest_of plain))))))
+        by true u left lazy stays = tt
+        by false true left lazy stays = tt
+        by false false true lazy stays = tt
+        by false false false true stays = tt
+        by false false false false true = after-long k.before.leaf (rest_of plain) h
+        by false false false false false = after-long closed (rest_of plain) tt
 
     next-long : IsLong k.before.leaf → IsLong (known_after on k row).before.leaf
     next-long h = by row.is_left_blank row.is_lazy
@@ -307,8 +336,13 @@ module _ (on : Constructs) where
             let none : underlines_nothing on k plain ≡ false =
             (λ i. on.definition && ((plain.stays && held-no-text k.before.leaf f i) && (is_some (underline_rank on (rest_of plain)) && is_used_up k.text)))
             ∙ ap (λ b. on.definition && (b && (is_some (underline_rank on (rest_of plain)) && is_used_up k.text))) (and-false plain.stays) ∙ and-false on.definition in
+            let own = row_without on k n line in
+            let untabled : is_row_of_table on k own ≡ false =
+            (λ i. on.gfm_table && (own.stays && (is_paragraph own.leaf && ((held-no-text k.before.leaf f i && begins_table on k own) || (held-no-table k.before.leaf f i && is_row (rest_of own))))))
+            ∙ none-tabled on.gfm_table own.stays (is_paragraph own.leaf) in
             let leaf : row.leaf ≡ leaf_after on k.before.leaf [] =
-            (λ i. cond (none i) open_paragraph (cond (left i) closed (cond (lazy i) open_paragraph (leaf_after on (cond (stays i) k.before.leaf closed) (empty i))))) in
+            ap (λ w. cond w open_table own.leaf) untabled
+            ∙ (λ i. cond (none i) open_paragraph (cond (left i) closed (cond (lazy i) open_paragraph (leaf_after on (cond (stays i) k.before.leaf closed) (empty i))))) in
             let both : true ≡ false = sym (held-goes k.before.leaf long f) ∙ sym (ap holds_ending leaf) ∙ held in
             absurd (cc)
 

@@ -15,9 +15,12 @@ use Rattle.mdinline_labels.specs.Definitions.{definitions}
 pub use Rattle.mdblock_containers.proofs.RestLemmas.{further_few as further-within}
 use Rattle.mdblock_containers.specs.Rows.{Row, is_paragraph}
 use Rattle.mdblock_containers.specs.Skeleton.{further}
-use Rattle.mdblock_definitions.specs.Sections.{before_defined, begins_text, defined_in, lines_defined, paragraph_of, text_in}
+use Rattle.mdblock_definitions.specs.Sections.{before_defined, begins_text, defined_in, is_in_table, lines_defined, paragraph_of, text_in}
+use Rattle.mdblock_table_marks.proofs.TableCuts.{cuts_need_tables}
+use Rattle.mdblock_table_marks.specs.TableCuts.{Cut, before_table, table_lines, tabled, untabled}
 use Rattle.mdblock_definitions.proofs.Covered.{fewer-left}
 use Rattle.mdblock_definitions.proofs.SectionLemmas.{few-lines}
+use Rattle.mddocument_parts.proofs.CutsJoined.{CutsJoin, behind_table, cut_seam, cuts, cuts-fuel, cuts-join, cuts-none, cuts_apart}
 use Rattle.mddocument_parts.specs.JoinedStretches.{AllStay}
 
 -- ---- a paragraph that goes on from rows to others
@@ -35,6 +38,25 @@ pub joined-drop : (p q : Bool) (n : ℕ) (x y : List Row) → n < length x → j
 joined-drop p q zero x y h = joined-some p q x y (omega (arith, h))
 joined-drop p q (suc n) [] y h = absurd (omega (arith, h))
 joined-drop p q (suc n) (r ∷ x) y h = joined-drop (is_paragraph r.leaf) q n x y (omega (arith, h))
+
+-- whatever the first of the others has behind it; and behind some of the first rows
+pub joined-begin : (p : Bool) (x : List Row) (r : Row) (a b : List Row) → joined p x (r ∷ a) ≡ joined p x (r ∷ b)
+joined-begin p [] r a b = refl
+joined-begin p (q ∷ x) r a b = joined-begin (is_paragraph q.leaf) x r a b
+
+pub joined-nothing : (p : Bool) (x : List Row) → joined p x [] ≡ false
+joined-nothing p [] = and-false p
+joined-nothing p (q ∷ x) = joined-nothing (is_paragraph q.leaf) x
+
+pub joined-taken : (n : ℕ) (x : List Row) (r : Row) (rs : List Row) → joined false x (r ∷ rs) ≡ false → joined false x (take n (r ∷ rs)) ≡ false
+joined-taken zero x r rs h = joined-nothing false x
+joined-taken (suc n) x r rs h = joined-begin false x r (take n rs) rs ∙ h
+
+pub joined-left : (p : Bool) (n : ℕ) (x y : List Row) → joined p x y ≡ false → joined false (drop n x) y ≡ false
+joined-left p zero [] y h = refl
+joined-left p zero (q ∷ x) y h = h
+joined-left p (suc n) [] y h = refl
+joined-left p (suc n) (q ∷ x) y h = joined-left (is_paragraph q.leaf) n x y h
 
 abbrev is_text_row : Row → Bool
 is_text_row row = is_paragraph row.leaf
@@ -264,9 +286,49 @@ module _ {A : Type 0} (on : Constructs) (h : Bool → Row → List A) (d : List 
           ∙ ap (λ l. front ++ l) rest
           ∙ sym (append_assoc front (from_defined b z) (of_lines (suc b2) false y))
 
+  -- ---- what is said of lines, cut at tables: of tables nothing
+  abbrev pub of_cut : Cut → List A
+  of_cut c = cond c.is_table [] (of_lines (length c.rows) false c.rows)
+
+  abbrev pub of_cuts : (bound : ℕ) → List Row → List A
+  of_cuts bound rows = flat_map of_cut (cuts bound rows)
+
+  pub of-cuts-fuel : (b c : ℕ) (rows : List Row) → length rows ≤ b → length rows ≤ c → of_cuts b rows ≡ of_cuts c rows
+  of-cuts-fuel b c rows l m = ap (flat_map of_cut) (cuts-fuel b c rows l m)
+
+  -- lines behind others, if neither a paragraph nor a table goes on from the first to the second
+  module _ (r : Row) (rs : List Row) (none : is_in_table r ≡ false) where
+    abbrev Ends : List Row → Type 0
+    Ends rows = joined false rows (r ∷ rs) ≡ false
+
+    ends-behind : (q : Row) (x : List Row) → Ends (q ∷ x) → before_table is_in_table (q ∷ x) < length (q ∷ x) → Ends (behind_table (q ∷ x))
+    ends-behind q x h less =
+        let z = drop (before_table is_in_table (q ∷ x)) (q ∷ x) in
+        joined-left false (table_lines is_in_table z) z (r ∷ rs) (joined-left false (before_table is_in_table (q ∷ x)) (q ∷ x) (r ∷ rs) h)
+
+    pub cuts-append : (c b b2 : ℕ) (x : List Row) → length (x ++ (r ∷ rs)) ≤ c → length x ≤ b → length (r ∷ rs) ≤ b2 → joined false x (r ∷ rs) ≡ false → of_cuts c (x ++ (r ∷ rs)) ≡ of_cuts b x ++ of_cuts b2 (r ∷ rs)
+    cuts-append c b b2 x l m m2 e = by (cuts-join r rs none Ends ends-behind c b b2 x l m m2 e)
+      where
+        by : CutsJoin r rs none Ends x (cuts c (x ++ (r ∷ rs))) (cuts b x) (cuts b2 (r ∷ rs)) → of_cuts c (x ++ (r ∷ rs)) ≡ of_cuts b x ++ of_cuts b2 (r ∷ rs)
+        by (cuts_apart k) = ap (flat_map of_cut) k ∙ flat_map-append of_cut (cuts b x) (cuts b2 (r ∷ rs))
+        by (cut_seam h) =
+            let all = h.q ∷ h.last in
+            let now = take h.many (r ∷ rs) in
+            let front = flat_map of_cut h.front in
+            let back = flat_map of_cut h.back in
+            let one = of_lines (length all) false all in
+            let two = of_lines (length now) false now in
+            let first : of_cuts b x ≡ front ++ one = ap (flat_map of_cut) h.first_is ∙ flat_map-append of_cut h.front (untabled all ∷ tabled [] ∷ []) ∙ ap (λ l. front ++ l) (append-nil one) in
+            ap (flat_map of_cut) h.whole_is
+            ∙ flat_map-append of_cut h.front (untabled (all ++ now) ∷ h.back)
+            ∙ ap (λ l. front ++ (l ++ back)) (lines-append (length (all ++ now)) (length all) (length now) false all now (omega arith) (omega arith) (omega arith) (joined-taken h.many all r rs h.known))
+            ∙ ap (λ l. front ++ l) (append_assoc one two back)
+            ∙ sym (append_assoc front one (two ++ back))
+            ∙ sym (λ i. first i ++ ap (flat_map of_cut) h.second_is i)
+
   -- ---- what is said of the lines of parts
   abbrev pub of_part : Row → List Row → List A
-  of_part first more = cond first.is_blank (of_rows false (first ∷ more)) (of_lines (suc (length more)) false (first ∷ more))
+  of_part first more = cond first.is_blank (of_rows false (first ∷ more)) (of_cuts (suc (length more)) (first ∷ more))
 
   abbrev pub of_parts : (bound : ℕ) → List Row → List A
   of_parts zero rows = []
@@ -290,9 +352,9 @@ module _ {A : Type 0} (on : Constructs) (h : Bool → Row → List A) (d : List 
 abbrev pub AllLeft : List Row → Type 0
 AllLeft rs = AllByRecursion (λ (row : Row). row.is_left_blank ≡ true) rs
 
--- a row that is left blank is blank, and no paragraph goes on behind it
+-- a row that is left blank is blank, no paragraph goes on behind it, and it is in no table
 abbrev pub LeftIsBlank : Row → Type 0
-LeftIsBlank row = row.is_left_blank ≡ true → (row.is_blank ≡ true) × (is_paragraph row.leaf ≡ false)
+LeftIsBlank row = row.is_left_blank ≡ true → (row.is_blank ≡ true) × (is_paragraph row.leaf ≡ false) × (is_in_table row ≡ false)
 
 abbrev pub FurtherApart : List Row → List Row → Type 0
 FurtherApart x y = ((further (x ++ y) ≡ further x) × (further x ≤ length x)) ⊎ ((further (x ++ y) ≡ length x + further y) × (AllStay x × (1 ≤ further y)))
@@ -359,6 +421,10 @@ module _ {A : Type 0} (on : Constructs) (h : Bool → Row → List A) (d : List 
   left-no-text [] l k = refl
   left-no-text (r ∷ y) l k = (k.0 l.0).1
 
+  pub left-untabled : (y : List Row) → AllLeft y → AllByRecursion LeftIsBlank y → AllByRecursion (λ (row : Row). is_in_table row ≡ false) y
+  left-untabled [] l k = tt
+  left-untabled (r ∷ y) l k = ((k.0 l.0).2, left-untabled y l.1 k.1)
+
   -- rows that are left blank, as lines and as parts
   left-lines : (b : ℕ) (y : List Row) → length y ≤ b → AllLeft y → AllByRecursion LeftIsBlank y → of_lines on h d b false y ≡ flat_map (h false) y
   left-lines b [] m l k = lines-none on h d b false
@@ -376,12 +442,30 @@ module _ {A : Type 0} (on : Constructs) (h : Bool → Row → List A) (d : List 
   left-parts (suc b) [] m l k = refl
   left-parts (suc b) (r ∷ y) m l k =
       let full = (k.0 l.0).0 in
-      (λ i. let n = cond (full i) 0 (further y) in cond (full i) (of_rows on h d false (r ∷ take n y)) (of_lines on h d (suc (length (take n y))) false (r ∷ take n y)) ++ of_parts on h d b (drop n y))
+      (λ i. let n = cond (full i) 0 (further y) in cond (full i) (of_rows on h d false (r ∷ take n y)) (of_cuts on h d (suc (length (take n y))) (r ∷ take n y)) ++ of_parts on h d b (drop n y))
       ∙ (λ i. append-nil (h false r) i ++ left-parts b y (omega (arith, m)) l.1 k.1 i)
+
+  left-cuts : (b : ℕ) (y : List Row) → length y ≤ b → AllLeft y → AllByRecursion LeftIsBlank y → of_cuts on h d b y ≡ flat_map (h false) y
+  left-cuts b [] m l k = ap (flat_map (of_cut on h d)) (cuts-none b)
+  left-cuts zero (r ∷ y) m l k = absurd (omega (arith, m))
+  left-cuts (suc b) (r ∷ y) m l k =
+      ap (flat_map (of_cut on h d)) (cuts_need_tables is_in_table b r y (left-untabled (r ∷ y) l k))
+      ∙ append-nil (of_lines on h d (length (r ∷ y)) false (r ∷ y))
+      ∙ left-lines (length (r ∷ y)) (r ∷ y) (omega arith) l k
+
+  -- lines, and rows that are left blank behind them
+  lines-and-left : (c : ℕ) (q : Row) (front z : List Row) → length (q ∷ (front ++ z)) ≤ c → AllLeft z → AllByRecursion LeftIsBlank z → of_cuts on h d c (q ∷ (front ++ z)) ≡ of_cuts on h d (suc (length front)) (q ∷ front) ++ flat_map (h false) z
+  lines-and-left c q front [] few l k =
+      ap (λ x. of_cuts on h d c (q ∷ x)) (append-nil front)
+      ∙ of-cuts-fuel on h d c (suc (length front)) (q ∷ front) (let size = ap (λ (l : List Row). length l) (append-nil front) in omega (arith, few, size)) (omega arith)
+      ∙ sym (append-nil (of_cuts on h d (suc (length front)) (q ∷ front)))
+  lines-and-left c q front (s ∷ z) few l k =
+      cuts-append on h d s z (k.0 l.0).2 c (suc (length front)) (length (s ∷ z)) (q ∷ front) few (omega arith) (omega arith) (joined-none (is_paragraph q.leaf) front (s ∷ z) (left-no-text (s ∷ z) l k))
+      ∙ ap (λ x. of_cuts on h d (suc (length front)) (q ∷ front) ++ x) (left-cuts (length (s ∷ z)) (s ∷ z) (omega arith) l k)
 
   -- a stretch, and rows that are left blank behind it
   stretch-and-left : (b : ℕ) (q : Row) (x : List Row) → length x ≤ b → q.is_blank ≡ false → AllStay x → AllByRecursion LeftIsBlank x
-      → of_lines on h d (suc (length x)) false (q ∷ x) ≡ of_parts on h d (suc b) (q ∷ x)
+      → of_cuts on h d (suc (length x)) (q ∷ x) ≡ of_parts on h d (suc b) (q ∷ x)
   stretch-and-left b q x m full stay blank =
       let n = further x in
       let front = take n x in
@@ -390,32 +474,32 @@ module _ {A : Type 0} (on : Constructs) (h : Bool → Row → List A) (d : List 
       let blanks = every-drop LeftIsBlank n x blank in
       let few : length back ≤ length x = let size = length-drop n x in omega (arith, size) in
       let size : length (front ++ back) ≡ length x = ap (λ (l : List Row). length l) (take-append-drop n x) in
-      sym (ap (λ l. of_lines on h d (suc (length x)) false (q ∷ l)) (take-append-drop n x))
-      ∙ lines-append on h d (suc (length x)) (suc (length front)) (length x) false (q ∷ front) back (omega (arith, size)) (omega arith) few (joined-none (is_paragraph q.leaf) front back (left-no-text back left blanks))
-      ∙ (λ i. of_lines on h d (suc (length front)) false (q ∷ front) ++ (left-lines (length x) back few left blanks ∙ sym (left-parts b back (omega (arith, few, m)) left blanks)) i)
-      ∙ sym (λ i. let n = cond (full i) 0 (further x) in cond (full i) (of_rows on h d false (q ∷ take n x)) (of_lines on h d (suc (length (take n x))) false (q ∷ take n x)) ++ of_parts on h d b (drop n x))
+      sym (ap (λ l. of_cuts on h d (suc (length x)) (q ∷ l)) (take-append-drop n x))
+      ∙ lines-and-left (suc (length x)) q front back (omega (arith, size)) left blanks
+      ∙ (λ i. of_cuts on h d (suc (length front)) (q ∷ front) ++ sym (left-parts b back (omega (arith, few, m)) left blanks) i)
+      ∙ sym (λ i. let n = cond (full i) 0 (further x) in cond (full i) (of_rows on h d false (q ∷ take n x)) (of_cuts on h d (suc (length (take n x))) (q ∷ take n x)) ++ of_parts on h d b (drop n x))
 
   abbrev Later : (c b b2 : ℕ) → (x y : List Row) → Type 0
   Later c b b2 x y = (n : ℕ) → n ≤ length x → joined false (drop n x) y ≡ false → of_parts on h d c (drop n x ++ y) ≡ of_parts on h d b (drop n x) ++ of_parts on h d b2 y
 
   -- parts of rows behind others, if no paragraph goes on from the first to the second
-  pub parts-append : (c b b2 : ℕ) (x : List Row) (r : Row) (rs : List Row) → length (x ++ (r ∷ rs)) ≤ c → length x ≤ b → length (r ∷ rs) ≤ b2 → AllByRecursion LeftIsBlank x → Follows r rs → joined false x (r ∷ rs) ≡ false
+  pub parts-append : (c b b2 : ℕ) (x : List Row) (r : Row) (rs : List Row) → length (x ++ (r ∷ rs)) ≤ c → length x ≤ b → length (r ∷ rs) ≤ b2 → AllByRecursion LeftIsBlank x → Follows r rs → is_in_table r ≡ false → joined false x (r ∷ rs) ≡ false
       → of_parts on h d c (x ++ (r ∷ rs)) ≡ of_parts on h d b x ++ of_parts on h d b2 (r ∷ rs)
-  parts-append c b b2 [] r rs l m m2 blank follows e = of-parts-fuel on h d c b2 (r ∷ rs) l m2 ∙ ap (λ a. a ++ of_parts on h d b2 (r ∷ rs)) (sym (none b))
+  parts-append c b b2 [] r rs l m m2 blank follows plain e = of-parts-fuel on h d c b2 (r ∷ rs) l m2 ∙ ap (λ a. a ++ of_parts on h d b2 (r ∷ rs)) (sym (none b))
     where
       none : (b : ℕ) → of_parts on h d b [] ≡ []
       none zero = refl
       none (suc b) = refl
-  parts-append zero b b2 (q ∷ x) r rs l m m2 blank follows e = absurd (omega (arith, l))
-  parts-append (suc c) zero b2 (q ∷ x) r rs l m m2 blank follows e = absurd (omega (arith, m))
-  parts-append (suc c) (suc b) b2 (q ∷ x) r rs l m m2 blank follows e =
+  parts-append zero b b2 (q ∷ x) r rs l m m2 blank follows plain e = absurd (omega (arith, l))
+  parts-append (suc c) zero b2 (q ∷ x) r rs l m m2 blank follows plain e = absurd (omega (arith, m))
+  parts-append (suc c) (suc b) b2 (q ∷ x) r rs l m m2 blank follows plain e =
       let y = r ∷ rs in
       let size = length-append x y in
       by (apart follows) q.is_blank refl
       (λ n within. let z = drop n x in
       let size2 = length-append z y in
       let few = length-drop n x in
-      parts-append c b b2 z r rs (omega (arith, l, size, size2, few)) (omega (arith, m, few)) m2 (every-drop LeftIsBlank n x blank.1) follows)
+      parts-append c b b2 z r rs (omega (arith, l, size, size2, few)) (omega (arith, m, few)) m2 (every-drop LeftIsBlank n x blank.1) follows plain)
     where
       apart : Follows r rs → FurtherApart x (r ∷ rs)
       apart (cut_off k) = inl (further-cut x (r ∷ rs) k, further-within x)
@@ -458,12 +542,12 @@ module _ {A : Type 0} (on : Constructs) (h : Bool → Row → List A) (d : List 
           let few2 : length y ≤ suc (length rs) = omega arith in
           let few3 : length left ≤ length rs = let back = length-drop n rs in omega (arith, back) in
           ap (λ n. of_part on h d q (take n (x ++ y)) ++ of_parts on h d c (drop n (x ++ y))) reach
-          ∙ (λ i. cond (full i) (of_rows on h d false (q ∷ take-append-add x y (suc n) i)) (of_lines on h d (suc (length (take-append-add x y (suc n) i))) false (q ∷ take-append-add x y (suc n) i)) ++ of_parts on h d c (drop-append-add x y (suc n) i))
-          ∙ ap (λ a. a ++ of_parts on h d c left) (lines-append on h d (suc (length (x ++ front))) (suc (length x)) (suc (length (take n rs))) false (q ∷ x) front (omega arith) (omega arith) (omega arith) (joined-first (is_paragraph q.leaf) x r (take n rs) rs ∙ e))
-          ∙ append_assoc (of_lines on h d (suc (length x)) false (q ∷ x)) (of_lines on h d (suc (length (take n rs))) false front) (of_parts on h d c left)
-          ∙ (λ i. stretch-and-left b q x (omega (arith, m)) full stay blank.1 i ++ (of_lines on h d (suc (length (take n rs))) false front ++ of-parts-fuel on h d c (length rs) left few few3 i))
+          ∙ (λ i. cond (full i) (of_rows on h d false (q ∷ take-append-add x y (suc n) i)) (of_cuts on h d (suc (length (take-append-add x y (suc n) i))) (q ∷ take-append-add x y (suc n) i)) ++ of_parts on h d c (drop-append-add x y (suc n) i))
+          ∙ ap (λ a. a ++ of_parts on h d c left) (cuts-append on h d r (take n rs) plain (suc (length (x ++ front))) (suc (length x)) (suc (length (take n rs))) (q ∷ x) (omega arith) (omega arith) (omega arith) (joined-first (is_paragraph q.leaf) x r (take n rs) rs ∙ e))
+          ∙ append_assoc (of_cuts on h d (suc (length x)) (q ∷ x)) (of_cuts on h d (suc (length (take n rs))) front) (of_parts on h d c left)
+          ∙ (λ i. stretch-and-left b q x (omega (arith, m)) full stay blank.1 i ++ (of_cuts on h d (suc (length (take n rs))) front ++ of-parts-fuel on h d c (length rs) left few few3 i))
           ∙ sym (λ i. of_parts on h d (suc b) (q ∷ x) ++ (of-parts-fuel on h d b2 (suc (length rs)) y m2 few2
-          ∙ (λ i. let n = cond (some i) 0 (further rs) in cond (some i) (of_rows on h d false (r ∷ take n rs)) (of_lines on h d (suc (length (take n rs))) false (r ∷ take n rs)) ++ of_parts on h d (length rs) (drop n rs))) i)
+          ∙ (λ i. let n = cond (some i) 0 (further rs) in cond (some i) (of_rows on h d false (r ∷ take n rs)) (of_cuts on h d (suc (length (take n rs))) (r ∷ take n rs)) ++ of_parts on h d (length rs) (drop n rs))) i)
 
       by : FurtherApart x (r ∷ rs) → (b3 : Bool) → q.is_blank ≡ b3 → Later c b b2 x (r ∷ rs) → of_parts on h d (suc c) (q ∷ (x ++ (r ∷ rs))) ≡ of_parts on h d (suc b) (q ∷ x) ++ of_parts on h d b2 (r ∷ rs)
       by k true f later = near 0 (ap (λ b. cond b 0 (further (x ++ (r ∷ rs)))) f) (ap (λ b. cond b 0 (further x)) f) (omega arith) later

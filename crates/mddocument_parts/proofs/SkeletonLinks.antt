@@ -34,7 +34,9 @@ use Rattle.mdblock_definitions.proofs.SectionSound.{document-sound}
 use Rattle.mdblock_definitions.specs.Definitions.{definitions_marks, places_in}
 use Rattle.mdblock_definitions.specs.Rows.{Known, known_after, row_of, rows, rows_from}
 use Rattle.mdblock_definitions.specs.Sectioned.{AreSound, IsSound}
-use Rattle.mdblock_definitions.specs.Sections.{Inside, Section, defined, lines, sections}
+use Rattle.mdblock_definitions.specs.Sections.{Inside, Section, defined, lines, sections, table}
+use Rattle.mdblock_table_marks.proofs.TableShapes.{plain-tables}
+use Rattle.mdblock_table_marks.specs.TableMarks.{table_marks}
 use Rattle.mdblock_definitions.specs.Skeleton.{all_rows, behind_marks, inside_marks, section_marks, sections_marks}
 use Rattle.mddocument.proofs.FlowTexts.Segments.{HasByte}
 use Rattle.mddocument_parts.proofs.Chained.{AreLinkedOn, BeginsApart}
@@ -219,6 +221,7 @@ module _ (bytes : List ℕ) where
 
   inside-alone : (p : Part) (i : Inside) → IsBlankAsText p.first → IsSound p i → StandAlone (inside_marks bytes p i)
   inside-alone p (defined ds) blank sound = plain (definitions_marks bytes ds (places_in bytes (all_rows p))) (plain-definitions bytes ds (places_in bytes (all_rows p)) (plain-places bytes (all_rows p)))
+  inside-alone p table blank sound = plain (table_marks bytes p) (plain-tables bytes p.first p.more)
   inside-alone p (lines true) blank sound = by (joined_pieces bytes (pieces_of bytes (is_held p) p.first p.more)) (long-pieces (is_held p) p.first p.more) (joined-plain _ (pieces-plain (is_held p) p.first p.more))
     where
       by : (js : List (Piece bytes)) → BeginsLong (length (rest_of p.first)) js → PlainBefore js

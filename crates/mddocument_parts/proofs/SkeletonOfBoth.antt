@@ -18,7 +18,9 @@ use Rattle.mdblock_containers.proofs.WrittenLemmas.{chained_length}
 use Rattle.mdblock_containers.specs.Rows.{Row, is_paragraph}
 use Rattle.mdblock_containers.specs.Skeleton.{Frame, Part, chained_from, end_of, ending_marks, exits, frames_at, further, next_chunk, parts_in, shared, standing}
 use Rattle.mdblock_definitions.specs.Rows.{rows}
-use Rattle.mdblock_definitions.specs.Sections.{Section, before_defined, cut, defined_in, defining, lines, lines_defined, paragraph_of, sections, sections_in, text_in, undefined}
+use Rattle.mdblock_definitions.specs.Sections.{Section, before_defined, cut, defined_in, defining, is_in_table, lines, lines_defined, paragraph_of, sections, sections_in, sections_of_cut, tabled, text_in, undefined}
+use Rattle.mdblock_table_marks.specs.TableCuts.{Cut, before_table, begins_in_table, table_lines}
+use Rattle.mddocument_parts.proofs.CutsJoined.{cuts, pieces}
 use Rattle.mdblock_definitions.specs.Skeleton.{behind_marks, section_marks, sections_marks, skeleton}
 use Rattle.mddocument_parts.proofs.Chained.{BeginsApart, HasNoLink, chained-append, chained-moved, further_on}
 use Rattle.mddocument_parts.proofs.Events.{full-lines, in-lines, map-ext, map-same}
@@ -109,6 +111,17 @@ module _ (on : Constructs) (b : Bool) where
       let d = defined_in on behind in
       ap (λ l. undefined x around (take n all) ++ (defining (definitions (text_in (paragraph_of behind))) around (take d behind) ++ l)) (around-any bound true around (drop d behind))
 
+  tabled-any : (around : Part) (rs : List Row) → tabled (stay-part b around) rs ≡ tabled around rs
+  tabled-any around [] = refl
+  tabled-any around (r ∷ rs) = refl
+
+  cut-any : (around : Part) (c : Cut) → sections_of_cut on (stay-part b around) c ≡ sections_of_cut on around c
+  cut-any around c = (λ i. cond c.is_table (tabled-any around c.rows i) (around-any (length c.rows) false around c.rows i))
+
+  cuts-any : (around : Part) (cs : List Cut) → flat_map (sections_of_cut on (stay-part b around)) cs ≡ flat_map (sections_of_cut on around) cs
+  cuts-any around [] = refl
+  cuts-any around (c ∷ cs) = (λ i. cut-any around c i ++ cuts-any around cs i)
+
   module _ (r : Row) where
     abbrev q : Row
     q = stay b r
@@ -162,13 +175,36 @@ module _ (on : Constructs) (b : Bool) where
             both (undefined x (stay-part b around) (take (suc n) (q ∷ rs))) (undefined x around (take (suc n) (r ∷ rs))) _ _ (undefined-alike x around (suc n) rs)
             (both (defining (definitions (text_in (paragraph_of behind))) around (take d behind)) _ _ _ (same _) (subst (λ l. AreAlike l (sections_in on bound true around (drop d behind))) (sym (around-any bound true around (drop d behind))) (same _)))
 
+    -- cut at tables: the first of them is in the first piece that has a line
+    cuts-alike : (bound : ℕ) (around : Part) (rs : List Row) → AreAlike (flat_map (sections_of_cut on (stay-part b around)) (cuts bound (q ∷ rs))) (flat_map (sections_of_cut on around) (cuts bound (r ∷ rs)))
+    cuts-alike zero around rs = tt
+    cuts-alike (suc bound) around rs = by (begins_in_table is_in_table rs)
+      where
+        later : List Row → List Section
+        later rows = flat_map (sections_of_cut on around) (cuts bound rows)
+
+        rest : (rows : List Row) → AreAlike (flat_map (sections_of_cut on (stay-part b around)) (cuts bound rows)) (later rows)
+        rest rows = subst (λ l. AreAlike l (later rows)) (sym (cuts-any around (cuts bound rows))) (same (later rows))
+
+        by : (c : Bool) → let n = cond c 0 (suc (before_table is_in_table rs)) in
+            AreAlike (flat_map (sections_of_cut on (stay-part b around)) (pieces bound n (q ∷ rs))) (flat_map (sections_of_cut on around) (pieces bound n (r ∷ rs)))
+        by true = (record { stays = b; is = refl }, rest (drop (prefix_len is_in_table rs) rs))
+        by false =
+            let k = before_table is_in_table rs in
+            let z = drop k rs in
+            let m = table_lines is_in_table z in
+            let front = take k rs in
+            both (sections_in on (suc (length front)) false (stay-part b around) (q ∷ front)) (sections_in on (suc (length front)) false around (r ∷ front)) _ _ (cut-alike (suc (length front)) false around front)
+            (subst (λ l. AreAlike (l ++ flat_map (sections_of_cut on (stay-part b around)) (cuts bound (drop m z))) (tabled around (take m z) ++ later (drop m z))) (sym (tabled-any around (take m z)))
+            (both (tabled around (take m z)) (tabled around (take m z)) _ _ (same (tabled around (take m z))) (rest (drop m z))))
+
   part-alike : (p : Part) → AreAlike (cut on (stay-part b p)) (cut on p)
   part-alike p = by p.first.is_blank
     where
-      by : (c : Bool) → AreAlike (cond c (record { part = stay-part b p; inside = lines false } ∷ []) (sections_in on (suc (length p.more)) false (stay-part b p) (stay b p.first ∷ p.more)))
-          (cond c (record { part = p; inside = lines false } ∷ []) (sections_in on (suc (length p.more)) false p (p.first ∷ p.more)))
+      by : (c : Bool) → AreAlike (cond c (record { part = stay-part b p; inside = lines false } ∷ []) (flat_map (sections_of_cut on (stay-part b p)) (cuts (suc (length p.more)) (stay b p.first ∷ p.more))))
+          (cond c (record { part = p; inside = lines false } ∷ []) (flat_map (sections_of_cut on p) (cuts (suc (length p.more)) (p.first ∷ p.more))))
       by true = (record { stays = b; is = refl }, tt)
-      by false = cut-alike p.first (suc (length p.more)) false p p.more
+      by false = cuts-alike p.first (suc (length p.more)) p p.more
 
   sections-alike : (rs : List Row) → AreAlike (sections on (first_stays b rs)) (sections on rs)
   sections-alike [] = tt

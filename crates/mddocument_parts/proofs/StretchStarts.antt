@@ -1,7 +1,7 @@
 -- A stretch of lines of a document: where it begins, where it ends, and what is left of its text behind definitions.
 use Rattle.std.proofs.Common.{Bool, List, [], ap, append_assoc, arith, cond, drop, false, inl, inr, length, length-append, length-take, nat_le, not, refl, subst, suc, sym, take, true, zero, ℕ, ◌&&◌, ◌++◌, ◌+◌, ◌<◌, ◌==◌, ◌||◌, ◌∙◌, ◌∷◌, ◌≡◌, ◌≤◌}
 use Rattle.std.proofs.Math.Bool.{and-false}
-use Rattle.std.proofs.lemmas.Bool.{leb-true, not-true}
+use Rattle.std.proofs.lemmas.Bool.{false≢true, leb-true, not-true}
 use Rattle.std.proofs.lemmas.List.{append-nil, length-map, map-append, take-append-drop}
 use Rattle.std.proofs.lemmas.List.Sums.{prefix_len-le-length}
 use Rattle.std.specs.List.{AllByRecursion, flat_map, prefix_len}
@@ -17,7 +17,7 @@ use Rattle.mdblock_containers.proofs.DocumentRows.{take_of_take}
 use Rattle.mdblock_containers.proofs.FrameFacts.{some_more}
 use Rattle.mdblock_containers.specs.Prefixes.{columns_of, containers_of}
 use Rattle.mdblock_containers.specs.Rows as without
-use Rattle.mdblock_containers.specs.Rows.{Before, Row, closed, has_none, holds_ending, is_paragraph, leaf_after, open_paragraph, opened_by, rest_of}
+use Rattle.mdblock_containers.specs.Rows.{Before, Leaf, Row, closed, has_none, holds_ending, is_paragraph, is_table, leaf_after, open_fence, open_html, open_paragraph, open_table, opened_by, rest_of}
 use Rattle.mdblock_containers.specs.Skeleton.{Frame, Part, further}
 use Rattle.mdblock_definitions.proofs.DefinedText.{all-lines, front-lines, lines-some, tens-both}
 use Rattle.mdblock_definitions.proofs.PlainLetters.{open-not-blank}
@@ -26,14 +26,16 @@ use Rattle.mdblock_definitions.proofs.SectionLemmas.{few-lines, tens, tens-in}
 use Rattle.mdblock_definitions.proofs.SectionTurns.{not-blank-some}
 use Rattle.mdblock_definitions.proofs.Shorter.{definitions-shorter, left-begins}
 use Rattle.mdblock_definitions.specs.Rows.{Known, is_behind_text, is_used_up, known_after, row_of, rows_from, underlines_nothing}
-use Rattle.mdblock_definitions.specs.Sections.{before_defined, defined_in, lines_defined, lines_of as text_lines, paragraph_of, text_in}
+use Rattle.mdblock_definitions.specs.Sections.{before_defined, defined_in, is_in_table, lines_defined, lines_of as text_lines, paragraph_of, text_in}
+use Rattle.mdblock_table_marks.specs.TableCuts.{before_table, begins_in_table, table_lines}
 use Rattle.mdblock_definitions.specs.Skeleton.{all_rows}
 use Rattle.mdblock_paragraphs.proofs.SaidRows.{paragraph-more, some-long, text_after}
-use Rattle.mddocument_parts.proofs.DocumentLabels.{leaf-behind, left-is-blank}
+use Rattle.mddocument_parts.proofs.CutsJoined.{behind_table}
+use Rattle.mddocument_parts.proofs.DocumentLabels.{anew-untabled, leaf-behind, left-is-blank, own-row, stay-untabled}
 use Rattle.mddocument_parts.proofs.JoinedDocument.{IsDeep, deep-next, last-holds-from}
 use Rattle.mddocument_parts.proofs.JoinedMarks.{lines_of}
 use Rattle.mddocument_parts.proofs.JoinedSections.{parts_by}
-use Rattle.mddocument_parts.proofs.NoUnderlines.{Inside, begins, none-underlines, EndsBefore, NoneUnderlines, are-plain, ends-before}
+use Rattle.mddocument_parts.proofs.NoUnderlines.{Inside, begins, none-underlines, EndsBefore, NoTable, NoneUnderlines, are-plain, ends-before}
 use Rattle.mddocument_parts.proofs.SectionRows.{AllLeft, LeftIsBlank}
 use Rattle.mddocument_parts.proofs.WithoutContainers.Leaves.{leaf_next}
 use Rattle.mddocument_parts.proofs.WithoutContainers.PlainParts.{IsBare, plain_before}
@@ -56,12 +58,42 @@ further-none (r ∷ rs) = by r.is_left_blank refl r.stays refl (nat_le 1 (furthe
     by false e false f some s h = (λ i. cond (e i) (cond (nat_le 1 (further rs)) (suc (further rs)) 0) (cond (f i) (suc (further rs)) 0))
 
 module _ (on : Constructs) where
-  -- before a line that is not left blank, and that goes on with the lines before, no leaf block is open
+  -- behind it a line opens what it opens alone: no leaf block is open, or a table, which ends there
+  pub record IsShut (leaf : Leaf) : Type 0 where
+    pub text : is_paragraph leaf ≡ false
+    pub after : (rest : List ℕ) → leaf_after on leaf rest ≡ leaf_after on closed rest
+
+  pub closed-shut : IsShut closed
+  closed-shut = record { text = refl; after = λ rest. refl }
+
+  pub table-shut : (leaf : Leaf) → is_table leaf ≡ true → IsShut leaf
+  table-shut open_table e = record { text = refl; after = λ rest. refl }
+  table-shut closed e = absurd (false≢true e)
+  table-shut open_paragraph e = absurd (false≢true e)
+  table-shut (open_fence f) e = absurd (false≢true e)
+  table-shut (open_html kind) e = absurd (false≢true e)
+
+  -- before a line that is not left blank, and that goes on with the lines before, none is, and the line is in no table
+  abbrev pub Starts : Known → (number : ℕ) → Line → Type 0
+  Starts k n line = (row_of on k n line).is_left_blank ≡ false → (row_of on k n line).stays ≡ true → IsShut k.before.leaf × (is_in_table (row_of on k n line) ≡ false)
+
   abbrev pub StartsClosed : Known → (number : ℕ) → List Line → Type 0
   StartsClosed k n [] = Unit {0}
-  StartsClosed k n (line ∷ ls) = (row_of on k n line).is_left_blank ≡ false → (row_of on k n line).stays ≡ true → k.before.leaf ≡ closed
+  StartsClosed k n (line ∷ ls) = Starts k n line
 
-  module _ (k : Known) (n : ℕ) (line : Line) (starts : (row_of on k n line).is_left_blank ≡ false → (row_of on k n line).stays ≡ true → k.before.leaf ≡ closed) (kept : (row_of on k n line).is_left_blank ≡ false) where
+  -- so it is in none at all
+  pub starts-untabled : (k : Known) (n : ℕ) (line : Line) → Starts k n line → is_in_table (row_of on k n line) ≡ false
+  starts-untabled k n line starts = by row.is_left_blank refl row.stays refl
+    where
+      row : Row
+      row = row_of on k n line
+
+      by : (left : Bool) → row.is_left_blank ≡ left → (stays : Bool) → row.stays ≡ stays → is_in_table row ≡ false
+      by true e stays f = (left-is-blank on (open-not-blank on) k n line e).2
+      by false e true f = (starts e f).1
+      by false e false f = stay-untabled on (open-not-blank on) k n line f
+
+  module _ (k : Known) (n : ℕ) (line : Line) (starts : Starts k n line) (kept : (row_of on k n line).is_left_blank ≡ false) where
     abbrev row : Row
     row = row_of on k n line
 
@@ -75,17 +107,17 @@ module _ (on : Constructs) where
     no-text = by plain.stays refl
       where
         by : (b : Bool) → plain.stays ≡ b → (b && is_paragraph k.before.leaf) ≡ false
-        by true e = ap is_paragraph (starts kept e)
+        by true e = (starts kept e).0.text
         by false e = refl
 
     none-underlined : underlines_nothing on k plain ≡ false
     none-underlined = ap (λ b. on.definition && (b && (is_some (underline_rank on rest) && is_used_up k.text))) no-text ∙ and-false on.definition
 
-    before-closed : cond plain.stays k.before.leaf closed ≡ closed
+    before-closed : leaf_after on (cond plain.stays k.before.leaf closed) rest ≡ leaf_after on closed rest
     before-closed = by plain.stays refl
       where
-        by : (b : Bool) → plain.stays ≡ b → cond b k.before.leaf closed ≡ closed
-        by true e = starts kept e
+        by : (b : Bool) → plain.stays ≡ b → leaf_after on (cond b k.before.leaf closed) rest ≡ leaf_after on closed rest
+        by true e = (starts kept e).0.after rest
         by false e = refl
 
     -- a lazy line goes on with a paragraph
@@ -101,12 +133,13 @@ module _ (on : Constructs) where
             let none = and-left (has_none row.begun) (is_paragraph k.before.leaf && kind) inner in
             let text = and-left (is_paragraph k.before.leaf) kind (and-right (has_none row.begun) (is_paragraph k.before.leaf && kind) inner) in
             let stays : row.stays ≡ true = (λ i. none i && (e i || (all && (length k.before.stack == k.before.depth)))) in
-            sym text ∙ ap is_paragraph (starts kept stays)
+            sym text ∙ (starts kept stays).0.text
 
     leaf-is : row.leaf ≡ leaf_after on closed rest
     leaf-is =
-        ap (λ u. cond u open_paragraph plain.leaf) none-underlined
-        ∙ (λ i. cond (kept i) closed (cond (not-lazy i) open_paragraph (leaf_after on (before-closed i) rest)))
+        ap (λ (r : Row). r.leaf) (own-row on (open-not-blank on) k n line (starts-untabled k n line starts))
+        ∙ ap (λ u. cond u open_paragraph plain.leaf) none-underlined
+        ∙ (λ i. cond (kept i) closed (cond (not-lazy i) open_paragraph (before-closed i)))
 
     known-is : (known_after on k row).before ≡ (let all = containers_of row.went_on ++ containers_of row.begun in let b : Before = record { stack = all; depth = length all; leaf = row.leaf } in b)
     known-is =
@@ -172,7 +205,7 @@ module _ (on : Constructs) where
 
   pub closed-starts : (k : Known) (n : ℕ) (ls : List Line) → k.before.leaf ≡ closed → StartsClosed k n ls
   closed-starts k n [] e = tt
-  closed-starts k n (line ∷ ls) e = λ kept stays. e
+  closed-starts k n (line ∷ ls) e = λ kept stays. (subst IsShut (sym e) closed-shut, anew-untabled on (open-not-blank on) k n line e)
 
   pub left-leaf : (k : Known) (n : ℕ) (line : Line) → (row_of on k n line).is_left_blank ≡ true → (known_after on k (row_of on k n line)).before.leaf ≡ closed
   left-leaf k n line e =
@@ -214,6 +247,80 @@ module _ (on : Constructs) where
   all-next k n [] h = tt
   all-next k n (line ∷ ls) h = next-starts k n line ls h
 
+  -- ---- behind a table
+  -- behind a line of a table a table is open
+  table-behind : (k : Known) (n : ℕ) (line : Line) → is_in_table (row_of on k n line) ≡ true → IsShut (known_after on k (row_of on k n line)).before.leaf
+  table-behind k n line e = by row.is_left_blank refl row.is_lazy
+    where
+      row : Row
+      row = row_of on k n line
+
+      all : List Container
+      all = containers_of row.went_on ++ containers_of row.begun
+
+      by : (left : Bool) → row.is_left_blank ≡ left → (lazy : Bool)
+          → IsShut (let b : Before = cond left (record k.before { depth = length row.went_on; leaf = closed }) (cond lazy (record k.before { leaf = row.leaf }) (record { stack = all; depth = length all; leaf = row.leaf })) in b).leaf
+      by true f lazy = absurd (false≢true (sym (left-is-blank on (open-not-blank on) k n line f).2 ∙ e))
+      by false f true = table-shut row.leaf e
+      by false f false = table-shut row.leaf e
+
+  table-end : (k : Known) (n : ℕ) (ls : List Line) → (begins_in_table is_in_table (rows_from on k n ls) ≡ false → IsShut k.before.leaf) → StartsAt (state_on (prefix_len is_in_table (rows_from on k n ls)) k n ls)
+  table-end k n [] shut = tt
+  table-end k n (line ∷ ls) shut =
+      by (table-end (known_after on k (row_of on k n line)) (suc n) ls) (is_in_table (row_of on k n line)) refl
+    where
+      row : Row
+      row = row_of on k n line
+
+      next : Known
+      next = known_after on k row
+
+      many : ℕ
+      many = prefix_len is_in_table (rows_from on next (suc n) ls)
+
+      by : ((begins_in_table is_in_table (rows_from on next (suc n) ls) ≡ false → IsShut next.before.leaf) → StartsAt (state_on many next (suc n) ls)) → (b : Bool) → is_in_table row ≡ b → StartsAt (state_on (cond b (1 + many) 0) k n (line ∷ ls))
+      by later true e = let one : 1 + many ≡ suc many = omega arith in subst (λ m. StartsAt (state_on m k n (line ∷ ls))) (sym one) (later (λ none. table-behind k n line e))
+      by later false e = λ kept stays. (shut e, e)
+
+  -- behind the table whose header row is the first of lines
+  header-starts : (k : Known) (n : ℕ) (ls : List Line) → begins_in_table is_in_table (drop 1 (rows_from on k n ls)) ≡ true → StartsAt (state_on (table_lines is_in_table (rows_from on k n ls)) k n ls)
+  header-starts k n [] e = absurd (false≢true e)
+  header-starts k n (line ∷ ls) e = table-end (known_after on k (row_of on k n line)) (suc n) ls (λ none. absurd (false≢true (sym none ∙ e)))
+
+  table-there : (all : List Row) → before_table is_in_table all < length all → begins_in_table is_in_table (drop 1 (drop (before_table is_in_table all) all)) ≡ true
+  table-there [] less = absurd (omega (arith, less))
+  table-there (q ∷ x) less = by (table-there x) (begins_in_table is_in_table x) refl less
+    where
+      by : (before_table is_in_table x < length x → begins_in_table is_in_table (drop 1 (drop (before_table is_in_table x) x)) ≡ true) → (b : Bool) → begins_in_table is_in_table x ≡ b → cond b 0 (suc (before_table is_in_table x)) < suc (length x)
+          → begins_in_table is_in_table (drop 1 (drop (cond b 0 (suc (before_table is_in_table x))) (q ∷ x))) ≡ true
+      by later true e less = e
+      by later false e less = later (omega (arith, less))
+
+  -- behind the first table of lines
+  abbrev pub table_state : Known → (number : ℕ) → List Line → State
+  table_state k n ls =
+      let s = state_on (before_table is_in_table (rows_from on k n ls)) k n ls in
+      state_on (table_lines is_in_table (rows_at s)) s.known s.number s.lines
+
+  pub table-rows : (k : Known) (n : ℕ) (ls : List Line) → behind_table (rows_from on k n ls) ≡ rows_at (table_state k n ls)
+  table-rows k n ls =
+      let m = before_table is_in_table (rows_from on k n ls) in
+      let s = state_on m k n ls in
+      let there = rows-on m k n ls in
+      (λ i. drop (table_lines is_in_table (there i)) (there i)) ∙ rows-on (table_lines is_in_table (rows_at s)) s.known s.number s.lines
+
+  pub table-starts : (k : Known) (n : ℕ) (ls : List Line) → before_table is_in_table (rows_from on k n ls) < length (rows_from on k n ls) → StartsAt (table_state k n ls)
+  table-starts k n ls less =
+      let m = before_table is_in_table (rows_from on k n ls) in
+      let s = state_on m k n ls in
+      header-starts s.known s.number s.lines (sym (ap (λ rows. begins_in_table is_in_table (drop 1 rows)) (rows-on m k n ls)) ∙ table-there (rows_from on k n ls) less)
+
+  pub table-known : (k : Known) (n : ℕ) (ls : List Line) → let s = table_state k n ls in known_behind on k n ls ≡ known_behind on s.known s.number s.lines
+  table-known k n ls =
+      let m = before_table is_in_table (rows_from on k n ls) in
+      let s = state_on m k n ls in
+      behind-on m k n ls ∙ behind-on (table_lines is_in_table (rows_at s)) s.known s.number s.lines
+
   -- where a part begins, by any spans
   pub record Begins (k : Known) (n : ℕ) (ls : List Line) (front : List Part) : Type 0 where
     pub above : List Row
@@ -229,6 +336,20 @@ module _ (on : Constructs) where
   deep-on zero k n ls h = h
   deep-on (suc m) k n [] h = h
   deep-on (suc m) k n (line ∷ ls) h = deep-on m (known_after on k (row_of on k n line)) (suc n) ls (deep-next on k n line h)
+
+  pub table-deep : (k : Known) (n : ℕ) (ls : List Line) → IsDeep on k → IsDeep on (table_state k n ls).known
+  table-deep k n ls h =
+      let m = before_table is_in_table (rows_from on k n ls) in
+      let s = state_on m k n ls in
+      deep-on (table_lines is_in_table (rows_at s)) s.known s.number s.lines (deep-on m k n ls h)
+
+  -- the first of lines is in no table
+  pub first-untabled : (s : State) → StartsAt s → begins_in_table is_in_table (rows_at s) ≡ false
+  first-untabled s starts = by s.lines starts
+    where
+      by : (ls : List Line) → StartsClosed s.known s.number ls → begins_in_table is_in_table (rows_from on s.known s.number ls) ≡ false
+      by [] h = refl
+      by (line ∷ ls) h = starts-untabled s.known s.number line h
 
   -- no definitions begin in lines: nor behind the first
   pub whole-next : (p : Bool) (r : Row) (rs : List Row) → before_defined on p (r ∷ rs) ≡ length (r ∷ rs) → ((not p && nat_le 1 (defined_in on (r ∷ rs))) ≡ false) × (before_defined on (is_paragraph r.leaf) rs ≡ length rs)
@@ -315,13 +436,13 @@ module _ (on : Constructs) where
     abbrev behind : List Row
     behind = rows_from on next (suc n) ls
 
-    pub stretch-ends : (x : Line) → next.before ≡ plain_before on q.leaf → is_blank_line (text_of x) ≡ false → leaf_next on closed x ≡ q.leaf → ((defines : on.definition ≡ true) → is_paragraph q.leaf ≡ true → Inside on defines next behind)
+    pub stretch-ends : NoTable on behind → (x : Line) → next.before ≡ plain_before on q.leaf → is_blank_line (text_of x) ≡ false → leaf_next on closed x ≡ q.leaf → ((defines : on.definition ≡ true) → is_paragraph q.leaf ≡ true → Inside on defines next behind)
         → before_defined on (is_paragraph q.leaf) behind ≡ length behind → AllByRecursion IsBare behind → AllStay behind → IsDeep on k → (more bs : List Row) → behind ≡ more ++ bs → AllLeft bs → further behind ≡ length more
         → (known_behind on k n (line ∷ ls)).before.stack ≡ [] → is_closed (known_behind on k n (line ∷ ls)).before.leaf ≡ true → (l : Line) → begins_near (kind_of_line on l) ≡ true → EndsBefore on (x ∷ lines_of more) (lines_of bs) l
-    stretch-ends x known full opens inside whole bare stay deep more bs are lefts reach stack shut l near =
+    stretch-ends untabled x known full opens inside whole bare stay deep more bs are lefts reach stack shut l near =
         let lines-are : lines_of more ++ lines_of bs ≡ ls = sym (map-append (λ (r : Row). r.line) more bs) ∙ ap lines_of (sym are) ∙ rows-lines next (suc n) ls in
         ends-before on next (suc n) q ls more bs x (lines_of more) (lines_of bs) l
-        (are-plain on next (suc n) ls q.leaf known bare none) are (ap further (sym are) ∙ reach)
+        (are-plain on next (suc n) ls q.leaf known bare untabled none) are (ap further (sym are) ∙ reach)
         (last-holds-from on k n (line ∷ ls) [] q more bs (ap (λ rs. q ∷ rs) are) deep (subst AllStay are stay) lefts stack shut) shut
         full opens (length-map more (λ (r : Row). r.line))
         (ap (λ (x : List Line). length x) lines-are) (subst (λ xs. Agree xs ls) (sym lines-are) (agree-self ls)) near
@@ -334,20 +455,20 @@ module _ (on : Constructs) where
           where
             by : (b : Bool) → on.definition ≡ b → NoneUnderlines on next (suc n) ls
             by false off = none-off off next (suc n) ls
-            by true defines = none-underlines on defines next (suc n) ls stay (λ e. inside defines (sym (ap is_paragraph leaf) ∙ e)) (ap (λ l. before_defined on (is_paragraph l) behind) leaf ∙ whole)
+            by true defines = none-underlines on defines next (suc n) ls stay untabled (λ e. inside defines (sym (ap is_paragraph leaf) ∙ e)) (ap (λ l. before_defined on (is_paragraph l) behind) leaf ∙ whole)
 
     -- from the first line of a part on, where no definitions begin in the stretch
     module _ (starts : StartsClosed on k n (line ∷ ls)) (full : q.is_blank ≡ false) where
       kept : q.is_left_blank ≡ false
       kept = ap (λ b. b && (has_none q.begun && not (q.stays && holds_ending k.before.leaf))) full
 
-      pub stretch-ends-before : before_defined on false (q ∷ behind) ≡ length (q ∷ behind) → AllByRecursion IsBare (q ∷ behind) → AllStay behind → IsDeep on k → (more bs : List Row) → behind ≡ more ++ bs → AllLeft bs → further behind ≡ length more
+      pub stretch-ends-before : NoTable on behind → before_defined on false (q ∷ behind) ≡ length (q ∷ behind) → AllByRecursion IsBare (q ∷ behind) → AllStay behind → IsDeep on k → (more bs : List Row) → behind ≡ more ++ bs → AllLeft bs → further behind ≡ length more
           → (known_behind on k n (line ∷ ls)).before.stack ≡ [] → is_closed (known_behind on k n (line ∷ ls)).before.leaf ≡ true → (l : Line) → begins_near (kind_of_line on l) ≡ true → EndsBefore on (lines_of (q ∷ more)) (lines_of bs) l
-      stretch-ends-before whole bare stay deep more bs are lefts reach stack shut l near =
+      stretch-ends-before untabled whole bare stay deep more bs are lefts reach stack shut l near =
           let columns : q.columns ≡ 0 = (λ i. columns_of (bare.0.0 i) + columns_of (bare.0.1 i)) in
           let same : rest_of q ≡ text_of line = ap (λ c. drop c (text_of line)) columns in
           let parts = whole-next on false q behind whole in
-          stretch-ends line (head-known on k n line starts kept bare.0) (ap is_blank_line (sym same) ∙ full) (head-leaf on k n line starts kept bare.0 full)
+          stretch-ends untabled line (head-known on k n line starts kept bare.0) (ap is_blank_line (sym same) ∙ full) (head-leaf on k n line starts kept bare.0 full)
           (λ defines e. begins on defines k n line behind e (no-text on k n line starts kept) parts.0) parts.1 bare.1 stay deep more bs are lefts reach stack shut l near
 
 -- ==== Directly behind the definitions of a paragraph: its text so far is that of the definitions, and nothing is left of it.

@@ -21,10 +21,10 @@ abbrev pub defines_nothing : ParseOptions → (bytes : List ℕ) → Bool
 defines_nothing options bytes =
     not options.constructs.definition || list_all (λ row. not (begins_with_bracket (rest_of row))) (rows options.constructs (lines_in (virtual_bytes options bytes)))
 
--- A document of which both hold has the events of its leaf blocks and no others: with its chunks, and with its texts and strings read. In the latter the
+-- A document of which both hold, without tables, has the events of its leaf blocks and no others: with its chunks, and with its texts and strings read. In the latter the
 -- strings are read, too, in which destinations, titles and labels stand
 abbrev pub DocumentsWithoutContainers : Type 0
-DocumentsWithoutContainers = (options : ParseOptions) (bytes : List ℕ) → IsDocument (document options bytes) → begins_no_container options bytes ≡ true → defines_nothing options bytes ≡ true
+DocumentsWithoutContainers = (options : ParseOptions) (bytes : List ℕ) → IsDocument (document options bytes) → options.constructs.gfm_table ≡ false → begins_no_container options bytes ≡ true → defines_nothing options bytes ≡ true
     → let on = options.constructs in
     AreFlowEvents options bytes (document_blocks (document options bytes))
     × (document_events (document options bytes) ≡ with_strings on options.tab_size bytes (flow_inlines on bytes (virtual_bytes options bytes)))

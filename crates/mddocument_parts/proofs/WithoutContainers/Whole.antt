@@ -1,5 +1,5 @@
 -- A document in which no container begins is read as its leaf blocks are.
-use Rattle.mddocument_parts.proofs.Prelude.{AllByRecursion, Bool, Constructs, Enter, Event, Exit, Line, List, Mark, None, Option, Seat, Some, [], alone, and-left, and-right, ap, append-nil, arith, chunk_span, end_after, event, false, filter, flat_map, flow_events, leaf_blocks, leaf_blocks_marks, length, lines_in, linked-append, linked-length, linked_from, map, not-true, refl, subst, suc, sym, true, virtual, ℕ, ◌++◌, ◌+◌, ◌<◌, ◌∙◌, ◌∷◌, ◌≡◌}
+use Rattle.mddocument_parts.proofs.Prelude.{AllByRecursion, Bool, Constructs, Enter, Event, Exit, Line, List, Mark, None, Option, Seat, Some, [], alone, and-left, and-right, ap, append-nil, arith, chunk_span, cond, end_after, event, false, filter, flat_map, flow_events, leaf_blocks, leaf_blocks_marks, length, lines_in, linked-append, linked-length, linked_from, map, not-true, refl, subst, suc, sym, true, virtual, ℕ, ◌++◌, ◌+◌, ◌<◌, ◌∙◌, ◌∷◌, ◌≡◌}
 use Rattle.std.proofs.lemmas.Option.{none-some, slice_get_within}
 use Rattle.std.specs.List.{list_all}
 use Rattle.std.specs.Prelude.{not, slice_get, ◌||◌}
@@ -45,6 +45,7 @@ use Rattle.mdblock_containers.specs.Skeleton as skeletons
 use Rattle.mdblock_containers.specs.Skeleton.{chained_from, parts_in, parts_marks}
 use Rattle.mdblock_definitions.proofs.Without.{blocks-can-be-without, blocks-need-brackets, definitions-can-be-off, definitions-need-brackets}
 use Rattle.mdblock_definitions.specs.Blocks as defined
+use Rattle.mdblock_table_marks.specs.Cells.{celled}
 use Rattle.mdblock_text_lines.proofs.BlocksAreThose.{blocks-are-those}
 use Rattle.mdblock_text_lines.specs.DocumentBlocks as told
 use Rattle.mdblock_definitions.specs.Labelled.{is_one_of}
@@ -79,7 +80,7 @@ none-normalised : (labels : List (List ℕ)) → map normalised labels ≡ [] �
 none-normalised [] h = refl
 none-normalised (label ∷ labels) h = absurd (cc)
 
-module _ (options : ParseOptions) (bytes : List ℕ) (nothing : defines_nothing options bytes ≡ true) where
+module _ (options : ParseOptions) (bytes : List ℕ) (untabled : options.constructs.gfm_table ≡ false) (nothing : defines_nothing options bytes ≡ true) where
   abbrev g : Given
   g = document options bytes
 
@@ -95,14 +96,14 @@ module _ (options : ParseOptions) (bytes : List ℕ) (nothing : defines_nothing 
       cases true e h = none (every-bare (rows options.constructs (lines_in (virtual_bytes options bytes))) h)
 
   pub nothing-defined : defined.document_blocks g ≡ document_blocks g
-  nothing-defined = by (defined.document_blocks g ≡ document_blocks g) (blocks-can-be-without g) (blocks-need-brackets g)
+  nothing-defined = by (defined.document_blocks g ≡ document_blocks g) (λ off. blocks-can-be-without g off untabled) (blocks-need-brackets g untabled)
 
   -- no label is defined
   pub no-label-defined : is_defined_in g ≡ no_labels
   no-label-defined =
       let on = options.constructs in
       let seats = virtual_bytes options bytes in
-      let none : NothingIsDefined on bytes seats = by (NothingIsDefined on bytes seats) (λ off. definitions-can-be-off on off bytes seats) (definitions-need-brackets on bytes seats) in
+      let none : NothingIsDefined on bytes seats = by (NothingIsDefined on bytes seats) (λ off. definitions-can-be-off on off untabled bytes seats) (definitions-need-brackets on untabled bytes seats) in
       labels-are-defined g ∙ ap is_one_of (none-normalised (written_labels on seats) none.no_labels)
 
 -- ==== A document in which no container begins is read as its leaf blocks are.
@@ -309,7 +310,9 @@ module _ (g : Given) (is : IsDocument g) where
       events-are = ap (with_strings on g.tab g.bytes) texts-are
 
 pub documents-without-containers : DocumentsWithoutContainers
-documents-without-containers options bytes is none nothing =
+documents-without-containers options bytes is untabled none nothing =
     let g = document options bytes in
-    let same = blocks-are-those g is ∙ nothing-defined options bytes nothing in
-    (same ∙ blocks-are g is none, events-are g is none same (no-label-defined options bytes nothing))
+    let leaves = told.document_leaf_blocks g in
+    let plain : told.document_blocks g ≡ leaves = ap (λ b. cond b (celled false leaves) leaves) untabled in
+    let same = plain ∙ blocks-are-those g is ∙ nothing-defined options bytes untabled nothing in
+    (same ∙ blocks-are g is none, events-are g is none same (no-label-defined options bytes untabled nothing))
