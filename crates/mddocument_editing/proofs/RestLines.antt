@@ -1,12 +1,15 @@
 -- Lines of a document one after another: what is known before one, and whether it is at a rest.
-use Rattle.mddocument_editing.proofs.Prelude.{Option, ◌≡◌, ◌⊎◌, inl, inr, ◌-◌, ℕ, suc, ◌+◌, ◌<◌, ◌≤◌, Bool, true, false, cond, List, [], ◌∷◌, ◌++◌, length, take, drop, map, sym, ap, subst, ◌∙◌, arith, AllByRecursion, is_some, take-add, cases_order, drop-drop, length-take-le, take-append-drop, virtual, virtual_from, Constructs, ParseOptions, lines_in, Line, text_of, underline_rank, line_bytes, line_length, Before, has_none, is_paragraph, open_paragraph, IsRow, before_of, leaf_of, open_of, Row as CodeRow, BeganBefore, Known, is_behind_text, is_used_up, known_after, row_of, is_rest, begins_anew, begins_at_document_rest, first_at_document_rest, is_closed, known_at_start, known_behind, begins_line, line_endings, moved_line, moved_lines, line-ahead, line-behind, HasNoRestBefore, ◌&&◌}
+use Rattle.mddocument_editing.proofs.Prelude.{Option, ◌≡◌, ◌⊎◌, inl, inr, ◌-◌, ℕ, suc, ◌+◌, ◌<◌, ◌≤◌, Bool, true, false, cond, List, [], ◌∷◌, ◌++◌, length, take, drop, map, sym, ap, subst, ◌∙◌, arith, AllByRecursion, is_some, not, ◌||◌, take-add, cases_order, drop-drop, length-take-le, take-append-drop, virtual, virtual_from, Constructs, ParseOptions, lines_in, Line, text_of, underline_rank, line_bytes, line_length, Before, has_none, is_paragraph, open_paragraph, IsRow, before_of, leaf_of, open_of, Row as CodeRow, BeganBefore, Known, is_behind_text, is_used_up, known_after, row_of, is_rest, begins_anew, begins_at_document_rest, first_at_document_rest, is_closed, known_at_start, known_behind, begins_line, line_endings, moved_line, moved_lines, line-ahead, line-behind, HasNoRestBefore, ◌&&◌}
 use Rattle.std.proofs.Common.{length-append, length-drop}
 use Rattle.mdblock_lines.specs.Lines.{line_at}
 use Rattle.mdblock_lines.proofs.LinesCut.{lines_follow}
 use Rattle.mdblock_lines.proofs.PlaceLemmas.{expanded_is_virtual}
 use Rattle.mdblock_containers.specs.Prefixes.{columns_of, going_on}
 use Rattle.mdblock_containers.specs.Rows as without
-use Rattle.mdblock_containers.specs.Rows.{Row}
+use Rattle.mdblock_containers.specs.Rows.{Row, is_table, open_table}
+use Rattle.mdblock_leaf_blocks.specs.LineKinds.{is_far}
+use Rattle.mdblock_tables.specs.Tables.{is_row, matched}
+use Rattle.mdblock_definitions.specs.Rows.{last_line}
 use Rattle.mdblock_containers.proofs.DocumentRows.{line_length_some, text_of_line_at}
 use Rattle.mdblock_containers.proofs.RowReads.{old_behind}
 use Rattle.mdblock_definitions.specs.Known.{IsKnown}
@@ -36,7 +39,9 @@ module _ (on : Constructs) where
   known_by k number t =
       let plain = plain_by k number t in
       let rest = drop plain.columns t in
-      let row : Row = record plain { leaf = cond (on.definition && (is_behind_text k.before plain && (is_some (underline_rank on rest) && is_used_up k.text))) open_paragraph plain.leaf } in
+      let own : Row = record plain { leaf = cond (on.definition && (is_behind_text k.before plain && (is_some (underline_rank on rest) && is_used_up k.text))) open_paragraph plain.leaf } in
+      let begins = (not own.is_lazy && (not (is_far on rest) && is_some (matched (last_line k.text) rest))) && not (on.definition && is_used_up k.text) in
+      let row : Row = record own { leaf = cond (on.gfm_table && (own.stays && (is_paragraph own.leaf && ((is_paragraph k.before.leaf && begins) || (is_table k.before.leaf && is_row rest))))) open_table own.leaf } in
       record { before = without.known_after on k.before row; text = cond (is_paragraph row.leaf) (cond (is_behind_text k.before row) (k.text ++ 10 ∷ rest) rest) [] }
 
   known-same : (k : Known) (number : ℕ) (line other : Line) → text_of line ≡ text_of other → known_after on k (row_of on k number line) ≡ known_after on k (row_of on k number other)
@@ -132,7 +137,7 @@ module _ (options : ParseOptions) (bytes : List ℕ) where
   pub record IsAtLine (code : CodeKnown) (number start : ℕ) : Type 0 where
     pub begins : begins_line (drop start bytes) (take start bytes) ≡ true
     pub number_is : number ≡ suc (length (lines_in (virtual t (take start bytes))))
-    pub known : IsKnown code (known_of on t (take start bytes))
+    pub known : IsKnown on code (known_of on t (take start bytes))
 
   module _ (some : 0 < options.tab_size) (most : options.tab_size ≤ 16) (start next number : ℕ) (inside : start < length bytes) (next_is : next ≡ start + line_length (drop start bytes)) where
     abbrev before : List ℕ
@@ -186,7 +191,7 @@ module _ (options : ParseOptions) (bytes : List ℕ) where
         by (inr (inr l)) = further (k - start) (omega (arith, l)) (omega (arith, l))
 
     -- the next line, and what is known before it
-    module _ (code new : CodeKnown) (at : IsAtLine code number start) (is : IsKnown new (known_after on there (row_of on there number (line_at t number start left)))) where
+    module _ (code new : CodeKnown) (at : IsAtLine code number start) (is : IsKnown on new (known_after on there (row_of on there number (line_at t number start left)))) where
       one-more : suc number ≡ number + 1
       one-more = omega arith
 
@@ -201,7 +206,7 @@ module _ (options : ParseOptions) (bytes : List ℕ) where
         begins = (λ i. begins_line (rest-is i) (both i)) ∙ next-begins on t some most before left some-left at.begins more;
         number_is = sym one-more ∙ ap suc at.number_is ∙ sym (next-number on t some most before left some-left at.begins more) ∙ ap (λ bs. suc (length (lines_in (virtual t bs)))) (sym both);
         known =
-            subst (IsKnown new)
+            subst (IsKnown on new)
             ((λ i. known_after on there (row_of on there (at.number_is i) (line_at t (at.number_is i) (sym long-before i) left)))
             ∙ sym (next-known on t some most before left some-left at.begins more) ∙ ap (known_of on t) (sym both))
             is;

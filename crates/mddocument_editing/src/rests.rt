@@ -46,7 +46,7 @@ fn is_closed(leaf: Leaf) -> bool
 {
     match leaf {
         Leaf::Closed => true,
-        Leaf::Paragraph | Leaf::Fenced(_) | Leaf::Html(_) => false,
+        Leaf::Paragraph | Leaf::Fenced(_) | Leaf::Html(_) | Leaf::Table => false,
     }
 }
 
