@@ -36,7 +36,7 @@ use Rattle.mdblock_containers.proofs.FrameLemmas.{ending_same}
 use Rattle.mdblock_containers.proofs.LineFacts.{outside_zero}
 use Rattle.mdblock_containers.proofs.RunLemmas.{behind_line, size_small}
 use Rattle.mdblock_containers.proofs.WrittenLemmas.{chained_none}
-use Rattle.mdblock_definitions.proofs.MarksCursor.{write-both}
+use Rattle.mdblock_containers.proofs.WritingLemmas.{write-both}
 use Rattle.mdblock_table_marks.proofs.TableShapes.{plain-tables}
 use Rattle.mdblock_table_marks.specs.Lines.{AreLines, CanBeTable, HasText, HaveLines, IsBegin, begin_at}
 use Rattle.mdblock_table_marks.specs.TableMarks.{rows_marks, rows_seats, table_marks}
