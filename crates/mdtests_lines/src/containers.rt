@@ -167,6 +167,7 @@ fn letter_of(leaf: Leaf) -> char {
         Leaf::Paragraph => 'p',
         Leaf::Fenced(_) => 'f',
         Leaf::Html(_) => 'h',
+        Leaf::Table => 't',
     }
 }
 
@@ -195,6 +196,11 @@ const LEAVES: &[(Leaf, &[u8], char)] = &[
     (Leaf::Html(HtmlKind::Comment), b"", 'h'),
     (Leaf::Html(HtmlKind::Comment), b"a -->", '-'),
     (Leaf::Html(HtmlKind::BlockTag), b"", '-'),
+    (Leaf::Table, b"a", 'p'),
+    (Leaf::Table, b"    a", '-'),
+    (Leaf::Table, b"===", 'p'),
+    (Leaf::Table, b"<a>", 'h'),
+    (Leaf::Table, b"", '-'),
 ];
 
 /// Leaf blocks, and whether each is a paragraph, whether no container begins in its lines, and whether it goes on over blank lines.
@@ -203,6 +209,7 @@ const TRAITS: &[(Leaf, [bool; 3])] = &[
     (Leaf::Fenced(FENCE), [false, true, true]),
     (Leaf::Html(HtmlKind::Comment), [false, true, true]),
     (Leaf::Html(HtmlKind::AnyTag), [false, true, false]),
+    (Leaf::Table, [false, false, false]),
 ];
 
 /// The leaf block that may go on behind a line, and whether the line interrupts a paragraph, counted from nothing.
