@@ -61,8 +61,6 @@ CAUSES = [
 ]
 # causes beside cmark-gfm
 GFM_CAUSES = [
-    random_documents.Cause("a table is in a block quote or a list item", "open", "4.10: it is read where no container is around it", rb"(?m)^ *(?:[-+*>]|\d+[.)])",
-                           lambda it: re.sub(rb"(?m)^(?: *(?:>|(?:[-+*]|\d+[.)])(?= |$)) ?)+", b"", it)),
     random_documents.Cause("a paragraph before a table has definitions", "here", "4.7: they are definitions", rb"\]:", lambda it: it.replace(b"]:", b"] ")),
     random_documents.Cause("a paragraph before a table has a backslash before a pipe in code", "here", "6.1: in code a backslash is itself", rb"`[^`]*\\\|",
                            lambda it: it.replace(b"`", b"")),

@@ -12,13 +12,14 @@ use Rattle.mdgfm_documents.specs.Documents.{gfm_events}
 use Rattle.mdgfm_literals.proofs.Order.{Goes, pairs-go-all}
 use Rattle.mdgfm_literals.specs.LiteralEvents.{events_with as with_literals, literal_events}
 use Rattle.mdgfm_literals.specs.Stretches.{literals_of}
-use Rattle.mdgfm_tables.proofs.PartsLaid.{events-laid}
-use Rattle.mdgfm_tables.specs.Documents.{events_with_tables}
 use Rattle.mdgfm_tasks.specs.declared.awaited.Awaited.TheVariants.{Nothing}
 use Rattle.mdgfm_tasks.specs.TaskEvents.{events_with as with_tasks, task_events}
 use Rattle.mdgfm_documents.proofs.Ended.{AreEnded}
 use Rattle.mdgfm_documents.proofs.LiteralsAhead.{literals-ended, literals-go, literals-inside, others-found, places-found}
-use Rattle.mdgfm_documents.proofs.PartsAhead.{tables-ended, tables-inside}
+use Rattle.mdgfm_documents.proofs.DocumentAhead.{document-ended, document-inside}
+use Rattle.mdgfm_documents.proofs.Whole.{well-formed}
+use Rattle.mddocument.specs.DocumentEvents.{document_events, is_defined_in}
+use Rattle.markdown_tokenizer.specs.Text.{Given}
 use Rattle.mdgfm_documents.proofs.CheckOrder.{tasks-go}
 use Rattle.mdgfm_documents.proofs.TasksAhead.{AreInside, IsInside, tasks-ended, tasks-inside}
 
@@ -57,12 +58,15 @@ literals-ahead options bytes es h = by options.constructs.gfm_autolink_literal
     by false = h
 
 module _ (options : ParseOptions) (bytes : List ℕ) (is : IsDocument (document options bytes)) where
-  tables-ahead : IsAhead options.tab_size (length bytes) (events_with_tables options bytes)
-  tables-ahead = record {
-    goes = pairs-go-all start (events_with_tables options bytes) refl refl (events-laid options bytes is).pairs;
-    inside = tables-inside options bytes is;
-    ended = tables-ended options bytes is;
+  abbrev g : Given
+  g = document options bytes
+
+  document-ahead : IsAhead options.tab_size (length bytes) (document_events g)
+  document-ahead = record {
+    goes = pairs-go-all start (document_events g) refl refl (well-formed options bytes is).in_order.0;
+    inside = document-inside g is (is_defined_in g);
+    ended = document-ended g is (is_defined_in g);
   }
 
   pub gfm-ahead : IsAhead options.tab_size (length bytes) (gfm_events options bytes)
-  gfm-ahead = let events = events_with_tables options bytes in literals-ahead options bytes (task_events options bytes events) (tasks-ahead options bytes events tables-ahead)
+  gfm-ahead = literals-ahead options bytes (task_events options bytes (document_events g)) (tasks-ahead options bytes (document_events g) document-ahead)

@@ -8,6 +8,4 @@ pub mod DocumentAhead
 pub mod Ended
 pub mod GoAhead
 pub mod LiteralsAhead
-pub mod PartsAhead
-pub mod TableAhead
 pub mod TasksAhead

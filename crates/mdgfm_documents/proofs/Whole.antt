@@ -3,12 +3,17 @@ use Rattle.std.proofs.Common.{◌≡◌, ◌∙◌, ℕ, Bool, true, false, cond
 use Rattle.markdown_base.specs.declared.configuration.ParseOptions.{ParseOptions}
 use Rattle.markdown_base.specs.declared.event.Event.{Event}
 use Rattle.markdown_base.specs.Events.{IsBalanced, IsInOrder}
+use Rattle.markdown_tokenizer.specs.Engine.{IsWellFormed}
+use Rattle.markdown_tokenizer.specs.Text.{IsDocument}
+use Rattle.mddocument.proofs.InContainers.InlineHolds.{inlines-hold-text}
+use Rattle.mddocument.proofs.InContainers.Skeletons.{skeleton-laws}
+use Rattle.mddocument.proofs.InContainers.TextsFormed.{events-formed}
+use Rattle.mddocument.proofs.InContainers.Tight.{events-tight}
+use Rattle.mddocument.specs.DocumentEvents.{document_events}
+use Rattle.mddocument.specs.Documents.{document}
 use Rattle.mdgfm_literals.proofs.Names.{names-kept as literals-named}
 use Rattle.mdgfm_literals.proofs.OrderLaw.{order-kept as literals-in-order}
 use Rattle.mdgfm_literals.proofs.Unchanged.{balance-kept as literals-balanced, off-changes-nothing as literals-off}
-use Rattle.mdgfm_tables.proofs.PartsLaid.{events-laid}
-use Rattle.mdgfm_tables.proofs.TablesOff.{tables-can-be-off}
-use Rattle.mdgfm_tables.specs.Documents.{events_with_tables}
 use Rattle.mdgfm_tasks.proofs.Balance.{balance-kept as checks-balanced}
 use Rattle.mdgfm_tasks.proofs.Names.{names-kept as checks-named}
 use Rattle.mdgfm_tasks.proofs.Unchanged.{off-changes-nothing as checks-off}
@@ -19,9 +24,9 @@ use Rattle.mdgfm_documents.specs.Documents.{gfm_events, with_gfm}
 use Rattle.mdgfm_documents.specs.Laws.{GfmIsBalanced, GfmIsInOrder, GfmIsNamed, OffIsDocument, OrderIsKept}
 
 pub off-is-document : OffIsDocument
-off-is-document options bytes no_tables no_checks no_literals =
-    let events = events_with_tables options bytes in
-    literals-off options bytes (task_events options bytes events) no_literals ∙ checks-off options bytes events no_checks ∙ tables-can-be-off options bytes no_tables
+off-is-document options bytes no_checks no_literals =
+    let events = document_events (document options bytes) in
+    literals-off options bytes (task_events options bytes events) no_literals ∙ checks-off options bytes events no_checks
 
 -- ---- of any events
 
@@ -40,17 +45,21 @@ order-kept options bytes events order = literals-in-order options bytes (task_ev
 
 -- ---- of documents
 
-pub of-document : (options : ParseOptions) (bytes : List ℕ) (read all : List Event) → read ≡ events_with_tables options bytes → all ≡ with_gfm options bytes read → all ≡ gfm_events options bytes
+-- a document's events are well formed
+pub well-formed : (options : ParseOptions) (bytes : List ℕ) → IsDocument (document options bytes) → IsWellFormed (document options bytes) (document_events (document options bytes))
+well-formed options bytes is = let g = document options bytes in events-formed skeleton-laws g is (events-tight skeleton-laws inlines-hold-text g is)
+
+pub of-document : (options : ParseOptions) (bytes : List ℕ) (read all : List Event) → read ≡ document_events (document options bytes) → all ≡ with_gfm options bytes read → all ≡ gfm_events options bytes
 of-document options bytes read all are is = is ∙ ap (with_gfm options bytes) are
 
 pub gfm-is-balanced : GfmIsBalanced
-gfm-is-balanced options bytes is = balance-kept options bytes (events_with_tables options bytes) (events-laid options bytes is).balanced
+gfm-is-balanced options bytes is = balance-kept options bytes (document_events (document options bytes)) (well-formed options bytes is).balanced
 
 pub gfm-is-in-order : GfmIsInOrder
-gfm-is-in-order options bytes is = let h = events-laid options bytes is in order-kept options bytes (events_with_tables options bytes) (h.pairs, h.shown)
+gfm-is-in-order options bytes is = order-kept options bytes (document_events (document options bytes)) (well-formed options bytes is).in_order
 
 pub gfm-is-named : GfmIsNamed
 gfm-is-named test options bytes all h =
-    let events = events_with_tables options bytes in
+    let events = document_events (document options bytes) in
     literals-named test options bytes (task_events options bytes events) all.1.1.1.1.1.1
     (checks-named test options bytes events (all.0, (all.1.0, (all.1.1.0, (all.1.1.1.0, (all.1.1.1.1.0, (all.1.1.1.1.1.0, tt)))))) h)

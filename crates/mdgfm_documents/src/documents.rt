@@ -1,4 +1,4 @@
-//! The events of a document with tables, with checks of task list items and with autolink literals.
+//! The events of a document with checks of task list items and with autolink literals.
 
 ghost use Rattle.std.specs.Prelude.{◌≡◌, IfOk, IsOk, false};
 ghost use Rattle.markdown_base.specs.Events.{IsBalanced, IsInOrder};
@@ -7,8 +7,8 @@ ghost use Rattle.mdgfm_documents.specs.Documents.{gfm_events, with_gfm};
 
 use markdown_base::configuration::ParseOptions;
 use markdown_base::event::Event;
+use mddocument::documents::read_document;
 use mdgfm_literals::events::with_literals;
-use mdgfm_tables::documents::read_with_tables;
 use mdgfm_tasks::events::with_tasks;
 use std::alloc::{AllocError, Global};
 
@@ -28,7 +28,7 @@ pub fn with_gfm(
     with_literals(alloc, bytes, options, tasks)
 }
 
-/// The events of a document: those of `read_document`, with tables, checks of task list items and autolink literals, each if its option is on. They are
+/// The events of a document: those of `read_document`, with checks of task list items and autolink literals, each if its option is on. They are
 /// balanced, and in order of place. It fails only if it runs out of memory.
 pub fn read_gfm_document(
     alloc: Global,
@@ -40,6 +40,6 @@ pub fn read_gfm_document(
     ensures balanced { IfOk result (λ all. IsBalanced all.items) }
     ensures order { IfOk result (λ all. IsInOrder bytes.now all.items) }
 {
-    let events = read_with_tables(alloc, bytes, options)?;
+    let events = read_document(alloc, bytes, options)?;
     with_gfm(alloc, bytes, options, events)
 }

@@ -1,4 +1,4 @@
-//! Laws of documents with tables, checks and literals. Each is a function that does nothing; its contract is the law.
+//! Laws of documents with checks and literals. Each is a function that does nothing; its contract is the law.
 
 ghost use Rattle.mdgfm_documents.specs.Laws.{GfmIsBalanced, GfmIsInOrder, GfmIsNamed, OffIsDocument, OrderIsKept};
 
