@@ -1,4 +1,4 @@
--- The events of a document go ahead, with tables, checks and literals too: in order, at places of the document, and over line endings.
+-- The events of a document go ahead, with checks and literals too: in order, at places of the document, and over line endings.
 use Rattle.std.proofs.Common.{ℕ, ◌≤◌, List, length, Bool, true, false, cond, refl, arith}
 use Rattle.std.specs.List.{AllByRecursion}
 use Rattle.markdown_base.proofs.Common.{every-map}
