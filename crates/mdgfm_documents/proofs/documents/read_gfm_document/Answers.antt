@@ -14,8 +14,8 @@ returns-clause-events c =
 
 pub returns-clause-balanced : goal.returns-clause-balanced
 returns-clause-balanced c =
-    IfOk-weaker c.with_gfm.result _ _ (λ all are. subst IsBalanced (sym are) (balance-kept c.args.options.now c.args.bytes.now _ c.in_ok-events.ensures.balanced)) c.with_gfm.ensures.events
+    IfOk-weaker c.with_gfm.result _ _ (λ all are. subst IsBalanced (sym are) (balance-kept c.args.options.now c.args.bytes.now _ c.in_ok-events.ensures.formed.balanced)) c.with_gfm.ensures.events
 
 pub returns-clause-order : goal.returns-clause-order
 returns-clause-order c =
-    IfOk-weaker c.with_gfm.result _ _ (λ all are. subst (IsInOrder c.args.bytes.now) (sym are) (order-kept c.args.options.now c.args.bytes.now _ c.in_ok-events.ensures.order)) c.with_gfm.ensures.events
+    IfOk-weaker c.with_gfm.result _ _ (λ all are. subst (IsInOrder c.args.bytes.now) (sym are) (order-kept c.args.options.now c.args.bytes.now _ c.in_ok-events.ensures.formed.in_order)) c.with_gfm.ensures.events
