@@ -90,7 +90,7 @@ enum limecove_construct {
      * documents that are edited, there is no such construct. Off unless it is asked for */
     LIMECOVE_GFM_AUTOLINK_LITERAL = 2097152, /* autolink literals */
     LIMECOVE_GFM_TASK_LIST_ITEM = 4194304,   /* checks of task list items */
-    LIMECOVE_GFM_TABLE = 8388608,            /* tables that are in no block quote and no list item */
+    LIMECOVE_GFM_TABLE = 8388608,            /* tables */
     LIMECOVE_HTML_CONSTRUCTS = 16777215      /* all of these and those before */
 };
 

@@ -172,7 +172,7 @@ GFM_STRIKETHROUGH = 1048576
 # these two rewrite the events of a document
 GFM_AUTOLINK_LITERAL = 2097152
 GFM_TASK_LIST_ITEM = 4194304
-# tables that are in no block quote and no list item
+# tables
 GFM_TABLE = 8388608
 
 # Bits of what HTML may let through. If none is set, the HTML is safe, whatever the document is.

@@ -91,7 +91,7 @@ pub const ALL_CONSTRUCTS: u64 = 2097151;
 pub const GFM_AUTOLINK_LITERAL: u64 = 2097152;
 /// The bit of checks of task list items of GFM: in HTML, and in whole documents with their texts.
 pub const GFM_TASK_LIST_ITEM: u64 = 4194304;
-/// The bit of tables of GFM, of those that are in no block quote and no list item: in HTML, and in whole documents with their texts.
+/// The bit of tables of GFM: in HTML, and in whole documents with their texts.
 pub const GFM_TABLE: u64 = 8388608;
 /// The bits of all constructs that HTML has, and whole documents with their texts.
 pub const HTML_CONSTRUCTS: u64 = 16777215;

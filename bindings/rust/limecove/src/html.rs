@@ -64,7 +64,7 @@ impl HtmlOptions {
         self
     }
 
-    /// The same, with or without tables of GFM, of those that are in no block quote and no list item. The default is without.
+    /// The same, with or without tables of GFM. The default is without.
     ///
     /// ```
     /// use limecove::{to_html_with_options, HtmlOptions};

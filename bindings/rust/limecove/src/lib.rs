@@ -390,7 +390,7 @@ impl Options {
         self.extended(limecove_sys::GFM_TASK_LIST_ITEM, is_on)
     }
 
-    /// The same, with or without tables of GFM, of those that are in no block quote and no list item. The default is without. It makes a difference
+    /// The same, with or without tables of GFM. The default is without. It makes a difference
     /// where [`gfm_autolink_literal`](Options::gfm_autolink_literal) does.
     ///
     /// ```

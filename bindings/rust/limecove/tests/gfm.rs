@@ -263,9 +263,9 @@ const TABLES: &[Tables] = &[
     ("|a|\n|-|\n# b\n|c|\n|-|\n", &[&[&["a"]], &[&["c"]]]),
     // definitions alone are no header row
     ("[a]:\n/b\n:-", &[]),
-    // in a container there is none
-    ("> |a|\n> |-|", &[]),
-    ("- |a|\n  |-|", &[]),
+    // it may be in a container, and ends with it
+    ("> |a|\n> |-|\n|b|", &[&[&["a"]]]),
+    ("- |a|\n  |-|\n  |b|", &[&[&["a"], &["b"]]]),
     // behind a container there is one
     ("- b\n\n|a|\n|-|", &[&[&["a"]]]),
 ];
