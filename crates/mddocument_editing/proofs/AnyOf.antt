@@ -1,5 +1,5 @@
 -- What is among events none of which passes a test.
-use Rattle.mddocument_editing.proofs.Prelude.{◌≡◌, ℕ, ◌||◌, Bool, true, false, List, [], ◌∷◌, refl, Event, list_any}
+use Rattle.mddocument_editing.proofs.Prelude.{◌≡◌, ℕ, ◌||◌, Bool, true, false, List, [], ◌∷◌, ◌∙◌, refl, append-nil, Event, list_any}
 use Rattle.markdown_base.specs.declared.event.Name.TheVariants as name
 use Rattle.mddocument_link_targets.specs.Spans.{enters}
 use Rattle.mddocument_link_targets.specs.Targets.{enters_link}
@@ -20,4 +20,4 @@ pub none-labelled : (bytes : List ℕ) (es : List Event) → list_any enters_lin
 none-labelled bytes [] none = refl
 none-labelled bytes (e ∷ es) none =
     let p = neither (enters_link e) (list_any enters_link es) none in
-    rw p.0 (none-labelled bytes es p.1)
+    rw p.0 (append-nil (link_labels bytes es) ∙ none-labelled bytes es p.1)

@@ -26,6 +26,7 @@ pub mod Unique
 pub mod Trims
 -- targets
 pub mod AnyOf
+pub mod ExitSteps
 pub mod FirstSaid
 pub mod SaidFirst
 pub mod SaidSides

@@ -1,5 +1,5 @@
 -- What links among events lead to, by their labels; and definitions, one by one.
-use Rattle.mddocument_editing.proofs.Prelude.{◌≡◌, ℕ, ◌+◌, ◌<◌, Bool, true, false, cond, List, [], ◌∷◌, ◌++◌, length, drop, Option, Some, None, refl, sym, ap, ◌∙◌, subst, drop-drop, drop_more, is_some, option_map, Event, HasLinking, Section}
+use Rattle.mddocument_editing.proofs.Prelude.{◌≡◌, ℕ, ◌+◌, ◌<◌, Bool, true, false, cond, List, [], ◌∷◌, ◌++◌, length, drop, Option, Some, None, refl, sym, ap, ◌∙◌, subst, drop_more, every-append, every-back, every-front, option_map, Event, HasLinking, Section}
 use Rattle.std.specs.Prelude.{◌↔◌, option_to_list}
 use Rattle.markdown_base.proofs.SliceLemmas.{filler}
 use Rattle.markdown_base.specs.declared.event.Name.TheVariants as name
@@ -7,38 +7,46 @@ use Rattle.mddocument_link_targets.specs.declared.targets.Parts.{Parts}
 use Rattle.mddocument_link_targets.specs.declared.targets.Target.{Target}
 use Rattle.mddocument_link_targets.specs.declared.targets.Target.TheVariants as target
 use Rattle.mddocument_link_targets.specs.Spans.{behind_first, enters, inside}
-use Rattle.mddocument_link_targets.specs.Targets.{defined_label, definition_parts, enters_link, label_at, parts_of, target_in, target_of}
+use Rattle.mddocument_link_targets.specs.Targets.{defined_label, definition_parts, enters_link, label_at, label_by, parts_of, target_in}
 use Rattle.mddocument_editing.specs.Leading.{resolved, targets_in}
-use Rattle.mddocument_editing.specs.Said.{LeadAsBefore, label_of, link_labels, said_at, saids}
+use Rattle.mddocument_editing.specs.Said.{LeadAsBefore, link_label, link_labels, said_at, saids}
 use Rattle.mddocument_editing.specs.declared.said.Said.{Said}
 
 -- ---- links
 
 module _ (old new : List ℕ → Option Parts) (bytes : List ℕ) where
-  one-stays : (b : Bool) (t : Target) (labels : List (List ℕ)) (xs ys : List (Option Parts)) → (LeadAsBefore old new labels → xs ≡ ys) → LeadAsBefore old new (cond b (option_to_list (label_of (Some t))) [] ++ labels)
+  one-stays : (b : Bool) (t : Target) (xs ys : List (Option Parts)) → xs ≡ ys → LeadAsBefore old new (option_to_list (cond b (label_by t) None))
       → cond b (resolved new t ∷ []) [] ++ xs ≡ cond b (resolved old t ∷ []) [] ++ ys
-  one-stays true (target.Parts parts) labels xs ys more all = ap (λ zs. Some parts ∷ zs) (more all)
-  one-stays true (target.Label label) labels xs ys more all = let here = all.0 in let rest = more all.1 in λ i. here i ∷ rest i
-  one-stays false t labels xs ys more all = more all
+  one-stays true (target.Parts parts) xs ys more all = ap (λ zs. Some parts ∷ zs) more
+  one-stays true (target.Label label) xs ys more all = let here = all.0 in λ i. here i ∷ more i
+  one-stays false t xs ys more all = more
 
   abbrev first-or : Option Parts → List (Option Parts) → Option Parts
   first-or d [] = d
   first-or d (x ∷ xs) = x
 
-  one-stayed : (b : Bool) (t : Target) (labels : List (List ℕ)) (xs ys : List (Option Parts)) → (xs ≡ ys → LeadAsBefore old new labels) → cond b (resolved new t ∷ []) [] ++ xs ≡ cond b (resolved old t ∷ []) [] ++ ys
-      → LeadAsBefore old new (cond b (option_to_list (label_of (Some t))) [] ++ labels)
-  one-stayed true (target.Parts parts) labels xs ys more same = more (ap (drop 1) same)
-  one-stayed true (target.Label label) labels xs ys more same = (ap (first-or (new label)) same, more (ap (drop 1) same))
-  one-stayed false t labels xs ys more same = more same
+  one-stayed : (b : Bool) (t : Target) (xs ys : List (Option Parts)) → cond b (resolved new t ∷ []) [] ++ xs ≡ cond b (resolved old t ∷ []) [] ++ ys
+      → (xs ≡ ys) × LeadAsBefore old new (option_to_list (cond b (label_by t) None))
+  one-stayed true (target.Parts parts) xs ys same = (ap (drop 1) same, tt)
+  one-stayed true (target.Label label) xs ys same = (ap (drop 1) same, (ap (first-or (new label)) same, tt))
+  one-stayed false t xs ys same = (same, tt)
+
+  abbrev Leads : List ℕ → Type 0
+  Leads label = new label ≡ old label
 
   -- links lead where they led if the labels do by which they are
   links-stay : (es : List Event) → LeadAsBefore old new (link_labels bytes es) → targets_in new bytes es ≡ targets_in old bytes es
   links-stay [] all = refl
-  links-stay (e ∷ es) all = one-stays (enters_link e) (target_in bytes (inside es)) (link_labels bytes es) (targets_in new bytes es) (targets_in old bytes es) (links-stay es) all
+  links-stay (e ∷ es) all =
+      let one = option_to_list (link_label bytes (e ∷ es)) in
+      one-stays (enters_link e) (target_in bytes (inside es)) (targets_in new bytes es) (targets_in old bytes es)
+      (links-stay es (every-front Leads (link_labels bytes es) one all)) (every-back Leads (link_labels bytes es) one all)
 
   links-stayed : (es : List Event) → targets_in new bytes es ≡ targets_in old bytes es → LeadAsBefore old new (link_labels bytes es)
   links-stayed [] same = tt
-  links-stayed (e ∷ es) same = one-stayed (enters_link e) (target_in bytes (inside es)) (link_labels bytes es) (targets_in new bytes es) (targets_in old bytes es) (links-stayed es) same
+  links-stayed (e ∷ es) same =
+      let each = one-stayed (enters_link e) (target_in bytes (inside es)) (targets_in new bytes es) (targets_in old bytes es) same in
+      every-append Leads (link_labels bytes es) (option_to_list (link_label bytes (e ∷ es))) (links-stayed es each.0) each.1
 
 -- so do those of a section, by the labels that it keeps
 pub stays-iff : (old new : List ℕ → Option Parts) (s : Section) → HasLinking s → LeadAsBefore old new s.linking.labels ↔ (targets_in new s.part.bytes.items s.events ≡ targets_in old s.part.bytes.items s.events)
@@ -47,25 +55,6 @@ stays-iff old new s knows =
       (λ all. links-stay old new s.part.bytes.items s.events (subst (LeadAsBefore old new) labels all)),
       (λ same. subst (LeadAsBefore old new) (sym labels) (links-stayed old new s.part.bytes.items s.events same)),
     )
-
-module _ (bytes : List ℕ) where
-  -- the label of the link that is entered at an index
-  label-first : (ds : List Event) → option_to_list (label_of (option_map (target_in bytes) (elim (behind_first enters_link ds) [ None ↦ None | Some fs ↦ Some (inside fs) ]))) ++ link_labels bytes (drop 1 ds) ≡ link_labels bytes ds
-  label-first [] = refl
-  label-first (e ∷ es) = by (enters_link e)
-    where
-      by : (b : Bool) → option_to_list (label_of (option_map (target_in bytes) (elim (cond b (Some es) None) [ None ↦ None | Some fs ↦ Some (inside fs) ]))) ++ link_labels bytes es
-          ≡ cond b (option_to_list (label_of (Some (target_in bytes (inside es))))) [] ++ link_labels bytes es
-      by true = refl
-      by false = refl
-
-  pub labels-more : (events : List Event) (at : ℕ) → option_to_list (label_of (target_of bytes events at)) ++ link_labels bytes (drop (at + 1) events) ≡ link_labels bytes (drop at events)
-  labels-more events at = ap (λ ds. option_to_list (label_of (target_of bytes events at)) ++ link_labels bytes ds) (sym (drop-drop 1 at events)) ∙ label-first (drop at events)
-
-  -- there is none where no link is entered
-  pub unlinked : (link : Option (List Event)) → is_some link ≡ false → None ≡ label_of (option_map (target_in bytes) link)
-  unlinked None none = refl
-  unlinked (Some es) none = absurd (cc none)
 
 -- ---- definitions
 

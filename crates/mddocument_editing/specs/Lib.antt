@@ -3,6 +3,7 @@ pub mod Divided
 pub mod Edits
 pub mod Fits
 -- targets
+pub mod Exits
 pub mod Leading
 pub mod Said
 -- cuts

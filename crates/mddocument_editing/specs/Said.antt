@@ -5,19 +5,11 @@ use Rattle.std.specs.Map.{lookup}
 use Rattle.markdown_base.specs.declared.event.Event.{Event}
 use Rattle.markdown_base.specs.declared.event.Name.TheVariants as name
 use Rattle.mddocument_link_targets.specs.declared.targets.Parts.{Parts}
-use Rattle.mddocument_link_targets.specs.declared.targets.Target.{Target}
-use Rattle.mddocument_link_targets.specs.declared.targets.Target.TheVariants as target
 use Rattle.mddocument_link_targets.specs.Spans.{enters, inside}
-use Rattle.mddocument_link_targets.specs.Targets.{defined_label, definition_parts, enters_link, target_in}
+use Rattle.mddocument_link_targets.specs.Targets.{defined_label, definition_parts, enters_link, label_by, target_in}
 use Rattle.mddocument_editing.specs.declared.leads.Leads.{Leads}
 use Rattle.mddocument_editing.specs.declared.linking.Linking.{Linking}
 use Rattle.mddocument_editing.specs.declared.said.Said.{Said}
-
--- the label by which a link is, if it is by one
-abbrev pub label_of : Option Target → Option (List ℕ)
-label_of None = None
-label_of (Some (target.Parts parts)) = None
-label_of (Some (target.Label label)) = Some label
 
 module _ (bytes : List ℕ) where
   -- the definition that the first of events enters, if it enters one
@@ -30,10 +22,15 @@ module _ (bytes : List ℕ) where
   saids [] = []
   saids (e ∷ es) = option_to_list (said_at (e ∷ es)) ++ saids es
 
-  -- the labels by which links and images among events are, in order
+  -- the label that the link or the image goes by that the first of events enters, if it enters one without a resource
+  abbrev pub link_label : List Event → Option (List ℕ)
+  link_label [] = None
+  link_label (e ∷ es) = cond (enters_link e) (label_by (target_in bytes (inside es))) None
+
+  -- the labels that links and images among events go by, from the last one to the first
   abbrev pub link_labels : List Event → List (List ℕ)
   link_labels [] = []
-  link_labels (e ∷ es) = cond (enters_link e) (option_to_list (label_of (Some (target_in bytes (inside es))))) [] ++ link_labels es
+  link_labels (e ∷ es) = link_labels es ++ option_to_list (link_label (e ∷ es))
 
   -- what links go by that are among events
   abbrev pub linking : List Event → Linking

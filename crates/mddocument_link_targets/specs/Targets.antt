@@ -13,6 +13,11 @@ use Rattle.mddocument_link_targets.specs.declared.targets.Target.TheVariants as 
 use Rattle.mddocument_link_targets.specs.Spans.{behind, enters, first_in, inside, inside_at}
 use Rattle.mddocument_link_targets.specs.Strings.{as_written, decoded}
 
+-- the label that a link or an image goes by, if it has no resource
+abbrev pub label_by : Target → Option (List ℕ)
+label_by (target.Parts parts) = None
+label_by (target.Label label) = Some label
+
 -- an event enters a link or an image
 abbrev pub enters_link : Event → Bool
 enters_link e = enters name.Link e || enters name.Image e

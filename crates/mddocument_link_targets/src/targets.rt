@@ -7,7 +7,7 @@ ghost use Rattle.markdown_base.specs.declared.event.Name.TheVariants as name;
 ghost use Rattle.mddocument_link_targets.specs.Costs.{size_of};
 ghost use Rattle.mddocument_link_targets.specs.Spans.{enters, first_in, inside_at};
 ghost use Rattle.mddocument_link_targets.specs.Strings.{decoded};
-ghost use Rattle.mddocument_link_targets.specs.Targets.{decoded_at, defined_label, enters_link, label_at, label_of, parts_in, parts_of, string_in, target_behind, target_in, target_of, written};
+ghost use Rattle.mddocument_link_targets.specs.Targets.{decoded_at, defined_label, enters_link, label_at, label_by, label_of, parts_in, parts_of, string_in, target_behind, target_in, target_of, written};
 
 use crate::spans::{enters, first_in, inside, split};
 use crate::strings::{Reading, text_of};
@@ -218,6 +218,56 @@ pub fn target_inside(alloc: Global, bytes: &[u8], link: &[Event]) -> Result<Targ
     ensures { IfOk result (λ target. target ≡ target_in bytes.now link.now) }
 {
     target_inside_uncounted::<Brand>(alloc, bytes, link, Blank::new(1))
+}
+
+/// The label that a link or an image goes by, if it has no resource, by the events in its own label and those behind it.
+fn label_by<L: Ledger>(
+    alloc: Global,
+    bytes: &[u8],
+    own: &[Event],
+    tail: &[Event],
+    turns: &mut Turns<L>,
+) -> Result<Option<Items<u8>>, AllocError>
+    ensures label { IfOk result (λ label. label ≡ label_by (target_behind bytes.now own.now tail.now)) }
+    ensures turns { turns.new ≤ turns.old + 3 * (length own.now + length tail.now) + 3 }
+{
+    match first_in(tail, Name::Resource, turns) {
+        None => {
+            let label = label_of(alloc, bytes, own, tail, turns)?;
+            Ok(Some(label))
+        }
+        Some(_) => Ok(None),
+    }
+}
+
+/// The label that a link or an image goes by, if it has no resource, by the events in its own label and those behind it, counted from nothing.
+fn label_behind_uncounted<L: Ledger>(
+    alloc: Global,
+    bytes: &[u8],
+    own: &[Event],
+    tail: &[Event],
+    blank: Blank,
+) -> Result<Option<Items<u8>>, AllocError>
+    requires name { blank.name ≡ L.name }
+    requires parts { blank.parts ≡ L.parts }
+    requires some { 0 < blank.parts }
+    ensures { IfOk result (λ label. label ≡ label_by (target_behind bytes.now own.now tail.now)) }
+{
+    let mut turns = Turns::<L>::new(blank);
+    label_by(alloc, bytes, own, tail, &mut turns)
+}
+
+/// The label that a link or an image goes by, normalised, by the events in its own label and those behind it. None if it has a resource. Fails only if it
+/// runs out of memory. It looks at each event behind its label three times at most, and at each in its label twice, if it is looked up by that, else not.
+pub fn label_behind(
+    alloc: Global,
+    bytes: &[u8],
+    own: &[Event],
+    tail: &[Event],
+) -> Result<Option<Items<u8>>, AllocError>
+    ensures { IfOk result (λ label. label ≡ label_by (target_behind bytes.now own.now tail.now)) }
+{
+    label_behind_uncounted::<Brand>(alloc, bytes, own, tail, Blank::new(1))
 }
 
 /// The events in the link or image that is entered at an index, if one is.
