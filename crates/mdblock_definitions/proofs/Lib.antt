@@ -36,6 +36,7 @@ pub mod SectionTight
 pub mod SectionTurns
 pub mod Sectioned
 pub mod SectionsReady
+pub mod TableCutting
 pub mod TableLines
 pub mod TableScans
 pub mod TableSeats

@@ -2,23 +2,24 @@
 use Rattle.std.proofs.Common.{◌≡◌, ℕ, zero, suc, ◌+◌, Bool, true, false, cond, List, [], ◌∷◌, ◌++◌, length, drop, take, map, refl, sym, ap, subst, ◌∙◌, arith, append-nil}
 use Rattle.std.specs.Prelude.{◌&&◌, ◌||◌}
 use Rattle.std.specs.List.{flat_map, prefix_len, AllByRecursion}
-use Rattle.std.proofs.lemmas.Bool.{false≢true}
+use Rattle.std.proofs.lemmas.Bool.{or_right}
 use Rattle.markdown_base.specs.declared.configuration.Constructs.{Constructs}
 use Rattle.markdown_base.proofs.Common.{and-right, every-append}
 use Rattle.mdblock_leaf_blocks.specs.LeafBlocks.{Line}
 use Rattle.mdblock_containers.specs.Rows.{Row, is_paragraph, is_table}
 use Rattle.mdblock_containers.specs.Skeleton.{Part, further, parts}
 use Rattle.mdblock_table_marks.proofs.TableCuts.{before-all, one-piece}
-use Rattle.mdblock_table_marks.specs.TableCuts.{before_table, begins_in_table, cut_at_tables, table_lines}
+use Rattle.mdblock_table_marks.specs.TableCuts.{before_table, cut_at_tables}
 use Rattle.mdinline_labels.specs.Definitions.{definitions}
 use Rattle.mdblock_definitions.specs.Rows.{rows}
 use Rattle.mdblock_definitions.specs.Sectioned.{AreSectionsOf, AreSound, TextIsFilled, TextsAreFilled, IsSound, IsFilled}
-use Rattle.mdblock_definitions.specs.Sections.{Section, before_defined, cut, defined_in, defining, in_same, lines, lines_defined, paragraph_of, sections, sections_in, text_in, undefined, is_in_table, sections_of_cut, tabled}
+use Rattle.mdblock_definitions.specs.Sections.{Section, before_defined, cut, defined_in, defining, in_same, lines, lines_defined, paragraph_of, sections, sections_in, text_in, undefined, is_in_table, sections_of_cut}
 use Rattle.mdblock_definitions.specs.Skeleton.{all_rows}
 use Rattle.mdblock_definitions.proofs.Covered.{cut-lines, lines-of-parts, cuts-lines}
 use Rattle.mdblock_definitions.proofs.DefinedText.{paragraph-defined}
 use Rattle.mdblock_definitions.proofs.FilledTexts.{texts-back, texts-drop, texts-front, texts-take}
 use Rattle.mdblock_definitions.proofs.PartTexts.{all-texts}
+use Rattle.mdblock_definitions.proofs.TableCutting.{cuts-are}
 use Rattle.mdblock_definitions.proofs.Within.{sections-within, cuts-within}
 
 plain-sound : (around : Part) (ps : List Part) → AreSound (map (λ p. record { part = p; inside = lines false }) (map (in_same around) ps))
@@ -78,55 +79,21 @@ module _ (on : Constructs) where
 
   -- ---- tables
 
-  -- behind the lines before the first table comes its header row, and then a line of it
-  pub begins-behind : (all rows : List Row) (header : Row) → drop (before_table is_in_table all) all ≡ header ∷ rows → begins_in_table is_in_table rows ≡ true
-  begins-behind [] rows header e = absurd (cc)
-  begins-behind (r ∷ rs) rows header e = by (begins-behind rs rows header) (begins_in_table is_in_table rs) refl e
-    where
-      by : (drop (before_table is_in_table rs) rs ≡ header ∷ rows → begins_in_table is_in_table rows ≡ true)
-          → (x : Bool) → begins_in_table is_in_table rs ≡ x → drop (cond x 0 (suc (before_table is_in_table rs))) (r ∷ rs) ≡ header ∷ rows → begins_in_table is_in_table rows ≡ true
-      by more true ex k = ap (begins_in_table is_in_table) (sym (ap (drop 1) k)) ∙ ex
-      by more false ex k = more k
-
   -- lines in a table have text
   rows-filled : (rs : List Row) → TextsAreFilled rs → AllByRecursion IsFilled (take (prefix_len is_in_table rs) rs)
   rows-filled [] h = tt
   rows-filled (r ∷ rs) h = by (rows-filled rs h.1.1) (is_in_table r) refl
     where
-      either : (a b : Bool) → b ≡ true → (a || b) ≡ true
-      either true b e = refl
-      either false b e = e
-
       by : AllByRecursion IsFilled (take (prefix_len is_in_table rs) rs) → (x : Bool) → is_in_table r ≡ x → AllByRecursion IsFilled (take (cond x (1 + prefix_len is_in_table rs) 0) (r ∷ rs))
       by more true e =
           let one : suc (prefix_len is_in_table rs) ≡ 1 + prefix_len is_in_table rs = omega arith in
-          subst (λ (n : ℕ). AllByRecursion IsFilled (take n (r ∷ rs))) one ((h.0 (either (is_paragraph r.leaf) (is_table r.leaf) e)).1, more)
+          subst (λ (n : ℕ). AllByRecursion IsFilled (take n (r ∷ rs))) one ((h.0 (or_right (is_paragraph r.leaf) (is_table r.leaf) e)).1, more)
       by more false e = tt
 
-  table-sound : (around : Part) (behind : List Row) → TextsAreFilled behind → ((rows : List Row) (header : Row) → behind ≡ header ∷ rows → begins_in_table is_in_table rows ≡ true)
-      → AreSound (tabled around (take (table_lines is_in_table behind) behind))
-  table-sound around [] h begins = tt
-  table-sound around (header ∷ []) h begins = absurd (false≢true (begins [] header refl))
-  table-sound around (header ∷ r ∷ rs) h begins =
-      let is : is_in_table r ≡ true = begins (r ∷ rs) header refl in
-      let one : 1 + prefix_len is_in_table rs ≡ suc (prefix_len is_in_table rs) = omega arith in
-      let many : prefix_len is_in_table (r ∷ rs) ≡ suc (prefix_len is_in_table rs) = ap (λ b. cond b (1 + prefix_len is_in_table rs) 0) is ∙ one in
-      subst (λ (n : ℕ). AreSound (tabled around (take (suc n) (header ∷ r ∷ rs)))) (sym many) (((h.0 (h.1.0 is)).0, rows-filled rs h.1.1.1.1), tt)
-
   cuts-sound : (b : ℕ) (around : Part) (rs : List Row) → TextsAreFilled rs → AreSound (flat_map (sections_of_cut on around) (cut_at_tables is_in_table b rs))
-  cuts-sound zero around rs h = tt
-  cuts-sound (suc b) around [] h = tt
-  cuts-sound (suc b) around (r ∷ rs) h =
-      let all : List Row = r ∷ rs in
-      let n = before_table is_in_table all in
-      let behind = drop n all in
-      let m = table_lines is_in_table behind in
-      let front = sections_in on (length (take n all)) false around (take n all) in
-      let middle = tabled around (take m behind) in
-      let back = flat_map (sections_of_cut on around) (cut_at_tables is_in_table b (drop m behind)) in
-      let left = texts-drop n all h in
-      every-append (λ (s : Section). IsSound s.part s.inside) front (middle ++ back) (sections-sound (length (take n all)) false around (take n all) (texts-take n all h))
-      (every-append (λ (s : Section). IsSound s.part s.inside) middle back (table-sound around behind left (λ rows header. begins-behind all rows header)) (cuts-sound b around (drop m behind) (texts-drop m behind left)))
+  cuts-sound b around rs h =
+      cuts-are on around (λ (s : Section). IsSound s.part s.inside) TextsAreFilled TextsAreFilled (λ n rows k. (sections-sound (length (take n rows)) false around (take n rows) (texts-take n rows k), texts-drop n rows k))
+      (λ header row rows k is. (((k.0 (k.1.0 is)).0, rows-filled rows k.1.1.1.1), texts-drop (prefix_len is_in_table rows) rows k.1.1.1.1)) b rs h
 
   -- the sections of a part that is no blank line
   pub cut-sections : (p : Part) → TextsAreFilled (all_rows p) → AreSectionsOf p (flat_map (sections_of_cut on p) (cut_at_tables is_in_table (suc (length p.more)) (all_rows p)))

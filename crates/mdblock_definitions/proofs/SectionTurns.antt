@@ -21,10 +21,10 @@ use Rattle.mdblock_containers.proofs.SeatFacts.{LineIs}
 use Rattle.mdblock_containers.specs.Prefixes.{containers_of}
 use Rattle.mdblock_containers.specs.Rows.{Row, has_none, is_paragraph, rest_of, holds_ending}
 use Rattle.mdblock_containers.specs.Skeleton.{Frame, Part, frames_at, further, parts, parts_in, shared, standing, last_of}
-use Rattle.mdblock_table_marks.specs.TableCuts.{before_table, begins_in_table, cut_at_tables, table_lines}
+use Rattle.mdblock_table_marks.specs.TableCuts.{cut_at_tables}
 use Rattle.mdinline_labels.specs.declared.definitions.Definition.{Definition}
 use Rattle.mdinline_labels.specs.Definitions.{definitions}
-use Rattle.mdblock_definitions.specs.Sections.{Inside, Section, before_defined, begins_text, cut, defined, defined_in, defining, in_same, lines, lines_defined, paragraph_of, sections, sections_in, sections_of, text_in, undefined, is_in_table, sections_of_cut, table, tabled}
+use Rattle.mdblock_definitions.specs.Sections.{Inside, Section, before_defined, begins_text, cut, defined, defined_in, defining, in_same, lines, lines_defined, paragraph_of, sections, sections_in, sections_of, text_in, undefined, is_in_table, sections_of_cut, table}
 use Rattle.mdblock_definitions.specs.Rows.{Known, known_after, row_of, rows, rows_from}
 use Rattle.mdblock_definitions.specs.Sectioned.{TextsAreFilled}
 use Rattle.mdblock_definitions.specs.Skeleton.{all_rows}
@@ -35,7 +35,7 @@ use Rattle.mdblock_definitions.proofs.KnownReads.{known-reads, nothing}
 use Rattle.mdblock_definitions.proofs.FilledTexts.{texts-back, texts-drop, texts-front}
 use Rattle.mdblock_definitions.proofs.PartTexts.{all-texts}
 use Rattle.mdblock_definitions.proofs.PlainLetters.{open-not-blank}
-use Rattle.mdblock_definitions.proofs.SectionSound.{begins-behind}
+use Rattle.mdblock_definitions.proofs.TableCutting.{TableIs, cuts-are}
 use Rattle.mdblock_definitions.proofs.TableSeats.{last-no-ending}
 use Rattle.mdblock_definitions.proofs.Within.{shared-all}
 
@@ -190,37 +190,31 @@ module _ (bytes : List ℕ) where
         every-append IsInside front (middle ++ back) (undefined-inside x (take n all) (every-take IsIn n all h) (only-front n all only))
         (every-append IsInside middle back (found-inside behind left only-left) (all-inside b true (drop d behind) (every-drop IsIn d behind left) (only-behind d behind only-left)))
 
-    -- lines of a table
-    table-inside : (behind : List Row) → AllByRecursion IsIn behind → OnlyFirst behind → TextsAreFilled behind → ((rows : List Row) (header : Row) → behind ≡ header ∷ rows → begins_in_table is_in_table rows ≡ true)
-        → AllByRecursion IsInside (tabled around (take (table_lines is_in_table behind) behind))
-    table-inside [] h only texts begins = tt
-    table-inside (header ∷ []) h only texts begins = absurd (false≢true (begins [] header refl))
-    table-inside (header ∷ q ∷ qs) h only texts begins =
-        let is : is_in_table q ≡ true = begins (q ∷ qs) header refl in
-        let k = prefix_len is_in_table qs in
-        let one : 1 + k ≡ suc k = omega arith in
-        let many : prefix_len is_in_table (q ∷ qs) ≡ suc k = ap (λ b. cond b (1 + k) 0) is ∙ one in
-        let filled = (texts.0 (texts.1.0 is)).0 in
-        subst (λ (n : ℕ). AllByRecursion IsInside (tabled around (take (suc n) (header ∷ q ∷ qs)))) (sym many)
-        (record { frames = refl; is = record { narrow = λ e. h.0.1; none_begin = every-take (λ (x : Row). has_none x.begun ≡ true) (suc k) (q ∷ qs) only; alone = λ e. absurd (false≢true (sym filled ∙ e)); inside = (filled, last-no-ending q qs is) } }, tt)
+    -- ---- lines cut at tables
+    record Fit (rs : List Row) : Type 0 where
+      each : AllByRecursion IsIn rs
+      only : OnlyFirst rs
+      texts : TextsAreFilled rs
+
+    fit-drop : (n : ℕ) (rs : List Row) → Fit rs → Fit (drop n rs)
+    fit-drop n rs h = record { each = every-drop IsIn n rs h.each; only = only-behind n rs h.only; texts = texts-drop n rs h.texts }
+
+    plain-inside : (n : ℕ) (rs : List Row) → Fit rs → AllByRecursion IsInside (sections_in on (length (take n rs)) false around (take n rs)) × Fit (drop n rs)
+    plain-inside n rs h = (all-inside (length (take n rs)) false (take n rs) (every-take IsIn n rs h.each) (only-front n rs h.only), fit-drop n rs h)
+
+    table-inside : TableIs on around IsInside Fit Fit
+    table-inside header q qs h is =
+        let n = prefix_len is_in_table qs in
+        let filled = (h.texts.0 (h.texts.1.0 is)).0 in (
+          record {
+            frames = refl;
+            is = record { narrow = λ e. h.each.0.1; none_begin = every-take (λ (x : Row). has_none x.begun ≡ true) (suc n) (q ∷ qs) h.only; alone = λ e. absurd (false≢true (sym filled ∙ e)); inside = (filled, last-no-ending q qs is) };
+          },
+          fit-drop (suc (suc n)) (header ∷ q ∷ qs) h,
+        )
 
     cuts-inside : (b : ℕ) (rs : List Row) → AllByRecursion IsIn rs → OnlyFirst rs → TextsAreFilled rs → AllByRecursion IsInside (flat_map (sections_of_cut on around) (cut_at_tables is_in_table b rs))
-    cuts-inside zero rs h only texts = tt
-    cuts-inside (suc b) [] h only texts = tt
-    cuts-inside (suc b) (r ∷ rs) h only texts =
-        let all : List Row = r ∷ rs in
-        let n = before_table is_in_table all in
-        let behind = drop n all in
-        let m = table_lines is_in_table behind in
-        let front = sections_in on (length (take n all)) false around (take n all) in
-        let middle = tabled around (take m behind) in
-        let back = flat_map (sections_of_cut on around) (cut_at_tables is_in_table b (drop m behind)) in
-        let left = every-drop IsIn n all h in
-        let only-left = only-behind n all only in
-        let texts-left = texts-drop n all texts in
-        every-append IsInside front (middle ++ back) (all-inside (length (take n all)) false (take n all) (every-take IsIn n all h) (only-front n all only))
-        (every-append IsInside middle back (table-inside behind left only-left texts-left (λ rows header. begins-behind on all rows header))
-        (cuts-inside b (drop m behind) (every-drop IsIn m behind left) (only-behind m behind only-left) (texts-drop m behind texts-left)))
+    cuts-inside b rs h only texts = cuts-are on around IsInside Fit Fit plain-inside table-inside b rs (record { each = h; only = only; texts = texts })
 
     -- ---- spans from one section to the next
 

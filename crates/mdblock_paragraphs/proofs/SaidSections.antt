@@ -11,14 +11,14 @@ use Rattle.mdblock_leaf_blocks.specs.LeafBlocks.{Line}
 use Rattle.mdblock_containers.proofs.RowSpans.{head_same}
 use Rattle.mdblock_containers.specs.Rows.{Row, has_none, is_paragraph, nothing_known, Leaf, closed, is_table, open_fence, open_html, open_paragraph, open_table}
 use Rattle.mdblock_containers.specs.Skeleton.{Part, further, parts, parts_in}
-use Rattle.mdblock_table_marks.specs.TableCuts.{before_table, begins_in_table, cut_at_tables, table_lines}
+use Rattle.mdblock_table_marks.specs.TableCuts.{cut_at_tables}
 use Rattle.mdinline_labels.specs.declared.definitions.Definition.{Definition}
 use Rattle.mdinline_labels.specs.Definitions.{definitions}
 use Rattle.mdblock_definitions.specs.Rows.{rows}
-use Rattle.mdblock_definitions.specs.Sections.{Section, before_defined, begins_text, cut, defined, defined_in, defining, in_same, lines, paragraph_of, sections, sections_in, sections_of, text_in, undefined, table, is_in_table, sections_of_cut, tabled}
+use Rattle.mdblock_definitions.specs.Sections.{Section, before_defined, begins_text, cut, defined, defined_in, defining, in_same, lines, paragraph_of, sections, sections_in, sections_of, text_in, undefined, table, is_in_table, sections_of_cut}
 use Rattle.mdblock_definitions.specs.Skeleton.{all_rows}
 use Rattle.mdblock_definitions.proofs.CutAlike.{undefined-is}
-use Rattle.mdblock_definitions.proofs.SectionSound.{begins-behind}
+use Rattle.mdblock_definitions.proofs.TableCutting.{TableIs, cuts-are}
 use Rattle.mdblock_paragraphs.proofs.SaidRows.{AreSaid, Mode, Ready, StaysOn, goes_on, mode_behind, none_open, not_said, ready-apart, ready-unsaid, said-before}
 use Rattle.mdblock_paragraphs.proofs.ToldRows.{AreTold, HasTold, IsKept, rows-told, text_behind, told-drop, told-kept, told-take}
 
@@ -216,43 +216,29 @@ module _ (on : Constructs) where
       by more true ex = let one : suc (prefix_len is_in_table xs) ≡ 1 + prefix_len is_in_table xs = omega arith in subst (λ (n : ℕ). ToldShut (drop n (x ∷ xs))) one (more ex)
       by more false ex = record { so_far = text_behind on is_open so_far q; told = subst (λ (o : Bool). AreTold on o (text_behind on is_open so_far q) (x ∷ xs)) (table-shut q.leaf e) told.1 }
 
-  -- what comes behind the first table of these lines, which begin with its header row
-  table-behind : (behind : List Row) → HasTold on behind → ((rows : List Row) (header : Row) → behind ≡ header ∷ rows → begins_in_table is_in_table rows ≡ true) → ToldShut (drop (table_lines is_in_table behind) behind)
-  table-behind [] h begins = record { so_far = []; told = tt }
-  table-behind (header ∷ []) h begins = absurd (false≢true (begins [] header refl))
-  table-behind (header ∷ q ∷ qs) h begins =
-      let is : is_in_table q ≡ true = begins (q ∷ qs) header refl in
-      let k = prefix_len is_in_table qs in
-      let one : 1 + k ≡ suc k = omega arith in
-      let many : prefix_len is_in_table (q ∷ qs) ≡ suc k = ap (λ b. cond b (1 + k) 0) is ∙ one in
-      subst (λ (n : ℕ). ToldShut (drop n (q ∷ qs))) (sym many) (told-behind (is_paragraph header.leaf) (text_behind on h.is_open h.so_far header) q qs is h.told.1)
+  record Ready (rs : List Row) : Type 0 where
+    has : HasApart rs
+    stay : AllByRecursion StaysOn (drop 1 rs)
 
-  tabled-said : (around : Part) (rs : List Row) → AllByRecursion SectionSaid (tabled around rs)
-  tabled-said around [] = tt
-  tabled-said around (r ∷ rs) = (tt, tt)
+  record Headed (rs : List Row) : Type 0 where
+    has : HasTold on rs
+    stay : AllByRecursion StaysOn (drop 1 rs)
 
-  front-said : (around : Part) (n : ℕ) (is_open : Bool) (so_far : List ℕ) (r : Row) (rs : List Row) → AreTold on is_open so_far (r ∷ rs) → Apart is_open (r ∷ rs) → AllByRecursion StaysOn rs
-      → AllByRecursion SectionSaid (sections_in on (length (take n (r ∷ rs))) false around (take n (r ∷ rs)))
-  front-said around zero is_open so_far r rs told apart stay = tt
-  front-said around (suc n) is_open so_far r rs told apart stay =
-      sections-said (suc (length (take n rs))) false around is_open so_far (r ∷ take n rs) (told-take on is_open so_far (suc n) (r ∷ rs) told) (ready-apart on is_open so_far r (take n rs) apart) (every-take StaysOn n rs stay)
+  plain-said : (around : Part) (n : ℕ) (rs : List Row) → Ready rs → AllByRecursion SectionSaid (sections_in on (length (take n rs)) false around (take n rs)) × Headed (drop n rs)
+  plain-said around n rs h = (by n rs h, record { has = told-drop on n rs (record { is_open = h.has.is_open; so_far = h.has.so_far; told = h.has.told }); stay = stay-drop n rs h.stay })
+    where
+      by : (n : ℕ) (rs : List Row) → Ready rs → AllByRecursion SectionSaid (sections_in on (length (take n rs)) false around (take n rs))
+      by zero rs h = tt
+      by (suc n) [] h = tt
+      by (suc n) (r ∷ rs) h =
+          let at = h.has in
+          sections-said (suc (length (take n rs))) false around at.is_open at.so_far (r ∷ take n rs) (told-take on at.is_open at.so_far (suc n) (r ∷ rs) at.told) (ready-apart on at.is_open at.so_far r (take n rs) at.apart) (every-take StaysOn n rs h.stay)
 
-  pieces-said : (b : ℕ) (around : Part) (is_open : Bool) (so_far : List ℕ) (rs : List Row) → AreTold on is_open so_far rs → Apart is_open rs → AllByRecursion StaysOn (drop 1 rs)
-      → AllByRecursion SectionSaid (flat_map (sections_of_cut on around) (cut_at_tables is_in_table b rs))
-  pieces-said zero around is_open so_far rs told apart stay = tt
-  pieces-said (suc b) around is_open so_far [] told apart stay = tt
-  pieces-said (suc b) around is_open so_far (r ∷ rs) told apart stay =
-      let all : List Row = r ∷ rs in
-      let n = before_table is_in_table all in
-      let behind = drop n all in
-      let m = table_lines is_in_table behind in
-      let front = sections_in on (length (take n all)) false around (take n all) in
-      let middle = tabled around (take m behind) in
-      let back = flat_map (sections_of_cut on around) (cut_at_tables is_in_table b (drop m behind)) in
-      let next = table-behind behind (told-drop on n all (record { is_open = is_open; so_far = so_far; told = told })) (λ rows header. begins-behind on all rows header) in
-      every-append SectionSaid front (middle ++ back) (front-said around n is_open so_far r rs told apart stay)
-      (every-append SectionSaid middle back (tabled-said around (take m behind))
-      (pieces-said b around false next.so_far (drop m behind) next.told (apart-shut false (drop m behind) refl) (stay-drop m behind (stay-drop n all stay))))
+  table-said : (around : Part) → TableIs on around SectionSaid Ready Headed
+  table-said around header q qs h is =
+      let n = prefix_len is_in_table qs in
+      let next = told-behind (is_paragraph header.leaf) (text_behind on h.has.is_open h.has.so_far header) q qs is h.has.told.1 in
+      (tt, record { has = record { is_open = false; so_far = next.so_far; told = next.told; apart = apart-shut false (drop n qs) refl }; stay = stay-drop (suc (suc n)) (header ∷ q ∷ qs) h.stay })
 
   cut-said : (p : Part) → PartTold p → AllByRecursion SectionSaid (cut on p)
   cut-said p h = by p.first.is_blank refl
@@ -262,7 +248,9 @@ module _ (on : Constructs) where
           let first = h.told.0 in
           let mode = mode_behind none_open (is_paragraph p.first.leaf) in
           ((λ _. ((λ k. absurd (false≢true (sym (first.blank e) ∙ k))), subst (λ (l : List Row). AreSaid on mode l) (sym (h.lone e)) tt)), tt)
-      by false e = pieces-said (suc (length p.more)) p h.is_open h.so_far (p.first ∷ p.more) h.told h.apart h.stay
+      by false e =
+          let here : Ready (p.first ∷ p.more) = record { has = record { is_open = h.is_open; so_far = h.so_far; told = h.told; apart = h.apart }; stay = h.stay } in
+          cuts-are on p SectionSaid Ready Headed (plain-said p) (table-said p) (suc (length p.more)) (p.first ∷ p.more) here
 
   -- behind a part
   next-apart : (is_open : Bool) (so_far : List ℕ) (r : Row) (rs : List Row) → AreTold on is_open so_far (r ∷ rs) → HasApart (drop (cond r.is_blank 0 (further rs)) rs)

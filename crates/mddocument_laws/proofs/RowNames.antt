@@ -1,17 +1,16 @@
 -- The containers of lines, the spans of parts and the definitions in sections are of constructs that are on.
 use Rattle.mddocument_laws.proofs.Prelude.{◌≡◌, ℕ, zero, suc, ◌==◌, List, [], ◌∷◌, ◌++◌, Bool, true, false, cond, Some, None, Option, take, drop, length, map, reverse, and_parts, cond_both, AllByRecursion, flat_map, ◌&&◌, ◌||◌, nat_le, nat_lt, every-append, every-drop, every-reverse, every-take, Constructs, Name, ListOrdered, ListUnordered, Definition, definitions, Line, text_of, begins_with, indent, is_blank_line, is_thematic_break, unindented, Container, Item, Prefix, goes_on, item, item_at, may_begin_item, quote, quote_size, beginning, columns_of, containers_of, going_on, in_place_of, with_list, Before, Row, is_paragraph, is_raw, nothing_known, Frame, Part, frames_at, frames_of, further, going_on_at, left_in, list_at, list_begun, list_name, parts_in, standing, Known, known_after, row_of, rows, rows_from, Inside, Section, before_defined, begins_text, defined, defined_in, defining, in_same, lines, lines_defined, paragraph_of, sections, sections_in, sections_of, text_in, undefined}
-use Rattle.std.proofs.Common.{refl, subst, sym}
+use Rattle.std.proofs.Common.{subst, sym}
 use Rattle.std.specs.List.{prefix_len}
-use Rattle.std.proofs.lemmas.Bool.{false≢true}
 use Rattle.mdblock_lines.specs.Containers.{begins}
 use Rattle.mdblock_containers.specs.Rows.{is_table}
 use Rattle.mdblock_containers.specs.Rows as without
 use Rattle.mdblock_containers.specs.Skeleton.{parts}
 use Rattle.mdblock_definitions.proofs.CutAlike.{undefined-is}
 use Rattle.mdblock_definitions.proofs.FilledTexts.{table-on}
-use Rattle.mdblock_definitions.proofs.SectionSound.{begins-behind}
-use Rattle.mdblock_definitions.specs.Sections.{cut, is_in_table, sections_of_cut, table, tabled}
-use Rattle.mdblock_table_marks.specs.TableCuts.{before_table, begins_in_table, cut_at_tables, table_lines}
+use Rattle.mdblock_definitions.proofs.TableCutting.{cuts-are}
+use Rattle.mdblock_definitions.specs.Sections.{cut, is_in_table, sections_of_cut, table}
+use Rattle.mdblock_table_marks.specs.TableCuts.{cut_at_tables}
 use Rattle.mddocument_laws.proofs.PlainNames.{stands_bare}
 
 -- constructs of containers, definitions and tables that are on are on in others too
@@ -237,29 +236,13 @@ module _ (other : Constructs) where
         every-append SectionIsOn (undefined is_behind around (take n all)) (defining ds around (take d behind) ++ sections_in on bound true around (drop d behind)) (undefined-on is_behind around (take n all) f (every-take RowIsOn n all h))
         (every-append SectionIsOn (defining ds around (take d behind)) (sections_in on bound true around (drop d behind)) (defined-on ds around behind f k) (sections-in-on bound true around (drop d behind) f (every-drop RowIsOn d behind k)))
 
-    -- lines of a table
-    tabled-on : (around : Part) (behind : List Row) → FramesAreOn around.frames → RowsAreOn behind → ((rows : List Row) (header : Row) → behind ≡ header ∷ rows → begins_in_table is_in_table rows ≡ true)
-        → SectionsAreOn (tabled around (take (table_lines is_in_table behind) behind))
-    tabled-on around [] f h begins = tt
-    tabled-on around (header ∷ []) f h begins = absurd (false≢true (begins [] header refl))
-    tabled-on around (header ∷ r ∷ rs) f h begins =
-        let m = prefix_len is_in_table (r ∷ rs) in
-        (record { part = record { first = h.0; more = every-take RowIsOn m (r ∷ rs) h.1; frames = f }; inside = h.1.0.table (begins (r ∷ rs) header refl) }, tt)
-
     cuts-on : (bound : ℕ) (around : Part) (all : List Row) → FramesAreOn around.frames → RowsAreOn all → SectionsAreOn (flat_map (sections_of_cut on around) (cut_at_tables is_in_table bound all))
-    cuts-on zero around all f h = tt
-    cuts-on (suc bound) around [] f h = tt
-    cuts-on (suc bound) around (row ∷ more) f h =
-        let all : List Row = row ∷ more in
-        let n = before_table is_in_table all in
-        let behind = drop n all in
-        let m = table_lines is_in_table behind in
-        let front = sections_in on (length (take n all)) false around (take n all) in
-        let middle = tabled around (take m behind) in
-        let back = flat_map (sections_of_cut on around) (cut_at_tables is_in_table bound (drop m behind)) in
-        let k = every-drop RowIsOn n all h in
-        every-append SectionIsOn front (middle ++ back) (sections-in-on (length (take n all)) false around (take n all) f (every-take RowIsOn n all h))
-        (every-append SectionIsOn middle back (tabled-on around behind f k (λ rows header. begins-behind on all rows header)) (cuts-on bound around (drop m behind) f (every-drop RowIsOn m behind k)))
+    cuts-on bound around all f h =
+        cuts-are on around SectionIsOn RowsAreOn RowsAreOn (λ n rs k. (sections-in-on (length (take n rs)) false around (take n rs) f (every-take RowIsOn n rs k), every-drop RowIsOn n rs k))
+        (λ header r rs k is.
+        let n = prefix_len is_in_table rs in
+        (record { part = record { first = k.0; more = every-take RowIsOn (suc n) (r ∷ rs) k.1; frames = f }; inside = k.1.0.table is }, every-drop RowIsOn n rs k.1.1))
+        bound all h
 
     cut-on : (part : Part) → PartIsOn part → SectionsAreOn (cut on part)
     cut-on part h =
