@@ -30,6 +30,7 @@ pub mod SectionGoing
 pub mod SectionLemmas
 pub mod SectionLetters
 pub mod SectionLoop
+pub mod SectionMarks
 pub mod SectionSound
 pub mod SectionSpans
 pub mod SectionTight
