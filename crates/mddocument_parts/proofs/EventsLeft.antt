@@ -69,6 +69,7 @@ use Rattle.mddocument.specs.DocumentEvents.{document_events, document_texts, is_
 use Rattle.mddocument.proofs.Walks.BlockWalk.{MayBlock, block-are}
 use Rattle.mddocument.proofs.Walks.InnerTexts.{AnySeat, any-each}
 use Rattle.mddocument.proofs.Walks.MarksWalk.{Walk, walk-of-marks}
+use Rattle.mddocument.proofs.InContainers.CellLinks.{no-content}
 use Rattle.mddocument.proofs.Walks.SkeletonWalk.{AreOfDefinition, InsideMay, MayHold, PartMay, PrefixesMay, RowAt, SectionMay, prefix-may, prefixes, sections-are}
 use Rattle.mddocument.proofs.Walks.TableWalk.{AreOfTable, tables-are}
 use Rattle.mddocument_parts.proofs.TextLines.{AreInner, AreTextLines, AreTextSeats, lines-of-texts, text-blocks}
@@ -103,9 +104,6 @@ pub stands-moved : (At : Point → Type 0) (f : ℕ → Option ℕ) (e : Event) 
 stands-moved At f e h = record { named = λ c is. h.named c (sym (content-kept f e.link) ∙ is); at = h.at }
 
 -- ---- lists without links
-pub no-content : (e : Event) (c : Content) → e.link ≡ None → content_of e ≡ Some c → ⊥
-no-content e c none is = none-some c (sym (ap (option_map (λ (l : Link). l.content)) none) ∙ is)
-
 pub none-of : (Of : Content → Type 0) (es : List Event) → HaveNoLinks es → AllByRecursion (IsOf Of) es
 none-of Of [] h = tt
 none-of Of (e ∷ es) h = ((λ c is. absurd (no-content e c h.0 is)), none-of Of es h.1)
@@ -288,7 +286,7 @@ module _ (At : Point → Type 0) (bytes : List ℕ) where
   linked-stand : (i : ℕ) (marks : List Mark) → AllByRecursion IsPlaced marks → AllByRecursion (StandsAt At) (linked_from i marks)
   linked-stand i [] h = tt
   linked-stand i ((e, None) ∷ marks) h =
-      (record { named = λ c is. absurd (none-some c (sym (ap (option_map (λ (l : Link). l.content)) h.0.0) ∙ is)); at = h.0.1 }, linked-stand (i + 1) marks h.1)
+      (record { named = λ c is. absurd (no-content e c h.0.0 is); at = h.0.1 }, linked-stand (i + 1) marks h.1)
   linked-stand i ((e, Some chunk) ∷ marks) h = (record { named = λ c is. h.0.0; at = h.0.1 }, linked-stand (i + 1) marks h.1)
 
   -- of virtual bytes of texts

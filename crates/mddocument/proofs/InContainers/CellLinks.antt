@@ -24,8 +24,8 @@ use Rattle.mddocument.proofs.InContainers.Rising.{filter-same}
 
 -- ---- links alone change
 
-pub no_content : (e : Event) (c : Content) → e.link ≡ None → content_of e ≡ Some c → ⊥
-no_content e c none is = false≢true (ap is_some (sym (ap (option_map (λ (l : Link). l.content)) none) ∙ is))
+pub no-content : (e : Event) (c : Content) → e.link ≡ None → content_of e ≡ Some c → ⊥
+no-content e c none is = false≢true (ap is_some (sym (ap (option_map (λ (l : Link). l.content)) none) ∙ is))
 
 pub event-at : (b : Bool) (es : List Event) (k : ℕ) (e : Event) → slice_get es k ≡ Some e → slice_get (celled b es) k ≡ Some (cond (is_cell_at b es k) (as_text e) e)
 event-at b [] zero e h = absurd (false≢true (ap is_some h))
@@ -72,7 +72,7 @@ content-cell b (e ∷ es) (suc k) h = content-cell (enters_cell e) es k h
 -- what is in a chain is no cell
 pub chunk-not : (b : Bool) (es : List Event) (k : ℕ) (c : Content) → CellsAreFree b es → content_at es k ≡ Some c → is_cell_at b es k ≡ false
 chunk-not b [] k c h at = refl
-chunk-not true (e ∷ es) zero c h at = absurd (no_content e c (h.0 refl) at)
+chunk-not true (e ∷ es) zero c h at = absurd (no-content e c (h.0 refl) at)
 chunk-not false (e ∷ es) zero c h at = refl
 chunk-not b (e ∷ es) (suc k) c h at = chunk-not (enters_cell e) es k c h.1 at
 
