@@ -1,13 +1,13 @@
 -- The events of containers, of definitions and of tables have names of the constructs that are on.
-use Rattle.mddocument_laws.proofs.Prelude.{◌≡◌, ℕ, suc, List, [], ◌∷◌, true, Some, None, Option, refl, AllByRecursion, every-map, Constructs, Name, Seat, every-all, line_text, lines_in, Mark, Container, Prefix, item, quote, Row, Part, chained_from, rows, Inside, Section, defined, lines, all_rows, sections_in_seats, sections_marks, skeleton}
+use Rattle.mddocument_laws.proofs.Prelude.{◌≡◌, ℕ, suc, List, [], ◌∷◌, true, Some, None, Option, refl, AllByRecursion, every-map, Constructs, Name, Seat, lines_in, Mark, Container, Prefix, item, quote, Row, Part, chained_from, rows, Inside, Section, defined, lines, all_rows, sections_in_seats, sections_marks, skeleton}
 use Rattle.markdown_base.specs.declared.event.Name.TheVariants as name
-use Rattle.mddocument.proofs.Walks.InnerTexts.{AnySeat, any-seats}
+use Rattle.mddocument.proofs.Walks.InnerTexts.{AnySeat}
 use Rattle.mddocument.proofs.Walks.MarksWalk.{Walk}
 use Rattle.mddocument_laws.proofs.Named.{Marked, Named, around, names-walk, none}
 use Rattle.mddocument_laws.proofs.PlainNames.{stands_bare}
 use Rattle.mddocument_laws.proofs.RowNames.{AreStillOn, InsideIsOn, IsOn, PartIsOn, PrefixesAreOn, RowIsOn, SectionIsOn, SectionsAreOn, list-on, own, rows-on, sections-on}
-use Rattle.mddocument.proofs.Walks.SkeletonWalk.{AreOfDefinition, InsideMay, MayHold, PartMay, PrefixesMay, RowAt, SectionMay, prefix-may, prefixes, sections-are}
-use Rattle.mddocument.proofs.Walks.TableWalk.{AreOfTable, tables-are}
+use Rattle.mddocument.proofs.Walks.SkeletonWalk.{AreOfDefinition, InsideMay, MayHold, PartMay, PrefixesMay, SectionMay, any-texts, are-in-definition, prefix-may, prefixes, sections-are}
+use Rattle.mddocument.proofs.Walks.TableWalk.{AreOfTable, are-in-table, tables-are}
 use Rattle.mdblock_leaf_blocks.specs.LeafEvents.{leaf_marks}
 use Rattle.mdblock_containers.specs.Skeleton.{prefixes_marks}
 use Rattle.mdblock_table_marks.specs.TableMarks.{table_marks}
@@ -39,41 +39,10 @@ module _ (other : Constructs) (bytes : List ℕ) where
   }
 
   of-definition : other.definition ≡ true → AreOfDefinition May
-  of-definition h = record {
-    definition = h;
-    inside = record {
-      label = h;
-      label_marker = h;
-      label_string = h;
-      marker = h;
-      destination = h;
-      destination_literal = h;
-      destination_literal_marker = h;
-      destination_raw = h;
-      destination_string = h;
-      title = h;
-      title_marker = h;
-      title_string = h;
-    };
-  }
+  of-definition h = record { definition = h; inside = are-in-definition May (h, (h, (h, (h, (h, (h, (h, (h, (h, (h, (h, (h, tt)))))))))))) }
 
   of-table : other.gfm_table ≡ true → AreOfTable May
-  of-table h = record {
-    table = h;
-    inside = record {
-      head = h;
-      body = h;
-      row = h;
-      cell = h;
-      text = h;
-      divider = h;
-      delimiter_row = h;
-      delimiter_cell = h;
-      value = h;
-      marker = h;
-      filler = h;
-    };
-  }
+  of-table h = record { table = h; inside = are-in-table May (h, (h, (h, (h, (h, (h, (h, (h, (h, (h, (h, tt))))))))))) }
 
   -- tables are on
   abbrev Table : Part → Type 0
@@ -81,9 +50,6 @@ module _ (other : Constructs) (bytes : List ℕ) where
 
   some-data : (seats : List Seat) → AllByRecursion AnySeat seats → Are (leaf_marks bytes name.Data seats)
   some-data seats h = around bytes None name.Data seats refl none
-
-  any-texts : (rs : List Row) → AllByRecursion (RowAt AnySeat) rs
-  any-texts rs = every-all (RowAt AnySeat) (λ r. any-seats (line_text r.line)) rs
 
   row-prefixes : (r : Row) → PrefixesMay May r.went_on → Are (prefixes_marks bytes r.went_on r.line)
   row-prefixes r h = prefixes walk (MayHold May) (prefix-may May) r.went_on r.line h

@@ -70,8 +70,8 @@ use Rattle.mddocument.proofs.Walks.BlockWalk.{MayBlock, block-are}
 use Rattle.mddocument.proofs.Walks.InnerTexts.{AnySeat, any-each}
 use Rattle.mddocument.proofs.Walks.MarksWalk.{Walk, walk-of-marks}
 use Rattle.mddocument.proofs.InContainers.CellLinks.{no-content}
-use Rattle.mddocument.proofs.Walks.SkeletonWalk.{AreOfDefinition, InsideMay, MayHold, PartMay, PrefixesMay, RowAt, SectionMay, prefix-may, prefixes, sections-are}
-use Rattle.mddocument.proofs.Walks.TableWalk.{AreOfTable, tables-are}
+use Rattle.mddocument.proofs.Walks.SkeletonWalk.{AreOfDefinition, InsideMay, MayHold, PartMay, PrefixesMay, RowAt, SectionMay, are-in-definition, prefix-may, prefixes, sections-are}
+use Rattle.mddocument.proofs.Walks.TableWalk.{AreOfTable, are-in-table, tables-are}
 use Rattle.mddocument_parts.proofs.TextLines.{AreInner, AreTextLines, AreTextSeats, lines-of-texts, text-blocks}
 
 -- ==== Where chains are replaced by children, each event is one of the list that no chunk removes, or one of a child, but for the ends of its link.
@@ -373,29 +373,10 @@ all-hold : (ps : List Prefix) → PrefixesMay IsOther ps
 all-hold ps = every-all (λ (p : Prefix). MayHold IsOther p.container) (λ p. holds-other p.container) ps
 
 of-definition : AreOfDefinition IsOther
-of-definition = record {
-  definition = refl;
-  inside = record {
-    label = refl;
-    label_marker = refl;
-    label_string = refl;
-    marker = refl;
-    destination = refl;
-    destination_literal = refl;
-    destination_literal_marker = refl;
-    destination_raw = refl;
-    destination_string = refl;
-    title = refl;
-    title_marker = refl;
-    title_string = refl;
-  };
-}
+of-definition = record { definition = refl; inside = are-in-definition IsOther (refl, (refl, (refl, (refl, (refl, (refl, (refl, (refl, (refl, (refl, (refl, (refl, tt)))))))))))) }
 
 of-table : AreOfTable IsOther
-of-table = record {
-  table = refl;
-  inside = record { head = refl; body = refl; row = refl; cell = refl; text = refl; divider = refl; delimiter_row = refl; delimiter_cell = refl; value = refl; marker = refl; filler = refl };
-}
+of-table = record { table = refl; inside = are-in-table IsOther (refl, (refl, (refl, (refl, (refl, (refl, (refl, (refl, (refl, (refl, (refl, tt))))))))))) }
 
 module _ (At : Point → Type 0) (bytes : List ℕ) where
   abbrev Ends : Seat → Type 0

@@ -1,11 +1,11 @@
 -- Lists of marks that spans of free names keep: what is in prefixes and in definitions has such names.
-use Rattle.mddocument_rules.proofs.Prelude.{◌≡◌, ◌&&◌, ℕ, Bool, not, List, [], ◌∷◌, ◌++◌, true, false, and_parts, not-true, refl, AllByRecursion, flat_map, same_name, Part, all_rows, Name, Seat, every-all, Definition, line_text, Mark, leaf_marks, span_marks, Container, Prefix, item, quote, Row, begun_marks, prefixes_marks, AnySeat, any-seats, Walk, leafs, AreInDefinition, MayPrefix, RowAt, definitions-are, places, prefixes}
+use Rattle.mddocument_rules.proofs.Prelude.{◌≡◌, ◌&&◌, ℕ, Bool, not, List, [], ◌++◌, true, false, and_parts, not-true, refl, AllByRecursion, flat_map, same_name, Part, all_rows, Name, Seat, every-all, Definition, Mark, leaf_marks, span_marks, Container, Prefix, item, quote, Row, begun_marks, prefixes_marks, AnySeat, any-seats, Walk, leafs, AreInDefinition, MayPrefix, definitions-are, places, prefixes}
 use Rattle.markdown_base.specs.declared.event.Name.TheVariants as name
 use Rattle.mdblock_definitions.specs.Definitions.{Place, before_prefixes, between, definitions_marks, ending_marks, line_marks, parts_marks, places_in, string_lines}
 use Rattle.mdblock_definitions.proofs.StringEnds.{every-before}
-use Rattle.mddocument.proofs.Walks.SkeletonWalk.{PlaceIs, begins, endings, of-lines, of-parts, some-places, string-lines-are}
+use Rattle.mddocument.proofs.Walks.SkeletonWalk.{AnyContainer, PlaceIs, any-prefixes, any-rows, any-texts, are-in-definition, begins, endings, of-lines, of-parts, some-places, string-lines-are}
 use Rattle.mdblock_table_marks.specs.TableMarks.{table_marks}
-use Rattle.mddocument.proofs.Walks.TableWalk.{AreInTable, PrefixIs, tables-by}
+use Rattle.mddocument.proofs.Walks.TableWalk.{AreInTable, PrefixIs, are-in-table, tables-by}
 use Rattle.mddocument_rules.proofs.Places.{is_free}
 
 -- and no cell of a table has its text among them
@@ -40,31 +40,12 @@ pub some-kept : {bytes : List ℕ} {Are : List Mark → Type 0} → IsKeptByAll 
 some-kept w = kept w.none w.both (λ n seats inside f h. w.over n seats inside (name-free n f) (any-seats seats) h)
 
 -- each container has free names in its prefix
-abbrev AnyContainer : Container → Type 0
-AnyContainer c = Unit {0}
-
 pub free-prefix : (c : Container) → AnyContainer c → MayPrefix FreeName c
 free-prefix (quote q) a = (refl, refl)
 free-prefix (item i) a = (refl, refl, refl)
 
-any-prefixes : (ps : List Prefix) → AllByRecursion (λ (p : Prefix). AnyContainer p.container) ps
-any-prefixes ps = every-all (λ (p : Prefix). AnyContainer p.container) (λ p. tt) ps
-
 in-definition : AreInDefinition FreeName
-in-definition = record {
-  label = refl;
-  label_marker = refl;
-  label_string = refl;
-  marker = refl;
-  destination = refl;
-  destination_literal = refl;
-  destination_literal_marker = refl;
-  destination_raw = refl;
-  destination_string = refl;
-  title = refl;
-  title_marker = refl;
-  title_string = refl;
-}
+in-definition = are-in-definition FreeName (refl, (refl, (refl, (refl, (refl, (refl, (refl, (refl, (refl, (refl, (refl, (refl, tt))))))))))))
 
 module _ {bytes : List ℕ} {Are : List Mark → Type 0} (w : IsKept bytes Are) where
   pub begins-are : (c : Container) (seats : List Seat) → Are (begun_marks bytes c seats)
@@ -84,9 +65,7 @@ module _ {bytes : List ℕ} {Are : List Mark → Type 0} (w : IsKept bytes Are) 
   EndingsAre ps = AllByRecursion EndingIs ps
 
   pub rows-are : (rs : List Row) → EndingsAre (places_in bytes rs)
-  rows-are rs =
-      places w AnyContainer free-prefix AnySeat data-is rs (every-all (λ (r : Row). AllByRecursion (λ (p : Prefix). AnyContainer p.container) r.went_on) (λ r. any-prefixes r.went_on) rs)
-      (every-all (RowAt AnySeat) (λ r. any-seats (line_text r.line)) rs)
+  rows-are rs = places w AnyContainer free-prefix AnySeat data-is rs (any-rows rs) (any-texts rs)
 
   pub line-ends : (from to : ℕ) (ps : List Place) → EndingsAre ps → Are (flat_map (ending_marks bytes) (between from to ps))
   line-ends from to ps h = endings w AnyContainer free-prefix AnySeat data-is (between from to ps) (some-places w AnyContainer free-prefix AnySeat data-is from to ps h)
@@ -110,26 +89,14 @@ module _ {bytes : List ℕ} {Are : List Mark → Type 0} (w : IsKept bytes Are) 
 
 -- ---- tables
 in-table : AreInTable (λ n. is_free n ≡ true)
-in-table = record {
-  head = refl;
-  body = refl;
-  row = refl;
-  cell = refl;
-  text = refl;
-  divider = refl;
-  delimiter_row = refl;
-  delimiter_cell = refl;
-  value = refl;
-  marker = refl;
-  filler = refl;
-}
+in-table = are-in-table (λ n. is_free n ≡ true) (refl, (refl, (refl, (refl, (refl, (refl, (refl, (refl, (refl, (refl, (refl, tt)))))))))))
 
 -- A table of a part, by its span
 pub table-in-part : {bytes : List ℕ} {Are : List Mark → Type 0} → IsKeptByAll bytes Are → (All : List Mark → Type 0) → ((ms : List Mark) → Are ms → All ms)
     → ((seats : List Seat) (inside : List Mark) → Are inside → All (span_marks bytes name.GfmTable seats inside)) → (part : Part) → All (table_marks bytes part)
 table-in-part {bytes} {Are} w All any one part =
     tables-by w AnySeat some-data in-table All any one part.first part.more (every-all (PrefixIs w AnySeat some-data in-table) (λ r. prefixes-are (some-kept w) r.went_on r.line) part.more)
-    (every-all (RowAt AnySeat) (λ r. any-seats (line_text r.line)) (all_rows part))
+    (any-texts (all_rows part))
   where
     some-data : (seats : List Seat) → AllByRecursion AnySeat seats → Are (leaf_marks bytes name.Data seats)
     some-data seats at = leafs w name.Data seats refl at

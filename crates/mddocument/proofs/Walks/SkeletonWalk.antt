@@ -4,6 +4,7 @@ use Rattle.std.proofs.lemmas.Bool.{cond_both}
 use Rattle.std.specs.List.{AllByRecursion, flat_map, prefix_len}
 use Rattle.markdown_base.proofs.Common.{every-append, every-drop, every-reverse, every-take}
 use Rattle.markdown_base.specs.declared.event.Kind.TheVariants.{Enter, Exit}
+use Rattle.markdown_tokenizer.proofs.Positions.Order.{every-all}
 use Rattle.markdown_base.specs.declared.event.Name.{Name}
 use Rattle.markdown_base.specs.declared.event.Point.{Point}
 use Rattle.markdown_base.specs.Virtual.{Seat}
@@ -33,6 +34,13 @@ use Rattle.mddocument.proofs.Walks.InnerTexts.{AnySeat, any-seats}
 use Rattle.mddocument.proofs.Walks.MarksWalk.{Walk, leafs, whites}
 
 -- ---- the names that spans of a skeleton have
+
+-- what definitions are made of
+abbrev pub definition_names : List Name
+definition_names =
+    name.DefinitionLabel ∷ name.DefinitionLabelMarker ∷ name.DefinitionLabelString ∷ name.DefinitionMarker ∷ name.DefinitionDestination ∷ name.DefinitionDestinationLiteral ∷ name.DefinitionDestinationLiteralMarker
+    ∷ name.DefinitionDestinationRaw ∷ name.DefinitionDestinationString ∷ name.DefinitionTitle ∷ name.DefinitionTitleMarker ∷ name.DefinitionTitleString ∷ []
+
 module _ (May : Name → Type 0) where
   -- the names of a container's prefix
   abbrev pub MayPrefix : Container → Type 0
@@ -80,9 +88,41 @@ module _ (May : Name → Type 0) where
     pub definition : May name.Definition
     pub inside : AreInDefinition
 
+  pub are-in-definition : AllByRecursion May definition_names → AreInDefinition
+  are-in-definition (a, (b, (c, (d, (e, (f, (g, (h, (i, (j, (k, (l, _)))))))))))) = record {
+    label = a;
+    label_marker = b;
+    label_string = c;
+    marker = d;
+    destination = e;
+    destination_literal = f;
+    destination_literal_marker = g;
+    destination_raw = h;
+    destination_string = i;
+    title = j;
+    title_marker = k;
+    title_string = l;
+  }
+
 -- the virtual bytes of the text of a line
 abbrev pub RowAt : (Seat → Type 0) → Row → Type 0
 RowAt At row = AllByRecursion At (line_text row.line)
+
+-- ---- nothing is said of virtual bytes, nor of containers
+pub any-texts : (rs : List Row) → AllByRecursion (RowAt AnySeat) rs
+any-texts rs = every-all (RowAt AnySeat) (λ r. any-seats (line_text r.line)) rs
+
+abbrev pub AnyContainer : Container → Type 0
+AnyContainer c = Unit {0}
+
+abbrev pub AnyPrefixes : List Prefix → Type 0
+AnyPrefixes ps = AllByRecursion (λ (p : Prefix). AnyContainer p.container) ps
+
+pub any-prefixes : (ps : List Prefix) → AnyPrefixes ps
+any-prefixes ps = every-all (λ (p : Prefix). AnyContainer p.container) (λ p. tt) ps
+
+pub any-rows : (rs : List Row) → AllByRecursion (λ (r : Row). AnyPrefixes r.went_on) rs
+any-rows rs = every-all (λ (r : Row). AnyPrefixes r.went_on) (λ r. any-prefixes r.went_on) rs
 
 -- where definitions are, there are such virtual bytes alone; and this is said of tables
 module _ (May : Name → Type 0) (At : Seat → Type 0) (Table : Part → Type 0) where

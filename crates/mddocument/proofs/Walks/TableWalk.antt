@@ -1,7 +1,7 @@
 -- What lists of marks have, if lists of spans with such names have it, and data: the marks of tables have it.
 use Rattle.std.proofs.Common.{◌≡◌, ◌⊎◌, ℕ, ◌+◌, ◌-◌, Bool, true, false, cond, List, [], ◌∷◌, ◌++◌, drop, inl, inr, length, refl, subst, sym, take}
 use Rattle.std.specs.List.{AllByRecursion}
-use Rattle.markdown_base.proofs.Common.{every-append, every-drop, every-take}
+use Rattle.markdown_base.proofs.Common.{every-drop, every-take}
 use Rattle.markdown_base.specs.declared.event.Name.{Name}
 use Rattle.markdown_base.specs.declared.event.Name.TheVariants as name
 use Rattle.markdown_base.specs.Virtual.{Seat}
@@ -37,6 +37,15 @@ pub record AreInTable (May : Name → Type 0) : Type 0 where
 pub record AreOfTable (May : Name → Type 0) : Type 0 where
   pub table : May name.GfmTable
   pub inside : AreInTable May
+
+-- what tables are made of
+abbrev pub table_names : List Name
+table_names =
+    name.GfmTableHead ∷ name.GfmTableBody ∷ name.GfmTableRow ∷ name.GfmTableCell ∷ name.GfmTableCellText ∷ name.GfmTableCellDivider ∷ name.GfmTableDelimiterRow ∷ name.GfmTableDelimiterCell ∷ name.GfmTableDelimiterCellValue
+    ∷ name.GfmTableDelimiterMarker ∷ name.GfmTableDelimiterFiller ∷ []
+
+pub are-in-table : (May : Name → Type 0) → AllByRecursion May table_names → AreInTable May
+are-in-table May (a, (b, (c, (d, (e, (f, (g, (h, (i, (j, (k, _))))))))))) = record { head = a; body = b; row = c; cell = d; text = e; divider = f; delimiter_row = g; delimiter_cell = h; value = i; marker = j; filler = k }
 
 module _ {bytes : List ℕ} {Are : List Mark → Type 0} {May : Name → Type 0} (w : Walk bytes Are May AnySeat) (At : Seat → Type 0) (some-data : (seats : List Seat) → AllByRecursion At seats → Are (leaf_marks bytes name.Data seats)) (m : AreInTable May) where
   -- pieces of such names, or data
