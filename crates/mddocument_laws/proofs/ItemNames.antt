@@ -35,7 +35,7 @@ use Rattle.mddocument_laws.proofs.RunNames.{MayRun, named-may, others-may, run-m
 use Rattle.mddocument_laws.proofs.SpanNames.{Inner, May, Outer, outer-both, outer-none, outer-span, together}
 use Rattle.mddocument_laws.proofs.WholeSpans.{around-whole, both-whole, none-whole}
 use Rattle.mddocument_laws.proofs.SpanNames as spans
-use Rattle.mddocument_laws.proofs.TailSpans.{AreInResource, IsKeptInside, in-marks, in-resources, strings-of}
+use Rattle.mddocument_laws.proofs.TailSpans.{AreInResource, IsKeptInside, are-in-resource, in-marks, in-resources, strings-of}
 
 module _ (on : Constructs) where
   abbrev Are : List Event → Type 0
@@ -246,19 +246,7 @@ module _ (on : Constructs) where
   inner-kept bytes = record { none = nothing; both = together on; span_around = over bytes }
 
   in-resource-names : has_labels on ≡ true → AreInResource (May on)
-  in-resource-names labels = record {
-    text = refl;
-    line_ending = refl;
-    white = refl;
-    destination = labels;
-    destination_literal = labels;
-    destination_literal_marker = labels;
-    destination_raw = labels;
-    destination_string = labels;
-    title = labels;
-    title_marker = labels;
-    title_string = labels;
-  }
+  in-resource-names labels = are-in-resource (May on) (refl, (refl, (refl, (labels, (labels, (labels, (labels, (labels, (labels, (labels, (labels, tt)))))))))))
 
   -- ---- ends of labels, by which labels are defined: some are only where definitions are on
   module _ (labels : has_labels on ≡ true) (defined : List ℕ → Bool) (bytes : List ℕ) (defs : (label : List ℕ) → defined label ≡ true → on.definition ≡ true) where

@@ -25,6 +25,27 @@ pub record AreInResource (May : Name → Type 0) : Type 0 where
   pub title_marker : May name.ResourceTitleMarker
   pub title_string : May name.ResourceTitleString
 
+-- what resources are made of
+abbrev pub resource_names : List Name
+resource_names =
+    name.Data ∷ name.LineEnding ∷ name.SpaceOrTab ∷ name.ResourceDestination ∷ name.ResourceDestinationLiteral ∷ name.ResourceDestinationLiteralMarker ∷ name.ResourceDestinationRaw ∷ name.ResourceDestinationString
+    ∷ name.ResourceTitle ∷ name.ResourceTitleMarker ∷ name.ResourceTitleString ∷ []
+
+pub are-in-resource : (May : Name → Type 0) → AllByRecursion May resource_names → AreInResource May
+are-in-resource May (a, (b, (c, (d, (e, (f, (g, (h, (i, (j, (k, _))))))))))) = record {
+  text = a;
+  line_ending = b;
+  white = c;
+  destination = d;
+  destination_literal = e;
+  destination_literal_marker = f;
+  destination_raw = g;
+  destination_string = h;
+  title = i;
+  title_marker = j;
+  title_string = k;
+}
+
 -- What holds of no events, of two lists if of both, and of a span of such a name if of what is in it
 pub record IsKeptInside (bytes : List ℕ) (May : Name → Type 0) (Are : List Event → Type 0) : Type 0 where
   pub none : Are []

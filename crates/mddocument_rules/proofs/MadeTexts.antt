@@ -7,7 +7,7 @@ use Rattle.markdown_base.specs.Events.{same_name, span as balanced_span}
 use Rattle.std.specs.Prelude.{◌<◌, ◌-◌}
 use Rattle.mdconstructs_machines.specs.Spans.{leaf, span}
 use Rattle.mdinline_link_tails.specs.Resource.{in_marks, string_events, unmarked}
-use Rattle.mddocument_laws.proofs.TailSpans.{AreInResource, IsKeptInside, in-marks, strings-of}
+use Rattle.mddocument_laws.proofs.TailSpans.{AreInResource, IsKeptInside, are-in-resource, in-marks, strings-of}
 use Rattle.mdinline_links.proofs.Leaves.{around-balanced}
 use Rattle.mdinline_links.specs.Linked.{emphasised_parts, last_place, spanning}
 use Rattle.mddocument_link_targets.proofs.SpanEnds.{spans-end}
@@ -107,19 +107,7 @@ module _ (bytes : List ℕ) where
   string-is seats = strings-of bytes IsOther IsString string-kept names seats
     where
       names : AreInResource IsOther
-      names = record {
-        text = refl;
-        line_ending = refl;
-        white = refl;
-        destination = refl;
-        destination_literal = refl;
-        destination_literal_marker = refl;
-        destination_raw = refl;
-        destination_string = refl;
-        title = refl;
-        title_marker = refl;
-        title_string = refl;
-      }
+      names = are-in-resource IsOther (refl, (refl, (refl, (refl, (refl, (refl, (refl, (refl, (refl, (refl, (refl, tt)))))))))))
 
 pub made-by-labels : MadeByLabels
 made-by-labels bytes own n s ss some =

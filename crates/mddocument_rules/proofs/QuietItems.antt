@@ -15,7 +15,7 @@ use Rattle.mdinline_machine.specs.InlineEvents.{inline_grammars}
 use Rattle.mddocument_laws.proofs.ItemNames.{Fits, IfItem, IsItem, inlines-fit}
 use Rattle.mddocument_laws.proofs.Named.{Named, and, no-events, spanned, weaker}
 use Rattle.mddocument_laws.proofs.PlainNames.{plain-may}
-use Rattle.mddocument_laws.proofs.TailSpans.{AreInResource, IsKeptInside, in-marks, in-resources, strings-of}
+use Rattle.mddocument_laws.proofs.TailSpans.{AreInResource, IsKeptInside, are-in-resource, in-marks, in-resources, strings-of}
 use Rattle.mddocument_laws.specs.Names.{may_be_named}
 use Rattle.mddocument_rules.proofs.Places.{by-wanted, is_free}
 
@@ -81,19 +81,7 @@ abbrev pub IsInnerName : Name → Type 0
 IsInnerName n = (is_free n && not (is_wanted linking_names n)) ≡ true
 
 inner-names : AreInResource IsInnerName
-inner-names = record {
-  text = refl;
-  line_ending = refl;
-  white = refl;
-  destination = refl;
-  destination_literal = refl;
-  destination_literal_marker = refl;
-  destination_raw = refl;
-  destination_string = refl;
-  title = refl;
-  title_marker = refl;
-  title_string = refl;
-}
+inner-names = are-in-resource IsInnerName (refl, (refl, (refl, (refl, (refl, (refl, (refl, (refl, (refl, (refl, (refl, tt)))))))))))
 
 -- what spans of such names keep holds of tails
 module _ (bytes : List ℕ) (Are : List Event → Type 0) (kept : IsKeptInside bytes IsInnerName Are) where

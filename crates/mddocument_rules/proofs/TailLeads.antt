@@ -21,7 +21,7 @@ use Rattle.mdinline_machine.specs.Brackets.{are_brackets, bytes_before, collapse
 use Rattle.mdinline_text_machine.specs.Construct.{Found}
 use Rattle.mdinline_text_machine.specs.Parts.{bytes_of}
 use Rattle.mddocument.proofs.Innermost.Lined.{lined-cut}
-use Rattle.mddocument_laws.proofs.TailSpans.{AreInResource, IsKeptInside, in-resources, strings-of}
+use Rattle.mddocument_laws.proofs.TailSpans.{AreInResource, IsKeptInside, are-in-resource, in-resources, strings-of}
 use Rattle.mddocument_link_targets.specs.declared.targets.Target.TheVariants as target
 use Rattle.mddocument_link_targets.specs.Spans.{first_in, inside as span_inside}
 use Rattle.mddocument_link_targets.specs.Strings.{as_written}
@@ -35,19 +35,7 @@ abbrev AnyName : Name → Type 0
 AnyName n = Unit {0}
 
 any-names : AreInResource AnyName
-any-names = record {
-  text = tt;
-  line_ending = tt;
-  white = tt;
-  destination = tt;
-  destination_literal = tt;
-  destination_literal_marker = tt;
-  destination_raw = tt;
-  destination_string = tt;
-  title = tt;
-  title_marker = tt;
-  title_string = tt;
-}
+any-names = are-in-resource AnyName (tt, (tt, (tt, (tt, (tt, (tt, (tt, (tt, (tt, (tt, (tt, tt)))))))))))
 
 -- a name but that of a marker of a block quote
 abbrev IsPlain : Name → Type 0
@@ -159,19 +147,7 @@ module _ (bytes : List ℕ) where
       kept = record { none = tt; both = every-append IsUnmarked; span_around = around-unmarked }
 
       names : AreInResource IsPlain
-      names = record {
-        text = refl;
-        line_ending = refl;
-        white = refl;
-        destination = refl;
-        destination_literal = refl;
-        destination_literal_marker = refl;
-        destination_raw = refl;
-        destination_string = refl;
-        title = refl;
-        title_marker = refl;
-        title_string = refl;
-      }
+      names = are-in-resource IsPlain (refl, (refl, (refl, (refl, (refl, (refl, (refl, (refl, (refl, (refl, (refl, tt)))))))))))
 
   module _ (t : ℕ) (defined : List ℕ → Bool) where
     full-there : (n : ℕ) (p : Point) (s u : Seat) (us : List Seat) → Course AcrossGap t bytes p (s ∷ u ∷ us) → 1 ≤ n → n + 2 ≤ length (u ∷ us) → is_wanted_at defined bytes (s ∷ u ∷ us) (label_text n (bytes_of (u ∷ us))) ≡ true
