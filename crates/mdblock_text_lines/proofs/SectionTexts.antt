@@ -1,37 +1,34 @@
 -- The text of each chain of a document's skeleton is that of lines of a section: so what holds of these holds of it.
-use Rattle.std.proofs.Common.{◌≡◌, ℕ, ◌<◌, ◌≤◌, Bool, true, false, cond, List, [], ◌∷◌, ◌++◌, ap, append_assoc, arith, drop, length, map, refl, subst, sym, take, ◌∙◌}
-use Rattle.std.specs.Prelude.{◌==◌, filter, not, reverse, None, Some}
+use Rattle.std.proofs.Common.{◌≡◌, ℕ, ◌<◌, ◌≤◌, Bool, true, false, cond, List, [], ◌∷◌, ◌++◌, ap, append_assoc, arith, drop, length, refl, subst, sym, take, ◌∙◌}
+use Rattle.std.specs.Prelude.{filter, not, None, Some}
 use Rattle.std.specs.List.{AllByRecursion}
 use Rattle.std.proofs.lemmas.Bool.{false≢true}
 use Rattle.std.proofs.lemmas.List.{drop-append-le, drop-map, length-append, length-drop, length-map, take-append-drop}
 use Rattle.std.proofs.lemmas.List.Sums.{prefix_len-le-length}
 use Rattle.markdown_base.specs.declared.configuration.Constructs.{Constructs}
 use Rattle.markdown_base.specs.declared.event.Content.TheVariants as content
-use Rattle.markdown_base.specs.declared.event.Kind.TheVariants.{Enter, Exit}
 use Rattle.markdown_base.specs.declared.event.Name.TheVariants as name
-use Rattle.markdown_base.specs.declared.event.Point.{Point}
 use Rattle.markdown_base.specs.Places.{in_range, shown}
 use Rattle.markdown_base.specs.Virtual.{Seat, end_after, virtual}
 use Rattle.markdown_tokenizer.proofs.Positions.Order.{every-back, every-front}
 use Rattle.markdown_tokenizer.specs.Text.{Given}
 use Rattle.mdconstructs_tables.specs.Breaks.{is_white}
 use Rattle.mdconstructs_machines.proofs.BlockReads.Accounts.{lines-are-all}
-use Rattle.mdconstructs_machines.specs.LineEvents.{all_of, ending_of, line_text, lines_in}
-use Rattle.mdconstructs_machines.specs.Spans.{event}
+use Rattle.mdconstructs_machines.specs.LineEvents.{all_of, line_text, lines_in}
 use Rattle.mdinline_text_machine.proofs.DeepSpans.Places.{chain-from, origin, place-shown, range-of}
 use Rattle.mdblock_leaf_blocks.proofs.Marks.LeafSpans.{text-shorter}
-use Rattle.mdblock_leaf_blocks.specs.LeafEvents.{Chunk, Mark, chunk_span, leaf_marks, white}
+use Rattle.mdblock_leaf_blocks.specs.LeafEvents.{Chunk, Mark, chunk_span, white}
 use Rattle.mdblock_leaf_blocks.specs.LineKinds.{indent}
-use Rattle.mdblock_lines.specs.Containers.{Container, Prefix, item, quote}
 use Rattle.mdblock_containers.proofs.PartGoes.{cut, cut_is, first_piece, front_is, lines_of, other_pieces, pieces_over, pieces_split}
 use Rattle.mdblock_containers.proofs.PartSpans.{RowFits}
 use Rattle.mdblock_containers.proofs.Pieces.{AreJoined, Over, pieces_joined}
-use Rattle.mdblock_containers.proofs.PrefixSpans.{begun_unlinked, leaf_is_unlinked, prefixes_unlinked}
+use Rattle.mdblock_containers.proofs.PrefixSpans.{leaf_is_unlinked, prefixes_unlinked}
 use Rattle.mdblock_containers.proofs.SeatFacts.{LinesEnd, document_lines, lines_end}
 use Rattle.mdblock_containers.proofs.SkeletonChains.{Unlinked, unlinked_both}
 use Rattle.mdblock_containers.specs.Prefixes.{columns_of}
 use Rattle.mdblock_containers.specs.Rows.{Row, has_none, rest_of}
-use Rattle.mdblock_containers.specs.Skeleton.{Frame, Part, Piece, begin_of, begun_all, begun_marks, chunks_of, end_of, ending_marks, enters_of, exits, inside_of, is_held, joined_pieces, last_line, list_name, pieces_of, prefixes_marks, shared}
+use Rattle.mdblock_containers.specs.Skeleton.{Part, Piece, begun_all, chunks_of, end_of, ending_marks, exits, inside_of, is_held, joined_pieces, pieces_of, prefixes_marks, shared}
+use Rattle.mdblock_table_marks.proofs.NoCellMarks.{begun-all-unlinked, ending-unlinked, exits-unlinked}
 use Rattle.mdblock_definitions.proofs.Covered.{rows_of}
 use Rattle.mdblock_definitions.proofs.DefinitionMarks.{definitions-are-shaped}
 use Rattle.mdblock_definitions.proofs.SectionGoes.{all-seats, ending, ends-front, ends-rest, first-fits, inner, lines_in_all, others-fit, part, part-is, seats}
@@ -72,37 +69,6 @@ module _ (g : Given) (some : 0 < g.tab) (Q : List Seat → Type 0) where
   unlinked-run [] ys h = refl
   unlinked-run ((e, None) ∷ xs) ys h = unlinked-run xs ys h.1
   unlinked-run ((e, Some c) ∷ xs) ys h = absurd h
-
-  enters-unlinked : (c : Container) (p : Point) → Unlinked (enters_of bytes c p)
-  enters-unlinked (quote q) p = (refl, tt)
-  enters-unlinked (item i) p = by (i.list == i.line)
-    where
-      by : (b : Bool) → Unlinked (cond b ((event bytes Enter (list_name i) p, None) ∷ []) [] ++ (event bytes Enter name.ListItem p, None) ∷ [])
-      by true = (refl, (refl, tt))
-      by false = (refl, tt)
-
-  begun-unlinked : (ps : List Prefix) (ss : List Seat) → Unlinked (begun_all bytes ps ss)
-  begun-unlinked [] ss = tt
-  begun-unlinked (p ∷ ps) ss =
-      unlinked_both (enters_of bytes p.container (begin_of ss)) _ (enters-unlinked p.container (begin_of ss))
-      (unlinked_both (begun_marks bytes p.container (take p.size ss)) _ (begun_unlinked bytes p.container (take p.size ss)) (begun-unlinked ps (drop p.size ss)))
-
-  exits-unlinked : (fs : List Frame) (p : Point) → Unlinked (exits bytes fs p)
-  exits-unlinked fs p = each (reverse fs)
-    where
-      each : (fs : List Frame) → Unlinked (map (λ (f : Frame). (event bytes Exit f.name p, None)) fs)
-      each [] = tt
-      each (f ∷ fs) = (refl, each fs)
-
-  ending-unlinked : (q : Part) → Unlinked (ending_marks bytes q)
-  ending-unlinked q = by (is_held q)
-    where
-      last : List Seat
-      last = ending_of (last_line bytes q)
-
-      by : (b : Bool) → Unlinked (cond b [] (leaf_marks bytes (cond q.first.is_blank name.BlankLineEnding name.LineEnding) last))
-      by true = tt
-      by false = leaf_is_unlinked bytes (cond q.first.is_blank name.BlankLineEnding name.LineEnding) last
 
   only-good : (xs : List Mark) → Unlinked xs → IsGood xs
   only-good [] h = tt
@@ -339,7 +305,7 @@ module _ (g : Given) (some : 0 < g.tab) (Q : List Seat → Type 0) where
         let assoc : section_marks bytes s ++ ms ≡ went ++ (begun ++ (inside ++ ms)) = append_assoc went (begun ++ inside) ms ∙ ap (λ l. went ++ l) (append_assoc begun inside ms) in
         subst IsGood (sym assoc)
         (unlinked-good went _ (prefixes_unlinked bytes (take (length p.stands) r.went_on) r.line)
-        (unlinked-good begun _ (begun-unlinked r.begun (drop (columns_of r.went_on) r.line)) (inside-good ms (pre ++ front) after next fine good)))
+        (unlinked-good begun _ (begun-all-unlinked bytes r.begun (drop (columns_of r.went_on) r.line)) (inside-good ms (pre ++ front) after next fine good)))
 
   module _ (on : Constructs) where
     -- what comes behind a section
@@ -347,7 +313,7 @@ module _ (g : Given) (some : 0 < g.tab) (Q : List Seat → Type 0) where
         → AreCut bytes s.part.frames ss → AllByRecursion RowIs (rows_of ss) → LinesEnd (lines_in_all t bytes ss) → AllByRecursion IsFine ss
         → (pre : List Seat) → V ≡ pre ++ (ending t bytes s is fits ends ++ all_of (lines_in_all t bytes ss)) → IsGood (behind_marks bytes s.part ss)
     behind-all s is fits ends [] are-cut rows-fit rows-end fine pre whole =
-        only-good _ (unlinked_both (exits bytes s.part.frames (end_of bytes s.part)) (ending_marks bytes s.part) (exits-unlinked s.part.frames (end_of bytes s.part)) (ending-unlinked s.part))
+        only-good _ (unlinked_both (exits bytes s.part.frames (end_of bytes s.part)) (ending_marks bytes s.part) (exits-unlinked bytes s.part.frames (end_of bytes s.part)) (ending-unlinked bytes s.part))
     behind-all s is fits ends (n ∷ ss) are-cut rows-fit rows-end fine pre whole =
         let p = s.part in
         let gone = drop (shared p.frames n.part.frames) p.frames in
@@ -360,8 +326,8 @@ module _ (g : Given) (some : 0 < g.tab) (Q : List Seat → Type 0) where
         let front = pre ++ here-ends in
         let there : V ≡ front ++ (text ++ (last ++ rest)) = whole ∙ ap (λ l. pre ++ (here-ends ++ l)) (all-seats t bytes n are-cut.1 fits-next ends-next ss) ∙ sym (append_assoc pre here-ends (text ++ (last ++ rest))) in
         let more = behind-all n are-cut.1 fits-next ends-next ss are-cut.2 (every-back RowIs (all_rows n.part) (rows_of ss) rows-fit) (ends-rest t bytes on n ss rows-end) fine.1 (front ++ text) (there ∙ sym (append_assoc front text (last ++ rest))) in
-        unlinked-good (exits bytes gone (end_of bytes p)) _ (exits-unlinked gone (end_of bytes p))
-        (unlinked-good (ending_marks bytes p) _ (ending-unlinked p) (section-good n are-cut.1 fits-next ends-next (behind_marks bytes n.part ss) front (last ++ rest) there fine.0 more))
+        unlinked-good (exits bytes gone (end_of bytes p)) _ (exits-unlinked bytes gone (end_of bytes p))
+        (unlinked-good (ending_marks bytes p) _ (ending-unlinked bytes p) (section-good n are-cut.1 fits-next ends-next (behind_marks bytes n.part ss) front (last ++ rest) there fine.0 more))
 
     sections-good : (ss : List Section) → AreCut bytes [] ss → AllByRecursion RowIs (rows_of ss) → LinesEnd (lines_in_all t bytes ss) → AllByRecursion IsFine ss → V ≡ all_of (lines_in_all t bytes ss) → IsGood (sections_marks bytes ss)
     sections-good [] are-cut rows-fit rows-end fine whole = tt
