@@ -1,5 +1,5 @@
 -- The texts of cells as chains change no chain that was there: where it begins, its chunks, its text, and how a child is divided over it.
-use Rattle.std.proofs.Common.{◌≡◌, ◌∙◌, ◌⊎◌, ℕ, zero, suc, ◌+◌, Bool, true, false, cond, List, [], ◌∷◌, ◌++◌, ap, inl, inr, length, map, refl, sym}
+use Rattle.std.proofs.Common.{◌≡◌, ◌∙◌, ◌⊎◌, ℕ, zero, suc, ◌+◌, Bool, true, false, cond, List, [], ◌∷◌, ap, inl, inr, length, map, refl, sym}
 use Rattle.std.specs.Prelude.{◌&&◌, filter, Option, None, Some, is_none, is_some, option_map, slice_get, unwrap_or}
 use Rattle.std.specs.List.{flat_map, range_with_len}
 use Rattle.std.specs.Option.{option_and_then}
@@ -9,12 +9,10 @@ use Rattle.markdown_base.specs.declared.event.Content.TheVariants.{Text as TextC
 use Rattle.markdown_base.specs.declared.event.Content.TheVariants as content
 use Rattle.markdown_base.specs.declared.event.Event.{Event}
 use Rattle.markdown_base.specs.declared.event.Link.{Link}
-use Rattle.markdown_base.specs.Places.{stands_before}
 use Rattle.markdown_edits.specs.Links.{content_at, content_of, next_of, previous_of}
-use Rattle.markdown_tokenizer.specs.Text.{Given, Piece, empty_text, followed_by_all, passed, pushed}
+use Rattle.markdown_tokenizer.specs.Text.{Given, empty_text, followed_by_all, passed, pushed}
 use Rattle.markdown_children.specs.Chains.{begins, chain_from, chain_of, fits, fitting_starts, some_fits}
 use Rattle.markdown_children.specs.Children.{chain_changes, child_changes, first_chunk}
-use Rattle.markdown_children.specs.NextContent.{HasTextInGaps}
 use Rattle.markdown_children.specs.Parts.{Divided, divided, divided_over, parts}
 use Rattle.markdown_children.specs.Reads.{pieces_behind, pieces_of, text_from, text_of_chain}
 use Rattle.markdown_children.specs.Ready.{place_at}
@@ -150,12 +148,6 @@ module _ (es : List Event) (free : CellsAreFree false es) where
   text-same g c =
       ap (text_of_chain g new) (chain-same c)
       ∙ (λ i. followed_by_all g (empty_text (place-same false es (first_chunk (chain_of es c)) i)) (pieces-same (chain_of es c) i))
-
-  pub gaps-same : HasTextInGaps of_content es → HasTextInGaps of_content new
-  gaps-same h k d fit e = elim (h k d (sym (fits-same k) ∙ fit) (sym (next-same false es k free) ∙ e)) [
-    | inl near ↦ inl near
-    | inr text ↦ inr ((λ i. stands_before (place-same false es (k + 1) i) (place-same false es d i)) ∙ text)
-  ]
 
   -- ---- and their children
   ends-same : (ks : List ℕ) → map (λ k. place_at new (k + 1)) ks ≡ map (λ k. place_at es (k + 1)) ks

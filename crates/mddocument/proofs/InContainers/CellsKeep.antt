@@ -1,35 +1,28 @@
 -- What events keep with the texts of cells as chains: as links alone change, they are balanced, in order, at their places, and so on.
-use Rattle.std.proofs.Common.{◌≡◌, ◌∙◌, ℕ, zero, suc, ◌+◌, Bool, true, false, cond, List, [], ◌∷◌, ◌++◌, ap, inl, inr, refl, subst, sym}
-use Rattle.std.specs.Prelude.{All, AllPairs, Option, None, Some, is_some, slice_get}
+use Rattle.std.proofs.Common.{◌≡◌, ◌∙◌, ℕ, ◌+◌, Bool, true, false, cond, List, [], ◌∷◌, ◌++◌, ap, inl, inr, refl, sym}
+use Rattle.std.specs.Prelude.{AllPairs, Option, Some, slice_get}
 use Rattle.std.specs.List.{AllByRecursion}
-use Rattle.std.proofs.lemmas.Bool.{false≢true}
 use Rattle.std.proofs.lemmas.List.Elements.{All-from_recursion, recursion_from_All}
 use Rattle.std.proofs.lemmas.Option.{same_Some}
 use Rattle.markdown_base.specs.declared.configuration.Constructs.{Constructs}
 use Rattle.markdown_base.specs.declared.event.Content.{Content}
-use Rattle.markdown_base.specs.declared.event.Content.TheVariants.{String as StringContent, Text as TextContent}
 use Rattle.markdown_base.specs.declared.event.Event.{Event}
-use Rattle.markdown_base.specs.declared.event.Kind.TheVariants.{Enter, Exit}
 use Rattle.markdown_base.specs.declared.event.Point.{Point}
 use Rattle.markdown_base.specs.Events.{IsBalanced, IsInOrder, IsVoidTight, is_enter, is_void}
 use Rattle.markdown_base.specs.Places.{IsPointOf, IsShown, stands_before}
 use Rattle.markdown_base.specs.Virtual.{Seat}
-use Rattle.markdown_edits.specs.Links.{content_at, next_of}
 use Rattle.markdown_base.proofs.Seats.{stands-self}
 use Rattle.markdown_tokenizer.specs.AtPlaces.{AreAtPlaces}
 use Rattle.markdown_tokenizer.specs.Engine.{IsWellFormed}
 use Rattle.markdown_tokenizer.specs.Text.{Given}
-use Rattle.markdown_children.proofs.Parts.TextGaps.{HasLoneChunks}
-use Rattle.markdown_children.specs.Chains.{fits, some_fits}
+use Rattle.markdown_children.specs.Chains.{some_fits}
 use Rattle.markdown_children.specs.NextContent.{HasTextInGaps}
-use Rattle.markdown_children.specs.Ready.{place_at}
 use Rattle.mdconstructs_machines.specs.Innermost.{AccountFor, ended_next, innermost_spans}
 use Rattle.mdblock_table_marks.specs.Cells.{as_text, celled, enters_cell, with_cells}
 use Rattle.mdblock_table_marks.specs.CellPlaces.{CellsAreFree, is_cell_at}
-use Rattle.mddocument.proofs.InContainers.CellLinks.{content-cell, content-same, either, event-at, event-was, next-not, next-same, place-same}
+use Rattle.mddocument.proofs.InContainers.CellLinks.{content-same, event-at, event-was, next-not, next-same, place-same}
 use Rattle.mddocument.proofs.InContainers.Celled.{alike-balanced, alike-celled, kind-same, name-same}
 use Rattle.mddocument.proofs.InContainers.Order.{Steady, pairs-steady, steady-pairs}
-use Rattle.mddocument.specs.Runs.{HasOnlyTexts}
 
 -- what is kept by links, with tables on and off
 pub with-cells-by : (P : List Event → Type 0) (on : Constructs) (es : List Event) → P (celled false es) → P es → P (with_cells on es)
@@ -135,20 +128,3 @@ module _ (on : Constructs) (es : List Event) (free : CellsAreFree false es) wher
             | inl near ↦ inl near
             | inr text ↦ inr ((λ i. stands_before (place-same false es (k + 1) i) (place-same false es d i)) ∙ text)
           ]
-
-  pub cells-lone : (wanted : Option Content) → HasLoneChunks wanted es → HasLoneChunks wanted (with_cells on es)
-  cells-lone wanted h = with-cells-by (HasLoneChunks wanted) on es celled-lone h
-    where
-      celled-lone : HasLoneChunks wanted (celled false es)
-      celled-lone k d fit e =
-          let old = sym (next-same false es k free) ∙ e in
-          h k d (ap (some_fits wanted) (sym (content-same false es k (next-not false es k d free old))) ∙ fit) old
-
-  pub cells-textual : HasOnlyTexts es → HasOnlyTexts (with_cells on es)
-  cells-textual h = with-cells-by HasOnlyTexts on es celled-textual h
-    where
-      celled-textual : HasOnlyTexts (celled false es)
-      celled-textual k c at = elim (either (is_cell_at false es k)) [
-        | inl is ↦ inl (sym (same_Some TextContent c (sym (content-cell false es k is) ∙ at)))
-        | inr none ↦ h k c (sym (content-same false es k none) ∙ at)
-      ]
