@@ -1,7 +1,8 @@
 -- With the texts of cells as chains, events can be read as before, and so can these chains.
-use Rattle.std.proofs.Common.{◌≡◌, ℕ, zero, suc, ◌+◌, ◌-◌, ◌<◌, ◌≤◌, Bool, true, false, cond, List, [], ◌∷◌, drop, inl, inr, refl, sym, ap, ◌∙◌, subst, take}
-use Rattle.std.specs.Prelude.{◌&&◌, ◌⊎◌, Option, None, Some, is_some, option_map, slice_get}
-use Rattle.std.specs.List.{AllByRecursion, between}
+use Rattle.std.proofs.Common.{◌≡◌, ℕ, zero, suc, ◌+◌, ◌-◌, Bool, true, false, cond, List, [], ◌∷◌, drop, inl, inr, refl, sym, ap, ◌∙◌, subst, take}
+use Rattle.std.specs.Prelude.{◌&&◌, Option, None, Some, slice_get}
+use Rattle.std.specs.List.{between}
+use Rattle.std.proofs.Math.Bool.{and-false}
 use Rattle.std.proofs.lemmas.Bool.{false≢true}
 use Rattle.markdown_base.specs.declared.configuration.Constructs.{Constructs}
 use Rattle.markdown_base.specs.declared.event.Content.{Content}
@@ -17,7 +18,6 @@ use Rattle.markdown_edits.specs.Links.{IsChunk, content_at, next_of}
 use Rattle.markdown_edits.specs.OpenNames.{names_after, names_after_all}
 use Rattle.markdown_children.specs.Chains.{fits, some_fits}
 use Rattle.markdown_children.specs.Ready.{IsGap, IsReadable, IsReady, IsShownPlace, place_at}
-use Rattle.markdown_children.proofs.ChainOrder.Following.{some_content}
 use Rattle.mdblock_containers.proofs.TightMarks.{one_more}
 use Rattle.mdblock_table_marks.specs.Cells.{BeginsWithData, CellsHaveData, as_text, celled, enters_cell, with_cells}
 use Rattle.mdblock_table_marks.specs.CellPlaces.{CellsAreFree, NoCellInGaps, is_cell_at}
@@ -85,11 +85,7 @@ chunk-stays es k none c =
     }
 
 data-is-no-cell : (e : Event) → e.name ≡ name.Data → enters_cell e ≡ false
-data-is-no-cell e is = ap (λ n. is_enter e.kind && same_name n name.GfmTableCellText) is ∙ by (is_enter e.kind)
-  where
-    by : (b : Bool) → (b && false) ≡ false
-    by true = refl
-    by false = refl
+data-is-no-cell e is = ap (λ n. is_enter e.kind && same_name n name.GfmTableCellText) is ∙ and-false (is_enter e.kind)
 
 -- the text of a cell comes to be one
 cell-chunk : (b : Bool) (es : List Event) (k : ℕ) → CellsHaveData es → (b ≡ true → BeginsWithData es) → is_cell_at b es k ≡ true → IsChunk (celled b es) k

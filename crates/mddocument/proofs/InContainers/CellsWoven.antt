@@ -1,19 +1,20 @@
 -- With children and with the texts of cells as chains: a list is the same whichever comes first, if no child has cells.
 use Rattle.std.proofs.Common.{◌≡◌, ◌∙◌, ℕ, zero, suc, ◌+◌, ◌<◌, ◌≤◌, Bool, true, false, cond, eqb, List, [], ◌∷◌, ◌++◌, ap, arith, length, map, ne_eqb, refl, subst, sym}
-use Rattle.std.specs.Prelude.{◌==◌, ◌&&◌, Option, None, Some, is_some, option_map, slice_get}
+use Rattle.std.specs.Prelude.{◌&&◌, Option, Some, option_map, slice_get}
 use Rattle.std.specs.List.{AllByRecursion, flat_map}
+use Rattle.std.proofs.Math.Bool.{and-false}
 use Rattle.std.proofs.lemmas.Bool.{false≢true}
-use Rattle.std.proofs.lemmas.Option.{same_Some, slice_get_within}
+use Rattle.std.proofs.lemmas.Option.{same_Some}
 use Rattle.markdown_base.proofs.Common.{every-append, every-map}
 use Rattle.markdown_base.specs.declared.event.Content.{Content}
 use Rattle.markdown_base.specs.declared.event.Content.TheVariants as content
 use Rattle.markdown_base.specs.declared.event.Event.{Event}
-use Rattle.markdown_base.specs.declared.event.Kind.TheVariants.{Enter, Exit}
+use Rattle.markdown_base.specs.declared.event.Kind.TheVariants.{Exit}
 use Rattle.markdown_base.specs.declared.event.Name.TheVariants as name
 use Rattle.markdown_base.specs.declared.event.Point.{Point}
 use Rattle.markdown_base.specs.Events.{is_enter, is_void, relinked, same_name}
 use Rattle.markdown_edits.proofs.Balanced.{same_name-true}
-use Rattle.markdown_edits.specs.Links.{IsChunk, content_at}
+use Rattle.markdown_edits.specs.Links.{content_at}
 use Rattle.markdown_edits.specs.Woven.{Change, Identity, Tagged, as_listed, changed, events_at, is_removed, is_same, of_addition, of_child, of_list, place_in, placed, placed_end, placed_in, woven}
 use Rattle.markdown_tokenizer.proofs.Positions.Order.{every-back, every-cond, every-front}
 use Rattle.markdown_children.specs.Chains.{chain_of, fits, fitting_starts}
@@ -132,12 +133,8 @@ none-come (w ∷ ws) i h = ap (λ b. cond b w.events [] ++ events_at ws i) (ne_e
 -- ---- chunks and cells
 
 void-plain : (e : Event) → is_void e.name ≡ true → IsPlain e
-void-plain e void = by (same_name e.name name.GfmTableCellText) refl ∙ no (is_enter e.kind)
+void-plain e void = by (same_name e.name name.GfmTableCellText) refl ∙ and-false (is_enter e.kind)
   where
-    no : (x : Bool) → (x && false) ≡ false
-    no true = refl
-    no false = refl
-
     by : (b : Bool) → same_name e.name name.GfmTableCellText ≡ b → (is_enter e.kind && same_name e.name name.GfmTableCellText) ≡ (is_enter e.kind && false)
     by false is = ap (λ x. is_enter e.kind && x) is
     by true is = absurd (false≢true (sym (ap is_void (same_name-true e.name name.GfmTableCellText is)) ∙ void))
