@@ -1,19 +1,20 @@
 -- The lines of a section that is a table, as its rows are written.
-use Rattle.std.proofs.Common.{◌≡◌, ◌≤◌, ◌<◌, ◌-◌, ℕ, suc, List, [], ◌∷◌, arith, drop, length, length-drop, sym, ap, subst, ◌∙◌}
+use Rattle.std.proofs.Common.{◌≡◌, ◌-◌, ℕ, suc, List, [], ◌∷◌, arith, drop, length, length-drop, ap, ◌∙◌}
 use Rattle.std.specs.List.{AllByRecursion}
 use Rattle.mdblock_leaf_blocks.specs.LeafBlocks.{text_of}
-use Rattle.mdblock_leaf_blocks.specs.LineKinds.{indent, unindented}
+use Rattle.mdblock_leaf_blocks.specs.LineKinds.{indent}
 use Rattle.mdblock_lines.specs.Containers.{Container}
-use Rattle.mdblock_lines.specs.Lines.{line_at, line_bytes}
+use Rattle.mdblock_lines.specs.Lines.{line_bytes}
 use Rattle.mdblock_containers.specs.declared.spans.RowAt.{RowAt}
 use Rattle.mdblock_containers.specs.Rows.{Row, rest_of}
 use Rattle.mdblock_containers.specs.Skeleton.{Part}
-use Rattle.mdblock_containers.specs.Spans.{IsPlaced, IsRowIn}
-use Rattle.mdblock_containers.specs.Stretches.{AreFurther, IsOutside}
+use Rattle.mdblock_containers.specs.Spans.{IsRowIn}
+use Rattle.mdblock_containers.specs.Stretches.{AreFurther}
 use Rattle.mdblock_containers.proofs.DocumentRows.{text_of_line_at}
 use Rattle.mdblock_table_marks.specs.Lines.{AreLines, CanBeTable, HasText}
 use Rattle.mdblock_definitions.specs.Sectioned.{AreTableRows, IsFilled, IsSectionOf}
 use Rattle.mdblock_definitions.specs.Skeleton.{all_rows}
+use Rattle.mdblock_definitions.proofs.SectionFacts.{section-lines}
 
 module _ (t : ℕ) (bytes : List ℕ) (stack : List Container) where
   -- a line with text has columns behind its prefixes
@@ -32,19 +33,8 @@ module _ (t : ℕ) (bytes : List ℕ) (stack : List Container) where
   module _ (x : RowAt) (xs : List RowAt) (p : Part) (s : IsSectionOf t bytes stack x xs p) where
     pub table-lines : AreLines t bytes stack (x ∷ xs) (all_rows p)
     table-lines =
-        let row = s.left.are.0 in
-        let number = sym row.placed.number_is in
-        let start = sym row.placed.start_is in (
-          record {
-            stands = record {
-              placed = subst (λ (n : ℕ). IsPlaced t bytes n x.span.start x) number (subst (λ (i : ℕ). IsPlaced t bytes s.left.number i x) start row.placed);
-              outside = subst (IsOutside bytes) start s.left.outside;
-            };
-            line = row.line ∙ (λ k. line_at t (number k) (start k) (drop (start k) bytes));
-            columns = row.is.columns;
-          },
-          subst (λ (n : ℕ). AreFurther t bytes stack (suc n) x.span.next xs p.more) number s.further,
-        )
+        let here = section-lines t bytes stack x xs p s in
+        (record { stands = record { placed = here.0.placed; outside = here.0.outside }; line = here.0.line; columns = here.0.columns }, here.1)
 
     pub section-tabled : AreTableRows p.more → CanBeTable (x ∷ xs)
     section-tabled rows = by xs p.more s.further rows
