@@ -3,7 +3,7 @@ use Rattle.std.proofs.Common.{◌≡◌, ℕ, zero, suc, ◌&&◌, Bool, cond, L
 use Rattle.mdblock_containers.specs.Rows.{Row}
 use Rattle.mdblock_containers.specs.Skeleton.{Frame, Part, further, parts, parts_in}
 use Rattle.mdblock_definitions.specs.BlankLines as blank_lines
-use Rattle.mdblock_definitions.specs.Sections.{Section, begins_text, in_same, sections_of, undefined}
+use Rattle.mdblock_definitions.specs.Sections.{begins_text, in_same, sections_of, undefined}
 
 cut-alike : (around : Part) (bound : ℕ) (before : List Frame) (rs : List Row) → map (in_same around) (blank_lines.parts_in bound before rs) ≡ map (in_same around) (parts_in bound rs)
 cut-alike around zero before rs = refl

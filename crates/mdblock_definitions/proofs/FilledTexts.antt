@@ -13,7 +13,7 @@ use Rattle.mdblock_containers.specs.Prefixes.{containers_of}
 use Rattle.mdblock_containers.specs.Rows.{Before, Leaf, Row, closed, is_paragraph, is_table, leaf_after, open_fence, open_html, open_paragraph, open_table, opened_by, rest_of}
 use Rattle.mdblock_containers.specs.Rows as without
 use Rattle.mdblock_definitions.specs.Rows.{Known, begins_table, is_row_of_table, known_after, row_of, row_without, rows_from, underlines_nothing}
-use Rattle.mdblock_definitions.specs.Sectioned.{FollowsText, TextIsFilled, TextsAreFilled, holds_text}
+use Rattle.mdblock_definitions.specs.Sectioned.{FollowsText, TextsAreFilled, holds_text}
 use Rattle.mdblock_definitions.proofs.KnownReads.{blank-open, blank-without}
 
 -- ---- fewer lines

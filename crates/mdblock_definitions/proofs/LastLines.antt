@@ -1,5 +1,5 @@
 -- The last line of a text: of lines joined by line feeds, none of which has one, it is the last.
-use Rattle.std.proofs.Common.{◌≡◌, ℕ, suc, ◌+◌, ◌≤◌, Bool, true, false, cond, List, [], ◌∷◌, ◌++◌, append_assoc, arith, drop, length, refl, reverse, sym, ap, take, ◌∙◌}
+use Rattle.std.proofs.Common.{◌≡◌, ℕ, suc, ◌+◌, Bool, true, false, cond, List, [], ◌∷◌, ◌++◌, append_assoc, arith, drop, length, refl, reverse, ap, take, ◌∙◌}
 use Rattle.std.specs.Prelude.{◌==◌, filter, map, not}
 use Rattle.std.specs.List.{AllByRecursion, prefix_len}
 use Rattle.std.proofs.lemmas.List.{reverse-append, reverse-reverse, take-append-le}

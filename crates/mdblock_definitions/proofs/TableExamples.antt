@@ -1,5 +1,5 @@
 -- Examples of tables in the lines of a document, computed from the definitions.
-use Rattle.std.specs.Prelude.{◌≡◌, ℕ, suc, refl, codes, length, map, List, [], ◌∷◌, true, false}
+use Rattle.std.specs.Prelude.{◌≡◌, ℕ, suc, refl, codes, length, map, List, [], ◌∷◌, false}
 use Rattle.markdown_base.specs.declared.configuration.Constructs.{Constructs}
 use Rattle.markdown_base.specs.declared.event.Name.{Name}
 use Rattle.markdown_base.specs.declared.event.Name.TheVariants.{Data, GfmTable, GfmTableCell, GfmTableCellDivider, GfmTableCellText, GfmTableDelimiterCell, GfmTableDelimiterCellValue, GfmTableDelimiterFiller, GfmTableDelimiterRow, GfmTableHead, GfmTableRow, LineEnding, SpaceOrTab}

@@ -7,7 +7,7 @@ use Rattle.markdown_base.proofs.Common.{and-right}
 use Rattle.markdown_base.proofs.Facts.Bools.{and-left}
 use Rattle.mdblock_leaf_blocks.specs.LineKinds.{underline_rank}
 use Rattle.mdblock_tables.specs.Tables.{is_row}
-use Rattle.mdblock_containers.specs.Rows.{Leaf, closed, has_none, is_paragraph, is_table, open_fence, open_html, open_paragraph, open_table}
+use Rattle.mdblock_containers.specs.Rows.{Leaf, closed, is_paragraph, is_table, open_fence, open_html, open_paragraph, open_table}
 use Rattle.mdblock_definitions.specs.Known.{asks_table, is_held_used_up, is_in_table, leaf_behind}
 use Rattle.mdblock_definitions.proofs.KnownLemmas.{text-stays}
 

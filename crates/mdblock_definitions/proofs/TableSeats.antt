@@ -1,6 +1,6 @@
 -- The virtual bytes of a table's lines, and its marks over them.
 use Rattle.std.proofs.Common.{◌≡◌, ℕ, suc, ◌+◌, Bool, true, false, cond, List, [], ◌∷◌, ◌++◌, refl, ap, take, arith, map, sym, ◌∙◌}
-use Rattle.std.specs.List.{flat_map, prefix_len}
+use Rattle.std.specs.List.{prefix_len}
 use Rattle.std.proofs.lemmas.Bool.{false≢true}
 use Rattle.markdown_base.specs.Virtual.{Seat}
 use Rattle.mdconstructs_machines.specs.LineEvents.{ending_of}
@@ -8,7 +8,7 @@ use Rattle.mdblock_containers.specs.Prefixes.{columns_of}
 use Rattle.mdblock_containers.specs.Rows.{Leaf, Row, closed, holds_ending, is_table, open_fence, open_html, open_paragraph, open_table}
 use Rattle.mdblock_containers.specs.Skeleton.{last_of}
 use Rattle.mdblock_table_marks.specs.TableMarks.{row_seats, rows_seats}
-use Rattle.mdblock_definitions.specs.Definitions.{Place, all_seats, byte_at, places_in, seats_of}
+use Rattle.mdblock_definitions.specs.Definitions.{Place, byte_at, places_in, seats_of}
 use Rattle.mdblock_definitions.specs.Sections.{is_in_table}
 
 -- they are those of the places that definitions in these lines would have

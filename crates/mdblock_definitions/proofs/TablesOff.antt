@@ -1,6 +1,6 @@
 -- Tables can be off.
-use Rattle.std.proofs.Common.{◌≡◌, ℕ, zero, suc, Bool, true, false, cond, List, [], ◌∷◌, ◌++◌, drop, length, refl, sym, ap, take, ◌∙◌}
-use Rattle.std.specs.List.{AllByRecursion, flat_map}
+use Rattle.std.proofs.Common.{◌≡◌, ℕ, zero, suc, Bool, true, false, cond, List, [], ◌∷◌, ◌++◌, drop, length, refl, sym, ap, ◌∙◌}
+use Rattle.std.specs.List.{flat_map}
 use Rattle.markdown_base.specs.declared.configuration.Constructs.{Constructs}
 use Rattle.markdown_base.proofs.Common.{every-drop, every-take}
 use Rattle.mdblock_leaf_blocks.specs.LeafBlocks.{Line}
@@ -8,7 +8,7 @@ use Rattle.mdblock_containers.specs.Rows.{Row, nothing_known, rows_by}
 use Rattle.mdblock_containers.specs.Skeleton.{Part, further, parts_in}
 use Rattle.mdblock_containers.proofs.RestLemmas.{part_of}
 use Rattle.mdblock_definitions.specs.Laws.{TablesCanBeOff, cut_at_definitions, rows_without}
-use Rattle.mdblock_definitions.specs.Rows.{Known, known_after, row_of, row_without, rows_from}
+use Rattle.mdblock_definitions.specs.Rows.{Known, known_after, row_without, rows_from}
 use Rattle.mdblock_definitions.specs.Sections.{Section, cut, is_in_table, lines, sections_in}
 use Rattle.mdblock_definitions.specs.Skeleton.{all_rows}
 use Rattle.mdblock_definitions.proofs.FilledTexts.{without-none}

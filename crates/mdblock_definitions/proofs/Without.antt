@@ -30,7 +30,7 @@ use Rattle.mdblock_containers.specs.Skeleton.{Part, chained_from, further, parts
 use Rattle.mdblock_containers.specs.Skeleton as containers
 use Rattle.mdinline_labels.proofs.Fronts.{no-rest}
 use Rattle.mdblock_tables.specs.Tables.{is_row}
-use Rattle.mdinline_labels.specs.Definitions.{definition_at, definitions, destination_at, end, rest, stretch_at, title_at, titled_or_not}
+use Rattle.mdinline_labels.specs.Definitions.{definition_at, destination_at, end, rest, stretch_at, title_at, titled_or_not}
 use Rattle.mdinline_labels.specs.Labels.{is_label, normalised}
 use Rattle.mdinline_labels.specs.Tails.{begins_with, is_white, label_size}
 use Rattle.mdblock_definitions.specs.Blocks.{document_blocks}

@@ -1,7 +1,7 @@
 -- The lines of a document with their containers, where paragraphs may begin with link reference definitions (CommonMark 0.31, 4.7), and tables may end
 -- them (GFM 0.29, 4.10). Of the lines before, one thing more is known: the text of the paragraph that is open, as definitions alone are no text of a
 -- heading and no header row.
-use Rattle.std.specs.Prelude.{ℕ, ◌==◌, ◌&&◌, ◌||◌, not, Bool, true, false, cond, List, [], ◌∷◌, ◌++◌, is_some, reverse, take}
+use Rattle.std.specs.Prelude.{ℕ, ◌==◌, ◌&&◌, ◌||◌, not, Bool, cond, List, [], ◌∷◌, ◌++◌, is_some, reverse, take}
 use Rattle.std.specs.List.{prefix_len}
 use Rattle.markdown_base.specs.declared.configuration.Constructs.{Constructs}
 use Rattle.mdblock_leaf_blocks.specs.LeafBlocks.{Line}
