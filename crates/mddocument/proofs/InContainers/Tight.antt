@@ -1,5 +1,5 @@
 -- Void spans of the events of a document are empty: there is text where something is between two chunks of a text, and strings are one chunk.
-use Rattle.mddocument.proofs.Prelude.{◌⊎◌, inr, subst, sym, ◌≡◌, ℕ, Bool, ◌<◌, List, [], ◌∷◌, Option, Some, true, map, inl, ap, ◌∙◌, arith, AllByRecursion, Content, StringContent, TextContent, Event, IsVoidTight, begins, content_at, some_fits, fitting_starts, IsReady, Given, IsDocument, IsText, Text, chain_text, flow_events, blocks-meet, inline_events, string_events, inline-alone, tight-at}
+use Rattle.mddocument.proofs.Prelude.{◌⊎◌, inr, subst, sym, ◌≡◌, ℕ, Bool, ◌<◌, List, [], ◌∷◌, Option, Some, true, map, inl, arith, AllByRecursion, Content, StringContent, TextContent, Event, IsVoidTight, begins, content_at, some_fits, fitting_starts, IsReady, Given, IsDocument, IsText, Text, chain_text, flow_events, blocks-meet, inline_events, string_events, inline-alone, tight-at}
 use Rattle.std.specs.List.{AllZip}
 use Rattle.markdown_base.specs.declared.event.Content.TheVariants as content
 use Rattle.markdown_children.proofs.Parts.InShape.{children_fit}
