@@ -1,6 +1,6 @@
 -- What is in the definitions of a document's texts is what is in those of its skeleton: no leaf block and no inline text has a definition, and in one
 -- is no chunk.
-use Rattle.mddocument_rules.proofs.Prelude.{◌≡◌, ◌∙◌, ◌&&◌, ℕ, List, [], ◌∷◌, Bool, true, false, not, Some, and_parts, is_enter, refl, sym, ap, subst, false_from_ne_true, false≢true, every-append, Constructs, Event, Name, IsBalanced, empty, same_name, same_name-true, span, Seat, Given, IsDocument, IsReady, is_wanted, block_names, document_blocks, document_skeleton, flow_events, may_stand}
+use Rattle.mddocument_rules.proofs.Prelude.{◌≡◌, ◌∙◌, ℕ, List, [], ◌∷◌, Bool, true, false, not, Some, and_parts, is_enter, refl, sym, ap, subst, false_from_ne_true, false≢true, every-append, Constructs, Event, Name, IsBalanced, empty, same_name, same_name-true, span, Seat, Given, IsDocument, IsReady, is_wanted, block_names, document_blocks, document_skeleton, flow_events, may_stand}
 use Rattle.markdown_base.specs.declared.event.Content.TheVariants.{Content, String, Text}
 use Rattle.markdown_base.specs.declared.event.Name.TheVariants as name
 use Rattle.markdown_base.specs.Events.{is_void}
