@@ -1,14 +1,62 @@
 -- Where tables begin and end among lines, line by line; and their sections, table by table.
-use Rattle.std.proofs.Common.{◌≡◌, ◌≤◌, ◌+◌, ℕ, zero, suc, true, false, cond, List, [], ◌∷◌, ◌++◌, append-nil, append_assoc, arith, drop, length, refl, sym, ap, subst, take, ◌∙◌}
+use Rattle.std.proofs.Common.{◌≡◌, ◌<◌, ◌≤◌, ◌+◌, ◌-◌, ℕ, zero, suc, true, false, cond, List, [], ◌∷◌, ◌++◌, append-nil, append_assoc, arith, drop, length, refl, sym, ap, subst, take, ◌∙◌}
 use Rattle.std.specs.List.{flat_map, prefix_len}
-use Rattle.std.proofs.lemmas.List.{length-drop}
+use Rattle.std.proofs.lemmas.List.{drop-drop, length-drop, length-take-le, take_rest}
 use Rattle.markdown_base.specs.declared.configuration.Constructs.{Constructs}
+use Rattle.mdblock_containers.specs.Ahead.{AreRows}
+use Rattle.mdblock_containers.specs.declared.spans.RowAt.{RowAt}
 use Rattle.mdblock_containers.specs.Rows.{Row}
 use Rattle.mdblock_containers.specs.Skeleton.{Part}
+use Rattle.mdblock_table_marks.proofs.TableCuts.{pair-some}
 use Rattle.mdblock_table_marks.specs.TableCuts.{before_table, begins_in_table, cut_at_tables, table_lines}
+use Rattle.mdblock_definitions.specs.Costs.{bytes_in}
 use Rattle.mdblock_definitions.specs.declared.sections.Section.{Section as CodeSection}
 use Rattle.mdblock_definitions.specs.Sections.{Section, is_in_table, sections_in, sections_of_cut, tabled}
-use Rattle.mdblock_definitions.specs.Seen.{AreSections}
+use Rattle.mdblock_definitions.specs.Seen.{AreSections, AreThese}
+use Rattle.mdblock_definitions.proofs.SectionCosts.{bytes-cut, bytes-more, bytes-some}
+use Rattle.mdblock_definitions.proofs.SectionLemmas.{next-line, these-left}
+
+-- ---- lines of a part, piece by piece
+
+-- `n` lines from one on: where they end, and what bytes they have
+pub record HasPiece (t : ℕ) (bytes : List ℕ) (rows : List RowAt) (i n : ℕ) : Type 0 where
+  pub within : i + n ≤ length rows
+  pub some : n ≤ bytes_in t bytes (take ((i + n) - i) (drop i rows))
+  pub paid : bytes_in t bytes (take (i + n) rows) ≡ bytes_in t bytes (take i rows) + bytes_in t bytes (take ((i + n) - i) (drop i rows))
+  pub left : bytes_in t bytes (take (i + n) rows) + (length rows - (i + n)) ≤ bytes_in t bytes rows
+
+pub has-piece : (t : ℕ) (bytes : List ℕ) (rows : List RowAt) (i n : ℕ) → i ≤ length rows → n ≤ length (take (length rows - i) (drop i rows)) → HasPiece t bytes rows i n
+has-piece t bytes rows i n inside few =
+    let rest = ap (λ (l : List RowAt). length l) (take_rest rows i) in
+    let within : i + n ≤ length rows = omega (arith, few, rest, length-drop i rows, inside) in
+    let size : length (take n (drop i rows)) ≡ n = length-take-le n (drop i rows) (omega (arith, within, length-drop i rows)) in
+    let many : (i + n) - i ≡ n = omega arith in
+    let same : bytes_in t bytes (take ((i + n) - i) (drop i rows)) ≡ bytes_in t bytes (take n (drop i rows)) = ap (λ k. bytes_in t bytes (take k (drop i rows))) many in
+    record {
+      within = within;
+      some = omega (arith, same, size, bytes-some t bytes (take n (drop i rows)));
+      paid = bytes-more t bytes i n rows ∙ ap (λ k. bytes_in t bytes (take i rows) + k) (sym same);
+      left = omega (arith, bytes-cut t bytes (i + n) rows, bytes-some t bytes (drop (i + n) rows), length-drop (i + n) rows);
+    }
+
+-- `n` lines before a table, and `m` of it, as they are counted
+pub record HasPair (all : List Row) (i n m : ℕ) : Type 0 where
+  pub before : n ≡ before_table is_in_table (drop i all)
+  pub lines : m ≡ table_lines is_in_table (drop n (drop i all))
+  pub some : 1 ≤ n + m
+
+pub has-pair : (t : ℕ) (bytes : List ℕ) (rows : List RowAt) (all : List Row) (i n m : ℕ) → AreThese t bytes rows all → i < length rows
+    → ((left : List Row) → AreRows (take (length rows - i) (drop i rows)) left → n ≡ before_table is_in_table left)
+    → ((left : List Row) → AreRows (take (length rows - (i + n)) (drop (i + n) rows)) left → m ≡ table_lines is_in_table left) → HasPair all i n m
+has-pair t bytes rows all i n m these inside first second =
+    let line = next-line rows all i these.rows inside in
+    let left = drop i all in
+    let before : n ≡ before_table is_in_table left = first left (these-left t bytes rows all i these).rows in
+    let lines : m ≡ table_lines is_in_table (drop n left) = second (drop (i + n) all) (these-left t bytes rows all (i + n) these).rows ∙ ap (table_lines is_in_table) (sym (drop-drop n i all)) in
+    let pair = pair-some is_in_table line.row (drop (i + 1) all) in
+    let front : n ≡ before_table is_in_table (line.row ∷ drop (i + 1) all) = before ∙ ap (before_table is_in_table) line.rest in
+    let back : m ≡ table_lines is_in_table (drop (before_table is_in_table (line.row ∷ drop (i + 1) all)) (line.row ∷ drop (i + 1) all)) = lines ∙ (λ k. table_lines is_in_table (drop (front k) (line.rest k))) in
+    record { before = before; lines = lines; some = omega (arith, pair, front, back) }
 
 -- ---- before the first table
 
