@@ -1,5 +1,5 @@
 -- The lines of a section that is a table, as its rows are written.
-use Rattle.std.proofs.Common.{◌≡◌, ◌-◌, ℕ, suc, List, [], ◌∷◌, arith, drop, length, length-drop, ap, ◌∙◌}
+use Rattle.std.proofs.Common.{◌≡◌, ◌-◌, ℕ, suc, List, [], ◌∷◌, arith, drop, length, length-drop, ap, ◌∙◌, subst, sym}
 use Rattle.std.specs.List.{AllByRecursion}
 use Rattle.mdblock_leaf_blocks.specs.LeafBlocks.{text_of}
 use Rattle.mdblock_leaf_blocks.specs.LineKinds.{indent}
@@ -31,9 +31,10 @@ module _ (t : ℕ) (bytes : List ℕ) (stack : List Container) where
   lines-have-text number start (x ∷ xs) (r ∷ rs) are filled = (line-has-text number start x r are.0 filled.0, lines-have-text (suc number) x.span.next xs rs are.2 filled.1)
 
   module _ (x : RowAt) (xs : List RowAt) (p : Part) (s : IsSectionOf t bytes stack x xs p) where
-    pub table-lines : AreLines t bytes stack (x ∷ xs) (all_rows p)
-    table-lines =
+    pub table-lines : (rows : List RowAt) → rows ≡ x ∷ xs → AreLines t bytes stack rows (all_rows p)
+    table-lines rows e =
         let here = section-lines t bytes stack x xs p s in
+        subst (λ (l : List RowAt). AreLines t bytes stack l (all_rows p)) (sym e)
         (record { stands = record { placed = here.0.placed; outside = here.0.outside }; line = here.0.line; columns = here.0.columns }, here.1)
 
     pub section-tabled : AreTableRows p.more → CanBeTable (x ∷ xs)

@@ -1,7 +1,7 @@
-use Rattle.std.proofs.Common.{◌<◌, List, ◌∷◌, map, sym, subst, arith, ◌∙◌}
+use Rattle.std.proofs.Common.{◌<◌, List, map, sym, subst, arith, ◌∙◌}
 use Rattle.mdblock_containers.specs.declared.spans.RowAt.{RowAt}
 use Rattle.mdblock_containers.specs.Views.{open_of}
-use Rattle.mdblock_table_marks.specs.Lines.{AreLines, CanBeTable, IsBegin}
+use Rattle.mdblock_table_marks.specs.Lines.{CanBeTable, IsBegin}
 use Rattle.mdblock_definitions.specs.Skeleton.{all_rows}
 use Rattle.mdblock_definitions.proofs.SectionFacts.{rows-bytes, section-columns}
 use Rattle.mdblock_definitions.proofs.Sectioned.{blank-is}
@@ -13,25 +13,20 @@ write_table-requires g c =
     let t = c.args.tab in
     let bytes = c.args.bytes.now in
     let stack = map open_of c.args.stack.now in
-    let first = c.args.first.now in
-    let more = c.args.more.now in
-    let section = c.requires.1.1.1.0 in
     let some : 0 < t = omega (arith, c.get-tab_size.ensures.least, c.get-tab_size.ensures.columns) in
-    let blank = blank-is t bytes some c.requires.1.0 stack first more g.part section in
+    let section = c.requires.1.1.1.0 in
+    let blank = blank-is t bytes some c.requires.1.0 stack c.args.first.now c.args.more.now g.part section in
     record {
       limit = c.requires.1.0;
-      lines = record { all = all_rows g.part; are = subst (λ (l : List RowAt). AreLines t bytes stack l (all_rows g.part)) (sym c.requires.1.1.0) (table-lines t bytes stack first more g.part section) };
+      lines = record { all = all_rows g.part; are = table-lines t bytes stack c.args.first.now c.args.more.now g.part section c.args.rows.now c.requires.1.1.0 };
       begin = subst (λ (l : List RowAt). IsBegin t bytes l c.args.begin) (sym c.requires.1.1.0)
-          (section-columns t bytes stack first more g.part section c.args.begin c.requires.1.1.1.1.0 (blank ∙ c.requires.1.1.1.1.1.0), c.requires.1.1.1.1.0.place);
-      table = subst CanBeTable (sym c.requires.1.1.0) (section-tabled t bytes stack first more g.part section c.requires.1.1.1.1.1.1);
+          (section-columns t bytes stack c.args.first.now c.args.more.now g.part section c.args.begin c.requires.1.1.1.1.0 (blank ∙ c.requires.1.1.1.1.1.0), c.requires.1.1.1.1.0.place);
+      table = subst CanBeTable (sym c.requires.1.1.0) (section-tabled t bytes stack c.args.first.now c.args.more.now g.part section c.requires.1.1.1.1.1.1);
     }
 
 pub returns-clause-events : goal.returns-clause-events
 returns-clause-events g c = λ rest all w.
-    let t = c.args.tab in
-    let bytes = c.args.bytes.now in
-    let stack = map open_of c.args.stack.now in
-    let are = subst (λ (l : List RowAt). AreLines t bytes stack l (all_rows g.part)) (sym c.requires.1.1.0) (table-lines t bytes stack c.args.first.now c.args.more.now g.part c.requires.1.1.1.0) in
+    let are = table-lines c.args.tab c.args.bytes.now (map open_of c.args.stack.now) c.args.first.now c.args.more.now g.part c.requires.1.1.1.0 c.args.rows.now c.requires.1.1.0 in
     c.in_ok-write_table.ensures.events g.part are rest all w
 
 pub returns-clause-turns : goal.returns-clause-turns
