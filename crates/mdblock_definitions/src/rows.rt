@@ -1,16 +1,15 @@
 //! The lines of a document with their containers, where paragraphs may begin with definitions.
 
-ghost use Rattle.std.specs.Prelude.{◌≡◌, ◌≤◌, ◌<◌, ◌+◌, ◌*◌, ◌&&◌, true, cond, ℕ, IfOk, [], is_some, length, drop, map};
+ghost use Rattle.std.specs.Prelude.{◌≡◌, ◌≤◌, ◌<◌, ◌+◌, ◌*◌, ◌&&◌, true, cond, ℕ, IfOk, [], length, drop, map};
 ghost use Rattle.std.specs.List.{prefix_len};
 ghost use Rattle.markdown_base.specs.Virtual.{virtual};
 ghost use Rattle.mdconstructs_machines.specs.LineEvents.{lines_in};
 ghost use Rattle.mdblock_leaf_blocks.specs.LeafBlocks.{Line, text_of};
-ghost use Rattle.mdblock_leaf_blocks.specs.LineKinds.{underline_rank};
 ghost use Rattle.mdblock_lines.specs.Lines.{is_in_line, line_at, line_length, line_bytes};
 ghost use Rattle.mdblock_containers.specs.Ahead.{AreRows};
 ghost use Rattle.mdblock_containers.specs.Costs.{HaveSizes};
 ghost use Rattle.mdblock_containers.specs.Over.{AreBefore, AreOver};
-ghost use Rattle.mdblock_containers.specs.Rows.{closed, is_paragraph, open_paragraph};
+ghost use Rattle.mdblock_containers.specs.Rows.{closed, is_paragraph};
 ghost use Rattle.mdblock_containers.specs.Spans.{ArePlaced, IsPlaced};
 ghost use Rattle.mdblock_containers.specs.Views.{IsRow, leaf_of, open_of};
 ghost use Rattle.mdblock_definitions.specs.Known.{IsKept, IsKnown, held_behind, is_in_table, last_behind, leaf_behind, table_asked};

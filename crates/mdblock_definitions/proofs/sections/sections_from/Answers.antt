@@ -1,8 +1,7 @@
-use Rattle.std.proofs.Common.{◌≡◌, ◌+◌, ◌-◌, ◌*◌, ◌≤◌, ℕ, List, [], ap, arith, drop, length, length-drop, length-take, refl, subst, sym, take, ◌∙◌, false, true}
+use Rattle.std.proofs.Common.{◌≡◌, ◌+◌, ◌-◌, ◌*◌, ◌≤◌, List, [], ap, arith, drop, length, length-drop, length-take, refl, subst, sym, take, ◌∙◌, false, true}
 use Rattle.std.proofs.lemmas.Bool.{false≢true}
 use Rattle.std.proofs.lemmas.List.{drop-drop, drop_all, length-take-le, take_rest}
 use Rattle.mdblock_containers.specs.declared.spans.RowAt.{RowAt}
-use Rattle.mdblock_containers.specs.Rows.{Row}
 use Rattle.mdblock_containers.proofs.AheadLemmas.{rows_length}
 use Rattle.mdblock_definitions.specs.Costs.{bytes_in, text_rows}
 use Rattle.mdblock_definitions.specs.Sections.{defined_in, paragraph_of, sections_in, text_in}

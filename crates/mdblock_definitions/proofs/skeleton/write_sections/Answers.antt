@@ -1,4 +1,4 @@
-use Rattle.std.proofs.Common.{◌≡◌, ◌+◌, ◌-◌, ◌<◌, ◌++◌, ◌∷◌, Bool, true, false, [], List, drop, length, take, map, refl, subst, sym, ap, ◌∙◌, arith, ◌*◌, ◌≤◌, ℕ, suc}
+use Rattle.std.proofs.Common.{◌≡◌, ◌+◌, ◌-◌, ◌<◌, ◌++◌, ◌∷◌, Bool, true, false, [], List, drop, length, take, map, refl, subst, sym, ap, ◌∙◌, arith, ◌*◌, ◌≤◌, suc}
 use Rattle.std.specs.Prelude.{◌||◌, None}
 use Rattle.std.proofs.lemmas.List.{append-nil, drop-drop, drop_all, length-drop, length-map, take_all, take_rest, length-take-le}
 use Rattle.std.specs.List.{flat_map}

@@ -1,4 +1,4 @@
-use Rattle.std.proofs.Common.{◌≡◌, ◌+◌, ◌-◌, Bool, List, [], arith, drop, length, subst, sym, take, ◌∙◌}
+use Rattle.std.proofs.Common.{◌+◌, ◌-◌, List, arith, drop, length, subst, sym, take, ◌∙◌}
 use Rattle.std.proofs.lemmas.List.{drop_all, take_rest}
 use Rattle.mdblock_containers.specs.Ahead.{AreRows}
 use Rattle.mdblock_containers.specs.declared.spans.RowAt.{RowAt}

@@ -1,4 +1,4 @@
-use Rattle.std.proofs.Common.{◌≡◌, ◌+◌, Bool, List, [], arith, drop, length, sym, ◌∙◌}
+use Rattle.std.proofs.Common.{◌+◌, arith, drop, length, sym, ◌∙◌}
 use Rattle.std.proofs.lemmas.List.{drop_all}
 use Rattle.mdblock_containers.proofs.AheadLemmas.{rows_length}
 use Rattle.mdblock_definitions.proofs.SectionGoing.{some-rows}

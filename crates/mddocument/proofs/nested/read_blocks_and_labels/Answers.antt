@@ -1,7 +1,6 @@
 use Rattle.mddocument.proofs.InContainers.Skeletons.{skeleton-laws}
-use Rattle.mddocument.proofs.Prelude.{◌≡◌, ◌∙◌, ap, sym, subst, IsWellFormed, document}
+use Rattle.mddocument.proofs.Prelude.{◌∙◌, ap, sym, subst, IsWellFormed, document}
 use Rattle.mdblock_table_marks.specs.Cells.{with_cells}
-use Rattle.mdblock_text_lines.specs.DocumentBlocks.{document_blocks}
 use Rattle.mddocument.proofs.InContainers.BlocksFormed.{blocks-well}
 use Rattle.mddocument.proofs.nested.read_blocks_and_labels.Goals as goal
 
