@@ -31,8 +31,9 @@ module _ (old new : List ℕ → Option Parts) (bytes : List ℕ) where
   one-stayed true (target.Label label) xs ys same = (ap (drop 1) same, (ap (first-or (new label)) same, tt))
   one-stayed false t xs ys same = (same, tt)
 
-  abbrev Leads : List ℕ → Type 0
-  Leads label = new label ≡ old label
+  -- a label leads where it led
+  abbrev LeadsAlike : List ℕ → Type 0
+  LeadsAlike label = new label ≡ old label
 
   -- links lead where they led if the labels do by which they are
   links-stay : (es : List Event) → LeadAsBefore old new (link_labels bytes es) → targets_in new bytes es ≡ targets_in old bytes es
@@ -40,13 +41,13 @@ module _ (old new : List ℕ → Option Parts) (bytes : List ℕ) where
   links-stay (e ∷ es) all =
       let one = option_to_list (link_label bytes (e ∷ es)) in
       one-stays (enters_link e) (target_in bytes (inside es)) (targets_in new bytes es) (targets_in old bytes es)
-      (links-stay es (every-front Leads (link_labels bytes es) one all)) (every-back Leads (link_labels bytes es) one all)
+      (links-stay es (every-front LeadsAlike (link_labels bytes es) one all)) (every-back LeadsAlike (link_labels bytes es) one all)
 
   links-stayed : (es : List Event) → targets_in new bytes es ≡ targets_in old bytes es → LeadAsBefore old new (link_labels bytes es)
   links-stayed [] same = tt
   links-stayed (e ∷ es) same =
       let each = one-stayed (enters_link e) (target_in bytes (inside es)) (targets_in new bytes es) (targets_in old bytes es) same in
-      every-append Leads (link_labels bytes es) (option_to_list (link_label bytes (e ∷ es))) (links-stayed es each.0) each.1
+      every-append LeadsAlike (link_labels bytes es) (option_to_list (link_label bytes (e ∷ es))) (links-stayed es each.0) each.1
 
 -- so do those of a section, by the labels that it keeps
 pub stays-iff : (old new : List ℕ → Option Parts) (s : Section) → HasLinking s → LeadAsBefore old new s.linking.labels ↔ (targets_in new s.part.bytes.items s.events ≡ targets_in old s.part.bytes.items s.events)
