@@ -128,6 +128,7 @@ pub use Rattle.mdblock_lines.proofs.LinesCut
 pub use Rattle.mdblock_lines.proofs.PlaceLemmas
 pub use Rattle.mdblock_lines.proofs.SeatPlaces
 pub use Rattle.mdblock_containers.proofs.AheadLemmas
+pub use Rattle.mdblock_containers.proofs.AnySpans
 pub use Rattle.mdblock_containers.proofs.ChainLemmas
 pub use Rattle.mdblock_containers.proofs.ColumnLemmas
 pub use Rattle.mdblock_containers.proofs.CostLemmas
@@ -225,9 +226,12 @@ pub use Rattle.mddocument_parts.proofs.BlocksJoin
 pub use Rattle.mddocument_parts.proofs.Both
 pub use Rattle.mddocument_parts.proofs.BothDocuments
 pub use Rattle.mddocument_parts.proofs.BothTexts
+pub use Rattle.mddocument_parts.proofs.CellsLeft
+pub use Rattle.mddocument_parts.proofs.CellsOfBoth
 pub use Rattle.mddocument_parts.proofs.Chained
 pub use Rattle.mddocument_parts.proofs.ChildrenOfBoth
 pub use Rattle.mddocument_parts.proofs.Choices
+pub use Rattle.mddocument_parts.proofs.CutsJoined
 pub use Rattle.mddocument_parts.proofs.DataBeforeEnd
 pub use Rattle.mddocument_parts.proofs.DocumentAsked
 pub use Rattle.mddocument_parts.proofs.DocumentBytes
@@ -292,6 +296,7 @@ pub use Rattle.mddocument_editing.proofs.ComeBack
 pub use Rattle.mddocument_editing.proofs.CountedEndings
 pub use Rattle.mddocument_editing.proofs.CutLines
 pub use Rattle.mddocument_editing.proofs.CutSteps
+pub use Rattle.mddocument_editing.proofs.ExitSteps
 pub use Rattle.mddocument_editing.proofs.FirstSaid
 pub use Rattle.mddocument_editing.proofs.FitSections
 pub use Rattle.mddocument_editing.proofs.FrontSums
@@ -334,3 +339,4 @@ pub use Rattle.mddocument_editing.proofs.ToldOthers
 pub use Rattle.mddocument_editing.proofs.Touched
 pub use Rattle.mddocument_editing.proofs.Trims
 pub use Rattle.mddocument_editing.proofs.Unique
+pub use Rattle.mddocument_editing.proofs.Visits

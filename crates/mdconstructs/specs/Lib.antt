@@ -240,6 +240,7 @@ pub use Rattle.mddocument_editing.specs.Asking
 pub use Rattle.mddocument_editing.specs.Cuts
 pub use Rattle.mddocument_editing.specs.Divided
 pub use Rattle.mddocument_editing.specs.Edits
+pub use Rattle.mddocument_editing.specs.Exits
 pub use Rattle.mddocument_editing.specs.Finds
 pub use Rattle.mddocument_editing.specs.FirstRest
 pub use Rattle.mddocument_editing.specs.Fits
