@@ -216,7 +216,7 @@ module _ (on : Constructs) where
       by more true ex = let one : suc (prefix_len is_in_table xs) ≡ 1 + prefix_len is_in_table xs = omega arith in subst (λ (n : ℕ). ToldShut (drop n (x ∷ xs))) one (more ex)
       by more false ex = record { so_far = text_behind on is_open so_far q; told = subst (λ (o : Bool). AreTold on o (text_behind on is_open so_far q) (x ∷ xs)) (table-shut q.leaf e) told.1 }
 
-  record Ready (rs : List Row) : Type 0 where
+  record CanBeCut (rs : List Row) : Type 0 where
     has : HasApart rs
     stay : AllByRecursion StaysOn (drop 1 rs)
 
@@ -224,17 +224,17 @@ module _ (on : Constructs) where
     has : HasTold on rs
     stay : AllByRecursion StaysOn (drop 1 rs)
 
-  plain-said : (around : Part) (n : ℕ) (rs : List Row) → Ready rs → AllByRecursion SectionSaid (sections_in on (length (take n rs)) false around (take n rs)) × Headed (drop n rs)
+  plain-said : (around : Part) (n : ℕ) (rs : List Row) → CanBeCut rs → AllByRecursion SectionSaid (sections_in on (length (take n rs)) false around (take n rs)) × Headed (drop n rs)
   plain-said around n rs h = (by n rs h, record { has = told-drop on n rs (record { is_open = h.has.is_open; so_far = h.has.so_far; told = h.has.told }); stay = stay-drop n rs h.stay })
     where
-      by : (n : ℕ) (rs : List Row) → Ready rs → AllByRecursion SectionSaid (sections_in on (length (take n rs)) false around (take n rs))
+      by : (n : ℕ) (rs : List Row) → CanBeCut rs → AllByRecursion SectionSaid (sections_in on (length (take n rs)) false around (take n rs))
       by zero rs h = tt
       by (suc n) [] h = tt
       by (suc n) (r ∷ rs) h =
           let at = h.has in
           sections-said (suc (length (take n rs))) false around at.is_open at.so_far (r ∷ take n rs) (told-take on at.is_open at.so_far (suc n) (r ∷ rs) at.told) (ready-apart on at.is_open at.so_far r (take n rs) at.apart) (every-take StaysOn n rs h.stay)
 
-  table-said : (around : Part) → TableIs on around SectionSaid Ready Headed
+  table-said : (around : Part) → TableIs on around SectionSaid CanBeCut Headed
   table-said around header q qs h is =
       let n = prefix_len is_in_table qs in
       let next = told-behind (is_paragraph header.leaf) (text_behind on h.has.is_open h.has.so_far header) q qs is h.has.told.1 in
@@ -249,8 +249,8 @@ module _ (on : Constructs) where
           let mode = mode_behind none_open (is_paragraph p.first.leaf) in
           ((λ _. ((λ k. absurd (false≢true (sym (first.blank e) ∙ k))), subst (λ (l : List Row). AreSaid on mode l) (sym (h.lone e)) tt)), tt)
       by false e =
-          let here : Ready (p.first ∷ p.more) = record { has = record { is_open = h.is_open; so_far = h.so_far; told = h.told; apart = h.apart }; stay = h.stay } in
-          cuts-are on p SectionSaid Ready Headed (plain-said p) (table-said p) (suc (length p.more)) (p.first ∷ p.more) here
+          let here : CanBeCut (p.first ∷ p.more) = record { has = record { is_open = h.is_open; so_far = h.so_far; told = h.told; apart = h.apart }; stay = h.stay } in
+          cuts-are on p SectionSaid CanBeCut Headed (plain-said p) (table-said p) (suc (length p.more)) (p.first ∷ p.more) here
 
   -- behind a part
   next-apart : (is_open : Bool) (so_far : List ℕ) (r : Row) (rs : List Row) → AreTold on is_open so_far (r ∷ rs) → HasApart (drop (cond r.is_blank 0 (further rs)) rs)

@@ -2,7 +2,7 @@
 use Rattle.mddocument_laws.proofs.Prelude.{Seat, leaf, span, Stretch, cut}
 use Rattle.std.proofs.Common.{ℕ, ◌-◌, List, [], ◌∷◌, ◌++◌, Some, None, Option, take, drop, length}
 use Rattle.std.proofs.lemmas.Bool.{cond_both}
-use Rattle.std.specs.List.{between, flat_map}
+use Rattle.std.specs.List.{AllByRecursion, between, flat_map}
 use Rattle.markdown_base.specs.declared.event.Event.{Event}
 use Rattle.markdown_base.specs.declared.event.Name.{Name}
 use Rattle.markdown_base.specs.declared.event.Name.TheVariants as name
