@@ -9,12 +9,12 @@ ghost use Rattle.mddocument_editing.specs.Said.{link_label, link_labels, linking
 
 use crate::said::{Said, saids_of};
 use markdown_base::event::{Event, Kind, Name};
-use markdown_base::owned::Items;
+use markdown_base::owned::{Boxed, Items};
 use mddocument_link_targets::spans::enters;
 use mddocument_link_targets::targets::label_behind;
 use std::alloc::{AllocError, Global};
 
-/// What links of a section go by, by its events.
+/// What links of a section go by, by its events. It is kept in a box, so that a section is small: those behind an edit are moved.
 #[derive(Drop)]
 pub(crate) struct Linking {
     /// The definitions.
@@ -159,10 +159,11 @@ pub(crate) fn linking_of(
     alloc: Global,
     bytes: &[u8],
     events: &[Event],
-) -> Result<Linking, AllocError>
+) -> Result<Boxed<Linking>, AllocError>
     ensures { IfOk result (λ all. all ≡ linking bytes.now events.now) }
 {
     let saids = saids_of(alloc, bytes, events)?;
     let labels = labels_of(alloc, bytes, events)?;
-    Ok(Linking { saids, labels })
+    let linking = Box::new(alloc, Linking { saids, labels })?;
+    Ok(Boxed::from_box(linking))
 }

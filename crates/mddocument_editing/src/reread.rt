@@ -7,13 +7,14 @@ ghost use Rattle.mddocument_editing.specs.Put.{put_all};
 use crate::linking::Linking;
 use crate::packed::Packed;
 use crate::section::Section;
+use markdown_base::owned::Boxed;
 
 /// What a section is read as that is read again, by its number.
 #[derive(Drop)]
 pub(crate) struct Reread {
     pub(crate) section: usize,
     pub(crate) events: Packed,
-    pub(crate) linking: Linking,
+    pub(crate) linking: Boxed<Linking>,
 }
 
 /// Puts the events of sections that were read again in the place of those that they had.

@@ -14,6 +14,7 @@ use crate::linking::{Linking, linking_of};
 use crate::packed::{PackError, Packed};
 use crate::positions::line_endings;
 use markdown_base::configuration::ParseOptions;
+use markdown_base::owned::Boxed;
 use mdblock_definitions::parts::skeleton_with_definitions;
 use mddocument::documents::read_document_by;
 use mdinline_labels::labels::Labels;
@@ -41,7 +42,7 @@ pub(crate) struct Section {
     /// Its events, as those of a document of its own, by the labels of the whole document.
     pub(crate) events: Packed,
     /// What links go by that are among them.
-    pub(crate) linking: Linking,
+    pub(crate) linking: Boxed<Linking>,
 }
 
 /// What a part is read as.
@@ -50,7 +51,7 @@ pub(crate) struct Read {
     /// Its events.
     pub(crate) events: Packed,
     /// What links go by that are among them.
-    pub(crate) linking: Linking,
+    pub(crate) linking: Boxed<Linking>,
 }
 
 /// The labels that a part defines.

@@ -93,7 +93,7 @@ fn push_own(all: &mut Vec<Said>, alloc: Global, sections: &[Section]) -> Result<
     ensures { OnOk result (all.new.items ≡ all.old.items ++ own_saids sections.now) }
 {
     for section in sections {
-        push_saids(all, alloc, section.linking.saids.as_slice())?;
+        push_saids(all, alloc, section.linking.as_ref().saids.as_slice())?;
     }
     Ok(())
 }
@@ -108,8 +108,8 @@ fn push_now(
     ensures { OnOk result (all.new.items ≡ all.old.items ++ saids_now section.now (option_copied found.entry)) }
 {
     match found {
-        Some(reread) => push_saids(all, alloc, reread.linking.saids.as_slice()),
-        None => push_saids(all, alloc, section.linking.saids.as_slice()),
+        Some(reread) => push_saids(all, alloc, reread.linking.as_ref().saids.as_slice()),
+        None => push_saids(all, alloc, section.linking.as_ref().saids.as_slice()),
     }
 }
 
@@ -120,7 +120,7 @@ fn what_is_new(leading: &Leading, section: &Section, found: Option<&Reread>) -> 
     if found.is_some() {
         return Some(Why::Events);
     }
-    let labels = section.linking.labels.as_slice();
+    let labels = section.linking.as_ref().labels.as_slice();
     if lead_as_before(&leading.old, &leading.new, labels) {
         None
     } else {
@@ -170,8 +170,8 @@ fn push_again(all: &mut Vec<Said>, alloc: Global, visit: &Visit) -> Result<(), A
     ensures { OnOk result (IsAgain (visit_of visit.now) all.old.items all.new.items) }
 {
     if let Some(reread) = visit.found {
-        push_saids(all, alloc, visit.section.linking.saids.as_slice())?;
-        push_saids(all, alloc, reread.linking.saids.as_slice())?;
+        push_saids(all, alloc, visit.section.linking.as_ref().saids.as_slice())?;
+        push_saids(all, alloc, reread.linking.as_ref().saids.as_slice())?;
     }
     Ok(())
 }
@@ -231,7 +231,7 @@ fn push_near(
 ) -> Result<(), AllocError>
     ensures { OnOk result (ArePushed (said_by touched.now) (visit_of visit.now) near.old near.new) }
 {
-    let saids = visit.section.linking.saids.as_slice();
+    let saids = visit.section.linking.as_ref().saids.as_slice();
     if visit.found.is_some() || touch(touched, saids) {
         push_saids(&mut near.olds, alloc, saids)?;
         push_now(&mut near.news, alloc, visit.section, visit.found)?;

@@ -11,7 +11,7 @@ loop-section-preserved c =
     let more = drop (i + 1) xs in
     let split : drop i xs ≡ s ∷ more = drop_more xs i s c.loop-section-test.true ∙ ap (λ z. z ∷ more) (sym c.section-item.is) in
     ap (λ ys. ys ++ own_saids more) c.in_ok-push_saids.ensures
-    ∙ ap (λ ds. (all ++ ds) ++ own_saids more) c.as_slice.ensures
+    ∙ ap (λ ds. (all ++ ds) ++ own_saids more) (c.as_slice.ensures ∙ ap (λ l. l.saids) c.as_ref.ensures)
     ∙ append_assoc all s.linking.saids (own_saids more)
     ∙ ap (λ ss. all ++ own_saids ss) (sym split)
     ∙ c.loop-section.invariant
