@@ -1,5 +1,5 @@
 -- The events of a document up to a seam, and those of the piece behind it.
-use Rattle.std.proofs.Common.{[], ◌∙◌, ◌∷◌, ◌≡◌, ◌++◌, ◌<◌, ◌≤◌, Bool, List, ap, append-nil, append_assoc, arith, drop, inl, inr, length, map, refl, subst, suc, sym, take, zero, ℕ}
+use Rattle.std.proofs.Common.{[], ◌∙◌, ◌∷◌, ◌≡◌, ◌++◌, ◌<◌, ◌≤◌, Bool, List, ap, append-nil, append_assoc, arith, drop, false, inl, inr, length, map, refl, subst, suc, sym, take, true, zero, ℕ}
 use Rattle.std.proofs.lemmas.Bool.{cases_lt}
 use Rattle.std.proofs.lemmas.List.{length-take, take-append-drop, take_all}
 use Rattle.markdown_base.specs.declared.configuration.ParseOptions.{ParseOptions}
@@ -43,7 +43,11 @@ module _ (options : ParseOptions) (bytes : List ℕ) (is : IsDocument (document 
 
 -- an empty document has no events
 pub events-none : (options : ParseOptions) (defined : List ℕ → Bool) → events_by options defined [] ≡ []
-events-none options defined = refl
+events-none options defined = by options.constructs.gfm_table
+  where
+    by : (tables : Bool) → events_by (record options { constructs = record options.constructs { gfm_table = tables } }) defined [] ≡ []
+    by true = refl
+    by false = refl
 
 module _ (options : ParseOptions) (defined : List ℕ → Bool) where
   abbrev read : List ℕ → List Event
