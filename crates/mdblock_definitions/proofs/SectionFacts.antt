@@ -7,7 +7,6 @@ use Rattle.mdblock_lines.specs.Containers.{Container}
 use Rattle.mdblock_lines.specs.Lines.{line_at, line_bytes}
 use Rattle.mdblock_containers.specs.declared.prefixes.At.{At}
 use Rattle.mdblock_containers.specs.declared.spans.RowAt.{RowAt}
-use Rattle.mdblock_containers.specs.Ahead.{AreRows}
 use Rattle.mdblock_containers.specs.Costs.{columns_in}
 use Rattle.mdblock_containers.specs.Prefixes.{columns_of}
 use Rattle.mdblock_containers.specs.Parts.{open_behind}
@@ -18,14 +17,12 @@ use Rattle.mdblock_containers.specs.Skeleton.{Part}
 use Rattle.mdblock_containers.specs.Spans.{AreRowsIn, IsPlaced, IsRowIn}
 use Rattle.mdblock_containers.specs.Stretches.{AreFurther, IsOutside}
 use Rattle.mdblock_containers.specs.Written.{Written}
-use Rattle.mdblock_containers.proofs.AheadLemmas.{rows_length}
-use Rattle.mdblock_table_marks.specs.TableCuts.{before_table}
 use Rattle.mdblock_containers.proofs.WrittenLemmas.{write_plain}
 use Rattle.mdinline_labels.specs.declared.definitions.Definition.{Definition}
 use Rattle.mdblock_definitions.specs.Costs.{bytes_in, bytes_of}
 use Rattle.mdblock_definitions.specs.Cursor.{AreLines}
 use Rattle.mdblock_definitions.specs.Definitions.{definitions_marks, places_in}
-use Rattle.mdblock_definitions.specs.Sections.{Section, text_in, is_in_table}
+use Rattle.mdblock_definitions.specs.Sections.{Section, text_in}
 use Rattle.mdblock_definitions.specs.Sectioned.{AreFirst, AreInLines, IsBegun, IsSectionOf}
 use Rattle.mdblock_definitions.specs.Seen.{AreThese, rows_by}
 use Rattle.mdblock_definitions.specs.Skeleton.{all_rows}
@@ -60,12 +57,6 @@ module _ (t : ℕ) (bytes : List ℕ) (stack : List Container) where
           },
           subst (λ (n : ℕ). AreFurther t bytes stack (suc n) x.span.next xs p.more) number s.further,
         )
-
-    -- no line is in a table, if all come before the first
-    pub none-tabled : (rows : List RowAt) → rows ≡ x ∷ xs → (before : ℕ) → ((all : List Row) → AreRows rows all → before ≡ before_table is_in_table all) → before ≡ length rows → before_table is_in_table (all_rows p) ≡ length (all_rows p)
-    none-tabled rows er before is all =
-        let these = section-these in
-        sym (is (all_rows p) (subst (λ (l : List RowAt). AreRows l (all_rows p)) (sym er) these.rows)) ∙ all ∙ ap (λ (l : List RowAt). length l) er ∙ rows_length (x ∷ xs) (all_rows p) these.rows
 
     -- the first line of definitions is not blank
     pub section-columns : (begin : At) → IsBegun t bytes p x begin → x.row.is_blank ≡ false → begin.columns ≡ x.row.columns

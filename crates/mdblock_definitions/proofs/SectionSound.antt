@@ -15,12 +15,12 @@ use Rattle.mdblock_definitions.specs.Rows.{rows}
 use Rattle.mdblock_definitions.specs.Sectioned.{AreSectionsOf, AreSound, TextIsFilled, TextsAreFilled, IsSound, IsFilled}
 use Rattle.mdblock_definitions.specs.Sections.{Section, before_defined, cut, defined_in, defining, in_same, lines, lines_defined, paragraph_of, sections, sections_in, text_in, undefined, is_in_table, sections_of_cut}
 use Rattle.mdblock_definitions.specs.Skeleton.{all_rows}
-use Rattle.mdblock_definitions.proofs.Covered.{cut-lines, lines-of-parts, cuts-lines}
+use Rattle.mdblock_definitions.proofs.Covered.{lines-of-parts, cuts-lines}
 use Rattle.mdblock_definitions.proofs.DefinedText.{paragraph-defined}
 use Rattle.mdblock_definitions.proofs.FilledTexts.{texts-back, texts-drop, texts-front, texts-take}
 use Rattle.mdblock_definitions.proofs.PartTexts.{all-texts}
 use Rattle.mdblock_definitions.proofs.TableCutting.{cuts-are}
-use Rattle.mdblock_definitions.proofs.Within.{sections-within, cuts-within}
+use Rattle.mdblock_definitions.proofs.Within.{cuts-within}
 
 plain-sound : (around : Part) (ps : List Part) → AreSound (map (λ p. record { part = p; inside = lines false }) (map (in_same around) ps))
 plain-sound around [] = tt
@@ -96,19 +96,11 @@ module _ (on : Constructs) where
       (λ header row rows k is. (((k.0 (k.1.0 is)).0, rows-filled rows k.1.1.1.1), texts-drop (prefix_len is_in_table rows) rows k.1.1.1.1)) b rs h
 
   -- the sections of a part that is no blank line
-  pub cut-sections : (p : Part) → TextsAreFilled (all_rows p) → AreSectionsOf p (flat_map (sections_of_cut on p) (cut_at_tables is_in_table (suc (length p.more)) (all_rows p)))
-  cut-sections p h = record {
+  cuts-sections : (p : Part) → TextsAreFilled (all_rows p) → AreSectionsOf p (flat_map (sections_of_cut on p) (cut_at_tables is_in_table (suc (length p.more)) (all_rows p)))
+  cuts-sections p h = record {
     within = cuts-within on p (cut_at_tables is_in_table (suc (length p.more)) (all_rows p));
     lines = cuts-lines on (suc (length p.more)) p (all_rows p) (omega arith);
     sound = cuts-sound (suc (length p.more)) p (all_rows p) h;
-  }
-
-  -- and if it has no table
-  pub part-sections : (p : Part) → TextsAreFilled (all_rows p) → AreSectionsOf p (sections_in on (suc (length p.more)) false p (all_rows p))
-  part-sections p h = record {
-    within = sections-within on (suc (length p.more)) false p (all_rows p);
-    lines = cut-lines on (suc (length p.more)) false p (all_rows p) (omega arith);
-    sound = sections-sound (suc (length p.more)) false p (all_rows p) h;
   }
 
   abbrev cut_by : Part → Bool → List Section
@@ -116,6 +108,9 @@ module _ (on : Constructs) where
 
   pub cut-tabled : (p : Part) → p.first.is_blank ≡ false → cut on p ≡ flat_map (sections_of_cut on p) (cut_at_tables is_in_table (suc (length p.more)) (all_rows p))
   cut-tabled p e = ap (cut_by p) e
+
+  pub cut-sections : (p : Part) → p.first.is_blank ≡ false → TextsAreFilled (all_rows p) → AreSectionsOf p (cut on p)
+  cut-sections p e h = subst (AreSectionsOf p) (sym (cut-tabled p e)) (cuts-sections p h)
 
   -- no line is in a table
   abbrev pub NoTable : List Row → Type 0
@@ -141,7 +136,7 @@ module _ (on : Constructs) where
     where
       by : (b : Bool) → AreSound (cut_by p b)
       by true = (tt, tt)
-      by false = (cut-sections p (texts-front (all_rows p) (flat_map all_rows ps) h)).sound
+      by false = (cuts-sections p (texts-front (all_rows p) (flat_map all_rows ps) h)).sound
 
   pub document-sound : (ls : List Line) → AreSound (sections on (rows on ls))
   document-sound ls =

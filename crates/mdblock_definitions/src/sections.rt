@@ -1,17 +1,18 @@
 //! The sections of a part: its lines, cut before and behind the definitions with which a paragraph in it begins.
 
-ghost use Rattle.std.specs.Prelude.{◌≡◌, ◌≤◌, ◌<◌, ◌+◌, ◌-◌, ◌*◌, ◌++◌, ◌&&◌, ℕ, List, IfOk, cond, drop, false, length, slice_index_or, take};
+ghost use Rattle.std.specs.Prelude.{◌≡◌, ◌≤◌, ◌<◌, ◌+◌, ◌-◌, ◌*◌, ◌++◌, ◌∷◌, ◌&&◌, ℕ, List, [], IfOk, MatchOption, cond, drop, false, length, slice_index_or, take};
 ghost use Rattle.std.specs.List.{prefix_len, flat_map};
 ghost use Rattle.mdblock_containers.specs.declared.ahead.Ahead.{Ahead as AheadOf};
 ghost use Rattle.mdblock_containers.specs.Ahead.{AreRows, ahead_of};
 ghost use Rattle.mdblock_containers.specs.Rows.{Row as RowOf};
-ghost use Rattle.mdblock_containers.specs.Skeleton.{Part};
+ghost use Rattle.mdblock_containers.specs.Skeleton.{Part, further};
 ghost use Rattle.mdblock_table_marks.specs.TableCuts.{cut_at_tables};
 ghost use Rattle.mdinline_labels.specs.declared.definitions.Definition.{Definition as DefinitionOf};
 ghost use Rattle.mdinline_labels.specs.Definitions.{definitions};
 ghost use Rattle.mdblock_definitions.specs.Costs.{bytes_in, text_rows};
-ghost use Rattle.mdblock_definitions.specs.Sections.{Section as SectionOf, defined_in, defining, lines, paragraph_of, sections_in, text_in, undefined, is_in_table, sections_of_cut, tabled};
+ghost use Rattle.mdblock_definitions.specs.Sections.{Section as SectionOf, cut, defined_in, defining, lines, paragraph_of, sections_in, text_in, undefined, is_in_table, sections_of_cut, tabled};
 ghost use Rattle.mdblock_definitions.specs.Seen.{AreHeld, AreSections, AreSome, AreThese, IsFound, begins_defining, begins_text_at, inside_of, is_text_at};
+ghost use Rattle.mdblock_definitions.specs.Skeleton.{all_rows};
 
 use crate::fronts::front_of;
 use crate::held::{has_bracket, hold_lines};
@@ -206,7 +207,7 @@ pub(crate) struct Found {
 }
 
 /// The first of these lines of a part in which a paragraph begins with definitions. No paragraph is open before them.
-pub(crate) fn find_defined<L: Ledger>(
+fn find_defined<L: Ledger>(
     alloc: Global,
     bytes: &[u8],
     tab: TabSize,
@@ -341,7 +342,7 @@ pub fn sections_of<L: Ledger>(
 }
 
 /// The same of some lines, by the first of its lines in which a paragraph begins with definitions.
-pub(crate) fn sections_from<L: Ledger>(
+fn sections_from<L: Ledger>(
     alloc: Global,
     bytes: &[u8],
     tab: TabSize,
@@ -389,7 +390,7 @@ fn push_table(sections: &mut Vec<Section>, lines: usize) -> Result<(), AllocErro
 }
 
 /// The sections of a part, which is no blank line, by its lines, cut before and behind each table. Fails only for want of memory.
-pub(crate) fn sections_with_tables<L: Ledger>(
+fn sections_with_tables<L: Ledger>(
     alloc: Global,
     bytes: &[u8],
     tab: TabSize,
@@ -413,4 +414,35 @@ pub(crate) fn sections_with_tables<L: Ledger>(
         push_table(&mut sections, i - end)?;
     }
     Ok(sections)
+}
+
+/// The sections of a part, which is no blank line, by its lines; or nothing, if it is one section of lines that leaf blocks are read from. Fails only for
+/// want of memory.
+pub(crate) fn cut_part<L: Ledger>(
+    alloc: Global,
+    bytes: &[u8],
+    tab: TabSize,
+    on: &Constructs,
+    rows: &[RowAt],
+    room: &mut Room,
+    turns: &mut Turns<L>,
+) -> Result<Option<Vec<Section>>, AllocError>
+    ghost part: { Part }
+    requires these { AreThese tab bytes.now rows.now (all_rows part) }
+    requires filled { part.first.is_blank ≡ false }
+    requires whole { further part.more ≡ length part.more }
+    ensures cut { IfOk result (λ found. MatchOption found (cut on.now part ≡ record { part = part; inside = lines false } ∷ []) (λ ss. AreSections ss.items (cut on.now part))) }
+    ensures turns { turns.new ≤ turns.old + 97 * bytes_in tab bytes.now rows.now }
+{
+    let before = lines_before_table(rows, turns);
+    if before < rows.len() {
+        let tabled = sections_with_tables(alloc, bytes, tab, on, rows, room, turns)?;
+        return Ok(Some(tabled));
+    }
+    let found = find_defined(alloc, bytes, tab, on, rows, room, turns)?;
+    if found.before == rows.len() {
+        return Ok(None);
+    }
+    let sections = sections_from(alloc, bytes, tab, on, rows, found, room, turns)?;
+    Ok(Some(sections))
 }

@@ -32,8 +32,7 @@ ghost use Rattle.mdblock_definitions.specs.Within.{last_of, within_marks};
 
 use crate::held::hold_lines;
 use crate::marks::write_definitions;
-use crate::sections::{Inside, Room, Section, find_defined, sections_from, sections_with_tables};
-use crate::tables::lines_before_table;
+use crate::sections::{Inside, Room, Section, cut_part};
 use markdown_base::configuration::{Constructs, TabSize};
 use markdown_base::event::{Event, Point};
 use mdblock_containers::going::{Open, first_of};
@@ -668,56 +667,6 @@ fn write_sections<L: Ledger>(
     Ok(end)
 }
 
-/// What is in a part that is no blank line, behind the prefixes of its first line, cut before and behind each table. Returns where the part ends.
-fn fill_tabled<L: Ledger>(
-    alloc: Global,
-    skeleton: &mut Skeleton,
-    bytes: &[u8],
-    tab: TabSize,
-    on: &Constructs,
-    stack: &[Open],
-    rows: &[RowAt],
-    first: &RowAt,
-    more: &[RowAt],
-    begin: At,
-    room: &mut Room,
-    turns: &mut Turns<L>,
-) -> Result<PartEnd, AllocError>
-    ghost part: { PartOf }
-    requires limit { IsWithinLimit tab bytes.now }
-    requires rows { rows.now ≡ first.now ∷ more.now }
-    requires section { IsSectionOf tab bytes.now (map open_of stack.now) first.now more.now part }
-    requires stands { length stack.now ≤ length part.stands }
-    requires filled { part.first.is_blank ≡ false }
-    requires texts { TextsAreFilled (all_rows part) }
-    requires begun { IsBegun tab bytes.now part first.now begin }
-    ensures end { IfOk result (λ e. HasEnd bytes.now (last_of part (cut on.now part)) e) }
-    ensures events { IfOk result (λ _. (rest : List Mark) → (all : List Mark) → Written skeleton.old.events.items None false (inside_from bytes.now (cut on.now part) rest) all → Written skeleton.new.events.items None false rest all) }
-    ensures letters { IfOk result (λ _. skeleton.new.letters.items ≡ skeleton.old.letters.items ++ flat_map (letters_of_section on.now) (cut on.now part)) }
-    ensures labels { IfOk result (λ _. (label : List ℕ) → defines skeleton.new.labels label ≡ (defines skeleton.old.labels label || is_one_of (flat_map labels_of_section (cut on.now part)) label)) }
-    ensures turns { turns.new ≤ turns.old + 130 * bytes_in tab bytes.now rows.now }
-{
-    let tab_size = tab.get();
-    prove!(tab_size >= 1);
-    let sections = sections_with_tables(alloc, bytes, tab, on, rows, room, turns)?;
-    let end = write_sections(
-        alloc,
-        skeleton,
-        bytes,
-        tab,
-        on,
-        stack,
-        rows,
-        first,
-        more,
-        sections.as_slice(),
-        begin,
-        room,
-        turns,
-    )?;
-    Ok(end)
-}
-
 /// What is in a part, behind the prefixes of its first line: a blank line, or its sections. Returns where the part ends.
 pub(crate) fn fill_part<L: Ledger>(
     alloc: Global,
@@ -757,36 +706,33 @@ pub(crate) fn fill_part<L: Ledger>(
         )?;
         return Ok(only);
     }
-    let before = lines_before_table(rows, turns);
-    if before < rows.len() {
-        let last = fill_tabled(
-            alloc, skeleton, bytes, tab, on, stack, rows, first, more, begin, room, turns,
-        )?;
-        return Ok(last);
+    let found = cut_part(alloc, bytes, tab, on, rows, room, turns)?;
+    match found {
+        None => {
+            let inside = Inside::Lines;
+            let only = write_section(
+                alloc, skeleton, bytes, tab, on, stack, rows, first, more, &inside, begin, room,
+                turns,
+            )?;
+            Ok(only)
+        }
+        Some(sections) => {
+            let end = write_sections(
+                alloc,
+                skeleton,
+                bytes,
+                tab,
+                on,
+                stack,
+                rows,
+                first,
+                more,
+                sections.as_slice(),
+                begin,
+                room,
+                turns,
+            )?;
+            Ok(end)
+        }
     }
-    let found = find_defined(alloc, bytes, tab, on, rows, room, turns)?;
-    if found.before == rows.len() {
-        let inside = Inside::Lines;
-        let only = write_section(
-            alloc, skeleton, bytes, tab, on, stack, rows, first, more, &inside, begin, room, turns,
-        )?;
-        return Ok(only);
-    }
-    let sections = sections_from(alloc, bytes, tab, on, rows, found, room, turns)?;
-    let end = write_sections(
-        alloc,
-        skeleton,
-        bytes,
-        tab,
-        on,
-        stack,
-        rows,
-        first,
-        more,
-        sections.as_slice(),
-        begin,
-        room,
-        turns,
-    )?;
-    Ok(end)
 }
