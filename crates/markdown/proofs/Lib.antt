@@ -1,3 +1,4 @@
+pub use Rattle.markdown_base.proofs.Balanced
 pub use Rattle.markdown_base.proofs.ByteLemmas
 pub use Rattle.markdown_base.proofs.CharLemmas
 pub use Rattle.markdown_base.proofs.Common
@@ -12,7 +13,6 @@ pub use Rattle.markdown_base.proofs.Scans
 pub use Rattle.markdown_base.proofs.SeatCounts
 pub use Rattle.markdown_base.proofs.Seats
 pub use Rattle.markdown_base.proofs.SliceLemmas
-pub use Rattle.markdown_edits.proofs.Balanced
 pub use Rattle.markdown_edits.proofs.Edits
 pub use Rattle.markdown_edits.proofs.LinkEnds
 pub use Rattle.markdown_edits.proofs.Mirrors

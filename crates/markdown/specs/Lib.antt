@@ -4,6 +4,7 @@ pub use Rattle.markdown_base.specs.EventNames
 pub use Rattle.markdown_base.specs.Events
 pub use Rattle.markdown_base.specs.LineEndings
 pub use Rattle.markdown_base.specs.Lines
+pub use Rattle.markdown_base.specs.OpenNames
 pub use Rattle.markdown_base.specs.Places
 pub use Rattle.markdown_base.specs.Presets
 pub use Rattle.markdown_base.specs.Shown
@@ -17,7 +18,6 @@ pub use Rattle.markdown_base.specs.VoidNames
 pub use Rattle.markdown_edits.specs.Edited
 pub use Rattle.markdown_edits.specs.Edits
 pub use Rattle.markdown_edits.specs.Links
-pub use Rattle.markdown_edits.specs.OpenNames
 pub use Rattle.markdown_edits.specs.Shifts
 pub use Rattle.markdown_edits.specs.SpanWalks
 pub use Rattle.markdown_edits.specs.SpanWalksInner

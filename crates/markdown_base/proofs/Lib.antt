@@ -1,3 +1,5 @@
+-- events: lists that are balanced, and names that are open
+pub mod Balanced
 -- slices
 pub mod ByteLemmas
 -- characters

@@ -8,6 +8,8 @@ pub mod Events
 pub mod LineEndings
 -- lines
 pub mod Lines
+-- events
+pub mod OpenNames
 -- places
 pub mod Places
 -- options

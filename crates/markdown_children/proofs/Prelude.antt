@@ -40,7 +40,7 @@ pub use Rattle.markdown_base.specs.declared.message.Message.{Message}
 pub use Rattle.markdown_base.specs.declared.state.Name.{Name}
 pub use Rattle.markdown_base.specs.declared.state.State.{State}
 pub use Rattle.markdown_base.specs.declared.state.State.TheVariants.{Error, Next, Nok, Ok, Retry}
-pub use Rattle.markdown_edits.proofs.Balanced.{IsBalanced-pair, balanced_from_open, names-none, names_after_all-append, names_after_balanced, same_name-refl, same_name-true}
+pub use Rattle.markdown_base.proofs.Balanced.{IsBalanced-pair, balanced_from_open, names-none, names_after_all-append, names_after_balanced, same_name-refl, same_name-true}
 pub use Rattle.markdown_edits.proofs.Edits.FinalPlaces.{HasNo, length-olds, old_place, old_place-pass, or_after, place_in-append, place_in-olds_below, place_in-pass_below}
 pub use Rattle.markdown_edits.proofs.Edits.Passes.{AreApart, AreApart-le, olds, pass, woven-pass}
 pub use Rattle.markdown_edits.proofs.Edits.Puts.{put-last}
@@ -50,7 +50,7 @@ pub use Rattle.markdown_edits.proofs.Edits.Turns.{AreDisjoint-le}
 pub use Rattle.markdown_edits.specs.Edited.{as_addition, as_change, edited}
 pub use Rattle.markdown_edits.specs.Edits.{AreBehind, AreDisjoint, Edit, added_by, put_after, removal_at, removed_by}
 pub use Rattle.markdown_edits.specs.Links.{AreMutual, IsLinkedEnter, content_of, next_of, previous_of}
-pub use Rattle.markdown_edits.specs.OpenNames.{names_after, names_after_all}
+pub use Rattle.markdown_base.specs.OpenNames.{names_after, names_after_all}
 pub use Rattle.markdown_edits.specs.Woven.{Change, Identity, Tagged, as_listed, changed, events_at, is_removed, is_same, of_addition, of_child, of_list, place_in, placed, placed_end, placed_in, woven}
 pub use Rattle.markdown_tokenizer.proofs.Positions.Cursors.{same-self, upto-order, upto-same}
 pub use Rattle.markdown_tokenizer.proofs.Positions.Points.{point_at-is, point_at-point, same-numbers, same-shown}

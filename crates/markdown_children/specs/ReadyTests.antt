@@ -13,7 +13,7 @@ use Rattle.markdown_base.specs.declared.event.Name.{Name}
 use Rattle.markdown_base.specs.declared.event.Point.{Point}
 use Rattle.markdown_base.specs.Events.{is_void, same_name}
 use Rattle.markdown_base.specs.Places.{stands_before}
-use Rattle.markdown_edits.specs.OpenNames.{names_after_all}
+use Rattle.markdown_base.specs.OpenNames.{names_after_all}
 use Rattle.markdown_children.specs.Chains.{lets_through}
 use Rattle.markdown_children.specs.Ready.{place_at}
 

@@ -4,7 +4,7 @@ ghost use Rattle.std.specs.Prelude.{◌≡◌, ◌+◌, ◌<◌, ◌↔◌, fals
 ghost use Rattle.std.specs.Option.{option_copied};
 ghost use Rattle.markdown_base.specs.Virtual.{IsWithinLimit};
 ghost use Rattle.markdown_base.specs.declared.event.Kind.TheVariants.{Exit};
-ghost use Rattle.markdown_edits.specs.OpenNames.{names_after};
+ghost use Rattle.markdown_base.specs.OpenNames.{names_after};
 ghost use Rattle.markdown_children.specs.Ready.{IsReady};
 ghost use Rattle.markdown_children.specs.ReadyTests.{closes, link_at, is_chunk, leads_back_to, is_joined_on, is_joined_back, is_sound_at, is_in_line, has_no_link, is_gap, is_readable, AllBelow, FailsSomewhere};
 ghost use Rattle.markdown_children.specs.StartTests.{AreStarts, is_place_of, can_be_read_from};

@@ -1,5 +1,3 @@
--- walks
-pub mod Balanced
 -- the pass: makes the edited list; `Puts` is for callers
 pub mod Edits
 -- links

@@ -1,6 +1,6 @@
 -- Lists seen from behind: a walk back is a walk over the mirror, and goes as far as the longest run that ends there.
 use Rattle.markdown_edits.proofs.Prelude.{Bool, ◌≡◌, ℕ, zero, suc, ◌+◌, ◌-◌, ◌<◌, ◌≤◌, cond, Some, List, [], ◌∷◌, ◌++◌, length, take, drop, get_or, refl, sym, ◌∙◌, ap, subst, arith, append_assoc, append-nil, length-append, length-drop, take-append-drop, drop-append_seam, drop-take, length-take-le, between, Event, Kind, Enter, Exit, Name, IsBalanced, empty, span, names_after_all, IsSpanRun, no_span, one_more, is_wanted, IsLongestRunTo, IsFront, run_len, is_stop, depth_after, flip, flip_kind, mirror}
-use Rattle.markdown_edits.proofs.Balanced.{IsBalanced-append}
+use Rattle.markdown_base.proofs.Balanced.{IsBalanced-append}
 use Rattle.markdown_edits.proofs.SpanRuns.{span_and_run, span_parts, run_len-run, suffix_closes}
 
 pub mirror-append : (xs ys : List Event) → mirror (xs ++ ys) ≡ mirror ys ++ mirror xs

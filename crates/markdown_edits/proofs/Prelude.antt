@@ -31,7 +31,7 @@ pub use denote.Enum.Bare.{same_true, true_same}
 pub use Rattle.markdown_edits.specs.Edited.{as_addition, as_change, edited}
 pub use Rattle.markdown_edits.specs.Edits.{AreBehind, AreDisjoint, Edit, added_after, added_before, added_by, edit_at, is_no_edit, merged, put_after, put_before, put_by, removal_at}
 pub use Rattle.markdown_edits.specs.Links.{IsLinkedEnter, next_of, previous_of, updated_at, with_next, with_previous}
-pub use Rattle.markdown_edits.specs.OpenNames.{names_after, names_after_all}
+pub use Rattle.markdown_base.specs.OpenNames.{names_after, names_after_all}
 pub use Rattle.markdown_edits.specs.Shifts.{AreShifts, place_by, shifts}
 pub use Rattle.markdown_edits.specs.SpanWalks.{IsFront, IsLongestRunFrom, IsLongestRunTo, IsSpan, IsSpanRun, is_wanted, no_span, one_more}
 pub use Rattle.markdown_edits.specs.SpanWalksInner.{depth_after, flip, flip_kind, is_stop, mirror, run_len}

@@ -1,6 +1,6 @@
 -- The walk over wanted spans goes as far as the longest run.
 use Rattle.markdown_edits.proofs.Prelude.{◌≡◌, ℕ, suc, ◌+◌, ◌-◌, ◌≤◌, Bool, true, false, Option, Some, None, List, [], ◌∷◌, ◌++◌, length, take, drop, refl, sym, ◌∙◌, ap, subst, arith, append_assoc, append-nil, length-append, length-drop, take-append-drop, and-false, take-append-add, length-take-le, Event, Enter, Exit, Name, IsBalanced, empty, span, IsSpan, IsSpanRun, no_span, one_more, is_wanted, IsLongestRunFrom, is_enter, run_len, depth_after, names_after_all, nat_tests}
-use Rattle.markdown_edits.proofs.Balanced.{Closes, all_closed, closing, closes_from_open, names_after_all-append, names_after_balanced, none_is_not_some}
+use Rattle.markdown_base.proofs.Balanced.{Closes, all_closed, closing, closes_from_open, names_after_all-append, names_after_balanced, none_is_not_some}
 
 module _ (names : List Name) where
   -- a span in front of a run

@@ -4,8 +4,6 @@ pub mod Edited
 pub mod Edits
 -- links
 pub mod Links
--- walks
-pub mod OpenNames
 -- splicing
 pub mod Shifts
 -- walks

@@ -38,11 +38,11 @@ pub use Rattle.markdown_base.specs.declared.message.Message.{Message}
 pub use Rattle.markdown_base.specs.declared.state.Name.{Name}
 pub use Rattle.markdown_base.specs.declared.state.State.{State}
 pub use Rattle.markdown_base.specs.declared.state.State.TheVariants.{Error, Next, Nok, Ok, Retry}
-pub use Rattle.markdown_edits.proofs.Balanced.{balanced_from_open, names-none, names_after_all-append, none_is_not_some, same_name-refl}
+pub use Rattle.markdown_base.proofs.Balanced.{balanced_from_open, names-none, names_after_all-append, none_is_not_some, same_name-refl}
 pub use Rattle.markdown_edits.specs.Edited.{edited}
 pub use Rattle.markdown_edits.specs.Edits.{Edit}
 pub use Rattle.markdown_edits.specs.Links.{linked_to, next_of, next_set, previous_of, previous_set, updated_at, with_next, with_previous}
-pub use Rattle.markdown_edits.specs.OpenNames.{names_after, names_after_all}
+pub use Rattle.markdown_base.specs.OpenNames.{names_after, names_after_all}
 pub use Rattle.markdown_edits.specs.Woven.{Tagged, of_list, placed_end, placed_in, woven}
 pub use base.Fml.{Fml}
 pub use base.Logic.{SProp, emp, ent, fst∗, via}

@@ -7,7 +7,7 @@ use Rattle.markdown_base.specs.declared.event.Name.{Name}
 use Rattle.markdown_base.specs.declared.event.Point.{Point}
 use Rattle.markdown_base.specs.Events.{is_void, open_events, IsInOrder}
 use Rattle.markdown_base.specs.Places.{stands_before, IsShown}
-use Rattle.markdown_edits.specs.OpenNames.{names_after_all}
+use Rattle.markdown_base.specs.OpenNames.{names_after_all}
 
 -- the kind of the last event, or this one if there is none
 abbrev pub last_kind : Kind → List Event → Kind

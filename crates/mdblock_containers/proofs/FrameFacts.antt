@@ -10,7 +10,7 @@ use Rattle.markdown_base.proofs.Common.{every-append, every-map, and-right, ever
 use Rattle.markdown_base.specs.Events.{same_name}
 use Rattle.markdown_base.specs.declared.configuration.Constructs.{Constructs}
 use Rattle.markdown_base.specs.declared.event.Name.TheVariants as name
-use Rattle.markdown_edits.proofs.Balanced.{same_name-refl}
+use Rattle.markdown_base.proofs.Balanced.{same_name-refl}
 use Rattle.mdblock_leaf_blocks.specs.LeafBlocks.{Line, interrupts, text_of}
 use Rattle.mdblock_leaf_blocks.specs.LineKinds.{indent, indented, blank as blank_kind, is_far, kind_of_rest, line_kind, unindented}
 use Rattle.markdown_tokenizer.proofs.Positions.Order.{every-back, every-front}

@@ -14,7 +14,7 @@ use Rattle.markdown_base.specs.declared.event.Name.{Name}
 use Rattle.markdown_base.specs.declared.event.Name.TheVariants.{BlankLineEnding, BlockQuote, ListItem, ListOrdered, ListUnordered}
 use Rattle.markdown_base.specs.declared.event.Point.{Point}
 use Rattle.markdown_base.specs.Events.{is_enter, same_name}
-use Rattle.markdown_edits.proofs.Balanced.{same_name-true}
+use Rattle.markdown_base.proofs.Balanced.{same_name-true}
 use Rattle.markdown_edits.specs.SpanWalks.{is_wanted}
 use Rattle.mdblock_containers.specs.declared.list_shapes.Level.{Level}
 use Rattle.mdblock_containers.specs.declared.list_shapes.ListShape.{ListShape}

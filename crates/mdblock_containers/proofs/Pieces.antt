@@ -15,8 +15,8 @@ use Rattle.markdown_base.specs.declared.event.Name.TheVariants as name
 use Rattle.markdown_base.specs.declared.event.Point.{Point}
 use Rattle.markdown_base.specs.Places.{shown, stands_before}
 use Rattle.markdown_base.specs.Virtual.{Seat, end_after, point}
-use Rattle.markdown_edits.proofs.Balanced.{names_after_all-append, same_name-refl}
-use Rattle.markdown_edits.specs.OpenNames.{names_after_all}
+use Rattle.markdown_base.proofs.Balanced.{names_after_all-append, same_name-refl}
+use Rattle.markdown_base.specs.OpenNames.{names_after_all}
 use Rattle.mdblock_leaf_blocks.proofs.Marks.Courses.{Place, Track, track-on, track-place, track-upto}
 use Rattle.mdblock_leaf_blocks.proofs.Marks.MarkAccounts.{AreSpans, bare}
 use Rattle.mdblock_leaf_blocks.proofs.Marks.MarkForms.{Formed, Forms}

@@ -8,9 +8,9 @@ use Rattle.markdown_base.specs.declared.event.Event.{Event}
 use Rattle.markdown_base.specs.declared.event.Name.{Name}
 use Rattle.markdown_base.specs.declared.event.Point.{Point}
 use Rattle.markdown_base.specs.Places.{stands_before}
-use Rattle.markdown_edits.proofs.Balanced.{names_after_all-append}
+use Rattle.markdown_base.proofs.Balanced.{names_after_all-append}
 use Rattle.markdown_edits.specs.Links.{AreMutual, content_at, next_of, previous_of}
-use Rattle.markdown_edits.specs.OpenNames.{names_after_all}
+use Rattle.markdown_base.specs.OpenNames.{names_after_all}
 use Rattle.markdown_children.specs.Ready.{place_at}
 use Rattle.mdblock_leaf_blocks.proofs.Marks.MarkAccounts.{bare}
 use Rattle.mdblock_leaf_blocks.specs.LeafEvents.{Chunk, Mark}

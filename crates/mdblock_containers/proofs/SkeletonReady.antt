@@ -13,9 +13,9 @@ use Rattle.markdown_base.specs.declared.event.Name.{Name}
 use Rattle.markdown_base.specs.declared.event.Point.{Point}
 use Rattle.markdown_base.specs.Places.{IsPointOf, IsShown, stands_before}
 use Rattle.markdown_base.specs.Virtual.{Seat, end_after, point, virtual}
-use Rattle.markdown_edits.proofs.Balanced.{balanced_from_open}
+use Rattle.markdown_base.proofs.Balanced.{balanced_from_open}
 use Rattle.markdown_edits.specs.Links.{content_at, next_of}
-use Rattle.markdown_edits.specs.OpenNames.{names_after, names_after_all}
+use Rattle.markdown_base.specs.OpenNames.{names_after, names_after_all}
 use Rattle.markdown_tokenizer.specs.Engine.{IsWellFormed}
 use Rattle.markdown_tokenizer.specs.Text.{Given, IsDocument}
 use Rattle.markdown_children.specs.Chains.{fits}

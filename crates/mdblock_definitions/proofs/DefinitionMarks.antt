@@ -10,8 +10,8 @@ use Rattle.markdown_base.specs.declared.event.Kind.TheVariants.{Enter, Exit}
 use Rattle.markdown_base.specs.declared.event.Name.{Name}
 use Rattle.markdown_base.specs.Places.{shown, stands_before}
 use Rattle.markdown_base.specs.Virtual.{Seat, end_after}
-use Rattle.markdown_edits.proofs.Balanced.{same_name-refl}
-use Rattle.markdown_edits.specs.OpenNames.{names_after_all}
+use Rattle.markdown_base.proofs.Balanced.{same_name-refl}
+use Rattle.markdown_base.specs.OpenNames.{names_after_all}
 use Rattle.mdconstructs_machines.specs.LineEvents.{ending_of, line_text}
 use Rattle.mdblock_leaf_blocks.proofs.Lines.WholeLines.{IsWhole}
 use Rattle.mdblock_leaf_blocks.proofs.Marks.Courses.{Place as IsPlaceOf, track-on, track-place, track-upto}

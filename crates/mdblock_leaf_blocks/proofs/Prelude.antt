@@ -36,14 +36,14 @@ pub use Rattle.markdown_base.specs.declared.state.Name.{Name}
 pub use Rattle.markdown_base.specs.declared.state.State.{State}
 pub use Rattle.markdown_base.specs.declared.state.State.TheVariants.{Next, Nok, Ok, Retry}
 pub use Rattle.markdown_base.specs.declared.state.TheConstants.Name.{BlankLineStart, CodeIndentedAfter, CodeIndentedAtBreak, CodeIndentedFurtherAfter, CodeIndentedFurtherBegin, CodeIndentedFurtherStart, CodeIndentedInside, CodeIndentedStart, ContentDefinitionBefore, FlowAfter, FlowBeforeContent, FlowBeforeHeadingAtx, FlowBeforeHeadingSetext, FlowBeforeRaw, FlowBeforeThematicBreak, FlowBlankLineAfter, FlowBlankLineBefore, FlowStart, HeadingAtxAtBreak, HeadingAtxBefore, HeadingAtxData, HeadingAtxSequenceOpen, HeadingAtxStart, HeadingSetextAfter, HeadingSetextBefore, HeadingSetextInside, HeadingSetextStart, HtmlFlowBasicSelfClosing, HtmlFlowBlankLineBefore, HtmlFlowCdataOpenInside, HtmlFlowCommentOpenInside, HtmlFlowCompleteAfter, HtmlFlowCompleteAttributeName, HtmlFlowCompleteAttributeNameAfter, HtmlFlowCompleteAttributeNameBefore, HtmlFlowCompleteAttributeValueBefore, HtmlFlowCompleteAttributeValueQuoted, HtmlFlowCompleteAttributeValueQuotedAfter, HtmlFlowCompleteAttributeValueUnquoted, HtmlFlowCompleteClosingTagAfter, HtmlFlowCompleteEnd, HtmlFlowContinuation, HtmlFlowContinuationAfter, HtmlFlowContinuationBefore, HtmlFlowContinuationCdataInside, HtmlFlowContinuationClose, HtmlFlowContinuationCommentInside, HtmlFlowContinuationDeclarationInside, HtmlFlowContinuationRawEndTag, HtmlFlowContinuationRawTagOpen, HtmlFlowContinuationStart, HtmlFlowDeclarationOpen, HtmlFlowOpen, HtmlFlowStart, HtmlFlowTagCloseStart, HtmlFlowTagName, ParagraphInside, ParagraphLineStart, ParagraphStart, RawFlowAfter, RawFlowAfterSequenceClose, RawFlowAtNonLazyBreak, RawFlowBeforeContentChunk, RawFlowBeforeSequenceClose, RawFlowBeforeSequenceOpen, RawFlowCloseStart, RawFlowContentBefore, RawFlowContentChunk, RawFlowContentStart, RawFlowInfo, RawFlowInfoBefore, RawFlowMeta, RawFlowMetaBefore, RawFlowSequenceClose, RawFlowSequenceOpen, RawFlowStart, ThematicBreakAtBreak, ThematicBreakBefore, ThematicBreakSequence}
-pub use Rattle.markdown_edits.proofs.Balanced.{balanced_from_open, names_after_all-append, same_name-refl}
+pub use Rattle.markdown_base.proofs.Balanced.{balanced_from_open, names_after_all-append, same_name-refl}
 pub use Rattle.markdown_edits.proofs.Edits.Passes.{AreApart, events_at-none, is_removed-none, woven-at}
 pub use Rattle.markdown_edits.proofs.Edits.Splices.{AreApart-edits}
 pub use Rattle.markdown_edits.proofs.Edits.Survivors.{slice_get-behind}
 pub use Rattle.markdown_edits.specs.Edited.{as_addition, as_change, edited}
 pub use Rattle.markdown_edits.specs.Edits.{AreDisjoint, Edit, added_after, edit_at}
 pub use Rattle.markdown_edits.specs.Links.{IsLinkedEnter, linked_to, next_of, previous_of, updated_at, with_next, with_previous}
-pub use Rattle.markdown_edits.specs.OpenNames.{names_after, names_after_all}
+pub use Rattle.markdown_base.specs.OpenNames.{names_after, names_after_all}
 pub use Rattle.markdown_edits.specs.Woven.{Tagged, as_listed, of_list, place_in, placed_end, woven}
 pub use Rattle.markdown_tokenizer.proofs.Inside.Made.{upto-upto}
 pub use Rattle.markdown_tokenizer.proofs.Positions.Chains.{IsChain, whole-chain}

@@ -5,7 +5,7 @@ use Rattle.markdown_base.specs.declared.event.Event.{Event}
 use Rattle.markdown_base.specs.declared.event.Name.{Name as EventName}
 use Rattle.markdown_base.specs.Events.{is_void, unlinked}
 use Rattle.markdown_edits.specs.Edits.{Edit, edit_at}
-use Rattle.markdown_edits.specs.OpenNames.{names_after_all}
+use Rattle.markdown_base.specs.OpenNames.{names_after_all}
 use Rattle.mdblock_leaf_rows.specs.HeadingEdits.{under}
 
 -- An event, which is kept, or gets these names in place of its own

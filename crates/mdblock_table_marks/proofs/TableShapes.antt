@@ -9,8 +9,8 @@ use Rattle.markdown_base.specs.declared.event.Name.{Name}
 use Rattle.markdown_base.specs.declared.event.Name.TheVariants as name
 use Rattle.markdown_base.specs.Events.{IsVoidTight}
 use Rattle.markdown_base.specs.Virtual.{Seat, end_after}
-use Rattle.markdown_edits.proofs.Balanced.{balanced_from_open, names_after_all-append, same_name-refl}
-use Rattle.markdown_edits.specs.OpenNames.{names_after_all}
+use Rattle.markdown_base.proofs.Balanced.{balanced_from_open, names_after_all-append, same_name-refl}
+use Rattle.markdown_base.specs.OpenNames.{names_after_all}
 use Rattle.mdconstructs_machines.specs.Innermost.{AccountFor}
 use Rattle.mdconstructs_machines.specs.Spans.{event}
 use Rattle.mdblock_leaf_blocks.proofs.Marks.MarkAccounts.{AreSpans}

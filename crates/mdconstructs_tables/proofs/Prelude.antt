@@ -24,7 +24,7 @@ pub use Rattle.markdown_base.specs.declared.message.Message.{Message}
 pub use Rattle.markdown_base.specs.declared.state.Name.{Name}
 pub use Rattle.markdown_base.specs.declared.state.State.{State}
 pub use Rattle.markdown_base.specs.declared.state.State.TheVariants.{Error, Next, Nok, Ok, Retry}
-pub use Rattle.markdown_edits.proofs.Balanced.{same_name-true}
+pub use Rattle.markdown_base.proofs.Balanced.{same_name-true}
 pub use Rattle.markdown_edits.proofs.LinkEnds.{updated-length}
 pub use Rattle.markdown_edits.specs.Links.{linked_to, next_of, next_set, previous_of, previous_set, updated_at, with_next, with_previous}
 pub use Rattle.markdown_tokenizer.proofs.Inside.Changes.{linked-unlinked}

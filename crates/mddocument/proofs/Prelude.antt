@@ -50,10 +50,10 @@ pub use Rattle.markdown_children.specs.Children.{chain_changes, child_changes, f
 pub use Rattle.markdown_children.specs.Parts.{divided_over, parts}
 pub use Rattle.markdown_children.specs.Reads.{AreChildren, Child, IsChild, IsChildRefused, IsSubtokenized, StartAmong, lists, start_name, text_of_chain}
 pub use Rattle.markdown_children.specs.Ready.{IsReady, IsShownPlace, place_at}
-pub use Rattle.markdown_edits.proofs.Balanced.{names_after_all-append, names_after_balanced}
+pub use Rattle.markdown_base.proofs.Balanced.{names_after_all-append, names_after_balanced}
 pub use Rattle.markdown_edits.proofs.Edits.Passes.{woven-pass}
 pub use Rattle.markdown_edits.specs.Links.{AreMutual, IsChunk, IsLinkedEnter, content_of, next_of, previous_of}
-pub use Rattle.markdown_edits.specs.OpenNames.{names_after, names_after_all}
+pub use Rattle.markdown_base.specs.OpenNames.{names_after, names_after_all}
 pub use Rattle.markdown_edits.specs.Woven.{AreApart, Change, Tagged, placed, placed_end, placed_in, woven}
 pub use Rattle.markdown_tokenizer.proofs.Positions.Chains.{IsChain, shown-other, whole-chain}
 pub use Rattle.markdown_tokenizer.proofs.Positions.Cursors.{same-self, upto-order}

@@ -13,7 +13,7 @@ use Rattle.markdown_base.specs.declared.event.Name.{Name}
 use Rattle.markdown_base.specs.Events.{same_name}
 use Rattle.markdown_base.specs.Places.{denotes_same, in_range}
 use Rattle.markdown_base.specs.Virtual.{Seat, virtual}
-use Rattle.markdown_edits.proofs.Balanced.{same_name-true}
+use Rattle.markdown_base.proofs.Balanced.{same_name-true}
 use Rattle.markdown_tokenizer.specs.Text.{Given, Piece, Text as TextOf, empty_text, followed_by, followed_by_all, passed, pushed}
 use Rattle.markdown_children.specs.Chains.{chain_of}
 use Rattle.markdown_children.specs.Children.{first_chunk}

@@ -7,7 +7,7 @@ use Rattle.markdown_base.specs.declared.event.Event.{Event}
 use Rattle.markdown_base.specs.declared.event.Name.{Name}
 use Rattle.markdown_base.specs.declared.event.Name.TheVariants.{CharacterReference}
 use Rattle.markdown_base.specs.Events.{same_name}
-use Rattle.markdown_edits.proofs.Balanced.{same_name-true}
+use Rattle.markdown_base.proofs.Balanced.{same_name-true}
 use Rattle.markdown_tokenizer.proofs.Positions.Order.{every-back, every-front}
 use Rattle.mdinline_emphasis.specs.declared.pairs.Marker.{Marker}
 use Rattle.mdinline_emphasis.specs.declared.pairs.Style.{Style}

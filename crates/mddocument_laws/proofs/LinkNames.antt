@@ -9,7 +9,7 @@ use Rattle.markdown_base.specs.declared.event.Name.{Name}
 use Rattle.markdown_base.specs.declared.event.Name.TheVariants.{AttentionSequence, Image, Label, LabelEnd, LabelImage, LabelLink, LabelText, Link, Reference, Resource}
 use Rattle.markdown_base.specs.declared.event.Point.{Point}
 use Rattle.markdown_base.specs.Events.{is_enter, same_name}
-use Rattle.markdown_edits.proofs.Balanced.{same_name-true}
+use Rattle.markdown_base.proofs.Balanced.{same_name-true}
 use Rattle.mdinline_emphasis.specs.declared.pairs.Marker.{Marker}
 use Rattle.mdinline_emphasis.specs.declared.pairs.Marker.TheVariants.{Asterisk, Underscore, Tilde}
 use Rattle.mdinline_emphasis.specs.Emphasis.{Run, have_two, style_by, style_of}

@@ -6,7 +6,7 @@ use Rattle.markdown_base.specs.declared.configuration.Constructs.{Constructs}
 use Rattle.markdown_base.specs.declared.event.Name.{Name}
 use Rattle.markdown_base.specs.declared.event.Name.TheVariants as name
 use Rattle.markdown_base.specs.Events.{same_name}
-use Rattle.markdown_edits.proofs.Balanced.{same_name-true}
+use Rattle.markdown_base.proofs.Balanced.{same_name-true}
 use Rattle.mddocument_laws.specs.EmphasisSpans.{is_emphasis}
 use Rattle.mddocument_laws.specs.Names.{may_be_named}
 use Rattle.mddocument_laws.proofs.Inside.{inside-may, stands_around, stands_inside}

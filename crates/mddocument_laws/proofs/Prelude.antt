@@ -29,7 +29,7 @@ pub use Rattle.markdown_base.specs.declared.event.Kind.TheVariants.{Enter, Exit}
 pub use Rattle.markdown_base.specs.declared.event.Name.{Name}
 pub use Rattle.markdown_base.specs.declared.event.Name.TheVariants.{AttentionSequence, BlankLineEnding, CharacterReference, Data, Image, Label, LabelEnd, LabelImage, LabelLink, LabelMarker, LabelText, LineEnding, Link, ListOrdered, ListUnordered, Paragraph, Reference, Resource, SpaceOrTab}
 pub use Rattle.markdown_base.specs.declared.event.Point.{Point}
-pub use Rattle.markdown_edits.proofs.Balanced.{same_name-true}
+pub use Rattle.markdown_base.proofs.Balanced.{same_name-true}
 pub use Rattle.markdown_edits.proofs.Edits.Passes.{olds, pass, woven-pass}
 pub use Rattle.markdown_edits.specs.Woven.{AreApart, Change, Tagged, as_listed, changed, events_at, is_removed, placed_end, placed_in, woven}
 pub use Rattle.markdown_tokenizer.proofs.Positions.Order.{every-all, every-back, every-front}

@@ -9,7 +9,7 @@ use Rattle.markdown_base.specs.declared.event.Name.{Name}
 use Rattle.markdown_base.specs.declared.event.Name.TheVariants.{AttentionSequence}
 use Rattle.markdown_base.specs.Events.{same_name}
 use Rattle.markdown_base.specs.Virtual.{Seat}
-use Rattle.markdown_edits.proofs.Balanced.{same_name-true}
+use Rattle.markdown_base.proofs.Balanced.{same_name-true}
 use Rattle.mdinline_links.specs.Linked.{is_bracket, is_run, spans_in}
 use Rattle.mdconstructs_machines.specs.Spans.{leaf, span}
 use Rattle.mddocument_laws.specs.EmphasisSpans.{is_emphasis}

@@ -18,7 +18,7 @@ use Rattle.mddocument_laws.proofs.PlainNames.{bare-plain, plain-may}
 use Rattle.mddocument_laws.proofs.RowNames.{AreStillOn}
 use Rattle.mddocument_laws.proofs.SkeletonNames.{skeleton-named-by}
 use Rattle.mddocument_laws.specs.Names.{may_be_named}
-use Rattle.markdown_edits.proofs.Balanced.{same_name-true}
+use Rattle.markdown_base.proofs.Balanced.{same_name-true}
 use Rattle.mddocument_rules.proofs.FlatLinks.{is_link}
 use Rattle.mddocument_rules.proofs.Places.{by-wanted}
 use Rattle.mddocument_rules.specs.SegmentLaws.{leading_names}

@@ -3,8 +3,8 @@ use Rattle.mddocument_rules.proofs.Prelude.{◌≡◌, ◌∙◌, ℕ, ◌+◌, 
 use Rattle.std.proofs.lemmas.List.{map-append}
 use Rattle.markdown_base.proofs.Common.{every-drop, every-take}
 use Rattle.markdown_base.specs.declared.event.Name.TheVariants as name
-use Rattle.markdown_edits.proofs.Balanced.{balanced_from_open, names_after_all-append, names_after_balanced}
-use Rattle.markdown_edits.specs.OpenNames.{names_after, names_after_all}
+use Rattle.markdown_base.proofs.Balanced.{balanced_from_open, names_after_all-append, names_after_balanced}
+use Rattle.markdown_base.specs.OpenNames.{names_after, names_after_all}
 use Rattle.mdinline_link_strings.proofs.Kept.{data-balanced}
 use Rattle.mdinline_link_strings.specs.Strings.{in_string_after, is_data, is_string, line_as_string, seats_between, with_strings}
 use Rattle.mdblock_definitions.proofs.SectionSound.{document-sound}

@@ -3,7 +3,7 @@ use Rattle.mddocument_rules.proofs.Prelude.{◌≡◌, ◌∙◌, ℕ, ◌+◌, 
 use Rattle.std.proofs.Math.Seq.{take-append_seam}
 use Rattle.std.proofs.lemmas.List.{length-append}
 use Rattle.markdown_children.proofs.Parts.Kept.{names-leave}
-use Rattle.markdown_edits.proofs.Balanced.{balanced_from_open}
+use Rattle.markdown_base.proofs.Balanced.{balanced_from_open}
 use Rattle.mddocument_link_targets.proofs.SpanEnds.{at_end}
 use Rattle.mddocument_link_targets.specs.Spans.{size_from}
 use Rattle.mddocument_link_targets.specs.Targets.{target_in}

@@ -12,7 +12,7 @@ use Rattle.markdown_base.specs.declared.event.Kind.{Kind}
 use Rattle.markdown_base.specs.declared.event.Kind.TheVariants.{Enter, Exit}
 use Rattle.markdown_base.specs.declared.event.Name.{Name}
 use Rattle.markdown_base.specs.declared.event.Name.TheVariants.{ListItem, ListItemMarker, ListItemPrefix, ListOrdered}
-use Rattle.markdown_edits.proofs.Balanced.{same_name-true}
+use Rattle.markdown_base.proofs.Balanced.{same_name-true}
 use Rattle.markdown_edits.specs.SpanWalks.{is_wanted}
 use Rattle.mdblock_containers.specs.declared.lists.Marker.{Marker}
 use Rattle.mdblock_containers.specs.Lists.{Met, behind_enter, behind_first, directly_by, directly_from, first_in, items_in, list_marker, list_names, marker_of}

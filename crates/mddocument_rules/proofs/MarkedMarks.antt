@@ -12,7 +12,7 @@ use Rattle.markdown_base.specs.declared.event.Name.{Name}
 use Rattle.markdown_base.specs.declared.event.Name.TheVariants as name
 use Rattle.markdown_base.specs.declared.event.Point.{Point}
 use Rattle.markdown_base.specs.declared.event.Event.{Event}
-use Rattle.markdown_edits.proofs.Balanced.{same_name-true}
+use Rattle.markdown_base.proofs.Balanced.{same_name-true}
 use Rattle.markdown_edits.specs.SpanWalks.{is_wanted}
 use Rattle.markdown_tokenizer.proofs.Positions.Order.{every-all}
 use Rattle.mdconstructs_machines.specs.LineEvents.{ending_of}

@@ -13,9 +13,9 @@ pub use Rattle.markdown_base.specs.declared.event.Kind.{Kind}
 pub use Rattle.markdown_base.specs.declared.event.Kind.TheVariants.{Enter, Exit}
 pub use Rattle.markdown_base.specs.declared.event.Name.{Name}
 pub use Rattle.markdown_base.specs.declared.event.Point.{Point}
-pub use Rattle.markdown_edits.proofs.Balanced.{IsBalanced-append, names_after_all-append, names_after_balanced, same_name-true}
+pub use Rattle.markdown_base.proofs.Balanced.{IsBalanced-append, names_after_all-append, names_after_balanced, same_name-true}
 pub use Rattle.markdown_edits.specs.Links.{content_at, content_of, next_of}
-pub use Rattle.markdown_edits.specs.OpenNames.{names_after_all}
+pub use Rattle.markdown_base.specs.OpenNames.{names_after_all}
 pub use Rattle.markdown_edits.specs.SpanWalks.{is_wanted}
 pub use Rattle.markdown_tokenizer.proofs.Positions.Order.{every-all, every-back, every-front}
 pub use Rattle.markdown_tokenizer.specs.Text.{Given, IsDocument}

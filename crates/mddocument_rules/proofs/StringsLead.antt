@@ -7,7 +7,7 @@ use Rattle.markdown_base.proofs.Facts.Kinds.{enter-is, exit-is}
 use Rattle.markdown_base.specs.Places.{shown}
 use Rattle.markdown_base.specs.Virtual.{point}
 use Rattle.markdown_base.specs.declared.event.Name.TheVariants as name
-use Rattle.markdown_edits.proofs.Balanced.{IsBalanced-pair}
+use Rattle.markdown_base.proofs.Balanced.{IsBalanced-pair}
 use Rattle.markdown_tokenizer.proofs.Inside.Known.{not-before-index}
 use Rattle.mdconstructs_machines.specs.Innermost.{AccountFor, innermost_spans, span_over, stretch_bytes}
 use Rattle.mdblock_leaf_blocks.proofs.Marks.Courses.{Track, track-on, track-place, track-upto, whole-track}

@@ -5,7 +5,7 @@ use Rattle.std.specs.Prelude.{◌<◌}
 use Rattle.markdown_base.specs.declared.event.Content.TheVariants as content
 use Rattle.markdown_base.specs.declared.event.Name.TheVariants.{LabelEnd, LabelMarker, LabelText}
 use Rattle.markdown_base.specs.Places.{shown}
-use Rattle.markdown_edits.proofs.Balanced.{balanced_from_open}
+use Rattle.markdown_base.proofs.Balanced.{balanced_from_open}
 use Rattle.mdblock_leaf_blocks.proofs.Marks.Courses.{Course, course-on, text-course}
 use Rattle.mdblock_leaf_blocks.specs.ChunksJoin.{AcrossGap}
 use Rattle.mdconstructs_machines.specs.Spans.{leaf, span}

@@ -16,7 +16,7 @@ use Rattle.markdown_base.specs.declared.event.Point.{Point}
 use Rattle.markdown_base.specs.Events.{IsVoidTight, is_enter, is_void, same_name}
 use Rattle.markdown_base.specs.Places.{IsPointOf, shown, stands_before}
 use Rattle.markdown_base.specs.Virtual.{Seat, end_after, point, virtual}
-use Rattle.markdown_edits.proofs.Balanced.{same_name-true}
+use Rattle.markdown_base.proofs.Balanced.{same_name-true}
 use Rattle.markdown_tokenizer.proofs.Positions.Chains.{IsChain, whole-chain}
 use Rattle.markdown_tokenizer.proofs.Positions.Order.{every-back}
 use Rattle.markdown_tokenizer.proofs.Positions.Standing.{chain-at, chain-split, chain-upto, place-of-point}

@@ -24,7 +24,7 @@ use Rattle.mdgfm_literals.proofs.Fits.{Ascend, Past, Rise, all-fit, literals-ris
 use Rattle.mdgfm_literals.proofs.LiteralLaws.{literal-has}
 use Rattle.mdgfm_literals.proofs.Names.{either-all}
 use Rattle.mdgfm_literals.specs.Laws.{literal_names}
-use Rattle.markdown_edits.proofs.Balanced.{same_name-true}
+use Rattle.markdown_base.proofs.Balanced.{same_name-true}
 use Rattle.mdgfm_literals.proofs.Order.{Goes, goes-rise, start-comes, with-goes}
 use Rattle.mdgfm_documents.proofs.CheckEnds.{place-of-end}
 use Rattle.mdgfm_documents.proofs.Ended.{AreEnded, IsNext, leaf-ended, other-ended, taken-ended}

@@ -7,7 +7,7 @@ use Rattle.markdown_base.specs.declared.event.Kind.TheVariants.{Enter, Exit}
 use Rattle.markdown_base.specs.declared.event.Name.{Name}
 use Rattle.markdown_base.specs.declared.event.Point.{Point}
 use Rattle.markdown_base.specs.Events.{IsBalanced, empty}
-use Rattle.markdown_edits.proofs.Balanced.{IsBalanced-pair}
+use Rattle.markdown_base.proofs.Balanced.{IsBalanced-pair}
 use Rattle.mdgfm_events.specs.Places.{event, leaf}
 
 pub leaf-balanced : (n : Name) (p q : Point) → IsBalanced (leaf n p q)

@@ -9,7 +9,7 @@ use Rattle.markdown_base.specs.declared.event.Kind.TheVariants.{Enter, Exit}
 use Rattle.markdown_base.specs.declared.event.Name.TheVariants.{Data}
 use Rattle.markdown_base.specs.declared.event.Point.{Point}
 use Rattle.markdown_base.specs.Events.{IsBalanced, empty, span, is_enter}
-use Rattle.markdown_edits.proofs.Balanced.{IsBalanced-append}
+use Rattle.markdown_base.proofs.Balanced.{IsBalanced-append}
 use Rattle.mdgfm_literals.specs.declared.texts.Literal.{Literal}
 use Rattle.mdgfm_literals.specs.LiteralEvents.{Written, end_of, events_with, left_over, start_of, with_one, written}
 use Rattle.mdgfm_events.specs.Places.{later, leaf}

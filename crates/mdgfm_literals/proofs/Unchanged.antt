@@ -10,7 +10,7 @@ use Rattle.markdown_base.specs.declared.event.Name.{Name}
 use Rattle.markdown_base.specs.declared.event.Name.TheVariants.{CodeFencedFence, Definition, GfmFootnoteCall, GfmFootnoteDefinitionPrefix, Image, Link, Reference, Resource}
 use Rattle.markdown_base.specs.Events.{IsBalanced, is_enter, same_name}
 use Rattle.markdown_base.specs.Virtual.{point}
-use Rattle.markdown_edits.proofs.Balanced.{same_name-true}
+use Rattle.markdown_base.proofs.Balanced.{same_name-true}
 use Rattle.mdgfm_literals.specs.Laws.{BalanceIsKept, LinksStay, NoLiteralChangesNothing, OffChangesNothing}
 use Rattle.mdgfm_literals.specs.LiteralEvents.{events_with}
 use Rattle.mdgfm_literals.specs.Stretches.{depth_behind, holds_none, is_among, is_fresh, is_plain, is_text, literals_of}

@@ -8,8 +8,8 @@ use Rattle.markdown_base.specs.declared.event.Name.{Name}
 use Rattle.markdown_base.specs.declared.event.Name.TheVariants.{Data, GfmTaskListItemCheck, GfmTaskListItemMarker, SpaceOrTab}
 use Rattle.markdown_base.specs.declared.event.Point.{Point}
 use Rattle.markdown_base.specs.Events.{IsBalanced, empty, span}
-use Rattle.markdown_edits.specs.OpenNames.{names_after, names_after_all}
-use Rattle.markdown_edits.proofs.Balanced.{IsBalanced-append, IsBalanced-pair, balanced_from_open, names_after_balanced, none_is_not_some}
+use Rattle.markdown_base.specs.OpenNames.{names_after, names_after_all}
+use Rattle.markdown_base.proofs.Balanced.{IsBalanced-append, IsBalanced-pair, balanced_from_open, names_after_balanced, none_is_not_some}
 use Rattle.mdblock_tables.specs.Tasks.{value_name}
 use Rattle.mdgfm_events.specs.Places.{event, leaf}
 use Rattle.mdgfm_tasks.specs.declared.awaited.Awaited.{Awaited}

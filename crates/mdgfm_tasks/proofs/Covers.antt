@@ -10,8 +10,8 @@ use Rattle.markdown_base.specs.declared.event.Name.TheVariants.{Data, Link}
 use Rattle.markdown_base.specs.declared.event.Point.{Point}
 use Rattle.markdown_base.specs.Events.{IsBalanced, is_enter, same_name}
 use Rattle.markdown_base.proofs.Facts.Kinds.{enter-is, exit-is}
-use Rattle.markdown_edits.specs.OpenNames.{names_after, names_after_all}
-use Rattle.markdown_edits.proofs.Balanced.{IsBalanced-pair, names_after_all-append, names_after_balanced, none_is_not_some, same_name-true}
+use Rattle.markdown_base.specs.OpenNames.{names_after, names_after_all}
+use Rattle.markdown_base.proofs.Balanced.{IsBalanced-pair, names_after_all-append, names_after_balanced, none_is_not_some, same_name-true}
 use Rattle.mdgfm_events.specs.Spans.{span_end, span_size}
 use Rattle.mdblock_tables.specs.declared.tasks.Check.{Check}
 use Rattle.mdblock_tables.specs.Pieces.{size_of}

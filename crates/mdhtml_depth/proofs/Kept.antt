@@ -6,7 +6,7 @@ use Rattle.std.specs.Prelude.{◌&&◌, filter, min, nat_le, not}
 use Rattle.markdown_base.specs.declared.event.Event.{Event}
 use Rattle.markdown_base.specs.declared.event.Kind.TheVariants.{Enter, Exit}
 use Rattle.markdown_base.specs.Events.{IsBalanced, empty, is_enter, span}
-use Rattle.markdown_edits.proofs.Balanced.{IsBalanced-append}
+use Rattle.markdown_base.proofs.Balanced.{IsBalanced-append}
 use Rattle.mdhtml_depth.specs.Depth.{behind, has_depth, is_deep, kept, nests, within}
 use Rattle.mdhtml_depth.specs.Laws.{BalanceIsKept, DepthIsKept, OthersStay, ShallowStays}
 

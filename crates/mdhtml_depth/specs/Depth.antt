@@ -1,17 +1,17 @@
 -- Events within a limit of depth: spans that make elements in one another, and the enters and exits of those that are too deep.
 use Rattle.std.specs.Prelude.{ℕ, suc, ◌-◌, ◌&&◌, nat_le, not, Bool, true, cond, List, [], ◌∷◌, ◌++◌}
+use Rattle.std.specs.List.{list_any}
 use Rattle.markdown_base.specs.declared.event.Event.{Event}
 use Rattle.markdown_base.specs.declared.event.Name.{Name}
 use Rattle.markdown_base.specs.declared.event.Name.TheVariants.{BlockQuote, Emphasis, GfmStrikethrough, Link, ListOrdered, ListUnordered, Strong}
-use Rattle.markdown_base.specs.Events.{is_enter}
-use Rattle.markdown_edits.specs.SpanWalks.{is_wanted}
+use Rattle.markdown_base.specs.Events.{is_enter, same_name}
 
 -- Spans that make an element which others may be in, and that may be in one another. (An item is in its list, and makes one more element)
 abbrev pub nesting_names : List Name
 nesting_names = BlockQuote ∷ ListOrdered ∷ ListUnordered ∷ Emphasis ∷ Strong ∷ GfmStrikethrough ∷ Link ∷ []
 
 abbrev pub nests : Name → Bool
-nests n = is_wanted nesting_names n
+nests n = list_any (λ nesting. same_name nesting n) nesting_names
 
 -- how many such spans are around the span of an event, and how many are open behind the event, by how many are open in front of it
 abbrev pub around : (opened : ℕ) → Event → ℕ

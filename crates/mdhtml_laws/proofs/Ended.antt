@@ -4,7 +4,7 @@ use Rattle.std.specs.List.{AllByRecursion, flat_map}
 use Rattle.markdown_base.specs.declared.configuration.CompileOptions.{CompileOptions}
 use Rattle.markdown_base.specs.declared.event.Event.{Event}
 use Rattle.markdown_base.specs.Events.{IsBalanced, empty}
-use Rattle.markdown_edits.proofs.Balanced.{IsBalanced-append}
+use Rattle.markdown_base.proofs.Balanced.{IsBalanced-append}
 use Rattle.mddocument_link_targets.specs.declared.targets.Parts.{Parts}
 use Rattle.mdhtml_laws.specs.Parts.{HtmlEndsLines, HtmlOfParts}
 use Rattle.mdhtml_document.specs.declared.names.Block.{Block}

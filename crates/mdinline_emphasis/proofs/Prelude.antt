@@ -21,12 +21,12 @@ pub use Rattle.markdown_base.specs.declared.event.Name.{Name}
 pub use Rattle.markdown_base.specs.declared.event.Name.TheVariants.{AttentionSequence, Data}
 pub use Rattle.markdown_base.specs.declared.event.Point.{Point}
 pub use Rattle.markdown_base.specs.declared.util.char.Kind.TheVariants.{Other, Punctuation, Whitespace}
-pub use Rattle.markdown_edits.proofs.Balanced.{balanced_from_open, names-none, names_after_all-append, names_after_balanced, same_name-refl, same_name-true}
+pub use Rattle.markdown_base.proofs.Balanced.{balanced_from_open, names-none, names_after_all-append, names_after_balanced, same_name-refl, same_name-true}
 pub use Rattle.markdown_edits.proofs.Edits.Splices.{edited-spliced}
 pub use Rattle.markdown_edits.proofs.Edits.Survivors.{slice_get-behind}
 pub use Rattle.markdown_edits.specs.Edited.{edited}
 pub use Rattle.markdown_edits.specs.Edits.{AreDisjoint, Edit, edit_at, put_after, removal_at}
-pub use Rattle.markdown_edits.specs.OpenNames.{names_after, names_after_all}
+pub use Rattle.markdown_base.specs.OpenNames.{names_after, names_after_all}
 pub use Rattle.markdown_edits.specs.Spliced.{relinked_by, spliced}
 pub use Rattle.markdown_tokenizer.proofs.Readings.Plain.{no-links-append, no-links-below, no-links-drop, no-links-take, unlinked-same}
 pub use Rattle.markdown_tokenizer.specs.Plain.{HaveNoLinks}

@@ -10,8 +10,8 @@ use Rattle.markdown_base.specs.declared.event.Name.TheVariants.{Data}
 use Rattle.markdown_base.specs.Events.{IsBalanced, IsVoidTight, empty, span, is_enter, is_void, same_name}
 use Rattle.markdown_base.specs.Virtual.{Seat, end_after}
 use Rattle.markdown_base.proofs.Facts.Kinds.{enter-is, exit-is}
-use Rattle.markdown_edits.proofs.Balanced.{IsBalanced-append, IsBalanced-pair, balanced_from_open, names_after_all-append, names_after_balanced, same_name-true}
-use Rattle.markdown_edits.specs.OpenNames.{names_after, names_after_all}
+use Rattle.markdown_base.proofs.Balanced.{IsBalanced-append, IsBalanced-pair, balanced_from_open, names_after_all-append, names_after_balanced, same_name-true}
+use Rattle.markdown_base.specs.OpenNames.{names_after, names_after_all}
 use Rattle.markdown_tokenizer.proofs.Readings.Plain.{no-links-append}
 use Rattle.markdown_tokenizer.specs.Plain.{HaveNoLinks}
 use Rattle.markdown_tokenizer.proofs.Readings.Formed.{tight-behind}

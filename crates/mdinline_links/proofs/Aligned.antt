@@ -9,8 +9,8 @@ use Rattle.markdown_base.specs.declared.event.Event.{Event}
 use Rattle.markdown_base.specs.declared.event.Point.{Point}
 use Rattle.markdown_base.specs.Events.{IsBalanced, empty}
 use Rattle.markdown_base.proofs.Facts.Lists.{some-front}
-use Rattle.markdown_edits.proofs.Balanced.{balanced_from_open, names_after_balanced}
-use Rattle.markdown_edits.specs.OpenNames.{names_after_all}
+use Rattle.markdown_base.proofs.Balanced.{balanced_from_open, names_after_balanced}
+use Rattle.markdown_base.specs.OpenNames.{names_after_all}
 use Rattle.mdinline_emphasis.proofs.PairsKeep.{pairs-keep}
 use Rattle.mdinline_emphasis.proofs.RunTexts.{sequence-is}
 use Rattle.mdinline_emphasis.specs.declared.pairs.Style.{Style}

@@ -8,7 +8,7 @@ use Rattle.markdown_base.specs.declared.event.Name.{Name}
 use Rattle.markdown_base.specs.declared.event.Name.TheVariants.{AttentionSequence, Image, Label, LabelEnd, LabelImage, LabelLink, LabelMarker, Link, Reference, Resource}
 use Rattle.markdown_base.specs.Events.{IsBalanced, is_enter, same_name}
 use Rattle.markdown_base.proofs.Facts.Lists.{some-front}
-use Rattle.markdown_edits.proofs.Balanced.{IsBalanced-append, same_name-true}
+use Rattle.markdown_base.proofs.Balanced.{IsBalanced-append, same_name-true}
 use Rattle.mdinline_emphasis.specs.Emphasis.{Run}
 use Rattle.mdinline_links.proofs.Kept.{AreParts as AreKeptParts, around-kept, label-text, parts-emphasised, whole-name}
 use Rattle.mdinline_links.proofs.Leaves.{balanced-is-kept}

@@ -8,7 +8,7 @@ use Rattle.markdown_base.specs.declared.event.Name.{Name}
 use Rattle.markdown_base.specs.declared.event.Name.TheVariants.{Data}
 use Rattle.markdown_base.specs.declared.event.Point.{Point}
 use Rattle.markdown_base.specs.Events.{IsBalanced, empty, span}
-use Rattle.markdown_edits.proofs.Balanced.{IsBalanced-append}
+use Rattle.markdown_base.proofs.Balanced.{IsBalanced-append}
 use Rattle.markdown_tokenizer.proofs.Readings.Plain.{no-links-append}
 use Rattle.markdown_tokenizer.specs.Plain.{HaveNoLinks}
 use Rattle.mdinline_emphasis.specs.Emphasis.{Run, unlinked_event, events_of_runs, paired}

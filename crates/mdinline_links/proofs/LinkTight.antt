@@ -10,8 +10,8 @@ use Rattle.markdown_base.specs.declared.event.Name.{Name}
 use Rattle.markdown_base.specs.declared.event.Name.TheVariants.{Data, Image, Label, LabelText, Link}
 use Rattle.markdown_base.specs.declared.event.Point.{Point}
 use Rattle.markdown_base.specs.Events.{IsBalanced, is_void, same_name}
-use Rattle.markdown_edits.proofs.Balanced.{names_after_balanced, same_name-true}
-use Rattle.markdown_edits.specs.OpenNames.{names_after, names_after_all}
+use Rattle.markdown_base.proofs.Balanced.{names_after_balanced, same_name-true}
+use Rattle.markdown_base.specs.OpenNames.{names_after, names_after_all}
 use Rattle.mdinline_emphasis.proofs.Markers.{inner-holds, outer-holds}
 use Rattle.mdinline_emphasis.specs.declared.pairs.Style.{Style}
 use Rattle.mdinline_emphasis.specs.Emphasis.{Run, closings, data_of, events_of_runs, inner_name, later, markers_of, markers_of_all, openings, outer_name, paired, run_events, sequence_name, unlinked_event}

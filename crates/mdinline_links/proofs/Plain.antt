@@ -9,8 +9,8 @@ use Rattle.markdown_base.specs.declared.event.Event.{Event}
 use Rattle.markdown_base.specs.declared.event.Kind.{Kind}
 use Rattle.markdown_base.specs.declared.event.Kind.TheVariants.{Enter, Exit}
 use Rattle.markdown_base.specs.declared.event.Name.{Name}
-use Rattle.markdown_edits.proofs.Balanced.{names_after_balanced}
-use Rattle.markdown_edits.specs.OpenNames.{names_after, names_after_all}
+use Rattle.markdown_base.proofs.Balanced.{names_after_balanced}
+use Rattle.markdown_base.specs.OpenNames.{names_after, names_after_all}
 use Rattle.mdinline_emphasis.proofs.PairsKeep.{pairs-keep-indices}
 use Rattle.mdinline_emphasis.proofs.RunTexts.{runs-and-texts, sequence-is}
 use Rattle.mdinline_emphasis.specs.Emphasis.{Run, events_of_runs, paired}

@@ -6,8 +6,8 @@ use Rattle.std.specs.List.{AllByRecursion}
 use Rattle.markdown_base.specs.declared.event.Event.{Event}
 use Rattle.markdown_base.specs.declared.event.Name.{Name}
 use Rattle.markdown_base.specs.Events.{IsBalanced}
-use Rattle.markdown_edits.proofs.Balanced.{balanced_from_open, names-none, names_after_balanced}
-use Rattle.markdown_edits.specs.OpenNames.{names_after, names_after_all}
+use Rattle.markdown_base.proofs.Balanced.{balanced_from_open, names-none, names_after_balanced}
+use Rattle.markdown_base.specs.OpenNames.{names_after, names_after_all}
 use Rattle.markdown_tokenizer.proofs.Readings.Plain.{no-links-drop, no-links-take}
 use Rattle.markdown_tokenizer.specs.Plain.{HaveNoLinks}
 use Rattle.mdinline_emphasis.specs.Runs.{depth_after}

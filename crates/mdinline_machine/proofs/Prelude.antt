@@ -30,7 +30,7 @@ pub use Rattle.markdown_children.proofs.Parts.Staying.{stays-ready}
 pub use Rattle.markdown_children.specs.Chains.{fitting_starts}
 pub use Rattle.markdown_children.specs.Reads.{lists}
 pub use Rattle.markdown_children.specs.Ready.{IsReady}
-pub use Rattle.markdown_edits.proofs.Balanced.{IsBalanced-append}
+pub use Rattle.markdown_base.proofs.Balanced.{IsBalanced-append}
 pub use Rattle.markdown_edits.specs.Edited.{edited}
 pub use Rattle.markdown_tokenizer.proofs.Positions.Order.{every-back, every-front}
 pub use Rattle.markdown_tokenizer.proofs.Positions.Standing.{place-of-point}

@@ -47,7 +47,7 @@ pub use Rattle.markdown_children.specs.LawStatements.{AreSpaced, IsWholeFrom, Le
 pub use Rattle.markdown_children.specs.Parts.{divided_over, front_until, parts}
 pub use Rattle.markdown_children.specs.Reads.{AreChildren, Child, IsChild, lists, pieces_behind, pieces_of, start_name, text_of_chain}
 pub use Rattle.markdown_children.specs.Ready.{IsChunk, IsReady, IsShownPlace, place_at}
-pub use Rattle.markdown_edits.proofs.Balanced.{IsBalanced-append}
+pub use Rattle.markdown_base.proofs.Balanced.{IsBalanced-append}
 pub use Rattle.markdown_edits.proofs.Edits.Passes.{woven-pass}
 pub use Rattle.markdown_edits.proofs.Edits.Splices.{edited-none}
 pub use Rattle.markdown_edits.proofs.LinkEnds.{updated-length}

@@ -10,8 +10,8 @@ use Rattle.markdown_base.specs.declared.event.Name.{Name as EventName}
 use Rattle.markdown_base.specs.declared.event.Name.TheVariants.{HeadingSetext, HeadingSetextText, HeadingSetextUnderline, Paragraph}
 use Rattle.markdown_base.specs.Events.{unlinked}
 use Rattle.markdown_edits.specs.Edits.{Edit, edit_at, added_after}
-use Rattle.markdown_edits.specs.OpenNames.{names_after, names_after_all}
-use Rattle.markdown_edits.proofs.Balanced.{names_after_all-append, names-none}
+use Rattle.markdown_base.specs.OpenNames.{names_after, names_after_all}
+use Rattle.markdown_base.proofs.Balanced.{names_after_all-append, names-none}
 use Rattle.markdown_edits.proofs.Edits.Puts.{put-last}
 use Rattle.markdown_edits.proofs.Edits.Survivors.{slice_get-behind}
 use Rattle.mdblock_leaf_rows.specs.HeadingEdits.{under, with_names, renaming}

@@ -14,7 +14,7 @@ use Rattle.mdblock_leaf_rows.specs.declared.names.TheConstants.{ParagraphLookSta
 use Rattle.markdown_base.specs.Events.{EndsBelow, IsBalanced}
 use Rattle.markdown_edits.specs.Edited.{edited}
 use Rattle.markdown_edits.specs.Links.{linked_to}
-use Rattle.markdown_edits.specs.OpenNames.{names_after}
+use Rattle.markdown_base.specs.OpenNames.{names_after}
 use Rattle.markdown_tokenizer.specs.declared.waiting.AttemptKind.{AttemptKind}
 use Rattle.markdown_tokenizer.specs.declared.waiting.AttemptKind.TheVariants.{Attempt, Check}
 use Rattle.markdown_tokenizer.specs.Text.{Given, Text}

@@ -20,8 +20,8 @@ use Rattle.markdown_edits.specs.Edited.{as_addition, as_change, edited}
 use Rattle.markdown_edits.specs.Links.{next_of, previous_of}
 use Rattle.markdown_edits.specs.Survivors.{AreNew}
 use Rattle.markdown_edits.specs.Woven.{of_list, Tagged, as_listed, place_in, placed_in, woven}
-use Rattle.markdown_edits.specs.OpenNames.{names_after, names_after_all}
-use Rattle.markdown_edits.proofs.Balanced.{balanced_from_open, names_after_balanced}
+use Rattle.markdown_base.specs.OpenNames.{names_after, names_after_all}
+use Rattle.markdown_base.proofs.Balanced.{balanced_from_open, names_after_balanced}
 use Rattle.markdown_edits.proofs.Edits.Passes.{AreApart, events_at-none, is_removed-none, woven-at}
 use Rattle.markdown_edits.proofs.Edits.Splices.{AreApart-edits, HasNo-edits}
 use Rattle.markdown_tokenizer.specs.Engine.{IsWellFormed}

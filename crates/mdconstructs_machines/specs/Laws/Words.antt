@@ -17,7 +17,7 @@ use Rattle.markdown_edits.specs.Woven.{woven, placed}
 use Rattle.markdown_tokenizer.specs.Plain.{HaveNoLinks}
 use Rattle.markdown_tokenizer.specs.Resolving.{IsInShape}
 use Rattle.markdown_tokenizer.specs.Engine.{IsWellFormed, EndsWellFormed}
-use Rattle.markdown_edits.proofs.Balanced.{IsBalanced-pair, IsBalanced-remove}
+use Rattle.markdown_base.proofs.Balanced.{IsBalanced-pair, IsBalanced-remove}
 use Rattle.markdown_edits.proofs.Edits.Passes.{woven-past}
 use Rattle.markdown_tokenizer.proofs.Readings.Formed.{tight-behind, pairs-behind}
 use Rattle.markdown_tokenizer.proofs.Readings.Plain.{no-links-more, no-links-below, no-links-shape, woven-same, edited-same}

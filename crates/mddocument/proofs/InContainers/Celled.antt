@@ -13,9 +13,9 @@ use Rattle.markdown_base.specs.declared.event.Name.{Name}
 use Rattle.markdown_base.specs.declared.event.Name.TheVariants as name
 use Rattle.markdown_base.specs.Events.{IsBalanced, is_enter, is_void, same_name}
 use Rattle.markdown_base.specs.Places.{stands_before}
-use Rattle.markdown_edits.proofs.Balanced.{balanced_from_open, names_after_balanced}
+use Rattle.markdown_base.proofs.Balanced.{balanced_from_open, names_after_balanced}
 use Rattle.markdown_edits.specs.Links.{IsChunk, content_at, next_of}
-use Rattle.markdown_edits.specs.OpenNames.{names_after, names_after_all}
+use Rattle.markdown_base.specs.OpenNames.{names_after, names_after_all}
 use Rattle.markdown_children.specs.Chains.{fits, some_fits}
 use Rattle.markdown_children.specs.Ready.{IsGap, IsReadable, IsReady, IsShownPlace, place_at}
 use Rattle.mdblock_containers.proofs.TightMarks.{one_more}

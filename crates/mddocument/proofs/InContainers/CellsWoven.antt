@@ -13,7 +13,7 @@ use Rattle.markdown_base.specs.declared.event.Kind.TheVariants.{Exit}
 use Rattle.markdown_base.specs.declared.event.Name.TheVariants as name
 use Rattle.markdown_base.specs.declared.event.Point.{Point}
 use Rattle.markdown_base.specs.Events.{is_enter, is_void, relinked, same_name}
-use Rattle.markdown_edits.proofs.Balanced.{same_name-true}
+use Rattle.markdown_base.proofs.Balanced.{same_name-true}
 use Rattle.markdown_edits.specs.Links.{content_at}
 use Rattle.markdown_edits.specs.Woven.{Change, Identity, Tagged, as_listed, changed, events_at, is_removed, is_same, of_addition, of_child, of_list, place_in, placed, placed_end, placed_in, woven}
 use Rattle.markdown_tokenizer.proofs.Positions.Order.{every-back, every-cond, every-front}

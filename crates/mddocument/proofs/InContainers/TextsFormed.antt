@@ -8,7 +8,7 @@ use Rattle.markdown_children.proofs.Parts.AtPlaces.{with_children_at_places}
 use Rattle.markdown_children.proofs.Parts.InShape.{children_fit}
 use Rattle.markdown_children.proofs.Parts.Staying.{each-ready, stays-ready}
 use Rattle.markdown_children.specs.LawStatements.{IsWholeFrom}
-use Rattle.markdown_edits.proofs.Balanced.{balanced_from_open}
+use Rattle.markdown_base.proofs.Balanced.{balanced_from_open}
 use Rattle.mddocument.proofs.InContainers.Skeletons.{SkeletonLaws, skeleton_chains}
 use Rattle.mdblock_text_lines.specs.DocumentBlocks.{document_blocks}
 use Rattle.mdinline_machine.specs.LawStatements.{with_inlines, with_strings as with_string_chunks}

@@ -27,7 +27,7 @@ use Rattle.markdown_tokenizer.proofs.Readings.Plain.{no-links-shape}
 use Rattle.markdown_edits.specs.Edits.{AreDisjoint, Edit}
 use Rattle.markdown_edits.specs.Edited.{edited}
 use Rattle.markdown_edits.specs.Links.{next_of, previous_of, AreMutual}
-use Rattle.markdown_edits.proofs.Balanced.{IsBalanced-append}
+use Rattle.markdown_base.proofs.Balanced.{IsBalanced-append}
 use Rattle.markdown_edits.proofs.Edits.Splices.{edited-none}
 use Rattle.markdown_children.specs.Chains.{chain_from, fitting_starts}
 use Rattle.markdown_children.specs.LawStatements.{IsTornNowhere}

@@ -1,5 +1,11 @@
 -- Balanced lists, by the stack of open names.
-use Rattle.markdown_edits.proofs.Prelude.{◌≡◌, Bool, true, false, cond, List, [], ◌∷◌, ◌++◌, Option, Some, None, refl, sym, ◌∙◌, ap, subst, append_assoc, same_true, true_same, the_type, Event, Kind, Enter, Exit, Name, IsBalanced, empty, span, same_name, names_after, names_after_all}
+use denote.Enum.Bare.{same_true, true_same}
+use Rattle.std.proofs.Common.{None, Option, Some, append_assoc}
+use Rattle.markdown_base.specs.contracts.event.Name.{the_type}
+use Rattle.markdown_base.specs.declared.event.Name.{Name}
+use Rattle.markdown_base.specs.Events.{IsBalanced, empty, same_name, span}
+use Rattle.markdown_base.specs.OpenNames.{names_after, names_after_all}
+use Rattle.markdown_base.proofs.Prelude.{◌≡◌, Bool, true, false, cond, List, [], ◌∷◌, ◌++◌, refl, sym, ◌∙◌, ap, subst, Event, Kind, Enter, Exit}
 
 pub names_after_all-append : (o : Option (List Name)) (xs ys : List Event) → names_after_all o (xs ++ ys) ≡ names_after_all (names_after_all o xs) ys
 names_after_all-append None xs ys = refl
