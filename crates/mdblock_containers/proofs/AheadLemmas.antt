@@ -3,7 +3,7 @@ use Rattle.std.proofs.Common.{◌≡◌, ℕ, zero, suc, ◌+◌, ◌-◌, ◌<�
 use Rattle.std.specs.Prelude.{nat_le, nat_lt, Option, Some, None}
 use Rattle.std.proofs.lemmas.List.{drop_more, take_rest}
 use Rattle.mdblock_containers.specs.declared.ahead.Ahead.{Ahead}
-use Rattle.mdblock_lines.specs.Containers.{Prefix, Container, quote, item, Item}
+use Rattle.mdblock_lines.specs.Containers.{Prefix, Container, quote, item, footnote, Item}
 use Rattle.mdblock_containers.specs.declared.frames.Frame.{Frame}
 use Rattle.mdblock_containers.specs.declared.spans.RowAt.{RowAt}
 use Rattle.mdblock_containers.specs.Parts.{open_behind}
@@ -72,9 +72,10 @@ list_of_begun : (ps : List Prefix) → list_begun ps ≡ frames_in (frame_begun 
 list_of_begun [] = refl
 list_of_begun (p ∷ ps) = by p.container
   where
-    by : (c : Container) → (elim c as (λ x. List Span) [ quote q ↦ [] | item i ↦ cond (nat_lt i.list i.line) (record { name = list_name i; line = i.list } ∷ []) [] ]) ≡ frames_in (frame_before c)
+    by : (c : Container) → (elim c as (λ x. List Span) [ quote q ↦ [] | item i ↦ cond (nat_lt i.list i.line) (record { name = list_name i; line = i.list } ∷ []) [] | footnote f ↦ [] ]) ≡ frames_in (frame_before c)
     by (quote q) = refl
     by (item i) = list_of_item i (nat_lt i.list i.line)
+    by (footnote f) = refl
 
 pub list_ahead : (rows : List Row) → list_at rows ≡ frames_in (frame_ahead rows)
 list_ahead [] = refl

@@ -1,8 +1,7 @@
 -- Lemmas on the columns of lines: with one more for each they are no more than the virtual bytes of the document, and one.
-use Rattle.std.proofs.Common.{◌≡◌, ◌⊎◌, inl, inr, ℕ, zero, suc, ◌+◌, ◌-◌, ◌<◌, ◌≤◌, Bool, true, false, cond, List, [], ◌∷◌, ◌++◌, length, take, drop, get_or, refl, sym, ap, ◌∙◌, subst, arith, length-append, length-drop}
+use Rattle.std.proofs.Common.{◌≡◌, ℕ, zero, suc, ◌+◌, ◌-◌, ◌<◌, ◌≤◌, Bool, true, false, cond, List, [], ◌∷◌, ◌++◌, length, take, drop, get_or, refl, sym, ap, ◌∙◌, arith, length-append, length-drop}
 use Rattle.std.specs.Prelude.{◌==◌, ◌&&◌, sum_by}
 use Rattle.std.specs.List.{prefix_len}
-use Rattle.std.proofs.lemmas.Bool.{cases_lt}
 use Rattle.std.proofs.lemmas.List.{drop-drop, length-map}
 use Rattle.std.proofs.lemmas.List.Sums.{sum_by-cons}
 use Rattle.markdown_base.specs.Virtual.{Seat, begins_with_lf, virtual, virtual_from}
@@ -11,7 +10,7 @@ use Rattle.mdblock_lines.specs.Lines.{ending_seats, ending_size, is_in_line, lin
 use Rattle.mdblock_lines.proofs.LinesCut.{lines_follow}
 use Rattle.mdblock_containers.specs.declared.spans.RowAt.{RowAt}
 use Rattle.mdblock_containers.specs.Costs.{columns_in}
-use Rattle.mdblock_containers.specs.Spans.{ArePlaced, IsPlaced}
+use Rattle.mdblock_containers.specs.Spans.{ArePlaced}
 use Rattle.mdblock_containers.proofs.DocumentRows.{next_is}
 
 -- ---- lists of lines

@@ -14,7 +14,7 @@ use Rattle.mdblock_leaf_blocks.specs.HtmlLines.{ends, waits_for_blank}
 use Rattle.mdblock_leaf_blocks.specs.LeafBlocks.{Line, interrupts, text_of}
 use Rattle.mdblock_leaf_blocks.specs.LineKinds.{begins_with, blank, closes, indent, indented, is_blank_line, is_far, kind_of_rest, line_kind, underline_rank, unindented}
 use Rattle.mdblock_lines.specs.declared.containers.Prefix.{Prefix as CodePrefix}
-use Rattle.mdblock_lines.specs.Containers.{Container, Prefix, begins, goes_on, item, quote, quote_size}
+use Rattle.mdblock_lines.specs.Containers.{Container, Prefix, begins, footnote, goes_on, item, quote, quote_size}
 use Rattle.mdblock_lines.specs.Views.{prefix_of}
 use Rattle.mdblock_lines.proofs.LineLemmas.{all_by_prefix}
 use Rattle.mdblock_containers.specs.declared.frames.Frame.{Frame as CodeFrame}
@@ -36,6 +36,7 @@ pub began_sizes : (n : ℕ) (cs : List Container) → AllByRecursion (BeganBefor
 began_sizes n [] h = tt
 began_sizes n (quote q ∷ cs) h = (tt, began_sizes n cs h.1)
 began_sizes n (item i ∷ cs) h = (h.0.1.sized, began_sizes n cs h.1)
+began_sizes n (footnote f ∷ cs) h = (tt, began_sizes n cs h.1)
 
 -- a container goes on with a column, if one is left
 pub some_size : (c : Container) (number : ℕ) (t : List ℕ) (n : ℕ) → HasSize c → 0 < length t → goes_on c number t ≡ Some n → 1 ≤ n
@@ -54,6 +55,15 @@ some_size (item i) number t n s h e = by (is_blank_line t) (i.is_empty && (numbe
     by true false c is q = let same : min i.size (indent t) ≡ n = cc in let long = all is in let size : 1 ≤ i.size = s in omega (arith, h, size, long, same)
     by false b true is q = let same : i.size ≡ n = cc in let size : 1 ≤ i.size = s in omega (arith, size, same)
     by false b false is q = absurd (cc)
+some_size (footnote f) number t n s h e = by (is_blank_line t) (nat_le 4 (indent t)) refl e
+  where
+    all : is_blank_line t ≡ true → indent t ≡ length t
+    all b = eqb-true (indent t) (length t) (all_by_prefix is_white t ∙ b)
+
+    by : (a c : Bool) → is_blank_line t ≡ a → cond a (Some (min 4 (indent t))) (cond c (Some 4) None) ≡ Some n → 1 ≤ n
+    by true c is q = let same : min 4 (indent t) ≡ n = cc in let long = all is in omega (arith, h, long, same)
+    by false true is q = let same : 4 ≡ n = cc in omega (arith, same)
+    by false false is q = absurd (cc)
 
 -- if something is left of a line, each container that goes on with it takes a column
 pub went_few : (cs : List Container) (number : ℕ) (t : List ℕ) → HaveSizes cs → columns_of (going_on cs number t) < length t → length (going_on cs number t) ≤ columns_of (going_on cs number t)
@@ -322,6 +332,7 @@ begun_paid on number in_paragraph t rest at columns t0 t1 t2 (Some p) er ec one 
 pub spans_few : (cs : List Container) → length (flat_map frames_of cs) ≤ 2 * length cs
 spans_few [] = omega arith
 spans_few (quote q ∷ cs) = let more = spans_few cs in let one : length (flat_map frames_of (quote q ∷ cs)) ≡ suc (length (flat_map frames_of cs)) = refl in omega (arith, more, one)
+spans_few (footnote f ∷ cs) = let more = spans_few cs in let one : length (flat_map frames_of (footnote f ∷ cs)) ≡ suc (length (flat_map frames_of cs)) = refl in omega (arith, more, one)
 spans_few (item i ∷ cs) = let more = spans_few cs in let one : length (flat_map frames_of (item i ∷ cs)) ≡ suc (suc (length (flat_map frames_of cs))) = refl in omega (arith, more, one)
 
 pub list_few : (o : Option CodeFrame) → length (frames_in o) ≤ 1

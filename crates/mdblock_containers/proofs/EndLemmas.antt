@@ -1,10 +1,7 @@
 -- Lemmas on where parts end, and on what is in them.
-use Rattle.std.proofs.Common.{◌≡◌, ℕ, zero, suc, ◌+◌, ◌-◌, ◌*◌, ◌^◌, ◌<◌, ◌≤◌, Bool, true, false, cond, List, [], ◌∷◌, ◌++◌, length, take, drop, map, min, get_or, refl, sym, ap, ◌∙◌, subst, arith, eqb-true, append_assoc, length-drop, length-take, length-append}
-use Rattle.std.specs.Prelude.{◌==◌, ◌&&◌, not, Option, Some, None}
-use Rattle.std.proofs.lemmas.Bool.{false≢true}
-use Rattle.std.proofs.lemmas.List.{append-nil, drop-append-le, take-append-le}
-use Rattle.std.proofs.lemmas.List.Sums.{sum_by-cons}
-use Rattle.markdown_base.specs.declared.event.Event.{Event}
+use Rattle.std.proofs.Common.{◌≡◌, ℕ, zero, suc, ◌+◌, ◌-◌, ◌*◌, ◌^◌, ◌<◌, ◌≤◌, Bool, true, false, cond, List, [], ◌∷◌, ◌++◌, length, take, drop, get_or, refl, sym, ap, ◌∙◌, subst, arith, eqb-true, length-drop}
+use Rattle.std.specs.Prelude.{◌==◌, Option, Some, None}
+use Rattle.std.proofs.lemmas.List.{drop-append-le, take-append-le}
 use Rattle.markdown_base.specs.declared.event.Kind.TheVariants.{Enter, Exit}
 use Rattle.markdown_base.specs.declared.event.Name.{Name}
 use Rattle.markdown_base.specs.declared.event.Name.TheVariants as name
@@ -12,18 +9,17 @@ use Rattle.markdown_base.specs.declared.event.Point.{Point}
 use Rattle.markdown_base.specs.Places.{shown}
 use Rattle.markdown_base.specs.Virtual.{Seat, end_after, point}
 use Rattle.mdconstructs_machines.specs.LineEvents.{ending_of, line_text}
-use Rattle.mdblock_leaf_blocks.specs.LeafBlocks.{Line, bytes_of, text_of}
-use Rattle.mdblock_leaf_blocks.specs.LeafEvents.{Mark, leaf_marks, span_marks, white}
+use Rattle.mdblock_leaf_blocks.specs.LeafBlocks.{bytes_of}
+use Rattle.mdblock_leaf_blocks.specs.LeafEvents.{leaf_marks, span_marks, white}
 use Rattle.mdblock_leaf_blocks.specs.LineKinds.{indent}
-use Rattle.mdblock_lines.specs.Containers.{Container, Prefix, quote, item, goes_on}
-use Rattle.mdblock_lines.specs.Lines.{line_length}
+use Rattle.mdblock_lines.specs.Containers.{Container, Prefix, footnote, quote, item, goes_on}
 use Rattle.mdblock_containers.specs.declared.parts.PartEnd.{PartEnd}
 use Rattle.mdblock_containers.specs.declared.spans.RowAt.{RowAt}
 use Rattle.mdblock_containers.specs.PlaceEvents.{event_at}
 use Rattle.mdblock_containers.specs.Prefixes.{columns_of, going_on}
 use Rattle.mdblock_containers.specs.Rest.{ending_to}
 use Rattle.mdblock_containers.specs.Rows.{Row}
-use Rattle.mdblock_containers.specs.Skeleton.{begin_of, begun_all, begun_marks, enters_of, last_of, list_name}
+use Rattle.mdblock_containers.specs.Skeleton.{begin_of, begun_all, begun_marks, enters_of, last_of, list_name, footnote_marks, label_marks}
 use Rattle.mdblock_containers.specs.Spans.{IsRowIn}
 use Rattle.mdblock_containers.specs.Stretches.{AreFurther, IsOutside, Run, end_at, ends_at, last_at}
 use Rattle.mdblock_containers.specs.Written.{NoChunk}
@@ -133,13 +129,31 @@ HaveColumns (p ∷ ps) = (0 < p.size) × HaveColumns ps
 module _ (bytes : List ℕ) where
   pub plain_enters : (c : Container) (p : Point) → NoChunk (enters_of bytes c p)
   plain_enters (quote q) p = tt
+  plain_enters (footnote f) p = tt
   plain_enters (item i) p = by (i.list == i.line)
     where
       by : (b : Bool) → NoChunk (cond b ((event_at Enter (list_name i) (shown bytes p), None) ∷ []) [] ++ (event_at Enter name.ListItem (shown bytes p), None) ∷ [])
       by true = tt
       by false = tt
 
+  plain_label : (l : ℕ) (ss : List Seat) → NoChunk (label_marks bytes l ss)
+  plain_label l ss =
+      plain_append (leaf_marks bytes name.GfmFootnoteDefinitionLabelMarker (take 1 ss)) _ (plain_span bytes name.GfmFootnoteDefinitionLabelMarker (take 1 ss) [] tt)
+      (plain_append (leaf_marks bytes name.GfmFootnoteDefinitionMarker (take 1 (drop 1 ss))) _ (plain_span bytes name.GfmFootnoteDefinitionMarker (take 1 (drop 1 ss)) [] tt)
+      (plain_append (span_marks bytes name.GfmFootnoteDefinitionLabelString (take l (drop 2 ss)) (leaf_marks bytes name.Data (take l (drop 2 ss)))) _
+      (plain_span bytes name.GfmFootnoteDefinitionLabelString (take l (drop 2 ss)) _ (plain_span bytes name.Data (take l (drop 2 ss)) [] tt))
+      (plain_span bytes name.GfmFootnoteDefinitionLabelMarker (take 1 (drop (l + 2) ss)) [] tt)))
+
+  plain_footnote : (l : ℕ) (ss : List Seat) → NoChunk (footnote_marks bytes l ss)
+  plain_footnote l ss =
+      plain_span bytes name.GfmFootnoteDefinitionPrefix ss _
+      (plain_append (span_marks bytes name.GfmFootnoteDefinitionLabel (take (l + 3) ss) (label_marks bytes l ss)) _ (plain_span bytes name.GfmFootnoteDefinitionLabel (take (l + 3) ss) _ (plain_label l ss))
+      (plain_append (leaf_marks bytes name.DefinitionMarker (take 1 (drop (l + 3) ss))) _ (plain_span bytes name.DefinitionMarker (take 1 (drop (l + 3) ss)) [] tt) (plain_span bytes name.SpaceOrTab (drop (l + 4) ss) [] tt)))
+
   pub plain_begun_one : (c : Container) (ss : List Seat) → NoChunk (begun_marks bytes c ss)
+  plain_begun_one (footnote f) ss =
+      let n = indent (bytes_of ss) in
+      plain_append (white bytes (take n ss)) _ (plain_span bytes name.SpaceOrTab (take n ss) [] tt) (plain_footnote f.label (drop n ss))
   plain_begun_one (quote q) ss = plain_going bytes (quote q) ss
   plain_begun_one (item i) ss =
       let n = indent (bytes_of ss) in

@@ -14,7 +14,7 @@ use Rattle.markdown_base.proofs.Balanced.{same_name-refl}
 use Rattle.mdblock_leaf_blocks.specs.LeafBlocks.{Line, interrupts, text_of}
 use Rattle.mdblock_leaf_blocks.specs.LineKinds.{indent, indented, blank as blank_kind, is_far, kind_of_rest, line_kind, unindented}
 use Rattle.markdown_tokenizer.proofs.Positions.Order.{every-back, every-front}
-use Rattle.mdblock_lines.specs.Containers.{Container, Prefix, item, quote}
+use Rattle.mdblock_lines.specs.Containers.{Container, Prefix, footnote, item, quote}
 use Rattle.mdblock_containers.proofs.RowFacts.{BeganBefore, BeginHere, BeginsIn, BeginsList, IsFront, begun_are, front_append, front_more, front_none, front_trans, went_are}
 use Rattle.mdblock_containers.specs.Prefixes.{containers_of}
 use Rattle.mdblock_containers.specs.Rows.{Before, Row, closed, has_none, holds_ending, is_paragraph, known_after, leaf_after, open_paragraph, opened_by, row_of}
@@ -56,6 +56,7 @@ take_front (x ∷ xs) ys (suc k) e = let rest = take_front xs ys k (omega (arith
 
 abbrev pub entered : Container → List Frame
 entered (quote q) = record { name = name.BlockQuote; line = q.line } ∷ []
+entered (footnote f) = record { name = name.GfmFootnoteDefinition; line = f.line } ∷ []
 entered (item i) = cond (i.list == i.line) (record { name = list_name i; line = i.list } ∷ []) [] ++ record { name = name.ListItem; line = i.line } ∷ []
 
 abbrev pub all_entered : List Prefix → List Frame
@@ -65,6 +66,7 @@ all_entered (p ∷ ps) = entered p.container ++ all_entered ps
 -- with its list, if it begins that
 pub enters_all : (n : ℕ) (c : Container) → BeginsIn n c × BeginsList c → frames_of c ≡ entered c
 enters_all n (quote q) h = refl
+enters_all n (footnote f) h = refl
 enters_all n (item i) h = ap (λ b. cond b (record { name = list_name i; line = i.list } ∷ []) [] ++ record { name = name.ListItem; line = i.line } ∷ []) (sym (eq-eqb i.list i.line h.1))
 
 pub each_entered : (n : ℕ) (ps : List Prefix) → AllByRecursion (λ (q : Prefix). BeginsIn n q.container × BeginsList q.container) ps → flat_map frames_of (containers_of ps) ≡ all_entered ps
@@ -78,8 +80,9 @@ begun_entered n (p ∷ ps) h = by p.container h.0 (each_entered n ps h.1)
   where
     by : (c : Container) → BeginsIn n c → flat_map frames_of (containers_of ps) ≡ all_entered ps
         → frames_of c ++ flat_map frames_of (containers_of ps)
-        ≡ (elim c as (λ _. List Frame) [ quote q ↦ [] | item i ↦ cond (nat_lt i.list i.line) (record { name = list_name i; line = i.list } ∷ []) [] ]) ++ (entered c ++ all_entered ps)
+        ≡ (elim c as (λ _. List Frame) [ quote q ↦ [] | item i ↦ cond (nat_lt i.list i.line) (record { name = list_name i; line = i.list } ∷ []) [] | footnote f ↦ [] ]) ++ (entered c ++ all_entered ps)
     by (quote q) k rest = ap (λ (l : List Frame). record { name = name.BlockQuote; line = q.line } ∷ l) rest
+    by (footnote f) k rest = ap (λ (l : List Frame). record { name = name.GfmFootnoteDefinition; line = f.line } ∷ l) rest
     by (item i) k rest = choose (nat_lt i.list i.line) (i.list == i.line) tests
       where
         later : i.list ≤ i.line
@@ -102,6 +105,7 @@ shared_entered n (p ∷ ps) xs h old = by p.container h.0
   where
     by : (c : Container) → BeginsIn n c → shared xs (entered c ++ all_entered ps) ≡ 0
     by (quote q) k = shared_apart n xs (record { name = name.BlockQuote; line = q.line }) (all_entered ps) old k
+    by (footnote f) k = shared_apart n xs (record { name = name.GfmFootnoteDefinition; line = f.line }) (all_entered ps) old k
     by (item i) k = choose (i.list == i.line) refl
       where
         choose : (x : Bool) → (i.list == i.line) ≡ x → shared xs ((cond x (record { name = list_name i; line = i.list } ∷ []) [] ++ record { name = name.ListItem; line = i.line } ∷ []) ++ all_entered ps) ≡ 0
@@ -125,11 +129,12 @@ turns n before after kept begun h old front e =
 
 -- ---- containers that blank lines stand in
 
--- containers from the innermost on, but for items among the first that do not go on
+-- containers from the innermost on, but for items and footnote definitions among the first that do not go on
 abbrev pub keep : ℕ → List Container → List Container
 keep g [] = []
 keep g (quote q ∷ cs) = quote q ∷ cs
 keep g (item i ∷ cs) = cond (nat_le g (length cs)) (keep g cs) (item i ∷ cs)
+keep g (footnote f ∷ cs) = cond (nat_le g (length cs)) (keep g cs) (footnote f ∷ cs)
 
 pub left_is_keep : (g n : ℕ) (cs : List Container) → AllByRecursion (BeganBefore n) cs → left_in g n cs ≡ keep g cs
 left_is_keep g n [] h = refl
@@ -140,6 +145,15 @@ left_is_keep g n (item i ∷ cs) h =
     by (nat_le g (length cs)) (nat_lt i.line n) before (left_is_keep g n cs h.1)
   where
     by : (x y : Bool) → y ≡ true → left_in g n cs ≡ keep g cs → cond (x && y) (left_in g n cs) (item i ∷ cs) ≡ cond x (keep g cs) (item i ∷ cs)
+    by true true e rest = rest
+    by true false e rest = absurd (false≢true e)
+    by false y e rest = refl
+left_is_keep g n (footnote f ∷ cs) h =
+    let less = h.0 in
+    let before : nat_lt f.line n ≡ true = grind (arith, nat_tests) in
+    by (nat_le g (length cs)) (nat_lt f.line n) before (left_is_keep g n cs h.1)
+  where
+    by : (x y : Bool) → y ≡ true → left_in g n cs ≡ keep g cs → cond (x && y) (left_in g n cs) (footnote f ∷ cs) ≡ cond x (keep g cs) (footnote f ∷ cs)
     by true true e rest = rest
     by true false e rest = absurd (false≢true e)
     by false y e rest = refl
@@ -155,6 +169,11 @@ keep_back g (item i ∷ cs) = by (nat_le g (length cs)) (keep_back g cs)
     by : (x : Bool) → IsBack (keep g cs) cs → IsBack (cond x (keep g cs) (item i ∷ cs)) (item i ∷ cs)
     by true h = (item i ∷ h.0, ap (λ l. item i ∷ l) h.1)
     by false h = ([], refl)
+keep_back g (footnote f ∷ cs) = by (nat_le g (length cs)) (keep_back g cs)
+  where
+    by : (x : Bool) → IsBack (keep g cs) cs → IsBack (cond x (keep g cs) (footnote f ∷ cs)) (footnote f ∷ cs)
+    by true h = (footnote f ∷ h.0, ap (λ l. footnote f ∷ l) h.1)
+    by false h = ([], refl)
 
 pub keep_more : (g : ℕ) (zs cs : List Container) → IsBack (keep g cs) (keep g (zs ++ cs))
 keep_more g [] cs = ([], refl)
@@ -164,6 +183,11 @@ keep_more g (item i ∷ zs) cs = by (nat_le g (length (zs ++ cs))) (keep_more g 
     by : (x : Bool) → IsBack (keep g cs) (keep g (zs ++ cs)) → IsBack (keep g cs) (cond x (keep g (zs ++ cs)) (item i ∷ (zs ++ cs)))
     by true h = h
     by false h = let back = keep_back g cs in (item i ∷ (zs ++ back.0), ap (λ l. item i ∷ (zs ++ l)) back.1 ∙ ap (λ l. item i ∷ l) (sym (append_assoc zs back.0 (keep g cs))))
+keep_more g (footnote f ∷ zs) cs = by (nat_le g (length (zs ++ cs))) (keep_more g zs cs)
+  where
+    by : (x : Bool) → IsBack (keep g cs) (keep g (zs ++ cs)) → IsBack (keep g cs) (cond x (keep g (zs ++ cs)) (footnote f ∷ (zs ++ cs)))
+    by true h = h
+    by false h = let back = keep_back g cs in (footnote f ∷ (zs ++ back.0), ap (λ l. footnote f ∷ (zs ++ l)) back.1 ∙ ap (λ l. footnote f ∷ l) (sym (append_assoc zs back.0 (keep g cs))))
 
 pub keep_long : (g : ℕ) (cs : List Container) → g ≤ length cs → g ≤ length (keep g cs)
 keep_long g [] h = h
@@ -171,6 +195,11 @@ keep_long g (quote q ∷ cs) h = h
 keep_long g (item i ∷ cs) h = by (keep_long g cs) (nat_le g (length cs)) refl
   where
     by : (g ≤ length cs → g ≤ length (keep g cs)) → (x : Bool) → nat_le g (length cs) ≡ x → g ≤ length (cond x (keep g cs) (item i ∷ cs))
+    by rest true e = let le : g ≤ length cs = grind (arith, nat_tests) in rest le
+    by rest false e = h
+keep_long g (footnote f ∷ cs) h = by (keep_long g cs) (nat_le g (length cs)) refl
+  where
+    by : (g ≤ length cs → g ≤ length (keep g cs)) → (x : Bool) → nat_le g (length cs) ≡ x → g ≤ length (cond x (keep g cs) (footnote f ∷ cs))
     by rest true e = let le : g ≤ length cs = grind (arith, nat_tests) in rest le
     by rest false e = h
 
@@ -203,14 +232,17 @@ front_take xs ys h = ap (take (length xs)) h.1 ∙ (take_front xs h.0 (length xs
 
 pub began_more : (n : ℕ) (c : Container) → BeganBefore n c → BeganBefore (suc n) c
 began_more n (quote q) h = omega (arith, h)
+began_more n (footnote f) h = omega (arith, h)
 began_more n (item i) h = let less = h.0 in (omega (arith, less), h.1)
 
 pub began_later : (n m : ℕ) → n ≤ m → (c : Container) → BeganBefore n c → BeganBefore m c
 began_later n m le (quote q) h = omega (arith, h, le)
+began_later n m le (footnote f) h = omega (arith, h, le)
 began_later n m le (item i) h = let less = h.0 in (omega (arith, less, le), h.1)
 
 pub begins_before : (n : ℕ) (c : Container) → BeginsIn n c → BeganBefore (suc n) c
 begins_before n (quote q) h = omega (arith, h)
+begins_before n (footnote f) h = omega (arith, h)
 begins_before n (item i) h = let is = h.0 in (omega (arith, is), h.1)
 
 pub begun_before : (n : ℕ) (ps : List Prefix) → BeginHere n ps → AllByRecursion (BeganBefore (suc n)) (containers_of ps)
@@ -223,6 +255,7 @@ begun_before n (p ∷ ps) h = (begins_before n p.container h.0, rest ps h.1)
 
 pub frames_before : (n : ℕ) (c : Container) → BeganBefore n c → AllByRecursion (λ (f : Frame). f.line < n) (frames_of c)
 frames_before n (quote q) h = (h, tt)
+frames_before n (footnote f) h = (h, tt)
 frames_before n (item i) h = let less = h.0 in let list = h.1.list in (omega (arith, less, list), (less, tt))
 
 pub all_before : (n : ℕ) (cs : List Container) → AllByRecursion (BeganBefore n) cs → AllByRecursion (λ (f : Frame). f.line < n) (flat_map frames_of cs)
@@ -259,6 +292,15 @@ left_begun g n (item i ∷ zs) cs h e =
     by (nat_le g (length (zs ++ cs))) (nat_lt i.line n) here
   where
     by : (x y : Bool) → y ≡ false → cond (x && y) (left_in g n (zs ++ cs)) (item i ∷ (zs ++ cs)) ≡ item i ∷ (zs ++ cs)
+    by true true f = absurd (false≢true (sym f))
+    by true false f = refl
+    by false y f = refl
+left_begun g n (footnote m ∷ zs) cs h e =
+    let is = h.0 in
+    let here : nat_lt m.line n ≡ false = grind (arith, nat_tests) in
+    by (nat_le g (length (zs ++ cs))) (nat_lt m.line n) here
+  where
+    by : (x y : Bool) → y ≡ false → cond (x && y) (left_in g n (zs ++ cs)) (footnote m ∷ (zs ++ cs)) ≡ footnote m ∷ (zs ++ cs)
     by true true f = absurd (false≢true (sym f))
     by true false f = refl
     by false y f = refl
@@ -409,8 +451,9 @@ short_list (p ∷ ps) = by p.container
     one f true = omega arith
     one f false = omega arith
 
-    by : (c : Container) → length (elim c as (λ _. List Frame) [ quote q ↦ [] | item i ↦ cond (nat_lt i.list i.line) (record { name = list_name i; line = i.list } ∷ []) [] ]) ≤ 1
+    by : (c : Container) → length (elim c as (λ _. List Frame) [ quote q ↦ [] | item i ↦ cond (nat_lt i.list i.line) (record { name = list_name i; line = i.list } ∷ []) [] | footnote f ↦ [] ]) ≤ 1
     by (quote q) = omega arith
+    by (footnote f) = omega arith
     by (item i) = one (record { name = list_name i; line = i.list }) (nat_lt i.list i.line)
 
 abbrev pub head_or : Frame → List Frame → Frame
@@ -424,6 +467,7 @@ pub short_front : (xs ys : List Frame) (c : Container) → length xs ≤ 1 → I
 short_front [] ys c h front = front_none (frames_of c)
 short_front (x ∷ y ∷ xs) ys c h front = absurd (omega (arith, h))
 short_front (x ∷ []) ys (quote q) h front = front_one (record { name = name.BlockQuote; line = q.line }) x [] ys front.0 front.1
+short_front (x ∷ []) ys (footnote f) h front = front_one (record { name = name.GfmFootnoteDefinition; line = f.line }) x [] ys front.0 front.1
 short_front (x ∷ []) ys (item i) h front = front_one (record { name = list_name i; line = i.list }) x (record { name = name.ListItem; line = i.line } ∷ []) ys front.0 front.1
 
 pub front_every : (P : Frame → Type 0) (xs ys : List Frame) → IsFront xs ys → AllByRecursion P ys → AllByRecursion P xs

@@ -9,13 +9,15 @@ use Rattle.mdconstructs_tables.specs.Breaks.{is_white}
 use Rattle.markdown_base.specs.declared.configuration.Constructs.{Constructs}
 use Rattle.mdblock_leaf_blocks.specs.LineKinds.{indent, unindented, is_blank_line, is_thematic_break, begins_with}
 use Rattle.mdblock_lines.specs.declared.containers.Prefix.{Prefix as CodePrefix}
-use Rattle.mdblock_lines.specs.Containers.{Container, quote, item, Prefix, goes_on, begins, quote_size, item_at, is_marker, padding, digits, first_byte, may_begin_item}
+use Rattle.mdblock_lines.specs.Containers.{Container, quote, item, footnote, footnote_at, is_footnote, label_size, Prefix, goes_on, begins, quote_size, item_at, is_marker, padding, digits, first_byte, may_begin_item}
 use Rattle.mdblock_lines.specs.Views.{prefix_of}
 use Rattle.mdblock_containers.specs.declared.going.Open.{Open}
 use Rattle.mdblock_containers.specs.declared.going.Open.{Open}
 use Rattle.mdblock_containers.specs.Prefixes.{going_on, columns_of, containers_of, beginning}
 use Rattle.mdblock_containers.specs.Views.{open_of}
 use Rattle.mdblock_containers.specs.Views.{open_of}
+use Rattle.markdown_base.proofs.Common.{and-right}
+use Rattle.mdblock_lines.proofs.LineLemmas.{footnote_long}
 
 -- a front is no longer than the whole
 pub prefix_within : (p : ℕ → Bool) (xs : List ℕ) → prefix_len p xs ≤ length xs
@@ -48,6 +50,15 @@ goes_on_within (quote q) number t n e = by (begins_with 62 (unindented t)) (not 
     by true true s q = let w = quote_within t s in let same : quote_size t ≡ n = cc in omega arith
     by true false s q = absurd (cc)
     by false b s q = absurd (cc)
+goes_on_within (footnote f) number t n e = by (is_blank_line t) (nat_le 4 (indent t)) refl e
+  where
+    front : indent t ≤ length t
+    front = prefix_within is_white t
+
+    by : (a c : Bool) → nat_le 4 (indent t) ≡ c → cond a (Some (min 4 (indent t))) (cond c (Some 4) None) ≡ Some n → n ≤ length t
+    by true c s q = let same : min 4 (indent t) ≡ n = cc in let w = front in omega arith
+    by false true s q = let same : 4 ≡ n = cc in let w = front in let le : 4 ≤ indent t = grind (arith) in omega arith
+    by false false s q = absurd (cc)
 goes_on_within (item i) number t n e = by (is_blank_line t) (i.is_empty && (number == suc i.line)) (nat_le i.size (indent t)) refl e
   where
     front : indent t ≤ length t
@@ -150,6 +161,19 @@ item_within number t e =
         let l : length (drop (suc (digits (unindented t))) (unindented t)) ≡ length (unindented t) - suc (digits (unindented t)) = length-drop (suc (digits (unindented t))) (unindented t) in
         (omega arith, omega arith)
 
+-- the prefix of a footnote definition has its label, and is within the line
+pub footnote_within : (number : ℕ) (t : List ℕ) → is_footnote (unindented t) ≡ true
+    → (indent t + label_size (drop 2 (unindented t)) + 4 ≤ (footnote_at number t).size) × ((footnote_at number t).size ≤ length t)
+footnote_within number t e =
+    let r = unindented t in
+    let n = label_size (drop 2 r) in
+    let long : n + 4 ≤ length r = footnote_long r e in
+    let d : length r ≡ length t - indent t = length-drop (indent t) t in
+    let front : indent t ≤ length t = prefix_within is_white t in
+    let after : indent (drop (n + 4) r) ≤ length (drop (n + 4) r) = prefix_within is_white (drop (n + 4) r) in
+    let left : length (drop (n + 4) r) ≡ length r - (n + 4) = length-drop (n + 4) r in
+    (omega arith, omega arith)
+
 abbrev size_or : Option Prefix → ℕ
 size_or None = 0
 size_or (Some p) = p.size
@@ -160,17 +184,22 @@ item_case number t q true true false em h = absurd (cc)
 item_case number t q true false rest em h = absurd (cc)
 item_case number t q false m rest em h = absurd (cc)
 
+footnote_case : (number : ℕ) (t : List ℕ) (q : Prefix) → is_footnote (unindented t) ≡ true → Some (footnote_at number t) ≡ Some q → (1 ≤ q.size) × (q.size ≤ length t)
+footnote_case number t q is h = let w = footnote_within number t is in let size : (footnote_at number t).size ≡ q.size = ap size_or h in (omega (arith, w.0), omega (arith, w.1))
+
 -- a container that begins has a prefix, within the line
 pub begins_within : (on : Constructs) (number : ℕ) (in_paragraph : Bool) (t : List ℕ) (q : Prefix) → begins on number in_paragraph t ≡ Some q → (1 ≤ q.size) × (q.size ≤ length t)
 begins_within on number in_paragraph t q e =
-    by ((on.code_indented && nat_le 4 (indent t)) || (is_blank_line t || (on.thematic_break && is_thematic_break (unindented t)))) on.block_quote (begins_with 62 (unindented t)) on.list_item (is_marker (unindented t)) _ refl refl e
+    by ((on.code_indented && nat_le 4 (indent t)) || (is_blank_line t || (on.thematic_break && is_thematic_break (unindented t)))) on.block_quote (begins_with 62 (unindented t)) on.list_item (on.gfm_footnote_definition && is_footnote (unindented t)) (is_marker (unindented t)) _ refl (and-right on.gfm_footnote_definition (is_footnote (unindented t))) refl e
   where
-    by : (past b x l m rest : Bool) → begins_with 62 (unindented t) ≡ x → is_marker (unindented t) ≡ m
-        → cond past None (cond (b && x) (Some (record { container = quote (record { line = number; is_near = on.code_indented }); size = quote_size t })) (cond (l && (m && rest)) (Some (item_at number t)) None)) ≡ Some q → (1 ≤ q.size) × (q.size ≤ length t)
-    by true b x l m rest ex em h = absurd (cc)
-    by false true true l m rest ex em h = let w = quote_within t ex in let size : quote_size t ≡ q.size = ap size_or h in (omega arith, omega arith)
-    by false true false l m rest ex em h = item_case number t q l m rest em h
-    by false false x l m rest ex em h = item_case number t q l m rest em h
+    by : (past b x l f m rest : Bool) → begins_with 62 (unindented t) ≡ x → (f ≡ true → is_footnote (unindented t) ≡ true) → is_marker (unindented t) ≡ m
+        → cond past None (cond (b && x) (Some (record { container = quote (record { line = number; is_near = on.code_indented }); size = quote_size t })) (cond f (Some (footnote_at number t)) (cond (l && (m && rest)) (Some (item_at number t)) None))) ≡ Some q → (1 ≤ q.size) × (q.size ≤ length t)
+    by true b x l f m rest ex ef em h = absurd (cc)
+    by false true true l f m rest ex ef em h = let w = quote_within t ex in let size : quote_size t ≡ q.size = ap size_or h in (omega arith, omega arith)
+    by false true false l true m rest ex ef em h = footnote_case number t q (ef refl) h
+    by false true false l false m rest ex ef em h = item_case number t q l m rest em h
+    by false false x l true m rest ex ef em h = footnote_case number t q (ef refl) h
+    by false false x l false m rest ex ef em h = item_case number t q l m rest em h
 
 item_front : (number : ℕ) (t : List ℕ) → indent t + 1 ≤ (item_at number t).size
 item_front number t = by (is_blank_line (drop (suc (digits (unindented t))) (unindented t)))
@@ -182,13 +211,14 @@ item_front number t = by (is_blank_line (drop (suc (digits (unindented t))) (uni
 -- the white space is in its prefix, and a marker
 pub begins_front : (on : Constructs) (number : ℕ) (in_paragraph : Bool) (t : List ℕ) (q : Prefix) → begins on number in_paragraph t ≡ Some q → indent t + 1 ≤ q.size
 begins_front on number in_paragraph t q e =
-    by ((on.code_indented && nat_le 4 (indent t)) || (is_blank_line t || (on.thematic_break && is_thematic_break (unindented t)))) (on.block_quote && begins_with 62 (unindented t)) (on.list_item && may_begin_item in_paragraph (unindented t)) e
+    by ((on.code_indented && nat_le 4 (indent t)) || (is_blank_line t || (on.thematic_break && is_thematic_break (unindented t)))) (on.block_quote && begins_with 62 (unindented t)) (on.gfm_footnote_definition && is_footnote (unindented t)) (on.list_item && may_begin_item in_paragraph (unindented t)) (and-right on.gfm_footnote_definition (is_footnote (unindented t))) e
   where
-    by : (past b l : Bool) → cond past None (cond b (Some (record { container = quote (record { line = number; is_near = on.code_indented }); size = quote_size t })) (cond l (Some (item_at number t)) None)) ≡ Some q → indent t + 1 ≤ q.size
-    by true b l h = absurd (cc)
-    by false true l h = let size : quote_size t ≡ q.size = ap size_or h in omega arith
-    by false false true h = let size : (item_at number t).size ≡ q.size = ap size_or h in let front = item_front number t in omega arith
-    by false false false h = absurd (cc)
+    by : (past b f l : Bool) → (f ≡ true → is_footnote (unindented t) ≡ true) → cond past None (cond b (Some (record { container = quote (record { line = number; is_near = on.code_indented }); size = quote_size t })) (cond f (Some (footnote_at number t)) (cond l (Some (item_at number t)) None))) ≡ Some q → indent t + 1 ≤ q.size
+    by true b f l ef h = absurd (cc)
+    by false true f l ef h = let size : quote_size t ≡ q.size = ap size_or h in omega arith
+    by false false true l ef h = let w = footnote_within number t (ef refl) in let size : (footnote_at number t).size ≡ q.size = ap size_or h in omega (arith, w.0)
+    by false false false true ef h = let size : (item_at number t).size ≡ q.size = ap size_or h in let front = item_front number t in omega arith
+    by false false false false ef h = absurd (cc)
 
 pub begins_some_size : (on : Constructs) (number : ℕ) (in_paragraph : Bool) (t : List ℕ) (o : Option CodePrefix) → option_map (prefix_of number) o ≡ begins on number in_paragraph t → IfSome o (λ p. 1 ≤ p.size)
 begins_some_size on number in_paragraph t None e = tt

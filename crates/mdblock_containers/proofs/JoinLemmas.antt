@@ -11,7 +11,7 @@ use Rattle.markdown_base.specs.Virtual.{Seat}
 use Rattle.mdblock_leaf_blocks.specs.LeafBlocks.{bytes_of}
 use Rattle.mdblock_leaf_blocks.specs.LeafEvents.{Mark, chunk_span, leaf_marks, span_marks, white}
 use Rattle.mdblock_leaf_blocks.specs.LineKinds.{indent}
-use Rattle.mdblock_lines.specs.Containers.{Container, Prefix, quote, item}
+use Rattle.mdblock_lines.specs.Containers.{Container, Prefix, footnote, quote, item}
 use Rattle.mdconstructs_machines.specs.LineEvents.{line_text}
 use Rattle.mdblock_containers.specs.Prefixes.{columns_of}
 use Rattle.mdblock_containers.specs.Rows.{Row, has_none}
@@ -134,6 +134,7 @@ module _ (bytes : List ℕ) where
       plain_append (white bytes (take n ss)) _ (plain_span name.SpaceOrTab (take n ss) [] tt)
       (plain_span name.BlockQuotePrefix (drop n ss) _ (plain_append (leaf_marks bytes name.BlockQuoteMarker (take 1 (drop n ss))) _ (plain_span name.BlockQuoteMarker (take 1 (drop n ss)) [] tt) (plain_span name.SpaceOrTab (drop (suc n) ss) [] tt)))
   plain_going (item i) ss = plain_span name.SpaceOrTab ss [] tt
+  plain_going (footnote f) ss = plain_span name.SpaceOrTab ss [] tt
 
   pub plain_prefixes : (ps : List Prefix) (ss : List Seat) → NoChunk (prefixes_marks bytes ps ss)
   plain_prefixes [] ss = tt
@@ -142,6 +143,7 @@ module _ (bytes : List ℕ) where
   pub going_empty : (c : Container) → going_marks bytes c [] ≡ []
   going_empty (quote q) = refl
   going_empty (item i) = refl
+  going_empty (footnote f) = refl
 
   pub columns_more : (p : Prefix) (ps : List Prefix) → columns_of (p ∷ ps) ≡ p.size + columns_of ps
   columns_more p ps = sum_by-cons (λ (q : Prefix). q.size) p ps
@@ -176,6 +178,7 @@ module _ (bytes : List ℕ) where
       by zero = some_span name.BlockQuotePrefix ss _ h
       by (suc n) = some_more (white bytes (take (suc n) ss)) _ (some_span name.SpaceOrTab (take (suc n) ss) [] (first n ss h))
   going_some (item i) ss h = some_span name.SpaceOrTab ss [] h
+  going_some (footnote f) ss h = some_span name.SpaceOrTab ss [] h
 
   pub prefixes_some : (ps : List Prefix) (ss : List Seat) → 0 < columns_of ps → columns_of ps ≤ length ss → has_none (prefixes_marks bytes ps ss) ≡ false
   prefixes_some [] ss h w = absurd (omega (arith, h))

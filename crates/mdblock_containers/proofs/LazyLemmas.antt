@@ -20,7 +20,7 @@ use Rattle.mdblock_containers.specs.Rows.{Row, rest_of}
 use Rattle.mdblock_containers.specs.SeatPlaces.{AreSeatsAt}
 use Rattle.mdblock_containers.specs.Spans.{IsRowIn}
 use Rattle.mdblock_containers.proofs.GoingLemmas.{begins_some}
-use Rattle.mdblock_containers.proofs.PartFacts.{line_size, next_few, next_outside, row, the_columns, the_inside}
+use Rattle.mdblock_containers.proofs.PartFacts.{line_size, next_few, next_outside, the_columns, the_inside}
 use Rattle.mdblock_containers.proofs.RestLemmas.{next_of, none_left}
 use Rattle.mdblock_containers.proofs.RunLemmas.{line_parts}
 use Rattle.mdblock_containers.proofs.SeatLemmas.{seats_drop}

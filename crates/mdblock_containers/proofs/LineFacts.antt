@@ -1,23 +1,17 @@
 -- Lemmas on a line of a document: its text, its line ending, and where they are.
-use Rattle.std.proofs.Common.{◌≡◌, ℕ, zero, suc, ◌+◌, ◌-◌, ◌*◌, ◌^◌, ◌<◌, ◌≤◌, Bool, true, false, cond, List, [], ◌∷◌, ◌++◌, length, take, drop, min, map, refl, sym, ap, ◌∙◌, subst, arith, eqb-true, length-drop, length-take}
-use Rattle.std.specs.Prelude.{◌==◌, ◌&&◌, not, filter, slice_index, take_while}
+use Rattle.std.proofs.Common.{◌≡◌, ℕ, zero, suc, ◌+◌, ◌-◌, Bool, true, false, cond, List, [], ◌∷◌, ◌++◌, length, take, drop, refl, sym, ap, ◌∙◌, subst, arith, eqb-true}
+use Rattle.std.specs.Prelude.{◌==◌, ◌&&◌, not, filter, slice_index}
 use Rattle.std.specs.List.{prefix_len}
 use Rattle.std.proofs.lemmas.Bool.{false≢true}
-use Rattle.std.proofs.lemmas.List.{append-nil, drop-drop, get_or-drop, length-map}
+use Rattle.std.proofs.lemmas.List.{append-nil, drop-drop, get_or-drop}
 use Rattle.std.proofs.Math.Bool.{and-false}
 use Rattle.markdown_base.specs.declared.event.Point.{Point}
 use Rattle.markdown_base.specs.Places.{follows_cr, shown}
-use Rattle.markdown_base.specs.Virtual.{Seat, point, begins_with_lf, end_after, line_feed, virtual_from}
-use Rattle.markdown_base.proofs.SeatCounts.{virtual-length}
+use Rattle.markdown_base.specs.Virtual.{Seat, begins_with_lf, virtual_from}
 use Rattle.mdconstructs_machines.specs.LineEvents.{ending_of, is_line_ending, line_text}
-use Rattle.mdblock_leaf_blocks.specs.LeafBlocks.{Line}
-use Rattle.mdblock_lines.specs.Lines.{ending_seats, ending_size, is_in_line, is_no_ending, line_at, line_bytes, place_after, text_seats}
-use Rattle.mdblock_containers.specs.PlaceEvents.{HasColumns}
-use Rattle.mdblock_containers.specs.SeatPlaces.{AreSeatsAt}
+use Rattle.mdblock_lines.specs.Lines.{ending_seats, ending_size, is_in_line, is_no_ending, line_at, text_seats}
 use Rattle.mdblock_containers.specs.Stretches.{IsOutside}
 use Rattle.mdblock_containers.proofs.DocumentRows.{filter_front, ending_is_none}
-use Rattle.mdblock_containers.proofs.GoingLemmas.{prefix_within}
-use Rattle.mdblock_containers.proofs.SpanLemmas.{Course, course_from, course_end, course_seats, course_inside}
 
 -- ---- text and line ending
 

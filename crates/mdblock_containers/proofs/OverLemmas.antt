@@ -1,14 +1,16 @@
 -- Lemmas on open containers that go on over the blank rest of a line.
 use Rattle.std.proofs.Common.{◌≡◌, ◌⊎◌, inl, inr, ℕ, zero, suc, ◌+◌, ◌-◌, ◌<◌, ◌≤◌, Bool, true, false, cond, List, [], ◌∷◌, length, take, drop, map, min, get_or, refl, sym, ap, ◌∙◌, subst, arith, eq-eqb, length-drop, zero-add}
-use Rattle.std.specs.Prelude.{◌==◌, ◌&&◌, nat_le, Option, Some, None}
+use Rattle.std.specs.Prelude.{◌==◌, ◌&&◌, nat_le, Some, None}
 use Rattle.std.specs.List.{AllByRecursion}
 use Rattle.std.proofs.Math.Nat.{min-zero}
 use Rattle.std.proofs.lemmas.Bool.{cases_lt, eqb-true, false≢true}
 use Rattle.std.proofs.lemmas.Bool.Decides.{nat_tests}
 use Rattle.std.proofs.lemmas.List.{drop_all, get_or-drop, get_or-take, get_or_default}
 use Rattle.std.proofs.lemmas.List.Sums.{sum_by-cons}
-use Rattle.mdblock_lines.specs.Containers.{Container, Item, Prefix, goes_on, item, quote}
-use Rattle.mdblock_lines.specs.Views.{quote_of}
+use Rattle.mdblock_lines.specs.Containers.{Prefix, goes_on}
+use Rattle.mdblock_lines.specs.declared.containers.ContainerKind.{ContainerKind}
+use Rattle.mdblock_lines.specs.declared.containers.ContainerKind.TheVariants as kinds
+use Rattle.mdblock_lines.specs.Views.{container_by}
 use Rattle.mdblock_containers.specs.declared.going.Open.{Open}
 use Rattle.mdblock_containers.specs.Over.{AreBefore, AreOver, GoesOver}
 use Rattle.mdblock_containers.specs.Prefixes.{columns_of, going_on}
@@ -28,14 +30,12 @@ item_over size line number n true false true m h le a b e =
     absurd (false≢true (sym a ∙ eq-eqb number (suc line) same))
 
 pub went_over : (o : Open) (number m : ℕ) → o.container.line < number → Some m ≡ goes_on (open_of o) number [] → GoesOver number o
-went_over o number m h e n le = by o.container.is_quote e
+went_over o number m h e n le = by o.container.kind e
   where
-    i : Item
-    i = record { line = o.container.line; list = o.list; size = o.container.size; marker = o.container.marker; digits = o.container.digits; is_empty = o.container.is_blank }
-
-    by : (b : Bool) → Some m ≡ goes_on (cond b (quote (quote_of o.container)) (item i)) number [] → goes_on (cond b (quote (quote_of o.container)) (item i)) n [] ≡ Some 0
-    by true q = absurd (cc)
-    by false q = item_over o.container.size o.container.line number n o.container.is_blank (number == suc o.container.line) (n == suc o.container.line) m h le refl refl q
+    by : (k : ContainerKind) → Some m ≡ goes_on (container_by k o.list o.container) number [] → goes_on (container_by k o.list o.container) n [] ≡ Some 0
+    by kinds.Quote q = absurd (cc)
+    by kinds.Footnote q = refl
+    by kinds.Item q = item_over o.container.size o.container.line number n o.container.is_blank (number == suc o.container.line) (n == suc o.container.line) m h le refl refl q
 
 -- all go on, with no columns
 all_over : (number : ℕ) (xs : List Open) → ((k : ℕ) (d : Open) → k < length xs → goes_on (open_of (get_or xs k d)) number [] ≡ Some 0)
@@ -117,10 +117,10 @@ front_over number from to m stack shown e le h k d a b = subst (GoesOver number)
 -- open containers began before, by what is known of them
 pub began_before : (n : ℕ) (xs : List Open) → AllByRecursion (BeganBefore n) (map open_of xs) → AreBefore n xs
 began_before n [] h k d w = absurd (omega (arith, w))
-began_before n (x ∷ xs) h zero d w = by x.container.is_quote h.0
+began_before n (x ∷ xs) h zero d w = by x.container.kind h.0
   where
-    by : (b : Bool)
-        → BeganBefore n (cond b (quote (quote_of x.container)) (item (record { line = x.container.line; list = x.list; size = x.container.size; marker = x.container.marker; digits = x.container.digits; is_empty = x.container.is_blank }))) → x.container.line < n
-    by true q = q
-    by false q = q.0
+    by : (k : ContainerKind) → BeganBefore n (container_by k x.list x.container) → x.container.line < n
+    by kinds.Quote q = q
+    by kinds.Item q = q.0
+    by kinds.Footnote q = q
 began_before n (x ∷ xs) h (suc k) d w = began_before n xs h.1 k d (omega (arith, w))

@@ -13,7 +13,7 @@ use Rattle.mdblock_containers.specs.declared.rows.Row.{Row as CodeRow}
 use Rattle.mdblock_containers.specs.Ahead.{ahead_of}
 use Rattle.mdblock_containers.specs.Costs.{ArePaid, FirstIsNotLazy, Follows, IsAsked, IsEnough, is_bare}
 use Rattle.mdblock_containers.specs.Rows.{Row, has_none}
-use Rattle.mdblock_containers.specs.Skeleton.{further, going_on_at}
+use Rattle.mdblock_containers.specs.Skeleton.{going_on_at}
 use Rattle.mdblock_containers.specs.Views.{IsRow, begun_of}
 use Rattle.mdblock_containers.proofs.CostLemmas.{after_further, asks_few, bare_paid, bare_turned, other_paid, other_turned}
 use Rattle.mdblock_containers.proofs.FrameFacts.{none_is}

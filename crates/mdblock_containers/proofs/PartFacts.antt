@@ -1,49 +1,34 @@
 -- Lemmas on a part that is written: what its first line and those behind it tell.
-use Rattle.std.proofs.Common.{◌≡◌, ◌⊎◌, inl, inr, ℕ, zero, suc, ◌+◌, ◌-◌, ◌*◌, ◌^◌, ◌<◌, ◌≤◌, Bool, true, false, cond, List, [], ◌∷◌, ◌++◌, length, take, drop, map, min, get_or, refl, sym, ap, ◌∙◌, subst, arith, append_assoc, length-drop, length-take, length-append}
-use Rattle.std.specs.Prelude.{◌==◌, ◌&&◌, filter, not, Option, Some, None, reverse}
-use Rattle.std.specs.List.{flat_map}
-use Rattle.std.proofs.lemmas.Bool.{cases_lt, false≢true}
-use Rattle.std.proofs.lemmas.List.{append-nil, drop-append-le, length-map, length-take-le, nil_from_length, take_all, take-append-le, take-map}
-use Rattle.markdown_base.specs.declared.event.Event.{Event}
-use Rattle.markdown_base.specs.declared.event.Name.TheVariants as name
-use Rattle.markdown_base.specs.declared.event.Point.{Point}
-use Rattle.markdown_base.specs.Places.{shown}
-use Rattle.markdown_base.specs.Virtual.{Seat, end_after, point}
+use Rattle.std.proofs.Common.{◌≡◌, ◌⊎◌, inl, inr, ℕ, zero, suc, ◌+◌, ◌*◌, ◌^◌, ◌<◌, ◌≤◌, Bool, true, false, cond, List, [], ◌∷◌, ◌++◌, length, take, drop, map, min, refl, sym, ap, ◌∙◌, subst, arith, length-append}
+use Rattle.std.specs.Prelude.{filter, not}
+use Rattle.std.proofs.lemmas.Bool.{cases_lt}
+use Rattle.std.proofs.lemmas.List.{append-nil, drop-append-le, length-map, nil_from_length, take_all}
+use Rattle.markdown_base.specs.Virtual.{Seat, point}
 use Rattle.mdconstructs_machines.specs.LineEvents.{ending_of, is_line_ending, line_text}
-use Rattle.mdblock_leaf_blocks.specs.LeafBlocks.{Line, bytes_of, text_of}
-use Rattle.mdblock_leaf_blocks.specs.LeafEvents.{Mark, leaf_marks, white}
+use Rattle.mdblock_leaf_blocks.specs.LeafBlocks.{Line}
 use Rattle.mdblock_lines.specs.declared.containers.Prefix.{Prefix as CodePrefix}
-use Rattle.mdblock_lines.specs.Containers.{Container, Prefix}
+use Rattle.mdblock_lines.specs.Containers.{Container}
 use Rattle.mdblock_lines.specs.Views.{prefix_of}
-use Rattle.mdblock_lines.specs.Lines.{line_bytes, place_after}
+use Rattle.mdblock_lines.specs.Lines.{line_bytes}
 use Rattle.mdblock_containers.specs.declared.ahead.Ahead.{Ahead}
-use Rattle.mdblock_containers.specs.declared.frames.Frame.{Frame as CodeFrame}
-use Rattle.mdblock_containers.specs.declared.going.Open.{Open}
-use Rattle.mdblock_containers.specs.declared.parts.PartEnd.{PartEnd}
 use Rattle.mdblock_containers.specs.declared.spans.RowAt.{RowAt}
-use Rattle.mdblock_containers.specs.Ahead.{ahead_of, frame_ahead}
-use Rattle.mdblock_containers.specs.Frames.{frame_of, frames_in}
-use Rattle.mdblock_containers.specs.Parts.{open_behind, stands_in}
-use Rattle.mdblock_containers.specs.PlaceEvents.{HasColumns, span_at}
-use Rattle.mdblock_containers.specs.Prefixes.{columns_of, containers_of, going_on}
-use Rattle.mdblock_containers.specs.Rest.{AreLeft, HasPart, ending_to, exits_to, rest_marks}
-use Rattle.mdblock_containers.specs.Rows.{Row, has_none, holds_ending}
-use Rattle.mdblock_containers.specs.SeatPlaces.{AreInside, AreSeatsAt, events_of}
-use Rattle.mdblock_containers.specs.Skeleton.{Frame, Part, behind_marks, begun_all, end_of, ending_marks, frames_at, frames_of, further, going_on_at, inside_of, is_held, last_of, list_at, part_marks, parts, prefixes_marks, shared, standing}
+use Rattle.mdblock_containers.specs.Ahead.{ahead_of}
+use Rattle.mdblock_containers.specs.Parts.{open_behind}
+use Rattle.mdblock_containers.specs.PlaceEvents.{HasColumns}
+use Rattle.mdblock_containers.specs.Prefixes.{columns_of, containers_of}
+use Rattle.mdblock_containers.specs.Rest.{AreLeft}
+use Rattle.mdblock_containers.specs.Rows.{Row}
+use Rattle.mdblock_containers.specs.SeatPlaces.{AreInside}
+use Rattle.mdblock_containers.specs.Skeleton.{further}
 use Rattle.mdblock_containers.specs.Spans.{IsRowIn, AreRowsIn}
-use Rattle.mdblock_containers.specs.Stretches.{AreFurther, HasFurther, InStretch, IsOutside, IsPending, Run, end_at, ends_at, last_at}
-use Rattle.mdblock_containers.specs.Views.{IsRow, begun_of, leaf_of, open_of}
-use Rattle.mdblock_containers.specs.Written.{NoChunk, Written}
-use Rattle.mdblock_containers.proofs.AheadLemmas.{list_ahead}
+use Rattle.mdblock_containers.specs.Stretches.{IsOutside}
+use Rattle.mdblock_containers.specs.Views.{IsRow, begun_of}
 use Rattle.mdblock_containers.proofs.DocumentRows.{next_is, next_more}
-use Rattle.mdblock_containers.proofs.EndLemmas.{HaveColumns, IsSome, begun_front, ending_is, ends_last, going_first, last_is, place_is, plain_begun}
-use Rattle.mdblock_containers.proofs.JoinLemmas.{columns_more, plain_prefixes, prefixes_front}
+use Rattle.mdblock_containers.proofs.EndLemmas.{HaveColumns}
 use Rattle.mdblock_containers.proofs.PrefixLemmas.{inside_some}
-use Rattle.mdblock_containers.proofs.RestLemmas.{AreSplit, behind_is_rest, inside_stretch, part_of, parts_more, plain_map, rest_init, split_rows, went_front, further_few}
-use Rattle.mdblock_containers.proofs.RunLemmas.{behind_line, line_parts, size_small, text_seats_at, text_size}
-use Rattle.mdblock_containers.proofs.SeatLemmas.{seats_drop, span_is_all}
-use Rattle.mdblock_containers.proofs.StretchLemmas.{first_is, kept_some, row_bytes, row_columns, row_kept, row_run, row_seats}
-use Rattle.mdblock_containers.proofs.WrittenLemmas.{write_plain}
+use Rattle.mdblock_containers.proofs.RestLemmas.{AreSplit, split_rows, went_front, further_few}
+use Rattle.mdblock_containers.proofs.RunLemmas.{behind_line, text_size}
+use Rattle.mdblock_containers.proofs.StretchLemmas.{row_bytes, row_columns}
 
 module _ (t : ℕ) (bytes : List ℕ) (some : 0 < t) (limit : t * length bytes + 1 < 2 ^ 64) (stack : List Container) (first : RowAt) (behind : List RowAt) (r : Row) (rs : List Row) (left : AreLeft bytes t stack (first ∷ behind) (r ∷ rs)) where
   abbrev pub row : IsRowIn t bytes stack left.number left.start first r

@@ -1,33 +1,23 @@
 -- Lemmas on the containers in which a line stands.
 use Rattle.std.proofs.Common.{◌≡◌, ◌⊎◌, inl, inr, ℕ, zero, suc, ◌+◌, ◌-◌, ◌<◌, ◌≤◌, min, Bool, true, false, cond, List, [], ◌∷◌, length, take, map, get_or, length-take, refl, sym, ap, ◌∙◌, arith}
-use Rattle.std.specs.Prelude.{◌&&◌, not, max, nat_le, nat_lt, reverse}
+use Rattle.std.specs.Prelude.{◌&&◌, max, nat_le, nat_lt, reverse}
 use Rattle.std.proofs.Math.ListN.{get_or-map}
 use Rattle.std.proofs.lemmas.Bool.{cases_lt, false≢true}
 use Rattle.std.proofs.lemmas.Bool.Decides.{nat_tests}
 use Rattle.std.proofs.lemmas.List.{get_or_default, get_or-take, length-map, length-reverse, length-take-le, map-append, reverse-append, reverse-reverse, take-map, take_all, take_more}
-use Rattle.mdblock_lines.specs.Containers.{Container, quote, item}
-use Rattle.mdblock_lines.specs.Views.{quote_of}
+use Rattle.mdblock_lines.specs.Containers.{Container, footnote, quote, item}
 use Rattle.mdblock_containers.specs.declared.going.Open.{Open}
 use Rattle.mdblock_containers.specs.Over.{AreEarlier, is_earlier}
 use Rattle.mdblock_containers.specs.Parts.{stands_in}
 use Rattle.mdblock_containers.specs.Skeleton.{left_in}
 use Rattle.mdblock_containers.specs.Views.{open_of}
 
--- an item that began before, as the code says it
-pub earlier_is : (number : ℕ) (o : Open) → is_earlier number (open_of o) ≡ (not o.container.is_quote && nat_lt o.container.line number)
-earlier_is number o = by o.container.is_quote
-  where
-    by : (b : Bool)
-        → is_earlier number (cond b (quote (quote_of o.container)) (item (record { line = o.container.line; list = o.list; size = o.container.size; marker = o.container.marker; digits = o.container.digits; is_empty = o.container.is_blank })))
-        ≡ (not b && nat_lt o.container.line number)
-    by true = refl
-    by false = refl
-
-pub earlier_at : (stack : List Open) (number k : ℕ) (d : Open) → is_earlier number (get_or (map open_of stack) k (open_of d)) ≡ (not (get_or stack k d).container.is_quote && nat_lt (get_or stack k d).container.line number)
-earlier_at stack number k d = ap (is_earlier number) (get_or-map open_of stack k d) ∙ earlier_is number (get_or stack k d)
+-- open containers that began before
+pub earlier_at : (stack : List Open) (number k : ℕ) (d : Open) → is_earlier number (get_or (map open_of stack) k (open_of d)) ≡ is_earlier number (open_of (get_or stack k d))
+earlier_at stack number k d = ap (is_earlier number) (get_or-map open_of stack k d)
 
 -- one item more
-pub passed_more : (stack : List Open) (number n : ℕ) (d : Open) → 0 < n → n ≤ length stack → (not (get_or stack (n - 1) d).container.is_quote && nat_lt (get_or stack (n - 1) d).container.line number) ≡ true
+pub passed_more : (stack : List Open) (number n : ℕ) (d : Open) → 0 < n → n ≤ length stack → is_earlier number (open_of (get_or stack (n - 1) d)) ≡ true
     → AreEarlier number n (length stack) (map open_of stack) → AreEarlier number (n - 1) (length stack) (map open_of stack)
 passed_more stack number n d some h e are k f a b = by (cases_lt k n)
   where
@@ -49,22 +39,18 @@ module _ (stack : List Open) (many number : ℕ) (d : Open) where
   pub inner_more : (n : ℕ) → n < length stack → inner (n + 1) ≡ open_of (get_or stack n d) ∷ inner n
   inner_more n h = ap (λ (l : List Open). reverse (map open_of l)) (take_more stack n d h) ∙ ap reverse (map-append open_of (take n stack) (get_or stack n d ∷ [])) ∙ reverse-append (map open_of (take n stack)) (open_of (get_or stack n d) ∷ [])
 
-  pub goes : (n : ℕ) → n < length stack → many ≤ n → (not (get_or stack n d).container.is_quote && nat_lt (get_or stack n d).container.line number) ≡ true → left_in many number (inner (n + 1)) ≡ left_in many number (inner n)
-  goes n h m e = ap (left_in many number) (inner_more n h) ∙ by (get_or stack n d).container.is_quote e
+  pub goes : (n : ℕ) → n < length stack → many ≤ n → is_earlier number (open_of (get_or stack n d)) ≡ true → left_in many number (inner (n + 1)) ≡ left_in many number (inner n)
+  goes n h m e = ap (left_in many number) (inner_more n h) ∙ by (open_of (get_or stack n d)) e
     where
-      o : Open
-      o = get_or stack n d
-
       le : nat_le many (length (inner n)) ≡ true
       le = let s : length (inner n) ≡ n = inner_size n (omega arith) in grind (arith, nat_tests)
 
-      by : (b : Bool) → (not b && nat_lt (get_or stack n d).container.line number) ≡ true
-          → left_in many number (cond b (quote (quote_of (get_or stack n d).container)) (item (record { line = (get_or stack n d).container.line; list = (get_or stack n d).list; size = (get_or stack n d).container.size; marker = (get_or stack n d).container.marker; digits = (get_or stack n d).container.digits; is_empty = (get_or stack n d).container.is_blank })) ∷ inner n)
-          ≡ left_in many number (inner n)
-      by true q = absurd (false≢true q)
-      by false q = (λ k. cond (le k && q k) (left_in many number (inner n)) (item (record { line = (get_or stack n d).container.line; list = (get_or stack n d).list; size = (get_or stack n d).container.size; marker = (get_or stack n d).container.marker; digits = (get_or stack n d).container.digits; is_empty = (get_or stack n d).container.is_blank }) ∷ inner n))
+      by : (c : Container) → is_earlier number c ≡ true → left_in many number (c ∷ inner n) ≡ left_in many number (inner n)
+      by (quote q) e = absurd (false≢true e)
+      by (item i) e = λ k. cond (le k && e k) (left_in many number (inner n)) (item i ∷ inner n)
+      by (footnote f) e = λ k. cond (le k && e k) (left_in many number (inner n)) (footnote f ∷ inner n)
 
-  pub stands_step : (n : ℕ) → many < n → n ≤ length stack → (not (get_or stack (n - 1) d).container.is_quote && nat_lt (get_or stack (n - 1) d).container.line number) ≡ true
+  pub stands_step : (n : ℕ) → many < n → n ≤ length stack → is_earlier number (open_of (get_or stack (n - 1) d)) ≡ true
       → left_in many number (reverse (map open_of (take n stack))) ≡ left_in many number (reverse (map open_of (take (n - 1) stack)))
   stands_step n m h e =
       let same : n ≡ (n - 1) + 1 = omega arith in
@@ -94,8 +80,8 @@ module _ (stack : List Open) (many number : ℕ) (d : Open) where
           )
 
   -- where no more ends
-  pub stops : (n : ℕ) → n < length stack → (many ≤ n → (not (get_or stack n d).container.is_quote && nat_lt (get_or stack n d).container.line number) ≡ false) → left_in many number (inner (n + 1)) ≡ inner (n + 1)
-  stops n h e = ap (left_in many number) (inner_more n h) ∙ by (get_or stack n d).container.is_quote e ∙ sym (inner_more n h)
+  pub stops : (n : ℕ) → n < length stack → (many ≤ n → is_earlier number (open_of (get_or stack n d)) ≡ false) → left_in many number (inner (n + 1)) ≡ inner (n + 1)
+  stops n h e = ap (left_in many number) (inner_more n h) ∙ by (open_of (get_or stack n d)) e ∙ sym (inner_more n h)
     where
       size : length (inner n) ≡ n
       size = inner_size n (omega arith)
@@ -107,13 +93,12 @@ module _ (stack : List Open) (many number : ℕ) (d : Open) where
       both b q true r = q (let s = size in grind (arith, nat_tests))
       both b q false r = refl
 
-      by : (b : Bool) → (many ≤ n → (not b && nat_lt (get_or stack n d).container.line number) ≡ false)
-          → left_in many number (cond b (quote (quote_of (get_or stack n d).container)) (item (record { line = (get_or stack n d).container.line; list = (get_or stack n d).list; size = (get_or stack n d).container.size; marker = (get_or stack n d).container.marker; digits = (get_or stack n d).container.digits; is_empty = (get_or stack n d).container.is_blank })) ∷ inner n)
-          ≡ cond b (quote (quote_of (get_or stack n d).container)) (item (record { line = (get_or stack n d).container.line; list = (get_or stack n d).list; size = (get_or stack n d).container.size; marker = (get_or stack n d).container.marker; digits = (get_or stack n d).container.digits; is_empty = (get_or stack n d).container.is_blank })) ∷ inner n
-      by true q = refl
-      by false q = last _ (nat_le many (length (inner n))) (nat_lt (get_or stack n d).container.line number) (both (nat_lt (get_or stack n d).container.line number) q (nat_le many (length (inner n))) refl)
+      by : (c : Container) → (many ≤ n → is_earlier number c ≡ false) → left_in many number (c ∷ inner n) ≡ c ∷ inner n
+      by (quote q) h = refl
+      by (item i) h = last (item i) (nat_le many (length (inner n))) (nat_lt i.line number) (both (nat_lt i.line number) h (nat_le many (length (inner n))) refl)
+      by (footnote f) h = last (footnote f) (nat_le many (length (inner n))) (nat_lt f.line number) (both (nat_lt f.line number) h (nat_le many (length (inner n))) refl)
 
-  pub stands_end : (is_blank : Bool) (n : ℕ) → is_blank ≡ true → n ≤ length stack → (many < n → (not (get_or stack (n - 1) d).container.is_quote && nat_lt (get_or stack (n - 1) d).container.line number) ≡ false)
+  pub stands_end : (is_blank : Bool) (n : ℕ) → is_blank ≡ true → n ≤ length stack → (many < n → is_earlier number (open_of (get_or stack (n - 1) d)) ≡ false)
       → left_in many number (reverse (map open_of stack)) ≡ left_in many number (reverse (map open_of (take n stack))) → take n (map open_of stack) ≡ stands_in is_blank many number (map open_of stack)
   stands_end is_blank zero b h e same =
       ap reverse (sym same) ∙ (λ k. cond (sym b k) (reverse (left_in many number (reverse (map open_of stack)))) (map open_of stack))
@@ -121,7 +106,7 @@ module _ (stack : List Open) (many number : ℕ) (d : Open) where
       let next : suc n ≡ n + 1 = omega arith in
       let back : suc n - 1 ≡ n = omega arith in
       let all : left_in many number (reverse (map open_of (take (suc n) stack))) ≡ reverse (map open_of (take (suc n) stack)) =
-      ap (λ k. left_in many number (inner k)) next ∙ stops n (omega arith) (λ m. (λ k. not (get_or stack (sym back k) d).container.is_quote && nat_lt (get_or stack (sym back k) d).container.line number) ∙ e (omega arith)) ∙ ap inner (sym next) in
+      ap (λ k. left_in many number (inner k)) next ∙ stops n (omega arith) (λ m. (λ k. is_earlier number (open_of (get_or stack (sym back k) d))) ∙ e (omega arith)) ∙ ap inner (sym next) in
       take-map open_of (suc n) stack ∙ sym (reverse-reverse (map open_of (take (suc n) stack))) ∙ ap reverse (sym (same ∙ all)) ∙ (λ k. cond (sym b k) (reverse (left_in many number (reverse (map open_of stack)))) (map open_of stack))
 
 -- ---- what is known of items that began before
@@ -130,6 +115,7 @@ module _ (stack : List Open) (many number : ℕ) (d : Open) where
 pub later_one : (number n : ℕ) (c : Container) → number ≤ n → is_earlier number c ≡ true → is_earlier n c ≡ true
 later_one number n (quote q) h e = absurd (false≢true e)
 later_one number n (item i) h e = grind (arith, nat_tests)
+later_one number n (footnote f) h e = grind (arith, nat_tests)
 
 pub earlier_later : (number n from to : ℕ) (stack : List Container) → number ≤ n → AreEarlier number from to stack → AreEarlier n from to stack
 earlier_later number n from to stack h are k d a b = later_one number n (get_or stack k d) h (are k d a b)

@@ -26,7 +26,7 @@ use Rattle.mdblock_leaf_blocks.specs.LeafEvents.{Mark}
 use Rattle.mdblock_leaf_blocks.specs.LineKinds.{is_blank_line}
 use Rattle.mdconstructs_machines.specs.LineEvents.{line_text}
 use Rattle.mdconstructs_machines.specs.Spans.{event}
-use Rattle.mdblock_lines.specs.Containers.{Container, Prefix, item, quote}
+use Rattle.mdblock_lines.specs.Containers.{Container, Prefix, footnote, item, quote}
 use Rattle.mdblock_containers.proofs.FrameFacts.{all_entered, entered}
 use Rattle.mdblock_containers.proofs.Pieces.{Spanned, spanned_formed, spanned_none}
 use Rattle.mdblock_containers.proofs.PrefixSpans.{begun_over, begun_unlinked, take_more}
@@ -156,6 +156,7 @@ module _ (t : ℕ) (bytes : List ℕ) where
 
     pub enters_are : (c : Container) → enters_of bytes c x ≡ enter_marks (entered c)
     enters_are (quote q) = refl
+    enters_are (footnote f) = refl
     enters_are (item i) = by (i.list == i.line)
       where
         by : (b : Bool) → cond b (enter_mark (list_name i) ∷ []) [] ++ enter_mark name.ListItem ∷ [] ≡ enter_marks (cond b (record { name = list_name i; line = i.list } ∷ []) [] ++ record { name = name.ListItem; line = i.line } ∷ [])

@@ -1,51 +1,45 @@
 -- Lemmas on a part as it is written, by the values of the code.
-use Rattle.std.proofs.Common.{◌≡◌, ◌⊎◌, inl, inr, ℕ, zero, suc, ◌+◌, ◌-◌, ◌*◌, ◌^◌, ◌<◌, ◌≤◌, Bool, true, false, cond, List, [], ◌∷◌, ◌++◌, length, take, drop, map, min, get_or, refl, sym, ap, ◌∙◌, subst, arith, append_assoc, length-drop, length-take, length-append}
-use Rattle.std.specs.Prelude.{◌==◌, ◌&&◌, filter, not, Option, Some, None, reverse}
+use Rattle.std.proofs.Common.{◌≡◌, ℕ, suc, ◌+◌, ◌-◌, ◌*◌, ◌^◌, ◌<◌, ◌≤◌, Bool, true, false, cond, List, [], ◌∷◌, ◌++◌, length, take, drop, map, min, refl, sym, ap, ◌∙◌, subst, arith, append_assoc, length-drop, length-append}
+use Rattle.std.specs.Prelude.{◌==◌, ◌&&◌, not, Some, None, reverse}
 use Rattle.std.specs.List.{flat_map}
-use Rattle.std.proofs.lemmas.Bool.{cases_lt, false≢true}
-use Rattle.std.proofs.lemmas.List.{append-nil, drop-append-le, length-map, length-take-le, map-append, take_all, take-append-le, take-map}
+use Rattle.std.proofs.lemmas.List.{drop-append-le, length-map, length-take-le, map-append, take_all, take-append-le, take-map}
 use Rattle.markdown_base.specs.declared.event.Event.{Event}
 use Rattle.markdown_base.specs.declared.event.Name.TheVariants as name
 use Rattle.markdown_base.specs.declared.event.Point.{Point}
 use Rattle.markdown_base.specs.Places.{shown}
-use Rattle.markdown_base.specs.Virtual.{Seat, end_after, point}
-use Rattle.mdconstructs_machines.specs.LineEvents.{ending_of, is_line_ending, line_text}
-use Rattle.mdblock_leaf_blocks.specs.LeafBlocks.{Line, bytes_of, text_of}
-use Rattle.mdblock_leaf_blocks.specs.LeafEvents.{Mark, leaf_marks, white}
-use Rattle.mdblock_lines.specs.declared.containers.Prefix.{Prefix as CodePrefix}
+use Rattle.markdown_base.specs.Virtual.{Seat, point}
+use Rattle.mdconstructs_machines.specs.LineEvents.{ending_of, line_text}
+use Rattle.mdblock_leaf_blocks.specs.LeafBlocks.{bytes_of}
+use Rattle.mdblock_leaf_blocks.specs.LeafEvents.{Mark, white}
 use Rattle.mdblock_lines.specs.Containers.{Container, Prefix}
-use Rattle.mdblock_lines.specs.Views.{prefix_of}
 use Rattle.mdblock_lines.specs.Lines.{line_bytes, place_after}
 use Rattle.mdblock_containers.specs.declared.ahead.Ahead.{Ahead}
-use Rattle.mdblock_containers.specs.declared.frames.Frame.{Frame as CodeFrame}
 use Rattle.mdblock_containers.specs.declared.going.Open.{Open}
 use Rattle.mdblock_containers.specs.declared.parts.PartEnd.{PartEnd}
 use Rattle.mdblock_containers.specs.declared.prefixes.At.{At}
 use Rattle.mdblock_containers.specs.declared.spans.RowAt.{RowAt}
-use Rattle.mdblock_containers.specs.Ahead.{ahead_of, frame_ahead}
-use Rattle.mdblock_containers.specs.Frames.{frame_of, frames_in}
+use Rattle.mdblock_containers.specs.Ahead.{ahead_of}
+use Rattle.mdblock_containers.specs.Frames.{frames_in}
 use Rattle.mdblock_containers.specs.Parts.{ending_at, open_behind, stands_in}
 use Rattle.mdblock_containers.specs.PlaceEvents.{HasColumns, span_at}
 use Rattle.mdblock_containers.specs.Prefixes.{columns_of, containers_of, going_on}
-use Rattle.mdblock_containers.specs.Rest.{AreLeft, HasPart, ending_to, exits_to, rest_marks}
+use Rattle.mdblock_containers.specs.Rest.{AreLeft, ending_to, exits_to, rest_marks}
 use Rattle.mdblock_containers.specs.Rows.{Row, has_none, holds_ending}
-use Rattle.mdblock_containers.specs.SeatPlaces.{AreInside, AreSeatsAt, events_of}
-use Rattle.mdblock_containers.specs.Skeleton.{Frame, Part, Piece, behind_marks, begun_all, chunks_of, joined_pieces, pieces_of, end_of, ending_marks, frames_at, frames_of, further, going_on_at, inside_of, is_held, last_of, list_at, part_marks, parts, prefixes_marks, shared, standing}
+use Rattle.mdblock_containers.specs.SeatPlaces.{AreSeatsAt, events_of}
+use Rattle.mdblock_containers.specs.Skeleton.{Frame, Part, behind_marks, begun_all, chunks_of, joined_pieces, pieces_of, end_of, ending_marks, frames_at, frames_of, further, going_on_at, inside_of, is_held, last_of, part_marks, parts, prefixes_marks, shared, standing}
 use Rattle.mdblock_containers.specs.Spans.{IsRowIn, AreRowsIn}
-use Rattle.mdblock_containers.specs.Stretches.{AreFurther, HasFurther, InStretch, IsOutside, IsPending, Run, end_at, ends_at, last_at, pieces_from}
-use Rattle.mdblock_containers.specs.Views.{IsRow, begun_of, leaf_of, open_of}
+use Rattle.mdblock_containers.specs.Stretches.{AreFurther, HasFurther, InStretch, IsPending, Run, end_at, ends_at, last_at, pieces_from}
+use Rattle.mdblock_containers.specs.Views.{begun_of, leaf_of, open_of}
 use Rattle.mdblock_containers.specs.Written.{NoChunk, Written}
 use Rattle.mdblock_containers.proofs.AheadLemmas.{list_ahead}
-use Rattle.mdblock_containers.proofs.DocumentRows.{next_is, next_more}
 use Rattle.mdblock_containers.proofs.EndLemmas.{HaveColumns, IsSome, begun_front, ending_is, ends_last, going_first, last_is, place_is, plain_begun}
-use Rattle.mdblock_containers.proofs.JoinLemmas.{columns_more, plain_prefixes, plain_span, prefixes_front}
-use Rattle.mdblock_containers.proofs.PrefixLemmas.{inside_some}
-use Rattle.mdblock_containers.proofs.RestLemmas.{AreSplit, behind_is_rest, inside_stretch, part_of, parts_more, plain_map, rest_init, split_rows, went_front, further_few}
-use Rattle.mdblock_containers.proofs.RunLemmas.{behind_line, line_parts, size_small, text_seats_at, text_size}
+use Rattle.mdblock_containers.proofs.JoinLemmas.{plain_prefixes, plain_span, prefixes_front}
+use Rattle.mdblock_containers.proofs.RestLemmas.{AreSplit, behind_is_rest, inside_stretch, part_of, parts_more, plain_map}
+use Rattle.mdblock_containers.proofs.RunLemmas.{line_parts, size_small, text_size}
 use Rattle.mdblock_containers.proofs.SeatLemmas.{seats_drop, span_is_all}
-use Rattle.mdblock_containers.proofs.StretchLemmas.{columns_small, first_is, kept_some, went_again, went_small, row_bytes, row_columns, row_kept, row_run, row_seats}
+use Rattle.mdblock_containers.proofs.StretchLemmas.{columns_small, first_is, kept_some, went_again, went_small, row_bytes, row_kept, row_run, row_seats}
 use Rattle.mdblock_containers.proofs.WrittenLemmas.{write_plain}
-use Rattle.mdblock_containers.proofs.PartFacts.{begun_columns_are, line_size, lines_is, next_few, next_outside, row, split_at, take_min, text_from, the_columns, the_fits, the_going, the_row, the_sum, the_went}
+use Rattle.mdblock_containers.proofs.PartFacts.{begun_columns_are, line_size, lines_is, next_few, next_outside, row, split_at, take_min, text_from, the_columns, the_fits, the_row, the_went}
 use Rattle.mdblock_containers.proofs.RowLemmas.{has_none_begun}
 use Rattle.mdblock_containers.proofs.WritingLemmas.{columns_behind}
 use Rattle.mdblock_containers.proofs.WrittenLemmas.{end_chunks, plain_append}

@@ -1,6 +1,6 @@
 -- Lemmas on prefixes of a line, one written behind the other.
 use Rattle.std.proofs.Common.{◌≡◌, ℕ, zero, suc, ◌+◌, ◌-◌, ◌<◌, ◌≤◌, Bool, true, false, cond, List, [], ◌∷◌, ◌++◌, length, take, drop, map, min, get_or, length-drop, length-take, refl, sym, ap, ◌∙◌, subst, arith, append_assoc, zero-add}
-use Rattle.std.specs.Prelude.{◌==◌, ◌&&◌, not, nat_le, Option, Some, None}
+use Rattle.std.specs.Prelude.{◌==◌, ◌&&◌, not, nat_le, Some, None}
 use Rattle.std.specs.List.{prefix_len}
 use Rattle.std.proofs.lemmas.List.{append-nil, drop-drop, drop_more, drop-map, take-map, map-append, length-map}
 use Rattle.std.proofs.lemmas.List.Sums.{sum_by-cons}
@@ -17,9 +17,11 @@ use Rattle.mdblock_leaf_blocks.specs.LeafEvents.{Mark}
 use Rattle.mdblock_leaf_blocks.specs.LineKinds.{indent, unindented, begins_with}
 use Rattle.mdblock_lines.specs.declared.containers.Container.{Container as CodeContainer}
 use Rattle.mdblock_lines.specs.declared.containers.Prefix.{Prefix as CodePrefix}
-use Rattle.mdblock_lines.specs.Containers.{Container, quote, item, Prefix, goes_on, quote_size, Quote}
-use Rattle.mdblock_lines.specs.Lines.{next_place, place_after}
-use Rattle.mdblock_lines.specs.Views.{container_of, prefix_of, quote_of}
+use Rattle.mdblock_lines.specs.Containers.{Container, footnote, quote, item, Prefix, goes_on, quote_size, Quote}
+use Rattle.mdblock_lines.specs.Lines.{place_after}
+use Rattle.mdblock_lines.specs.declared.containers.ContainerKind.{ContainerKind}
+use Rattle.mdblock_lines.specs.declared.containers.ContainerKind.TheVariants as kinds
+use Rattle.mdblock_lines.specs.Views.{container_by, container_of, prefix_of, quote_of}
 use Rattle.mdblock_containers.specs.declared.going.Open.{Open}
 use Rattle.mdblock_containers.specs.Prefixes.{going_on, columns_of}
 use Rattle.mdblock_containers.specs.PlaceEvents.{event_at}
@@ -28,8 +30,7 @@ use Rattle.mdblock_containers.specs.Skeleton.{list_name, going_marks, begun_mark
 use Rattle.mdblock_containers.specs.Views.{begun_of, open_of}
 use Rattle.mdblock_containers.proofs.GoingLemmas.{goes_on_within, going_step}
 use Rattle.mdblock_containers.proofs.RowLemmas.{begun_same}
-use Rattle.mdblock_containers.proofs.SeatLemmas.{here, seats_drop}
-use Rattle.mdblock_containers.proofs.WritingLemmas.{place_add}
+use Rattle.mdblock_containers.proofs.SeatLemmas.{seats_drop, seats_take}
 
 -- a front has no longer a front of its own
 pub prefix_take : (p : ℕ → Bool) (n : ℕ) (xs : List ℕ) → prefix_len p (take n xs) ≤ prefix_len p xs
@@ -55,23 +56,18 @@ quote_goes quoted number t size e =
     by false b q = absurd (cc)
 
 -- the prefix with which a quote goes on has its marker
-pub quote_fits : (list number : ℕ) (c : CodeContainer) (t part : List ℕ) (size : ℕ) → Some size ≡ goes_on (container_of list c) number t → part ≡ take size t → c.is_quote ≡ true → indent part + 1 ≤ length part
+pub quote_fits : (list number : ℕ) (c : CodeContainer) (t part : List ℕ) (size : ℕ) → Some size ≡ goes_on (container_of list c) number t → part ≡ take size t → c.kind ≡ kinds.Quote → indent part + 1 ≤ length part
 quote_fits list number c t part size e p q =
     let same : goes_on (container_of list c) number t ≡ goes_on (quote (quote_of c)) number t =
-    ap (λ b. goes_on (cond b (quote (quote_of c)) (item (record { line = c.line; list = list; size = c.size; marker = c.marker; digits = c.digits; is_empty = c.is_blank }))) number t) q in
+    ap (λ k. goes_on (container_by k list c) number t) q in
     subst (λ (l : List ℕ). indent l + 1 ≤ length l) (sym p) (quote_goes (quote_of c) number t size (sym (e ∙ same)))
 
 module _ (t : ℕ) (bytes : List ℕ) where
-  pub seats_take : (p : Point) (ss : List Seat) (n : ℕ) → AreSeatsAt t bytes p ss → AreSeatsAt t bytes p (take n ss)
-  seats_take p ss zero h = here t bytes p ss h
-  seats_take p [] (suc n) h = h
-  seats_take p (s ∷ ss) (suc n) h = (h.0, h.1, h.2, seats_take s.end ss n h.3)
-
   module _ (start : Point) (text : List ℕ) (seats : List Seat) (are : AreSeatsAt t bytes start seats) (is : text ≡ bytes_of seats) where
     pub part_seats : (place : Point) (at size : ℕ) → place ≡ place_after t bytes start at → at ≤ length text → AreSeatsAt t bytes place (take size (drop at seats))
     part_seats place at size e w =
         let n : length text ≡ length seats = ap (λ (l : List ℕ). length l) is ∙ length-map seats (λ (s : Seat). s.byte) in
-        seats_take place (drop at seats) size (subst (λ (p : Point). AreSeatsAt t bytes p (drop at seats)) (sym e) (seats_drop t bytes start seats at are (omega (arith, n, w))))
+        seats_take t bytes place (drop at seats) size (subst (λ (p : Point). AreSeatsAt t bytes p (drop at seats)) (sym e) (seats_drop t bytes start seats at are (omega (arith, n, w))))
 
     pub part_bytes : (rest part : List ℕ) (at size : ℕ) → rest ≡ drop at text → part ≡ take size rest → part ≡ bytes_of (take size (drop at seats))
     part_bytes rest part at size er ep =
@@ -102,6 +98,10 @@ going_none bytes before all ps seats e h = sym (ap (λ l. before ++ events_of (p
 pub nothing_marks : (bytes : List ℕ) (cs : List Container) (number : ℕ) → (prefixes_marks bytes (going_on cs number []) [] ≡ []) × (columns_of (going_on cs number []) ≡ 0)
 nothing_marks bytes [] number = (refl, refl)
 nothing_marks bytes (quote q ∷ cs) number = (refl, refl)
+nothing_marks bytes (footnote f ∷ cs) number =
+    let p : Prefix = record { container = footnote f; size = 0 } in
+    let h = nothing_marks bytes cs number in
+    (h.0, sum_by-cons (λ (q : Prefix). q.size) p (going_on cs number []) ∙ zero-add (columns_of (going_on cs number [])) ∙ h.1)
 nothing_marks bytes (item i ∷ cs) number = by (i.is_empty && (number == suc i.line)) (min i.size 0) (min-zero i.size) (nothing_marks bytes cs number)
   where
     by : (b : Bool) (n : ℕ) → n ≡ 0 → (prefixes_marks bytes (going_on cs number []) [] ≡ []) × (columns_of (going_on cs number []) ≡ 0)
@@ -124,6 +124,7 @@ going_nothing bytes cs number before all t seats e f h =
 -- a container begins at a place that is shown at itself
 pub enters_shown : (bytes : List ℕ) (c : Container) (p : Point) → shown bytes p ≡ p → events_of (enters_of bytes c p) ≡ enters_at c p
 enters_shown bytes (quote q) p e = λ k. event_at Enter name.BlockQuote (e k) ∷ []
+enters_shown bytes (footnote f) p e = λ k. event_at Enter name.GfmFootnoteDefinition (e k) ∷ []
 enters_shown bytes (item i) p e = by (i.list == i.line)
   where
     by : (b : Bool) → events_of (cond b ((event_at Enter (list_name i) (shown bytes p), None) ∷ []) [] ++ (event_at Enter name.ListItem (shown bytes p), None) ∷ []) ≡ cond b (event_at Enter (list_name i) p ∷ []) [] ++ event_at Enter name.ListItem p ∷ []
@@ -182,8 +183,9 @@ begun_end bytes before all ps seats e h = sym (ap (λ l. before ++ events_of (be
 
 -- a prefix with which a container begins has bytes
 pub inside_some : (p : CodePrefix) (text : List ℕ) → IsInside p text → 0 < p.size
-inside_some p text h = by p.container.is_quote refl
+inside_some p text h = by p.container.kind refl
   where
-    by : (b : Bool) → p.container.is_quote ≡ b → 0 < p.size
-    by true e = let w = h.of_quote e in omega arith
-    by false e = let w = h.of_item e in omega arith
+    by : (k : ContainerKind) → p.container.kind ≡ k → 0 < p.size
+    by kinds.Quote e = let w = h.of_quote e in omega arith
+    by kinds.Item e = let w = h.of_item e in omega arith
+    by kinds.Footnote e = let w = (h.of_footnote e).1 in omega arith

@@ -13,11 +13,11 @@ use Rattle.mdblock_leaf_blocks.proofs.Marks.MarkSpans.{IsKeptBySpans, no-spans, 
 use Rattle.mdblock_leaf_blocks.specs.LeafBlocks.{bytes_of}
 use Rattle.mdblock_leaf_blocks.specs.LeafEvents.{Mark, leaf_marks, span_marks, white}
 use Rattle.mdblock_leaf_blocks.specs.LineKinds.{indent}
-use Rattle.mdblock_lines.specs.Containers.{Container, Prefix, item, quote}
+use Rattle.mdblock_lines.specs.Containers.{Container, Prefix, footnote, item, quote}
 use Rattle.mdblock_containers.proofs.SkeletonChains.{Unlinked, unlinked_both}
 use Rattle.mdblock_containers.specs.Prefixes.{columns_of}
 use Rattle.mdblock_containers.specs.Rows.{has_none}
-use Rattle.mdblock_containers.specs.Skeleton.{begun_marks, going_marks, prefixes_marks}
+use Rattle.mdblock_containers.specs.Skeleton.{begun_marks, going_marks, prefixes_marks, footnote_marks, label_marks}
 
 -- ---- parts of virtual bytes
 
@@ -58,9 +58,27 @@ module _ (bytes : List ℕ) where
       unlinked_both (white bytes (take n ss)) _ (leaf_unlinked name.SpaceOrTab (take n ss))
       (span_unlinked name.BlockQuotePrefix (drop n ss) _ (unlinked_both (leaf_marks bytes name.BlockQuoteMarker (take 1 (drop n ss))) _ (leaf_unlinked name.BlockQuoteMarker (take 1 (drop n ss))) (leaf_unlinked name.SpaceOrTab (drop (suc n) ss))))
   going_unlinked (item i) ss = leaf_unlinked name.SpaceOrTab ss
+  going_unlinked (footnote f) ss = leaf_unlinked name.SpaceOrTab ss
+
+  label_unlinked : (l : ℕ) (ss : List Seat) → Unlinked (label_marks bytes l ss)
+  label_unlinked l ss =
+      unlinked_both (leaf_marks bytes name.GfmFootnoteDefinitionLabelMarker (take 1 ss)) _ (leaf_unlinked name.GfmFootnoteDefinitionLabelMarker (take 1 ss))
+      (unlinked_both (leaf_marks bytes name.GfmFootnoteDefinitionMarker (take 1 (drop 1 ss))) _ (leaf_unlinked name.GfmFootnoteDefinitionMarker (take 1 (drop 1 ss)))
+      (unlinked_both (span_marks bytes name.GfmFootnoteDefinitionLabelString (take l (drop 2 ss)) (leaf_marks bytes name.Data (take l (drop 2 ss)))) _
+      (span_unlinked name.GfmFootnoteDefinitionLabelString (take l (drop 2 ss)) _ (leaf_unlinked name.Data (take l (drop 2 ss))))
+      (leaf_unlinked name.GfmFootnoteDefinitionLabelMarker (take 1 (drop (l + 2) ss)))))
+
+  footnote_unlinked : (l : ℕ) (ss : List Seat) → Unlinked (footnote_marks bytes l ss)
+  footnote_unlinked l ss =
+      span_unlinked name.GfmFootnoteDefinitionPrefix ss _
+      (unlinked_both (span_marks bytes name.GfmFootnoteDefinitionLabel (take (l + 3) ss) (label_marks bytes l ss)) _ (span_unlinked name.GfmFootnoteDefinitionLabel (take (l + 3) ss) _ (label_unlinked l ss))
+      (unlinked_both (leaf_marks bytes name.DefinitionMarker (take 1 (drop (l + 3) ss))) _ (leaf_unlinked name.DefinitionMarker (take 1 (drop (l + 3) ss))) (leaf_unlinked name.SpaceOrTab (drop (l + 4) ss))))
 
   pub begun_unlinked : (c : Container) (ss : List Seat) → Unlinked (begun_marks bytes c ss)
   begun_unlinked (quote q) ss = going_unlinked (quote q) ss
+  begun_unlinked (footnote f) ss =
+      let n = indent (bytes_of ss) in
+      unlinked_both (white bytes (take n ss)) _ (leaf_unlinked name.SpaceOrTab (take n ss)) (footnote_unlinked f.label (drop n ss))
   begun_unlinked (item i) ss =
       let n = indent (bytes_of ss) in
       unlinked_both (white bytes (take n ss)) _ (leaf_unlinked name.SpaceOrTab (take n ss))
@@ -70,6 +88,7 @@ module _ (bytes : List ℕ) where
 
   pub going_none : (c : Container) (ss : List Seat) → has_none (going_marks bytes c ss) ≡ has_none ss
   going_none (item i) ss = leaf_none name.SpaceOrTab ss
+  going_none (footnote f) ss = leaf_none name.SpaceOrTab ss
   going_none (quote q) ss =
       let n = indent (bytes_of ss) in
       let inside = leaf_marks bytes name.BlockQuoteMarker (take 1 (drop n ss)) ++ white bytes (drop (suc n) ss) in
@@ -100,9 +119,36 @@ module _ (bytes : List ℕ) where
         (over bytes P kept (drop n ss) (ap (λ k. take 1 (drop n ss) ++ drop k ss) one ∙ next_part n 1 ss)
         (spans-both bytes P kept (spans-leaf bytes P kept name.BlockQuoteMarker (take 1 (drop n ss)) (whole-part 1 n ss w)) (spans-leaf bytes P kept name.SpaceOrTab (drop (suc n) ss) (whole-behind (suc n) ss w))))))
     going_kept (item i) ss w = spans-leaf bytes P kept name.SpaceOrTab ss w
+    going_kept (footnote f) ss w = spans-leaf bytes P kept name.SpaceOrTab ss w
+
+    label_kept : (l : ℕ) (ss : List Seat) → IsWhole ss → P (label_marks bytes l ss) (take (l + 3) ss)
+    label_kept l ss w =
+        let two : drop (l + 2) ss ≡ drop l (drop 2 ss) = let e : l + 2 ≡ 2 + l = omega arith in ap (λ k. drop k ss) e ∙ sym (drop-drop l 2 ss) in
+        let string : take l (drop 2 ss) ++ take 1 (drop (l + 2) ss) ≡ take (l + 1) (drop 2 ss) = ap (λ x. take l (drop 2 ss) ++ take 1 x) two ∙ take_more l 1 (drop 2 ss) in
+        let caret : take 1 (drop 1 ss) ++ take (l + 1) (drop 2 ss) ≡ take (1 + (l + 1)) (drop 1 ss) = ap (λ x. take 1 (drop 1 ss) ++ take (l + 1) x) (sym (drop-drop 1 1 ss)) ∙ take_more 1 (l + 1) (drop 1 ss) in
+        let all : 1 + (1 + (l + 1)) ≡ l + 3 = omega arith in
+        over bytes P kept (take (l + 3) ss)
+        (ap (λ x. take 1 ss ++ (take 1 (drop 1 ss) ++ x)) string ∙ ap (λ x. take 1 ss ++ x) caret ∙ take_more 1 (1 + (l + 1)) ss ∙ ap (λ k. take k ss) all)
+        (spans-both bytes P kept (spans-leaf bytes P kept name.GfmFootnoteDefinitionLabelMarker (take 1 ss) (whole-front 1 ss w))
+        (spans-both bytes P kept (spans-leaf bytes P kept name.GfmFootnoteDefinitionMarker (take 1 (drop 1 ss)) (whole-part 1 1 ss w))
+        (spans-both bytes P kept
+        (spans-around bytes P kept name.GfmFootnoteDefinitionLabelString (take l (drop 2 ss)) _ refl (spans-leaf bytes P kept name.Data (take l (drop 2 ss)) (whole-part l 2 ss w)))
+        (spans-leaf bytes P kept name.GfmFootnoteDefinitionLabelMarker (take 1 (drop (l + 2) ss)) (whole-part 1 (l + 2) ss w)))))
+
+    footnote_kept : (l : ℕ) (ss : List Seat) → IsWhole ss → P (footnote_marks bytes l ss) ss
+    footnote_kept l ss w =
+        let one : l + 4 ≡ (l + 3) + 1 = omega arith in
+        spans-around bytes P kept name.GfmFootnoteDefinitionPrefix ss _ refl
+        (over bytes P kept ss (ap (λ x. take (l + 3) ss ++ x) (ap (λ k. take 1 (drop (l + 3) ss) ++ drop k ss) one ∙ next_part (l + 3) 1 ss) ∙ take-append-drop (l + 3) ss)
+        (spans-both bytes P kept (spans-around bytes P kept name.GfmFootnoteDefinitionLabel (take (l + 3) ss) _ refl (label_kept l ss w))
+        (spans-both bytes P kept (spans-leaf bytes P kept name.DefinitionMarker (take 1 (drop (l + 3) ss)) (whole-part 1 (l + 3) ss w)) (spans-leaf bytes P kept name.SpaceOrTab (drop (l + 4) ss) (whole-behind (l + 4) ss w)))))
 
     pub begun_kept : (c : Container) (ss : List Seat) → IsWhole ss → P (begun_marks bytes c ss) ss
     begun_kept (quote q) ss w = going_kept (quote q) ss w
+    begun_kept (footnote f) ss w =
+        let n = indent (bytes_of ss) in
+        over bytes P kept ss (take-append-drop n ss)
+        (spans-both bytes P kept (spans-leaf bytes P kept name.SpaceOrTab (take n ss) (whole-front n ss w)) (footnote_kept f.label (drop n ss) (whole-behind n ss w)))
     begun_kept (item i) ss w =
         let n = indent (bytes_of ss) in
         let d = i.digits in

@@ -10,7 +10,7 @@ use Rattle.markdown_base.specs.declared.configuration.Constructs.{Constructs}
 use Rattle.markdown_base.specs.declared.event.Name.TheVariants as name
 use Rattle.mdblock_leaf_blocks.specs.LeafBlocks.{Line, text_of}
 use Rattle.mdblock_leaf_blocks.specs.LineKinds.{begins_with, indent, is_blank_line, is_thematic_break, unindented}
-use Rattle.mdblock_lines.specs.Containers.{Container, Item, Prefix, begins, digits, first_byte, goes_on, is_marker, item, item_at, quote, quote_size}
+use Rattle.mdblock_lines.specs.Containers.{Container, Item, Prefix, begins, digits, footnote, footnote_at, is_footnote, first_byte, goes_on, is_marker, item, item_at, quote, quote_size}
 use Rattle.mdblock_containers.proofs.DocumentRows.{going_few, take_of_take}
 use Rattle.mdblock_containers.proofs.GoingLemmas.{begins_within, goes_on_within, going_front}
 use Rattle.mdblock_containers.specs.Prefixes.{beginning, columns_of, containers_of, going_on, in_place_of, with_list}
@@ -54,16 +54,19 @@ pub record ItemIs (i : Item) : Type 0 where
 abbrev pub BeganBefore : ℕ → Container → Type 0
 BeganBefore n (quote q) = q.line < n
 BeganBefore n (item i) = (i.line < n) × ItemIs i
+BeganBefore n (footnote f) = f.line < n
 
 -- a container begins in this line
 abbrev pub BeginsIn : ℕ → Container → Type 0
 BeginsIn n (quote q) = q.line ≡ n
 BeginsIn n (item i) = (i.line ≡ n) × ItemIs i
+BeginsIn n (footnote f) = f.line ≡ n
 
 -- and its list, if it is an item
 abbrev pub BeginsList : Container → Type 0
 BeginsList (quote q) = Unit {0}
 BeginsList (item i) = i.list ≡ i.line
+BeginsList (footnote f) = Unit {0}
 
 -- of containers that begin in this line, only the first may stand in a list that began before
 abbrev pub BeginHere : ℕ → List Prefix → Type 0
@@ -94,17 +97,18 @@ module _ (r : List ℕ) where
 module _ (on : Constructs) (n : ℕ) where
   pub begins_here : (in_paragraph : Bool) (t : List ℕ) (p : Prefix) → begins on n in_paragraph t ≡ Some p → BeginsIn n p.container × BeginsList p.container
   begins_here in_paragraph t p e =
-      by ((on.code_indented && nat_le 4 (indent t)) || (is_blank_line t || (on.thematic_break && is_thematic_break (unindented t)))) (on.block_quote && begins_with 62 (unindented t)) on.list_item (is_marker (unindented t)) _ refl e
+      by ((on.code_indented && nat_le 4 (indent t)) || (is_blank_line t || (on.thematic_break && is_thematic_break (unindented t)))) (on.block_quote && begins_with 62 (unindented t)) (on.gfm_footnote_definition && is_footnote (unindented t)) on.list_item (is_marker (unindented t)) _ refl e
     where
-      by : (past q l m rest : Bool) → is_marker (unindented t) ≡ m
-          → cond past None (cond q (Some (record { container = quote (record { line = n; is_near = on.code_indented }); size = quote_size t })) (cond (l && (m && rest)) (Some (item_at n t)) None)) ≡ Some p → BeginsIn n p.container × BeginsList p.container
-      by true q l m rest em h = absurd (false≢true (ap is_some h))
-      by false true l m rest em h = subst (λ (x : Option Prefix). BeginsIn n (unwrap_or x p).container × BeginsList (unwrap_or x p).container) h (refl, tt)
-      by false false true true true em h =
+      by : (past q f l m rest : Bool) → is_marker (unindented t) ≡ m
+          → cond past None (cond q (Some (record { container = quote (record { line = n; is_near = on.code_indented }); size = quote_size t })) (cond f (Some (footnote_at n t)) (cond (l && (m && rest)) (Some (item_at n t)) None))) ≡ Some p → BeginsIn n p.container × BeginsList p.container
+      by true q f l m rest em h = absurd (false≢true (ap is_some h))
+      by false true f l m rest em h = subst (λ (x : Option Prefix). BeginsIn n (unwrap_or x p).container × BeginsList (unwrap_or x p).container) h (refl, tt)
+      by false false true l m rest em h = subst (λ (x : Option Prefix). BeginsIn n (unwrap_or x p).container × BeginsList (unwrap_or x p).container) h (refl, tt)
+      by false false false true true true em h =
           subst (λ (x : Option Prefix). BeginsIn n (unwrap_or x p).container × BeginsList (unwrap_or x p).container) h ((refl, record { list = omega arith; ordered = marker_ordered (unindented t) em; sized = omega arith }), refl)
-      by false false false m rest em h = absurd (false≢true (ap is_some h))
-      by false false true false rest em h = absurd (false≢true (ap is_some h))
-      by false false true true false em h = absurd (false≢true (ap is_some h))
+      by false false false false m rest em h = absurd (false≢true (ap is_some h))
+      by false false false true false rest em h = absurd (false≢true (ap is_some h))
+      by false false false true true false em h = absurd (false≢true (ap is_some h))
 
   pub all_begin_here : (bound : ℕ) (in_paragraph : Bool) (t : List ℕ) → AllByRecursion (λ (q : Prefix). BeginsIn n q.container × BeginsList q.container) (beginning on bound n in_paragraph t)
   all_begin_here zero in_paragraph t = tt
@@ -185,8 +189,9 @@ module _ (n : ℕ) where
   none_listed [] h = (tt, refl)
   none_listed (p ∷ ps) h = ((h.0.0, h.1), by p.container h.0)
     where
-      by : (c : Container) → BeginsIn n c × BeginsList c → (elim c as (λ _. List Frame) [ quote q ↦ [] | item i ↦ cond (nat_lt i.list i.line) (record { name = list_name i; line = i.list } ∷ []) [] ]) ≡ []
+      by : (c : Container) → BeginsIn n c × BeginsList c → (elim c as (λ _. List Frame) [ quote q ↦ [] | item i ↦ cond (nat_lt i.list i.line) (record { name = list_name i; line = i.list } ∷ []) [] | footnote f ↦ [] ]) ≡ []
       by (quote q) k = refl
+      by (footnote f) k = refl
       by (item i) k = let is = k.1 in let none : nat_lt i.list i.line ≡ false = grind (arith, nat_tests) in ap (λ b. cond b (record { name = list_name i; line = i.list } ∷ []) []) none
 
   -- what begins in a line, and the list that it is in, among containers that ended
@@ -202,14 +207,23 @@ module _ (n : ℕ) where
       by : (new : Container) → BeginsIn n new × BeginsList new
           → BeginHere n (record { container = in_place_of (item old) new; size = p.size } ∷ ps) × IsFront (list_begun (record { container = in_place_of (item old) new; size = p.size } ∷ ps)) (flat_map frames_of (item old ∷ cs))
       by (quote q) m = ((m.0, k.1), front_none (flat_map frames_of (item old ∷ cs)))
+      by (footnote f) m = ((m.0, k.1), front_none (flat_map frames_of (item old ∷ cs)))
       by (item new) m =
           let s = same_list old new h.0 m.0 m.1 (old.marker == new.marker) refl in
           ((s.0, k.1), front_trans _ (frames_of (item old)) (flat_map frames_of (item old ∷ cs)) s.1 (front_append (frames_of (item old)) (flat_map frames_of cs)))
+  listed (footnote f ∷ cs) (p ∷ ps) h k = by p.container k.0
+    where
+      by : (new : Container) → BeginsIn n new × BeginsList new
+          → BeginHere n (record { container = in_place_of (footnote f) new; size = p.size } ∷ ps) × IsFront (list_begun (record { container = in_place_of (footnote f) new; size = p.size } ∷ ps)) (flat_map frames_of (footnote f ∷ cs))
+      by (quote q) m = ((m.0, k.1), front_none (flat_map frames_of (footnote f ∷ cs)))
+      by (footnote more) m = ((m.0, k.1), front_none (flat_map frames_of (footnote f ∷ cs)))
+      by (item new) m = let none = none_listed (record { container = item new; size = p.size } ∷ ps) (m, k.1) in (none.0, (flat_map frames_of (footnote f ∷ cs), ap (λ (l : List Frame). l ++ flat_map frames_of (footnote f ∷ cs)) (sym none.1)))
   listed (quote q ∷ cs) (p ∷ ps) h k = by p.container k.0
     where
       by : (new : Container) → BeginsIn n new × BeginsList new
           → BeginHere n (record { container = in_place_of (quote q) new; size = p.size } ∷ ps) × IsFront (list_begun (record { container = in_place_of (quote q) new; size = p.size } ∷ ps)) (flat_map frames_of (quote q ∷ cs))
       by (quote more) m = ((m.0, k.1), front_none (flat_map frames_of (quote q ∷ cs)))
+      by (footnote f) m = ((m.0, k.1), front_none (flat_map frames_of (quote q ∷ cs)))
       by (item new) m = let none = none_listed (record { container = item new; size = p.size } ∷ ps) (m, k.1) in (none.0, (flat_map frames_of (quote q ∷ cs), ap (λ (l : List Frame). l ++ flat_map frames_of (quote q ∷ cs)) (sym none.1)))
 
 -- ---- a line

@@ -1,18 +1,16 @@
 -- Lemmas on the lines of a document: what the code needs to know of each.
-use Rattle.std.proofs.Common.{◌≡◌, ℕ, zero, suc, ◌+◌, ◌-◌, ◌<◌, ◌≤◌, Bool, true, false, cond, List, [], ◌∷◌, ◌++◌, length, take, drop, map, min, length-take, length-drop, refl, sym, ap, ◌∙◌, subst, arith, eqb-true}
-use Rattle.std.specs.Prelude.{◌==◌, ◌&&◌, ◌||◌, not, nat_le, Option, Some, None}
+use Rattle.std.proofs.Common.{◌≡◌, ℕ, zero, suc, ◌+◌, ◌<◌, ◌≤◌, Bool, true, false, cond, List, [], ◌∷◌, ◌++◌, length, take, drop, map, length-drop, refl, sym, ap, ◌∙◌, subst, arith, eqb-true}
+use Rattle.std.specs.Prelude.{◌==◌, ◌&&◌, ◌||◌, nat_le, Option, Some, None}
 use Rattle.std.specs.List.{AllByRecursion, prefix_len}
-use Rattle.std.proofs.lemmas.Bool.{false≢true}
-use Rattle.std.proofs.lemmas.List.{drop-drop}
 use Rattle.markdown_base.specs.declared.configuration.Constructs.{Constructs}
 use Rattle.mdconstructs_tables.specs.Breaks.{is_white}
 use Rattle.mdblock_leaf_blocks.specs.LeafBlocks.{Line, text_of}
 use Rattle.mdblock_leaf_blocks.specs.LineKinds.{begins_with, indent, is_blank_line, is_thematic_break, unindented}
-use Rattle.mdblock_lines.specs.declared.containers.Container.{Container as CodeContainer}
 use Rattle.mdblock_lines.specs.declared.containers.Prefix.{Prefix as CodePrefix}
-use Rattle.mdblock_lines.specs.Containers.{Container, quote, item, Item, Prefix, goes_on, begins, digits, is_marker, item_at, may_begin_item, padding, quote_size}
+use Rattle.mdblock_lines.specs.Containers.{Container, quote, item, footnote, footnote_at, is_footnote, Prefix, goes_on, begins, digits, item_at, may_begin_item, padding, quote_size}
 use Rattle.mdblock_lines.specs.Lines.{is_in_line, line_at}
-use Rattle.mdblock_lines.specs.Views.{container_of, prefix_of, quote_of}
+use Rattle.mdblock_lines.specs.declared.containers.ContainerKind.{ContainerKind}
+use Rattle.mdblock_lines.specs.Views.{container_by, container_of, prefix_of}
 use Rattle.mdblock_containers.specs.declared.spans.RowAt.{RowAt}
 use Rattle.mdblock_containers.specs.Ahead.{AreRows}
 use Rattle.mdblock_containers.specs.Parts.{open_behind}
@@ -22,20 +20,22 @@ use Rattle.mdblock_containers.specs.SeatPlaces.{AreInside, IsInside}
 use Rattle.mdblock_containers.specs.Costs.{HaveSizes}
 use Rattle.mdblock_containers.specs.Spans.{IsPlaced, ArePlaced, IsRowIn, AreRowsIn}
 use Rattle.mdblock_containers.specs.Views.{begun_of, IsRow}
-use Rattle.mdblock_containers.proofs.DocumentRows.{rows_left, rows_left_step, rows_left_end, take_of_take, going_few, went_few, next_is}
-use Rattle.mdblock_containers.proofs.GoingLemmas.{begins_within}
+use Rattle.mdblock_containers.proofs.DocumentRows.{rows_left, rows_left_step, take_of_take, going_few, went_few, next_is}
+use Rattle.mdblock_containers.proofs.GoingLemmas.{begins_within, footnote_within}
 use Rattle.mdblock_containers.proofs.PrefixLemmas.{prefix_take}
 use Rattle.markdown_base.proofs.Common.{and-right}
 use Rattle.markdown_base.proofs.Facts.Bools.{and-left}
 use Rattle.mdblock_containers.proofs.CostLemmas.{began_sizes}
 use Rattle.mdblock_containers.proofs.FrameFacts.{none_is, old_after}
 use Rattle.mdblock_containers.proofs.RowFacts.{BeganBefore}
+use Rattle.mdblock_lines.proofs.LineLemmas.{footnote_some}
 
 -- ---- prefixes with which containers begin have their bytes
 
 abbrev pub IsFitting : Container → (size : ℕ) → List ℕ → Type 0
 IsFitting (quote q) size u = indent u + 1 ≤ size
 IsFitting (item i) size u = indent u + i.digits + 1 ≤ size
+IsFitting (footnote f) size u = (1 ≤ f.label) × (indent u + f.label + 4 ≤ size)
 
 abbrev pub AreFitting : List Prefix → List ℕ → Type 0
 AreFitting [] t = Unit {0}
@@ -43,7 +43,7 @@ AreFitting (p ∷ ps) t = (p.size ≤ length t) × IsFitting p.container p.size 
 
 pub begins_fitting : (on : Constructs) (number : ℕ) (in_paragraph : Bool) (t : List ℕ) (q : Prefix) → begins on number in_paragraph t ≡ Some q → IsFitting q.container q.size (take q.size t)
 begins_fitting on number in_paragraph t q e =
-    by ((on.code_indented && nat_le 4 (indent t)) || (is_blank_line t || (on.thematic_break && is_thematic_break (unindented t)))) (on.block_quote && begins_with 62 (unindented t)) (on.list_item && may_begin_item in_paragraph (unindented t)) e
+    by ((on.code_indented && nat_le 4 (indent t)) || (is_blank_line t || (on.thematic_break && is_thematic_break (unindented t)))) (on.block_quote && begins_with 62 (unindented t)) (on.gfm_footnote_definition && is_footnote (unindented t)) (on.list_item && may_begin_item in_paragraph (unindented t)) (and-right on.gfm_footnote_definition (is_footnote (unindented t))) e
   where
     quote_is : IsFitting (quote (record { line = number; is_near = on.code_indented })) (quote_size t) (take (quote_size t) t)
     quote_is = let f : indent (take (quote_size t) t) ≤ indent t = prefix_take is_white (quote_size t) t in omega arith
@@ -59,11 +59,19 @@ begins_fitting on number in_paragraph t q e =
         size true = omega arith
         size false = omega arith
 
-    by : (a b c : Bool) → cond a None (cond b (Some (record { container = quote (record { line = number; is_near = on.code_indented }); size = quote_size t })) (cond c (Some (item_at number t)) None)) ≡ Some q → IsFitting q.container q.size (take q.size t)
-    by true b c r = absurd (cc)
-    by false true c r = let same : record { container = quote (record { line = number; is_near = on.code_indented }); size = quote_size t } ≡ q = cc in subst (λ (p : Prefix). IsFitting p.container p.size (take p.size t)) same quote_is
-    by false false true r = let same : item_at number t ≡ q = cc in subst (λ (p : Prefix). IsFitting p.container p.size (take p.size t)) same item_is
-    by false false false r = absurd (cc)
+    footnote_is : is_footnote (unindented t) ≡ true → IsFitting (footnote_at number t).container (footnote_at number t).size (take (footnote_at number t).size t)
+    footnote_is is =
+        let f : indent (take (footnote_at number t).size t) ≤ indent t = prefix_take is_white (footnote_at number t).size t in
+        let w = footnote_within number t is in
+        (footnote_some (unindented t) is, omega (arith, f, w.0))
+
+    by : (a b f c : Bool) → (f ≡ true → is_footnote (unindented t) ≡ true)
+        → cond a None (cond b (Some (record { container = quote (record { line = number; is_near = on.code_indented }); size = quote_size t })) (cond f (Some (footnote_at number t)) (cond c (Some (item_at number t)) None))) ≡ Some q → IsFitting q.container q.size (take q.size t)
+    by true b f c ef r = absurd (cc)
+    by false false true c ef r = let same : footnote_at number t ≡ q = cc in subst (λ (p : Prefix). IsFitting p.container p.size (take p.size t)) same (footnote_is (ef refl))
+    by false true f c ef r = let same : record { container = quote (record { line = number; is_near = on.code_indented }); size = quote_size t } ≡ q = cc in subst (λ (p : Prefix). IsFitting p.container p.size (take p.size t)) same quote_is
+    by false false false true ef r = let same : item_at number t ≡ q = cc in subst (λ (p : Prefix). IsFitting p.container p.size (take p.size t)) same item_is
+    by false false false false ef r = absurd (cc)
 
 pub beginning_fitting : (on : Constructs) (bound number : ℕ) (in_paragraph : Bool) (t : List ℕ) → AreFitting (beginning on bound number in_paragraph t) t
 beginning_fitting on zero number in_paragraph t = tt
@@ -77,7 +85,12 @@ beginning_fitting on (suc bound) number in_paragraph t = by (begins on number in
 pub in_place_fitting : (old new : Container) (size : ℕ) (u : List ℕ) → IsFitting new size u → IsFitting (in_place_of old new) size u
 in_place_fitting (quote l) (quote m) size u h = h
 in_place_fitting (quote l) (item j) size u h = h
+in_place_fitting (quote l) (footnote g) size u h = h
+in_place_fitting (footnote f) (quote m) size u h = h
+in_place_fitting (footnote f) (item j) size u h = h
+in_place_fitting (footnote f) (footnote g) size u h = h
 in_place_fitting (item i) (quote m) size u h = h
+in_place_fitting (item i) (footnote g) size u h = h
 in_place_fitting (item i) (item j) size u h = by (i.marker == j.marker)
   where
     by : (b : Bool) → IsFitting (item (cond b (record j { list = i.list }) j)) size u
@@ -91,10 +104,10 @@ with_list_fitting (c ∷ cs) [] t h = h
 with_list_fitting (c ∷ cs) (p ∷ ps) t h = (h.0, in_place_fitting c p.container p.size (take p.size t) h.1, h.2)
 
 pub one_inside : (list : ℕ) (p : CodePrefix) (t : List ℕ) → p.size ≤ length t → IsFitting (container_of list p.container) p.size (take p.size t) → IsInside p t
-one_inside list p t w h = record { within = w; of_quote = λ e. subst (λ (b : Bool). IsFitting (by b) p.size (take p.size t)) e h; of_item = λ e. subst (λ (b : Bool). IsFitting (by b) p.size (take p.size t)) e h }
+one_inside list p t w h = record { within = w; of_quote = λ e. fits _ e; of_item = λ e. fits _ e; of_footnote = λ e. fits _ e }
   where
-    by : Bool → Container
-    by b = cond b (quote (quote_of p.container)) (item (record { line = p.container.line; list = list; size = p.container.size; marker = p.container.marker; digits = p.container.digits; is_empty = p.container.is_blank }))
+    fits : (k : ContainerKind) → p.container.kind ≡ k → IsFitting (container_by k list p.container) p.size (take p.size t)
+    fits k e = subst (λ (k : ContainerKind). IsFitting (container_by k list p.container) p.size (take p.size t)) e h
 
 pub same_inside : (number : ℕ) (xs : List CodePrefix) (t : List ℕ) → AreFitting (map (prefix_of number) xs) t → AreInside xs t
 same_inside number [] t h = tt

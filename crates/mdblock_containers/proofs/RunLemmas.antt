@@ -1,9 +1,8 @@
 -- Lemmas on seats from one place to another.
-use Rattle.std.proofs.Common.{◌≡◌, ◌⊎◌, inl, inr, ℕ, zero, suc, ◌+◌, ◌-◌, ◌*◌, ◌^◌, ◌<◌, ◌≤◌, Bool, true, false, cond, List, [], ◌∷◌, ◌++◌, length, take, drop, map, min, refl, sym, ap, ◌∙◌, subst, arith, eq-eqb, ne_eqb, eqb-true, length-drop, length-take, append_assoc}
-use Rattle.std.specs.Prelude.{◌==◌, ◌&&◌, not, slice_index, take_while}
+use Rattle.std.proofs.Common.{◌≡◌, ℕ, suc, ◌+◌, ◌-◌, ◌*◌, ◌^◌, ◌<◌, ◌≤◌, Bool, true, false, cond, List, [], ◌∷◌, ◌++◌, length, take, drop, min, refl, sym, ap, ◌∙◌, subst, arith, eq-eqb, ne_eqb, length-drop, length-take}
+use Rattle.std.specs.Prelude.{◌==◌, ◌&&◌, slice_index}
 use Rattle.std.specs.List.{prefix_len}
-use Rattle.std.proofs.lemmas.Bool.{false≢true}
-use Rattle.std.proofs.lemmas.List.{append-nil, drop_all, drop-append-le, drop-drop, length-map, take-append-drop, take_all}
+use Rattle.std.proofs.lemmas.List.{append-nil, drop-append-le, drop-drop, length-map, take-append-drop, take_all}
 use Rattle.std.proofs.lemmas.Nat.{mul-le}
 use Rattle.markdown_base.specs.declared.event.Point.{Point}
 use Rattle.markdown_base.specs.Places.{follows_cr, shown}
@@ -16,11 +15,9 @@ use Rattle.mdblock_lines.specs.Lines.{ending_seats, ending_size, is_in_line, is_
 use Rattle.mdblock_containers.specs.declared.spans.RowAt.{RowAt}
 use Rattle.mdblock_containers.specs.PlaceEvents.{HasColumns}
 use Rattle.mdblock_containers.specs.SeatPlaces.{AreSeatsAt}
-use Rattle.mdblock_containers.specs.Skeleton.{begin_of}
 use Rattle.mdblock_containers.specs.Spans.{IsPlaced}
 use Rattle.mdblock_containers.specs.Stretches.{IsOutside, Run}
 use Rattle.mdblock_containers.proofs.DocumentRows.{end_within}
-use Rattle.mdblock_containers.proofs.GoingLemmas.{prefix_within}
 use Rattle.mdblock_containers.proofs.LineFacts.{byte_at, rest_at, lf_first_byte, line_text_at, ending_of_at, outside_end, outside_next, outside_shown}
 use Rattle.mdblock_containers.proofs.SeatLemmas.{seats_drop, seats_end}
 use Rattle.mdblock_containers.proofs.SpanLemmas.{Course, course_from, course_end, course_seats, course_inside}

@@ -1,13 +1,13 @@
 -- Lemmas on where the seats of a line are.
-use Rattle.std.proofs.Common.{◌≡◌, ℕ, zero, suc, ◌+◌, ◌-◌, ◌<◌, ◌≤◌, Bool, true, false, cond, List, [], ◌∷◌, ◌++◌, length, take, drop, refl, sym, ap, ◌∙◌, subst, arith, eqb-true, le-ltb, lt-ltb, length-drop}
-use Rattle.std.specs.Prelude.{◌==◌, ◌&&◌, not, nat_lt, slice_index, take_while}
+use Rattle.std.proofs.Common.{◌≡◌, ℕ, zero, suc, ◌+◌, ◌-◌, ◌<◌, Bool, true, false, cond, List, [], ◌∷◌, ◌++◌, length, drop, refl, sym, ap, ◌∙◌, subst, arith, eqb-true, le-ltb, lt-ltb}
+use Rattle.std.specs.Prelude.{◌==◌, ◌&&◌, not, nat_lt, slice_index}
 use Rattle.std.specs.List.{prefix_len}
 use Rattle.std.proofs.lemmas.List.{drop-drop, get_or-drop}
 use Rattle.std.proofs.Math.Nat.{mod-lt}
 use Rattle.markdown_base.specs.declared.event.Point.{Point}
 use Rattle.markdown_base.specs.Places.{follows_cr, shown}
 use Rattle.markdown_base.specs.Virtual.{Seat, point, begins_with_lf, end_after, end_in_tab, in_tab, line_feed, other_byte, tab_width, virtual_from}
-use Rattle.mdblock_lines.specs.Lines.{is_in_line, is_in_tab, is_no_ending, next_place, place_after}
+use Rattle.mdblock_lines.specs.Lines.{is_in_line, is_in_tab, next_place, place_after}
 use Rattle.mdblock_lines.proofs.SeatPlaces.{before_ending, ending_first, lf_first, no_ending_first, same_point}
 use Rattle.mdblock_containers.specs.SeatPlaces.{AreSeatsAt}
 

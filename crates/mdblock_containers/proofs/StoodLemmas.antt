@@ -1,8 +1,8 @@
 -- Lemmas on the spans in which a part stands, as the code keeps them.
-use Rattle.std.proofs.Common.{◌≡◌, ℕ, suc, ◌+◌, ◌-◌, ◌<◌, ◌≤◌, List, [], ◌∷◌, ◌++◌, length, take, drop, map, min, get_or, refl, sym, ap, ◌∙◌, arith, append_assoc, length-append}
+use Rattle.std.proofs.Common.{◌≡◌, ℕ, ◌+◌, ◌-◌, ◌<◌, ◌≤◌, List, [], ◌∷◌, ◌++◌, length, take, drop, map, get_or, sym, ap, ◌∙◌, arith, append_assoc, length-append}
 use Rattle.std.specs.List.{flat_map}
 use Rattle.std.proofs.lemmas.Grind.{flat_map-append}
-use Rattle.std.proofs.lemmas.List.{append-nil, drop-map, length-map, length-take, map-append, take-append-drop, take-append-le, take-map, take_all, take_at, take_more}
+use Rattle.std.proofs.lemmas.List.{append-nil, length-map, length-take, map-append, take-append-drop, take-append-le, take-map, take_all, take_at, take_more}
 use Rattle.mdblock_lines.specs.Containers.{Container}
 use Rattle.mdblock_containers.specs.declared.frames.Frame.{Frame}
 use Rattle.mdblock_containers.specs.declared.frames.Stood.{Stood}

@@ -1,9 +1,8 @@
 -- Lemmas on stretches of lines, written chunk by chunk.
-use Rattle.std.proofs.Common.{◌≡◌, ℕ, zero, suc, ◌+◌, ◌-◌, ◌*◌, ◌^◌, ◌<◌, ◌≤◌, Bool, true, false, cond, List, [], ◌∷◌, ◌++◌, length, take, drop, map, get_or, refl, sym, ap, ◌∙◌, subst, arith, ne_eqb, append_assoc, length-drop, length-append}
+use Rattle.std.proofs.Common.{◌≡◌, ℕ, zero, suc, ◌+◌, ◌*◌, ◌^◌, ◌<◌, ◌≤◌, Bool, true, false, cond, List, [], ◌∷◌, ◌++◌, length, take, drop, refl, sym, ap, ◌∙◌, subst, arith, ne_eqb, append_assoc, length-drop, length-append}
 use Rattle.std.specs.Prelude.{◌==◌, ◌&&◌, not, Option, Some, None, is_some}
 use Rattle.std.specs.List.{flat_map}
-use Rattle.std.proofs.lemmas.Bool.{false≢true}
-use Rattle.std.proofs.lemmas.List.{append-nil, drop_more, take-map}
+use Rattle.std.proofs.lemmas.List.{append-nil}
 use Rattle.markdown_base.specs.declared.event.Content.{Content}
 use Rattle.markdown_base.specs.declared.event.Content.TheVariants as content
 use Rattle.markdown_base.specs.declared.event.Event.{Event}
@@ -26,7 +25,7 @@ use Rattle.mdblock_containers.specs.SeatPlaces.{AreSeatsAt, events_of}
 use Rattle.mdblock_containers.specs.Skeleton.{Piece, chunks_of, joined_pieces, prefixes_marks}
 use Rattle.mdblock_containers.specs.Costs.{HaveSizes}
 use Rattle.mdblock_containers.specs.Spans.{IsPlaced, IsRowIn}
-use Rattle.mdblock_containers.specs.Stretches.{AreFurther, HasFurther, InStretch, IsOutside, IsPending, Run, end_at, ends_at, pieces_from}
+use Rattle.mdblock_containers.specs.Stretches.{AreFurther, HasFurther, InStretch, IsOutside, IsPending, Run, end_at, pieces_from}
 use Rattle.mdblock_containers.specs.Written.{Written}
 use Rattle.mdblock_containers.proofs.DocumentRows.{text_of_line_at}
 use Rattle.mdblock_containers.proofs.JoinLemmas.{pieces_end, pieces_go_on, pieces_some, plain_prefixes, prefixes_front, prefixes_none, prefixes_some}

@@ -20,10 +20,10 @@ use Rattle.mdconstructs_machines.specs.LineEvents.{ending_of, line_text, lines_i
 use Rattle.mdblock_leaf_blocks.specs.LeafBlocks.{Line, bytes_of}
 use Rattle.mdblock_leaf_blocks.specs.LeafEvents.{Chunk, Mark, chunk_span, leaf_marks, span_marks, white}
 use Rattle.mdblock_leaf_blocks.specs.LineKinds.{indent}
-use Rattle.mdblock_lines.specs.Containers.{Container, Item, Prefix, item, quote}
+use Rattle.mdblock_lines.specs.Containers.{Container, Item, Prefix, footnote, item, quote}
 use Rattle.mdblock_containers.specs.Prefixes.{columns_of}
 use Rattle.mdblock_containers.specs.Rows.{Row, has_none, rows}
-use Rattle.mdblock_containers.specs.Skeleton.{Frame, Part, Piece, begin_of, behind_marks, begun_all, begun_marks, chained_from, chunks_of, end_of, ending_marks, enters_of, exits, going_marks, inside_of, is_held, joined_pieces, last_line, list_name, part_marks, parts, parts_marks, pieces_of, prefixes_marks, shared}
+use Rattle.mdblock_containers.specs.Skeleton.{Frame, Part, Piece, begin_of, behind_marks, begun_all, begun_marks, chained_from, chunks_of, end_of, ending_marks, enters_of, exits, going_marks, inside_of, is_held, joined_pieces, last_line, list_name, part_marks, parts, parts_marks, pieces_of, prefixes_marks, shared, footnote_marks, label_marks}
 use Rattle.mdblock_containers.specs.SkeletonLaws.{SkeletonsAreVoidTight, SkeletonsHaveChunks}
 
 -- an exit of this name comes next
@@ -85,9 +85,27 @@ module _ (bytes : List ℕ) where
       (span_tight name.BlockQuotePrefix (drop n ss) (marker ++ behind) refl
       (tight_more marker behind (leaf_tight name.BlockQuoteMarker (take 1 (drop n ss))) (leaf_tight name.SpaceOrTab (drop (suc n) ss))))
   going_tight (item i) ss = leaf_tight name.SpaceOrTab ss
+  going_tight (footnote f) ss = leaf_tight name.SpaceOrTab ss
+
+  label_tight : (l : ℕ) (ss : List Seat) → Tight (label_marks bytes l ss)
+  label_tight l ss =
+      tight_more (leaf_marks bytes name.GfmFootnoteDefinitionLabelMarker (take 1 ss)) _ (leaf_tight name.GfmFootnoteDefinitionLabelMarker (take 1 ss))
+      (tight_more (leaf_marks bytes name.GfmFootnoteDefinitionMarker (take 1 (drop 1 ss))) _ (leaf_tight name.GfmFootnoteDefinitionMarker (take 1 (drop 1 ss)))
+      (tight_more (span_marks bytes name.GfmFootnoteDefinitionLabelString (take l (drop 2 ss)) (leaf_marks bytes name.Data (take l (drop 2 ss)))) _
+      (span_tight name.GfmFootnoteDefinitionLabelString (take l (drop 2 ss)) (leaf_marks bytes name.Data (take l (drop 2 ss))) refl (leaf_tight name.Data (take l (drop 2 ss))))
+      (leaf_tight name.GfmFootnoteDefinitionLabelMarker (take 1 (drop (l + 2) ss)))))
+
+  footnote_tight : (l : ℕ) (ss : List Seat) → Tight (footnote_marks bytes l ss)
+  footnote_tight l ss =
+      span_tight name.GfmFootnoteDefinitionPrefix ss _ refl
+      (tight_more (span_marks bytes name.GfmFootnoteDefinitionLabel (take (l + 3) ss) (label_marks bytes l ss)) _ (span_tight name.GfmFootnoteDefinitionLabel (take (l + 3) ss) _ refl (label_tight l ss))
+      (tight_more (leaf_marks bytes name.DefinitionMarker (take 1 (drop (l + 3) ss))) _ (leaf_tight name.DefinitionMarker (take 1 (drop (l + 3) ss))) (leaf_tight name.SpaceOrTab (drop (l + 4) ss))))
 
   pub begun_tight : (c : Container) (ss : List Seat) → Tight (begun_marks bytes c ss)
   begun_tight (quote q) ss = going_tight (quote q) ss
+  begun_tight (footnote f) ss =
+      let n = indent (bytes_of ss) in
+      tight_more (white bytes (take n ss)) (footnote_marks bytes f.label (drop n ss)) (leaf_tight name.SpaceOrTab (take n ss)) (footnote_tight f.label (drop n ss))
   begun_tight (item i) ss =
       let n = indent (bytes_of ss) in
       let value = leaf_marks bytes name.ListItemValue (take i.digits (drop n ss)) in
@@ -112,6 +130,7 @@ module _ (bytes : List ℕ) where
 
   pub enters_tight : (c : Container) (p : Point) → Tight (enters_of bytes c p)
   enters_tight (quote q) p = enter_tight name.BlockQuote p [] refl tt
+  enters_tight (footnote f) p = enter_tight name.GfmFootnoteDefinition p [] refl tt
   enters_tight (item i) p = by (i.list == i.line)
     where
       by : (x : Bool) → Tight (cond x ((event bytes Enter (list_name i) p, None) ∷ []) [] ++ (event bytes Enter name.ListItem p, None) ∷ [])

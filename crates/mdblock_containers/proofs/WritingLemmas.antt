@@ -9,7 +9,7 @@ use Rattle.mdblock_leaf_blocks.specs.LineKinds.{indent}
 use Rattle.mdblock_leaf_blocks.specs.LeafEvents.{Mark}
 use Rattle.mdblock_lines.specs.Lines.{next_place, place_after}
 use Rattle.mdblock_lines.proofs.PlaceLemmas.{place_next}
-use Rattle.mdblock_containers.specs.PlaceEvents.{HasColumns, event_at, span_at, quote_prefix_at, item_prefix_at}
+use Rattle.mdblock_containers.specs.PlaceEvents.{HasColumns, event_at, span_at, quote_prefix_at, item_prefix_at, footnote_label_at, footnote_prefix_at}
 use Rattle.mdblock_containers.specs.SeatPlaces.{events_of}
 
 -- marks that are written one after another
@@ -21,6 +21,12 @@ write-both old mid new a b e f =
 pub five : (o w m v e1 e2 e3 e4 e5 : List Event) (x y : Event) → e1 ≡ o ++ w → e2 ≡ e1 ++ x ∷ [] → e3 ≡ e2 ++ m → e4 ≡ e3 ++ v → e5 ≡ e4 ++ y ∷ [] → e5 ≡ o ++ (w ++ (x ∷ ((m ++ v) ++ y ∷ [])))
 five o w m v e1 e2 e3 e4 e5 x y a b c d e =
     let all : e5 ≡ ((((o ++ w) ++ x ∷ []) ++ m) ++ v) ++ y ∷ [] = e ∙ ap (λ l. l ++ y ∷ []) (d ∙ ap (λ l. l ++ v) (c ∙ ap (λ l. l ++ m) (b ∙ ap (λ l. l ++ x ∷ []) a))) in
+    all ∙ simp append_assoc
+
+pub six : (o a b d z e1 e2 e3 e4 e5 e6 : List Event) (x y : Event) → e1 ≡ o ++ a → e2 ≡ e1 ++ b → e3 ≡ e2 ++ x ∷ [] → e4 ≡ e3 ++ d → e5 ≡ e4 ++ y ∷ [] → e6 ≡ e5 ++ z → e6 ≡ o ++ (a ++ (b ++ ((x ∷ (d ++ y ∷ [])) ++ z)))
+six o a b d z e1 e2 e3 e4 e5 e6 x y h i j k l m =
+    let before : e3 ≡ ((o ++ a) ++ b) ++ x ∷ [] = j ∙ ap (λ l. l ++ x ∷ []) (i ∙ ap (λ l. l ++ b) h) in
+    let all : e6 ≡ (((((o ++ a) ++ b) ++ x ∷ []) ++ d) ++ y ∷ []) ++ z = m ∙ ap (λ l. l ++ z) (l ∙ ap (λ l. l ++ y ∷ []) (k ∙ ap (λ l. l ++ d) before)) in
     all ∙ simp append_assoc
 
 module _ (t : ℕ) (bytes : List ℕ) where
@@ -92,3 +98,63 @@ module _ (t : ℕ) (bytes : List ℕ) where
         (event_at Enter name.ListItemPrefix start) (event_at Exit name.ListItemPrefix end) a b c two f
         ∙ (λ k. o ++ (span_at t bytes name.SpaceOrTab place (en k) ++ (event_at Enter name.ListItemPrefix (st k)
         ∷ ((span_at t bytes name.ListItemValue (st k) digits ++ (span_at t bytes name.ListItemMarker (ct k) 1 ++ span_at t bytes name.SpaceOrTab (mk k) (rs k))) ++ event_at Exit name.ListItemPrefix (item_end k) ∷ []))))
+
+  -- the label of a footnote definition: where its bytes end, and what is written
+  pub label_named : (place start named : Point) (label : ℕ) → start ≡ place_after t bytes place 2 → named ≡ place_after t bytes start label → named ≡ place_after t bytes place (label + 2)
+  label_named place start named label es en = let all : 2 + label ≡ label + 2 = omega arith in place_chain place start named 2 label es en ∙ ap (place_after t bytes place) all
+
+  module _ (place opened start named end : Point) (label : ℕ) (eo : opened ≡ place_after t bytes place 1) (es : start ≡ place_after t bytes opened 1) (en : named ≡ place_after t bytes start label) (ee : end ≡ place_after t bytes named 1) where
+    in_label : start ≡ place_after t bytes place 2
+    in_label = place_chain place opened start 1 1 eo es
+
+    behind_label : named ≡ place_after t bytes place (label + 2)
+    behind_label = label_named place start named label in_label en
+
+    pub label_end : end ≡ place_after t bytes place (label + 3)
+    label_end = let all : label + 2 + 1 ≡ label + 3 = omega arith in place_chain place named end (label + 2) 1 behind_label ee ∙ ap (place_after t bytes place) all
+
+    pub label_events : (o e1 e2 e3 e4 e5 e6 : List Event) → e1 ≡ o ++ span_at t bytes name.GfmFootnoteDefinitionLabelMarker place 1 → e2 ≡ e1 ++ span_at t bytes name.GfmFootnoteDefinitionMarker opened 1
+        → e3 ≡ e2 ++ event_at Enter name.GfmFootnoteDefinitionLabelString start ∷ [] → e4 ≡ e3 ++ span_at t bytes name.Data start label → e5 ≡ e4 ++ event_at Exit name.GfmFootnoteDefinitionLabelString named ∷ []
+        → e6 ≡ e5 ++ span_at t bytes name.GfmFootnoteDefinitionLabelMarker named 1 → e6 ≡ o ++ footnote_label_at t bytes label place
+    label_events o e1 e2 e3 e4 e5 e6 a b c d e f =
+        six o (span_at t bytes name.GfmFootnoteDefinitionLabelMarker place 1) (span_at t bytes name.GfmFootnoteDefinitionMarker opened 1) (span_at t bytes name.Data start label) (span_at t bytes name.GfmFootnoteDefinitionLabelMarker named 1)
+        e1 e2 e3 e4 e5 e6 (event_at Enter name.GfmFootnoteDefinitionLabelString start) (event_at Exit name.GfmFootnoteDefinitionLabelString named) a b c d e f
+        ∙ (λ k. o ++ (span_at t bytes name.GfmFootnoteDefinitionLabelMarker place 1 ++ (span_at t bytes name.GfmFootnoteDefinitionMarker (eo k) 1 ++ ((event_at Enter name.GfmFootnoteDefinitionLabelString (in_label k)
+        ∷ (span_at t bytes name.Data (in_label k) label ++ event_at Exit name.GfmFootnoteDefinitionLabelString (behind_label k) ∷ [])) ++ span_at t bytes name.GfmFootnoteDefinitionLabelMarker (behind_label k) 1))))
+
+  -- the prefix with which a footnote definition begins: the places behind its label and behind its colon, and what is written
+  pub footnote_named : (place start named : Point) (n label : ℕ) → start ≡ place_after t bytes place n → named ≡ place_after t bytes start (label + 3) → named ≡ place_after t bytes place (n + label + 3)
+  footnote_named place start named n label es el = let all : n + (label + 3) ≡ n + label + 3 = omega arith in place_chain place start named n (label + 3) es el ∙ ap (place_after t bytes place) all
+
+  pub footnote_marked : (place named marked : Point) (n label : ℕ) → named ≡ place_after t bytes place (n + label + 3) → marked ≡ place_after t bytes named 1 → marked ≡ place_after t bytes place (n + label + 4)
+  footnote_marked place named marked n label el em = let all : n + label + 3 + 1 ≡ n + label + 4 = omega arith in place_chain place named marked (n + label + 3) 1 el em ∙ ap (place_after t bytes place) all
+
+  module _ (place start named marked end : Point) (text : List ℕ) (n label rest : ℕ) (en : n ≡ indent text) (er : rest ≡ length text - n - label - 4) (w : indent text + label + 4 ≤ length text) (es : start ≡ place_after t bytes place n)
+      (el : named ≡ place_after t bytes start (label + 3)) (em : marked ≡ place_after t bytes named 1) (ee : end ≡ place_after t bytes marked rest) where
+    named_at : named ≡ place_after t bytes place (n + label + 3)
+    named_at = footnote_named place start named n label es el
+
+    marked_at : marked ≡ place_after t bytes place (n + label + 4)
+    marked_at = footnote_marked place named marked n label named_at em
+
+    pub footnote_end : end ≡ place_after t bytes place (length text)
+    footnote_end = let all : n + label + 4 + rest ≡ length text = omega (arith, en, er, w) in place_chain place marked end (n + label + 4) rest marked_at ee ∙ ap (place_after t bytes place) all
+
+    pub footnote_events : (o e1 e2 e3 e4 e5 e6 e7 e8 : List Event) → e1 ≡ o ++ span_at t bytes name.SpaceOrTab place n → e2 ≡ e1 ++ event_at Enter name.GfmFootnoteDefinitionPrefix start ∷ []
+        → e3 ≡ e2 ++ event_at Enter name.GfmFootnoteDefinitionLabel start ∷ [] → e4 ≡ e3 ++ footnote_label_at t bytes label start → e5 ≡ e4 ++ event_at Exit name.GfmFootnoteDefinitionLabel named ∷ []
+        → e6 ≡ e5 ++ span_at t bytes name.DefinitionMarker named 1 → e7 ≡ e6 ++ span_at t bytes name.SpaceOrTab marked rest → e8 ≡ e7 ++ event_at Exit name.GfmFootnoteDefinitionPrefix end ∷ []
+        → e8 ≡ o ++ footnote_prefix_at t bytes label place text
+    footnote_events o e1 e2 e3 e4 e5 e6 e7 e8 a b c d e f g h =
+        let st : start ≡ place_after t bytes place (indent text) = es ∙ ap (place_after t bytes place) en in
+        let nd : named ≡ place_after t bytes place (indent text + label + 3) = named_at ∙ ap (λ k. place_after t bytes place (k + label + 3)) en in
+        let mk : marked ≡ place_after t bytes place (indent text + label + 4) = marked_at ∙ ap (λ k. place_after t bytes place (k + label + 4)) en in
+        let rs : rest ≡ length text - indent text - label - 4 = er ∙ ap (λ k. length text - k - label - 4) en in
+        let inner = footnote_label_at t bytes label start in
+        let labelled : e5 ≡ e2 ++ (event_at Enter name.GfmFootnoteDefinitionLabel start ∷ (inner ++ event_at Exit name.GfmFootnoteDefinitionLabel named ∷ [])) = e ∙ ap (λ l. l ++ event_at Exit name.GfmFootnoteDefinitionLabel named ∷ []) (d ∙ ap (λ l. l ++ inner) c) ∙ simp append_assoc in
+        let two : e7 ≡ e5 ++ (span_at t bytes name.DefinitionMarker named 1 ++ span_at t bytes name.SpaceOrTab marked rest) =
+        g ∙ ap (λ l. l ++ span_at t bytes name.SpaceOrTab marked rest) f ∙ append_assoc e5 (span_at t bytes name.DefinitionMarker named 1) (span_at t bytes name.SpaceOrTab marked rest) in
+        five o (span_at t bytes name.SpaceOrTab place n) (event_at Enter name.GfmFootnoteDefinitionLabel start ∷ (inner ++ event_at Exit name.GfmFootnoteDefinitionLabel named ∷ [])) (span_at t bytes name.DefinitionMarker named 1 ++ span_at t bytes name.SpaceOrTab marked rest)
+        e1 e2 e5 e7 e8 (event_at Enter name.GfmFootnoteDefinitionPrefix start) (event_at Exit name.GfmFootnoteDefinitionPrefix end) a b labelled two h
+        ∙ (λ k. o ++ (span_at t bytes name.SpaceOrTab place (en k) ++ (event_at Enter name.GfmFootnoteDefinitionPrefix (st k)
+        ∷ (((event_at Enter name.GfmFootnoteDefinitionLabel (st k) ∷ (footnote_label_at t bytes label (st k) ++ event_at Exit name.GfmFootnoteDefinitionLabel (nd k) ∷ []))
+        ++ (span_at t bytes name.DefinitionMarker (nd k) 1 ++ span_at t bytes name.SpaceOrTab (mk k) (rs k))) ++ event_at Exit name.GfmFootnoteDefinitionPrefix (footnote_end k) ∷ []))))

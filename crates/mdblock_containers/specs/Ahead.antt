@@ -1,6 +1,6 @@
 -- What is known of lines from the lines behind them, as the code keeps it.
 use Rattle.std.specs.Prelude.{nat_lt, cond, List, [], ◌∷◌, Option, Some, None}
-use Rattle.mdblock_lines.specs.Containers.{Container, Prefix, quote, item}
+use Rattle.mdblock_lines.specs.Containers.{Container, Prefix, quote, item, footnote}
 use Rattle.mdblock_containers.specs.declared.ahead.Ahead.{Ahead}
 use Rattle.mdblock_containers.specs.declared.frames.Frame.{Frame}
 use Rattle.mdblock_containers.specs.declared.spans.RowAt.{RowAt}
@@ -19,6 +19,7 @@ AreRows (x ∷ xs) (r ∷ rs) = IsRow x.span.number x.row r × AreRows xs rs
 abbrev pub frame_before : Container → Option Frame
 frame_before (quote q) = None
 frame_before (item i) = cond (nat_lt i.list i.line) (Some (record { name = list_name i; line = i.list })) None
+frame_before (footnote f) = None
 
 abbrev pub frame_begun : List Prefix → Option Frame
 frame_begun [] = None

@@ -1,7 +1,7 @@
 -- What a skeleton costs: turns of loops. The columns of a line pay for it, and for what is kept open behind it.
 use Rattle.std.specs.Prelude.{◌≡◌, ◌≤◌, ◌⊎◌, ℕ, suc, ◌+◌, ◌-◌, ◌*◌, ◌&&◌, min, Bool, true, false, List, [], ◌∷◌, length}
 use Rattle.std.specs.List.{AllByRecursion}
-use Rattle.mdblock_lines.specs.Containers.{Container, item, quote}
+use Rattle.mdblock_lines.specs.Containers.{Container, footnote, item, quote}
 use Rattle.mdblock_containers.specs.declared.spans.RowAt.{RowAt}
 use Rattle.mdblock_containers.specs.Rows.{Row, has_none}
 use Rattle.mdblock_containers.specs.Skeleton.{going_on_at}
@@ -10,6 +10,7 @@ use Rattle.mdblock_containers.specs.Skeleton.{going_on_at}
 abbrev pub HasSize : Container → Type 0
 HasSize (quote q) = Unit {0}
 HasSize (item i) = 1 ≤ i.size
+HasSize (footnote f) = Unit {0}
 
 abbrev pub HaveSizes : List Container → Type 0
 HaveSizes cs = AllByRecursion HasSize cs

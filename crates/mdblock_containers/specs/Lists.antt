@@ -6,7 +6,7 @@ use Rattle.markdown_base.specs.declared.event.Event.{Event}
 use Rattle.markdown_base.specs.declared.event.Kind.{Kind}
 use Rattle.markdown_base.specs.declared.event.Kind.TheVariants.{Enter, Exit}
 use Rattle.markdown_base.specs.declared.event.Name.{Name}
-use Rattle.markdown_base.specs.declared.event.Name.TheVariants.{BlankLineEnding, BlockQuote, CodeFenced, CodeIndented, Definition, GfmTable, HeadingAtx, HeadingSetext, HtmlFlow, ListItem, ListItemMarker, ListItemPrefix, ListItemValue, ListOrdered, ListUnordered, Paragraph, ThematicBreak}
+use Rattle.markdown_base.specs.declared.event.Name.TheVariants.{BlankLineEnding, BlockQuote, CodeFenced, CodeIndented, Definition, GfmFootnoteDefinition, GfmTable, HeadingAtx, HeadingSetext, HtmlFlow, ListItem, ListItemMarker, ListItemPrefix, ListItemValue, ListOrdered, ListUnordered, Paragraph, ThematicBreak}
 use Rattle.markdown_base.specs.declared.event.Point.{Point}
 use Rattle.markdown_base.specs.Events.{is_enter, same_name}
 use Rattle.markdown_edits.specs.SpanWalks.{is_wanted}
@@ -21,7 +21,7 @@ abbrev pub item_names : List Name
 item_names = ListItem ∷ []
 
 abbrev pub block_names : List Name
-block_names = BlockQuote ∷ ListOrdered ∷ ListUnordered ∷ Paragraph ∷ HeadingAtx ∷ HeadingSetext ∷ CodeIndented ∷ CodeFenced ∷ HtmlFlow ∷ ThematicBreak ∷ Definition ∷ GfmTable ∷ []
+block_names = BlockQuote ∷ ListOrdered ∷ ListUnordered ∷ Paragraph ∷ HeadingAtx ∷ HeadingSetext ∷ CodeIndented ∷ CodeFenced ∷ HtmlFlow ∷ ThematicBreak ∷ Definition ∷ GfmTable ∷ GfmFootnoteDefinition ∷ []
 
 -- An event, and the events behind it
 pub record Met : Type 0 where

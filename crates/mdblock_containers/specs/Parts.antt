@@ -1,5 +1,5 @@
 -- What the code keeps of a part of a document that is written, and how chunks of a stretch are written.
-use Rattle.std.specs.Prelude.{ℕ, ◌==◌, ◌&&◌, ◌||◌, Bool, true, false, cond, List, [], ◌∷◌, ◌++◌, length, reverse, Option, Some, None}
+use Rattle.std.specs.Prelude.{ℕ, ◌||◌, Bool, cond, List, [], ◌∷◌, ◌++◌, length, reverse, Option, Some, None}
 use Rattle.markdown_base.specs.declared.event.Content.{Content}
 use Rattle.markdown_base.specs.declared.event.Event.{Event}
 use Rattle.markdown_base.specs.declared.event.Kind.TheVariants.{Enter, Exit}

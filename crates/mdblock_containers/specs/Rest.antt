@@ -1,5 +1,5 @@
 -- What is left to write of a skeleton: between the part that is written and the next one, and behind it.
-use Rattle.std.specs.Prelude.{◌≡◌, ◌≤◌, ℕ, suc, List, [], ◌∷◌, ◌++◌, drop, length, map, reverse, None}
+use Rattle.std.specs.Prelude.{◌≡◌, ◌≤◌, ℕ, suc, List, [], ◌∷◌, ◌++◌, drop, map, reverse, None}
 use Rattle.markdown_base.specs.declared.event.Kind.TheVariants.{Exit}
 use Rattle.markdown_base.specs.declared.event.Point.{Point}
 use Rattle.mdblock_leaf_blocks.specs.LeafEvents.{Mark}

@@ -16,23 +16,24 @@ use Rattle.mdconstructs_machines.specs.LineEvents.{line_text, ending_of, lines_i
 use Rattle.mdblock_leaf_blocks.specs.LeafBlocks.{Line, bytes_of}
 use Rattle.mdblock_leaf_blocks.specs.LeafEvents.{Mark, chunk_span, leaf_marks, span_marks, white}
 use Rattle.mdblock_leaf_blocks.specs.LineKinds.{indent}
-use Rattle.mdblock_lines.specs.Containers.{Container, quote, item, Item, Prefix}
+use Rattle.mdblock_lines.specs.Containers.{Container, quote, item, footnote, Item, Prefix}
 use Rattle.mdblock_containers.specs.Prefixes.{columns_of, containers_of}
 use Rattle.mdblock_containers.specs.Rows.{Row, rows, holds_ending, has_none}
 
--- the containers in which a blank line stands, from the innermost on: not in items that began before it and do not go on behind it, where so
--- many containers go on
+-- the containers in which a blank line stands, from the innermost on: not in items and footnote definitions that began before it and do not go on
+-- behind it, where so many containers go on
 abbrev pub left_in : (many number : ℕ) → List Container → List Container
 left_in many number [] = []
 left_in many number (quote q ∷ cs) = quote q ∷ cs
 left_in many number (item i ∷ cs) = cond (nat_le many (length cs) && nat_lt i.line number) (left_in many number cs) (item i ∷ cs)
+left_in many number (footnote f ∷ cs) = cond (nat_le many (length cs) && nat_lt f.line number) (left_in many number cs) (footnote f ∷ cs)
 
 -- how many containers go on at the next line that is not left blank
 abbrev pub going_on_at : List Row → ℕ
 going_on_at [] = 0
 going_on_at (row ∷ behind) = cond row.is_left_blank (going_on_at behind) (length row.went_on)
 
--- A span of containers: a quote, a list or an item, by its name and the number of its first line
+-- A span of containers: a quote, a list, an item or a footnote definition, by its name and the number of its first line
 pub record Frame : Type 0 where
   pub name : Name
   pub line : ℕ
@@ -44,6 +45,7 @@ list_name i = cond (nat_le 1 i.digits) name.ListOrdered name.ListUnordered
 abbrev pub frames_of : Container → List Frame
 frames_of (quote q) = record { name = name.BlockQuote; line = q.line } ∷ []
 frames_of (item i) = record { name = list_name i; line = i.list } ∷ record { name = name.ListItem; line = i.line } ∷ []
+frames_of (footnote f) = record { name = name.GfmFootnoteDefinition; line = f.line } ∷ []
 
 -- the list that goes on at the next line that is not left blank: its first new container is no first item
 abbrev pub list_begun : List Prefix → List Frame
@@ -51,6 +53,7 @@ list_begun [] = []
 list_begun (p ∷ ps) = elim p.container [
   | quote q ↦ []
   | item i ↦ cond (nat_lt i.list i.line) (record { name = list_name i; line = i.list } ∷ []) []
+  | footnote f ↦ []
 ]
 
 abbrev pub list_at : List Row → List Frame
@@ -118,6 +121,22 @@ module _ (bytes : List ℕ) where
       let n = indent (bytes_of seats) in
       white bytes (take n seats) ++ span_marks bytes name.BlockQuotePrefix (drop n seats) (leaf_marks bytes name.BlockQuoteMarker (take 1 (drop n seats)) ++ white bytes (drop (suc n) seats))
   going_marks (item i) seats = white bytes seats
+  going_marks (footnote f) seats = white bytes seats
+
+  -- the label of a footnote definition: `[`, `^`, its bytes and `]`
+  abbrev pub label_marks : (label : ℕ) → List Seat → List Mark
+  label_marks label seats =
+      leaf_marks bytes name.GfmFootnoteDefinitionLabelMarker (take 1 seats)
+      ++ (leaf_marks bytes name.GfmFootnoteDefinitionMarker (take 1 (drop 1 seats))
+      ++ (span_marks bytes name.GfmFootnoteDefinitionLabelString (take label (drop 2 seats)) (leaf_marks bytes name.Data (take label (drop 2 seats)))
+      ++ leaf_marks bytes name.GfmFootnoteDefinitionLabelMarker (take 1 (drop (label + 2) seats))))
+
+  -- the prefix of one: its label, the colon, and white space
+  abbrev pub footnote_marks : (label : ℕ) → List Seat → List Mark
+  footnote_marks label seats =
+      span_marks bytes name.GfmFootnoteDefinitionPrefix seats
+      (span_marks bytes name.GfmFootnoteDefinitionLabel (take (label + 3) seats) (label_marks label seats)
+      ++ (leaf_marks bytes name.DefinitionMarker (take 1 (drop (label + 3) seats)) ++ white bytes (drop (label + 4) seats)))
 
   abbrev pub begun_marks : Container → List Seat → List Mark
   begun_marks (quote q) seats = going_marks (quote q) seats
@@ -126,6 +145,7 @@ module _ (bytes : List ℕ) where
       white bytes (take n seats)
       ++ span_marks bytes name.ListItemPrefix (drop n seats)
       (leaf_marks bytes name.ListItemValue (take i.digits (drop n seats)) ++ (leaf_marks bytes name.ListItemMarker (take 1 (drop (n + i.digits) seats)) ++ white bytes (drop (suc (n + i.digits)) seats)))
+  begun_marks (footnote f) seats = let n = indent (bytes_of seats) in white bytes (take n seats) ++ footnote_marks f.label (drop n seats)
 
   abbrev pub prefixes_marks : List Prefix → List Seat → List Mark
   prefixes_marks [] seats = []
@@ -135,6 +155,7 @@ module _ (bytes : List ℕ) where
   abbrev pub enters_of : Container → Point → List Mark
   enters_of (quote q) place = (event bytes Enter name.BlockQuote place, None) ∷ []
   enters_of (item i) place = cond (i.list == i.line) ((event bytes Enter (list_name i) place, None) ∷ []) [] ++ (event bytes Enter name.ListItem place, None) ∷ []
+  enters_of (footnote f) place = (event bytes Enter name.GfmFootnoteDefinition place, None) ∷ []
 
   abbrev pub begun_all : List Prefix → List Seat → List Mark
   begun_all [] seats = []

@@ -1,7 +1,9 @@
 -- What values of the code mean.
-use Rattle.std.specs.Prelude.{◌≡◌, ℕ, ◌==◌, ◌&&◌, not, Bool, List, [], ◌∷◌, map, length}
+use Rattle.std.specs.Prelude.{◌≡◌, ℕ, ◌==◌, ◌&&◌, Bool, true, false, List, [], ◌∷◌, map, length}
 use Rattle.mdblock_lines.specs.Views.{fence_of, html_kind_of, container_of, prefix_of}
 use Rattle.mdblock_lines.specs.declared.containers.Container.{Container}
+use Rattle.mdblock_lines.specs.declared.containers.ContainerKind.{ContainerKind}
+use Rattle.mdblock_lines.specs.declared.containers.ContainerKind.TheVariants as kinds
 use Rattle.mdblock_lines.specs.declared.containers.Prefix.{Prefix}
 use Rattle.mdblock_lines.specs.Containers as nested
 use Rattle.mdblock_containers.specs.declared.going.Open.{Open}
@@ -29,9 +31,15 @@ abbrev pub begun_of : (list number : ℕ) → List Prefix → List nested.Prefix
 begun_of list number [] = []
 begun_of list number (p ∷ ps) = prefix_of list p ∷ map (prefix_of number) ps
 
+-- a container is an item
+abbrev pub is_item : ContainerKind → Bool
+is_item kinds.Quote = false
+is_item kinds.Item = true
+is_item kinds.Footnote = false
+
 -- an item takes the place of another, with the same marker
 abbrev pub takes_place : (old new : Container) → Bool
-takes_place old new = not old.is_quote && (not new.is_quote && (old.marker == new.marker))
+takes_place old new = is_item old.kind && (is_item new.kind && (old.marker == new.marker))
 
 -- what is known before a line
 abbrev pub before_of : Before → rows.Before

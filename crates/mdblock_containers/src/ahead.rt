@@ -8,6 +8,7 @@ ghost use Rattle.mdblock_containers.specs.Views.{IsRow};
 ghost use Rattle.mdblock_containers.specs.declared.ahead.Ahead.{Ahead};
 
 use crate::frames::{Frame, list_name};
+use crate::going::is_item;
 use crate::rows::Row;
 use crate::spans::RowAt;
 use mdblock_lines::containers::Container;
@@ -40,7 +41,7 @@ pub(crate) fn list_before(row: &Row) -> Option<Frame>
 fn list_of(c: &Container, list: usize) -> Option<Frame>
     ensures { result ≡ frame_before (container_of list c.now) }
 {
-    if !c.is_quote && list < c.line {
+    if is_item(c.kind) && list < c.line {
         Some(Frame {
             name: list_name(c),
             line: list,

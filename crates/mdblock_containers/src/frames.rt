@@ -13,12 +13,12 @@ ghost use Rattle.mdblock_containers.specs.Views.{open_of};
 use crate::going::Open;
 use crate::writing::exit;
 use markdown_base::event::{Event, Name, Point};
-use mdblock_lines::containers::Container;
+use mdblock_lines::containers::{Container, ContainerKind};
 use mdconstructs_loop_counts::Turns;
 use std::alloc::AllocError;
 use std::sync::ledger::Ledger;
 
-/// A span that is open: a quote, a list or an item.
+/// A span that is open: a quote, a list, an item or a footnote definition.
 #[derive(Clone, Copy)]
 pub struct Frame {
     /// Its name.
@@ -116,16 +116,19 @@ pub(crate) fn drop_frames(frames: &mut Vec<Frame>, from: usize, to: usize)
     frames.truncate(from + (all - to));
 }
 
-/// The spans of a container: a quote, or an item in its list.
+/// The spans of a container: a quote, an item in its list, or a footnote definition.
 fn push_frames_of(frames: &mut Vec<Frame>, entry: &Open) -> Result<(), AllocError>
     ensures { IfOk result (λ _. map frame_of frames.new.items ≡ map frame_of frames.old.items ++ frames_of (open_of entry.now)) }
 {
     let c = &entry.container;
-    if c.is_quote {
-        return push_frame(frames, Name::BlockQuote, c.line);
+    match c.kind {
+        ContainerKind::Quote => push_frame(frames, Name::BlockQuote, c.line),
+        ContainerKind::Item => {
+            push_frame(frames, list_name(c), entry.list)?;
+            push_frame(frames, Name::ListItem, c.line)
+        }
+        ContainerKind::Footnote => push_frame(frames, Name::GfmFootnoteDefinition, c.line),
     }
-    push_frame(frames, list_name(c), entry.list)?;
-    push_frame(frames, Name::ListItem, c.line)
 }
 
 fn push_frame(frames: &mut Vec<Frame>, name: Name, line: usize) -> Result<(), AllocError>
@@ -190,7 +193,10 @@ pub struct Stood {
 fn spans_of(entry: &Open) -> usize
     ensures { result ≡ length (frames_of (open_of entry.now)) }
 {
-    if entry.container.is_quote { 1 } else { 2 }
+    match entry.container.kind {
+        ContainerKind::Quote | ContainerKind::Footnote => 1,
+        ContainerKind::Item => 2,
+    }
 }
 
 /// The same of fewer containers: of so many at most.

@@ -7,13 +7,13 @@ ghost use Rattle.mdblock_lines.specs.Breaks.{has_break};
 ghost use Rattle.mdblock_lines.specs.Views.{prefix_of};
 ghost use Rattle.mdblock_containers.specs.Prefixes.{going_on, columns_of, beginning, with_list};
 ghost use Rattle.mdblock_containers.specs.Over.{AreBefore, AreOver};
-ghost use Rattle.mdblock_containers.specs.Views.{open_of, begun_of, takes_place};
+ghost use Rattle.mdblock_containers.specs.Views.{open_of, begun_of, is_item, takes_place};
 ghost use Rattle.mdblock_containers.specs.Costs.{HaveSizes};
 
 use markdown_base::configuration::Constructs;
 use mdblock_lines::breaks::{Breaks, breaks_in};
 use mdblock_lines::bytes::{behind, indent};
-use mdblock_lines::containers::{Container, Prefix, begins, first_from, goes_on};
+use mdblock_lines::containers::{Container, ContainerKind, Prefix, begins, first_from, goes_on};
 use mdconstructs_loop_counts::Turns;
 use std::alloc::AllocError;
 use std::sync::ledger::Ledger;
@@ -187,7 +187,17 @@ pub fn list_of_first(before: &[Open], number: usize, begun: &[Prefix]) -> usize
 fn takes_place(old: &Container, new: &Container) -> bool
     ensures { result ≡ takes_place old.now new.now }
 {
-    !old.is_quote && !new.is_quote && old.marker == new.marker
+    is_item(old.kind) && is_item(new.kind) && old.marker == new.marker
+}
+
+/// Whether a container is an item.
+pub fn is_item(kind: ContainerKind) -> bool
+    ensures { result ≡ is_item kind }
+{
+    match kind {
+        ContainerKind::Item => true,
+        ContainerKind::Quote | ContainerKind::Footnote => false,
+    }
 }
 
 /// The first of open containers.

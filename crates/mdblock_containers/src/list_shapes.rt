@@ -206,7 +206,8 @@ fn is_quiet(name: Name) -> bool
         || Name::HtmlFlow == name
         || Name::ThematicBreak == name
         || Name::Definition == name
-        || Name::GfmTable == name)
+        || Name::GfmTable == name
+        || Name::GfmFootnoteDefinition == name)
 }
 
 /// An event comes before of whose name nothing is to be known.

@@ -29,7 +29,7 @@ pub(crate) const LISTS: [Name; 2] = [Name::ListOrdered, Name::ListUnordered];
 
 pub(crate) const ITEMS: [Name; 1] = [Name::ListItem];
 
-pub(crate) const BLOCKS: [Name; 12] = [
+pub(crate) const BLOCKS: [Name; 13] = [
     Name::BlockQuote,
     Name::ListOrdered,
     Name::ListUnordered,
@@ -42,6 +42,7 @@ pub(crate) const BLOCKS: [Name; 12] = [
     Name::ThematicBreak,
     Name::Definition,
     Name::GfmTable,
+    Name::GfmFootnoteDefinition,
 ];
 
 /// The most digits that a marker has.

@@ -2,7 +2,7 @@
 
 ghost use Rattle.std.specs.Prelude.{◌≡◌, ◌≤◌, ◌<◌, ◌+◌, ◌^◌, ◌++◌, ◌==◌, ◌&&◌, not, nat_lt, cond, None, Some, true, IfOk, [], ℕ, length, map, max, min, take, false};
 ghost use Rattle.markdown_base.specs.Virtual.{point};
-ghost use Rattle.mdblock_containers.specs.Over.{AreEarlier};
+ghost use Rattle.mdblock_containers.specs.Over.{AreEarlier, is_earlier};
 ghost use Rattle.mdblock_containers.specs.Parts.{ending_at, open_behind, stands_in};
 ghost use Rattle.mdblock_containers.specs.Prefixes.{containers_of};
 ghost use Rattle.mdblock_containers.specs.Rows.{Row as RowOf, holds_ending};
@@ -14,6 +14,7 @@ use crate::rows::{Row, open_all};
 use crate::spans::{RowAt, end_of, text_end_of};
 use crate::writing::{enter, exit};
 use markdown_base::event::{Event, Name, Point};
+use mdblock_lines::containers::ContainerKind;
 use mdconstructs_loop_counts::Turns;
 use std::alloc::AllocError;
 use std::sync::ledger::Ledger;
@@ -73,14 +74,17 @@ pub fn part_end(is_blank: bool, last: &RowAt) -> PartEnd
     }
 }
 
-/// An item began in a line before this one.
-fn is_earlier_item(entry: &Open, number: usize) -> bool
-    ensures { result ≡ (not entry.now.container.is_quote && nat_lt entry.now.container.line number) }
+/// An item or a footnote definition began in a line before this one.
+fn is_earlier(entry: &Open, number: usize) -> bool
+    ensures { result ≡ is_earlier number (open_of entry.now) }
 {
-    !entry.container.is_quote && entry.container.line < number
+    match entry.container.kind {
+        ContainerKind::Quote => false,
+        ContainerKind::Item | ContainerKind::Footnote => entry.container.line < number,
+    }
 }
 
-/// The first container at which to ask whether a blank line stands in it: those from `passed` on are items that began before, which it does not
+/// The first container at which to ask whether a blank line stands in it: those from `passed` on are items or footnote definitions that began before, which it does not
 /// stand in unless they are among the first `many`.
 fn first_asked(size: usize, passed: usize, many: usize) -> usize
     ensures { result ≡ min size (max passed many) }
@@ -89,8 +93,8 @@ fn first_asked(size: usize, passed: usize, many: usize) -> usize
     if size < from { size } else { from }
 }
 
-/// In how many of its containers a line stands: a blank line not in the items that began before it and do not go on behind it, where so many
-/// containers go on. Those from `passed` on are items that began before it.
+/// In how many of its containers a line stands: a blank line not in the items and footnote definitions that began before it and do not go on behind it, where so many
+/// containers go on. Those from `passed` on are such.
 pub fn standing<L: Ledger>(
     stack: &[Open],
     is_blank: bool,
@@ -113,7 +117,7 @@ pub fn standing<L: Ledger>(
         return size;
     }
     let mut n = first_asked(size, passed, many);
-    while n > many && is_earlier_item(&stack[n - 1], number) {
+    while n > many && is_earlier(&stack[n - 1], number) {
         turns.add_one();
         n -= 1;
     }

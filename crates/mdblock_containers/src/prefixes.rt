@@ -18,7 +18,7 @@ use crate::writing::{begun_prefix, enter, going_prefix};
 use markdown_base::configuration::TabSize;
 use markdown_base::event::{Event, Name, Point};
 use mdblock_lines::bytes::{behind, front, indent};
-use mdblock_lines::containers::{Container, Prefix, first_from};
+use mdblock_lines::containers::{Container, ContainerKind, Prefix, first_from};
 use mdconstructs_loop_counts::Turns;
 use std::alloc::AllocError;
 use std::sync::ledger::Ledger;
@@ -81,13 +81,16 @@ fn enter_container(
 ) -> Result<(), AllocError>
     ensures { IfOk result (λ _. events.new.items ≡ events.old.items ++ enters_at (container_of list c.now) place) }
 {
-    if c.is_quote {
-        return enter(events, Name::BlockQuote, place);
+    match c.kind {
+        ContainerKind::Quote => enter(events, Name::BlockQuote, place),
+        ContainerKind::Item => {
+            if list == c.line {
+                enter(events, list_name(c), place)?;
+            }
+            enter(events, Name::ListItem, place)
+        }
+        ContainerKind::Footnote => enter(events, Name::GfmFootnoteDefinition, place),
     }
-    if list == c.line {
-        enter(events, list_name(c), place)?;
-    }
-    enter(events, Name::ListItem, place)
 }
 
 /// Containers begin in a line, each with its prefix: the first in this list, the others in lists that begin with them. `t` are the virtual bytes

@@ -7,15 +7,16 @@ ghost use Rattle.markdown_base.specs.Virtual.{Seat};
 ghost use Rattle.mdblock_leaf_blocks.specs.LeafBlocks.{bytes_of};
 ghost use Rattle.mdblock_leaf_blocks.specs.LineKinds.{indent};
 ghost use Rattle.mdblock_lines.specs.Lines.{place_after};
+ghost use Rattle.mdblock_lines.specs.declared.containers.ContainerKind.TheVariants as kinds;
 ghost use Rattle.mdblock_lines.specs.Views.{container_of};
 ghost use Rattle.mdblock_containers.specs.SeatPlaces.{AreSeatsAt, events_of};
 ghost use Rattle.mdblock_containers.specs.Skeleton.{begun_marks, going_marks};
-ghost use Rattle.mdblock_containers.specs.PlaceEvents.{HasColumns, event_at, span_at, quote_prefix_at, item_prefix_at};
+ghost use Rattle.mdblock_containers.specs.PlaceEvents.{HasColumns, event_at, span_at, quote_prefix_at, item_prefix_at, footnote_label_at, footnote_prefix_at, going_prefix_places, begun_prefix_places};
 
 use markdown_base::configuration::TabSize;
 use markdown_base::event::{Event, Kind, Name, Point};
 use mdblock_lines::bytes::indent;
-use mdblock_lines::containers::Container;
+use mdblock_lines::containers::{Container, ContainerKind};
 use mdblock_lines::places::moved;
 use mdconstructs_loop_counts::Turns;
 use std::alloc::AllocError;
@@ -153,6 +154,60 @@ pub fn item_prefix<L: Ledger>(
     Ok(end)
 }
 
+/// The label of a footnote definition, by how many bytes it has: a bracket, `^`, its bytes, and a bracket. Returns the place behind it.
+fn footnote_label<L: Ledger>(
+    events: &mut Vec<Event>,
+    bytes: &[u8],
+    tab: TabSize,
+    place: Point,
+    label: usize,
+    turns: &mut Turns<L>,
+) -> Result<Point, AllocError>
+    requires columns { HasColumns tab bytes.now place (label + 3) }
+    ensures events { IfOk result (λ _. events.new.items ≡ events.old.items ++ footnote_label_at tab bytes.now label place) }
+    ensures place { IfOk result (λ p. p ≡ place_after tab bytes.now place (label + 3)) }
+    ensures turns { turns.new ≤ turns.old + label + 3 }
+{
+    let bracket = Name::GfmFootnoteDefinitionLabelMarker;
+    let caret = Name::GfmFootnoteDefinitionMarker;
+    let opened = span(events, bytes, tab, bracket, place, 1, turns)?;
+    let start = span(events, bytes, tab, caret, opened, 1, turns)?;
+    enter(events, Name::GfmFootnoteDefinitionLabelString, start)?;
+    let end = span(events, bytes, tab, Name::Data, start, label, turns)?;
+    exit(events, Name::GfmFootnoteDefinitionLabelString, end)?;
+    let closed = span(events, bytes, tab, bracket, end, 1, turns)?;
+    Ok(closed)
+}
+
+/// The prefix with which a footnote definition begins, by its virtual bytes and how many bytes its label has. Returns the place behind it.
+pub fn footnote_prefix<L: Ledger>(
+    events: &mut Vec<Event>,
+    bytes: &[u8],
+    tab: TabSize,
+    place: Point,
+    label: usize,
+    t: &[u8],
+    turns: &mut Turns<L>,
+) -> Result<Point, AllocError>
+    requires columns { HasColumns tab bytes.now place (length t.now) }
+    requires marker { indent t.now + label + 4 ≤ length t.now }
+    ensures events { IfOk result (λ _. events.new.items ≡ events.old.items ++ footnote_prefix_at tab bytes.now label place t.now) }
+    ensures place { IfOk result (λ p. p ≡ place_after tab bytes.now place (length t.now)) }
+    ensures turns { turns.new ≤ turns.old + 2 * length t.now }
+{
+    let columns = indent(t, turns);
+    let start = white(events, bytes, tab, place, columns, turns)?;
+    enter(events, Name::GfmFootnoteDefinitionPrefix, start)?;
+    enter(events, Name::GfmFootnoteDefinitionLabel, start)?;
+    let named = footnote_label(events, bytes, tab, start, label, turns)?;
+    exit(events, Name::GfmFootnoteDefinitionLabel, named)?;
+    let marked = span(events, bytes, tab, Name::DefinitionMarker, named, 1, turns)?;
+    let rest = t.len() - columns - label - 4;
+    let end = white(events, bytes, tab, marked, rest, turns)?;
+    exit(events, Name::GfmFootnoteDefinitionPrefix, end)?;
+    Ok(end)
+}
+
 /// As [`going_prefix`], by places.
 fn going_prefix_at<L: Ledger>(
     events: &mut Vec<Event>,
@@ -164,15 +219,16 @@ fn going_prefix_at<L: Ledger>(
     turns: &mut Turns<L>,
 ) -> Result<Point, AllocError>
     requires columns { HasColumns tab bytes.now place (length t.now) }
-    requires marker { c.now.is_quote ≡ true → indent t.now + 1 ≤ length t.now }
-    ensures events { IfOk result (λ _. events.new.items ≡ events.old.items ++ cond c.now.is_quote (quote_prefix_at tab bytes.now place t.now) (span_at tab bytes.now SpaceOrTab place (length t.now))) }
+    requires marker { c.now.kind ≡ kinds.Quote → indent t.now + 1 ≤ length t.now }
+    ensures events { IfOk result (λ _. events.new.items ≡ events.old.items ++ going_prefix_places tab bytes.now c.now.kind place t.now) }
     ensures place { IfOk result (λ p. p ≡ place_after tab bytes.now place (length t.now)) }
     ensures turns { turns.new ≤ turns.old + 2 * length t.now }
 {
-    if c.is_quote {
-        quote_prefix(events, bytes, tab, place, t, turns)
-    } else {
-        white(events, bytes, tab, place, t.len(), turns)
+    match c.kind {
+        ContainerKind::Quote => quote_prefix(events, bytes, tab, place, t, turns),
+        ContainerKind::Item | ContainerKind::Footnote => {
+            white(events, bytes, tab, place, t.len(), turns)
+        }
     }
 }
 
@@ -187,7 +243,7 @@ pub fn going_prefix<L: Ledger>(
     turns: &mut Turns<L>,
 ) -> Result<Point, AllocError>
     requires columns { HasColumns tab bytes.now place (length t.now) }
-    requires marker { c.now.is_quote ≡ true → indent t.now + 1 ≤ length t.now }
+    requires marker { c.now.kind ≡ kinds.Quote → indent t.now + 1 ≤ length t.now }
     ensures marks { IfOk result (λ _. (list : ℕ) → (seats : List Seat) → AreSeatsAt tab bytes.now place seats → t.now ≡ bytes_of seats → events.new.items ≡ events.old.items ++ events_of (going_marks bytes.now (container_of list c.now) seats)) }
     ensures place { IfOk result (λ p. p ≡ place_after tab bytes.now place (length t.now)) }
     ensures turns { turns.new ≤ turns.old + 2 * length t.now }
@@ -207,16 +263,17 @@ fn begun_prefix_at<L: Ledger>(
     turns: &mut Turns<L>,
 ) -> Result<Point, AllocError>
     requires columns { HasColumns tab bytes.now place (length t.now) }
-    requires quote { c.now.is_quote ≡ true → indent t.now + 1 ≤ length t.now }
-    requires item { c.now.is_quote ≡ false → indent t.now + c.now.digits + 1 ≤ length t.now }
-    ensures events { IfOk result (λ _. events.new.items ≡ events.old.items ++ cond c.now.is_quote (quote_prefix_at tab bytes.now place t.now) (item_prefix_at tab bytes.now c.now.digits place t.now)) }
+    requires quote { c.now.kind ≡ kinds.Quote → indent t.now + 1 ≤ length t.now }
+    requires item { c.now.kind ≡ kinds.Item → indent t.now + c.now.digits + 1 ≤ length t.now }
+    requires footnote { c.now.kind ≡ kinds.Footnote → (1 ≤ c.now.label) × (indent t.now + c.now.label + 4 ≤ length t.now) }
+    ensures events { IfOk result (λ _. events.new.items ≡ events.old.items ++ begun_prefix_places tab bytes.now c.now place t.now) }
     ensures place { IfOk result (λ p. p ≡ place_after tab bytes.now place (length t.now)) }
     ensures turns { turns.new ≤ turns.old + 2 * length t.now }
 {
-    if c.is_quote {
-        quote_prefix(events, bytes, tab, place, t, turns)
-    } else {
-        item_prefix(events, bytes, tab, place, c.digits, t, turns)
+    match c.kind {
+        ContainerKind::Quote => quote_prefix(events, bytes, tab, place, t, turns),
+        ContainerKind::Item => item_prefix(events, bytes, tab, place, c.digits, t, turns),
+        ContainerKind::Footnote => footnote_prefix(events, bytes, tab, place, c.label, t, turns),
     }
 }
 
@@ -231,8 +288,9 @@ pub fn begun_prefix<L: Ledger>(
     turns: &mut Turns<L>,
 ) -> Result<Point, AllocError>
     requires columns { HasColumns tab bytes.now place (length t.now) }
-    requires quote { c.now.is_quote ≡ true → indent t.now + 1 ≤ length t.now }
-    requires item { c.now.is_quote ≡ false → indent t.now + c.now.digits + 1 ≤ length t.now }
+    requires quote { c.now.kind ≡ kinds.Quote → indent t.now + 1 ≤ length t.now }
+    requires item { c.now.kind ≡ kinds.Item → indent t.now + c.now.digits + 1 ≤ length t.now }
+    requires footnote { c.now.kind ≡ kinds.Footnote → (1 ≤ c.now.label) × (indent t.now + c.now.label + 4 ≤ length t.now) }
     ensures marks { IfOk result (λ _. (list : ℕ) → (seats : List Seat) → AreSeatsAt tab bytes.now place seats → t.now ≡ bytes_of seats → events.new.items ≡ events.old.items ++ events_of (begun_marks bytes.now (container_of list c.now) seats)) }
     ensures place { IfOk result (λ p. p ≡ place_after tab bytes.now place (length t.now)) }
     ensures turns { turns.new ≤ turns.old + 2 * length t.now }

@@ -16,6 +16,7 @@ use Rattle.mdblock_definitions.specs.declared.rows.Known.{Known as CodeKnown}
 use Rattle.mdblock_definitions.specs.Known.{IsKnown, asks_table, held, held_behind, is_held_used_up, leaf_behind}
 use Rattle.mdblock_definitions.specs.Laws.{begins_with_bracket}
 use Rattle.mdblock_definitions.specs.Rows.{Known, is_behind_text, is_row_of_table, is_used_up, last_line, row_of, row_without, text_after, underlines_nothing}
+use Rattle.mdblock_definitions.proofs.KnownReads.{fourth-fails}
 use Rattle.mdblock_definitions.proofs.Longer.{begins-longer, drop-longer, white-longer}
 use Rattle.mdblock_definitions.proofs.Without.{filled-longer, leaf-open, no-underline, not-used-up, row-filled}
 
@@ -51,13 +52,7 @@ used-held text filled = by (begins_with_bracket text) refl
 
 -- where nothing is held, it makes one
 pub looked-none : (a b u : Bool) (text : List ℕ) → not (has_none text) ≡ false → (a && (b && (u && is_held_used_up text))) ≡ false
-looked-none a b u text none = ap (λ n. a && (b && (u && (n && is_used_up text)))) none ∙ by a b u
-  where
-    by : (a b u : Bool) → (a && (b && (u && false))) ≡ false
-    by false b u = refl
-    by true false u = refl
-    by true true false = refl
-    by true true true = refl
+looked-none a b u text none = ap (λ n. a && (b && (u && (n && is_used_up text)))) none ∙ fourth-fails a b u
 
 -- the text of an open paragraph is not empty
 module _ (on : Constructs) (k : Known) (n : ℕ) (line : Line) where

@@ -1,6 +1,7 @@
 -- How lines are read where paragraphs may begin with definitions: as containers read them, but for leaf blocks. A blank line is no underline.
 use Rattle.std.proofs.Common.{◌≡◌, ℕ, suc, ◌+◌, Bool, true, false, cond, List, [], ◌∷◌, arith, drop, length, refl, ap, ◌∙◌, sym}
 use Rattle.std.specs.Prelude.{◌&&◌, is_some, ◌||◌}
+use Rattle.std.proofs.Math.Bool.{and-false}
 use Rattle.std.proofs.lemmas.Bool.{false≢true}
 use Rattle.markdown_base.specs.declared.configuration.Constructs.{Constructs}
 use Rattle.markdown_base.proofs.Common.{and-right}
@@ -14,6 +15,13 @@ use Rattle.mdblock_containers.proofs.CostLemmas.{blank_leaf, blank_not_lazy}
 use Rattle.mdblock_containers.proofs.LazyLemmas.{underline_some}
 use Rattle.mdblock_containers.proofs.RowReads.{Reads}
 use Rattle.mdblock_definitions.specs.Rows.{Known, is_behind_text, is_used_up, known_after, row_of, underlines_nothing, begins_table, row_without}
+
+-- a test of three parts, or of four, whose last one fails
+pub third-fails : (a b : Bool) → (a && (b && false)) ≡ false
+third-fails a b = ap (λ (x : Bool). a && x) (and-false b) ∙ and-false a
+
+pub fourth-fails : (a b c : Bool) → (a && (b && (c && false))) ≡ false
+fourth-fails a b c = ap (λ (x : Bool). a && x) (third-fails b c) ∙ and-false a
 
 -- nothing is behind the white space of a blank line
 pub blank-unindented : (t : List ℕ) → is_blank_line t ≡ true → unindented t ≡ []
@@ -60,12 +68,7 @@ module _ (on : Constructs) (k : Known) (n : ℕ) (line : Line) where
       let row = row_without on k n line in
       let more = (is_paragraph k.before.leaf && begins_table on k row) || (is_table k.before.leaf && is_row (rest_of row)) in
       let no : is_paragraph row.leaf ≡ false = ap is_paragraph (blank-without h) ∙ blank-open h in
-      ap (λ b. cond (on.gfm_table && (row.stays && (b && more))) open_table row.leaf) no ∙ ap (λ b. cond b open_table row.leaf) (none on.gfm_table row.stays) ∙ blank-without h
-    where
-      none : (g s : Bool) → (g && (s && false)) ≡ false
-      none false s = refl
-      none true false = refl
-      none true true = refl
+      ap (λ b. cond (on.gfm_table && (row.stays && (b && more))) open_table row.leaf) no ∙ ap (λ b. cond b open_table row.leaf) (third-fails on.gfm_table row.stays) ∙ blank-without h
 
 -- as definitions have them read
 abbrev pub known-reads : (on : Constructs) → Reads on

@@ -16,7 +16,6 @@ use Rattle.mdblock_leaf_blocks.specs.LineKinds.{begins_with, indent, is_blank_li
 use Rattle.mdblock_containers.proofs.PlainLetters.{AtMark, IsMarked, IsPlainAt, every_both, is_mark, lines_each, one_of, plain_from, text_byte, underline_plain, underlines_plain}
 use Rattle.mdblock_containers.specs.Letters.{is_plain, lazy_underline}
 use Rattle.mdblock_containers.specs.Rows.{Row, is_paragraph, nothing_known, rest_of, is_table}
-use Rattle.mdblock_containers.specs.Rows as without
 use Rattle.mdblock_containers.specs.Skeleton.{Part, parts}
 use Rattle.mdblock_table_marks.specs.TableCuts.{cut_at_tables}
 use Rattle.mdinline_labels.specs.declared.definitions.Definition.{Definition}

@@ -1,5 +1,5 @@
 -- The sections of a document: which spans are open from one to the next, and what is in their lines.
-use Rattle.std.proofs.Common.{◌≡◌, ◌⊎◌, inl, ℕ, zero, suc, ◌≤◌, Bool, true, false, cond, List, [], ◌∷◌, ◌++◌, append-nil, arith, drop, length, map, refl, sym, ap, subst, take, ◌∙◌, ◌+◌}
+use Rattle.std.proofs.Common.{◌≡◌, ◌⊎◌, inl, ℕ, zero, suc, ◌≤◌, Bool, true, false, cond, List, [], ◌∷◌, ◌++◌, append-nil, arith, drop, length, map, refl, sym, ap, subst, take, ◌∙◌}
 use Rattle.std.specs.Prelude.{◌&&◌}
 use Rattle.std.specs.List.{AllByRecursion, flat_map, prefix_len}
 use Rattle.std.proofs.lemmas.Bool.{false≢true}

@@ -1,12 +1,12 @@
 -- Where a string ends whose last line is empty: its places, and the prefixes behind it.
-use Rattle.std.proofs.Common.{◌≡◌, ℕ, zero, suc, ◌+◌, ◌-◌, ◌<◌, ◌≤◌, Bool, true, false, cond, List, [], ◌∷◌, ◌++◌, drop, length, take, refl, sym, ap, ◌∙◌, arith, append_assoc}
+use Rattle.std.proofs.Common.{◌≡◌, ℕ, zero, suc, ◌≤◌, Bool, true, false, cond, List, [], ◌∷◌, ◌++◌, drop, length, refl, sym, ap, ◌∙◌, arith, append_assoc}
 use Rattle.std.specs.List.{AllByRecursion, flat_map, prefix_len}
 use Rattle.std.proofs.lemmas.List.{append-nil}
 use Rattle.markdown_base.specs.declared.event.Name.{Name}
 use Rattle.markdown_base.specs.declared.event.Name.TheVariants as name
 use Rattle.markdown_base.specs.Virtual.{Seat}
 use Rattle.mdblock_leaf_blocks.specs.LeafEvents.{Mark, leaf_marks}
-use Rattle.mdblock_definitions.specs.Definitions.{Place, StringLine, all_seats, before_prefixes, byte_at, ending_at, ending_marks, further_line, is_byte, last_prefixes, line_marks, seats_of, span, string, string_lines, text_of}
+use Rattle.mdblock_definitions.specs.Definitions.{Place, StringLine, before_prefixes, byte_at, ending_at, ending_marks, further_line, is_byte, last_prefixes, line_marks, seats_of, span, string, string_lines, text_of}
 
 -- both are the virtual bytes of the string's places
 pub seats-both : (ps : List Place) → seats_of (before_prefixes ps) ++ seats_of (last_prefixes ps) ≡ seats_of ps

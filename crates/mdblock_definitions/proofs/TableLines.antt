@@ -1,5 +1,5 @@
 -- The lines of a section that is a table, as its rows are written.
-use Rattle.std.proofs.Common.{◌≡◌, ◌-◌, ℕ, suc, List, [], ◌∷◌, arith, drop, length, length-drop, ap, ◌∙◌, subst, sym}
+use Rattle.std.proofs.Common.{◌≡◌, ℕ, suc, List, [], ◌∷◌, arith, drop, length, length-drop, ap, ◌∙◌, subst, sym}
 use Rattle.std.specs.List.{AllByRecursion}
 use Rattle.mdblock_leaf_blocks.specs.LeafBlocks.{text_of}
 use Rattle.mdblock_leaf_blocks.specs.LineKinds.{indent}

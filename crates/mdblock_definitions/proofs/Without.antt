@@ -36,7 +36,7 @@ use Rattle.mdinline_labels.specs.Tails.{begins_with, is_white, label_size}
 use Rattle.mdblock_definitions.specs.Blocks.{document_blocks}
 use Rattle.mdblock_definitions.specs.Laws.{BlocksCanBeWithout, BlocksNeedBrackets, DefinitionsCanBeOff, DefinitionsNeedBrackets, HasNoBracket, NothingIsDefined, begins_with_bracket}
 use Rattle.mdblock_definitions.specs.Rows.{Known, is_behind_text, is_used_up, known_after, row_of, rows, rows_from, begins_table, row_without}
-use Rattle.mdblock_definitions.specs.Sections.{before_defined, cut, defined_in, lines, lines_defined, lines_of, paragraph_of, sections, text_in, is_in_table}
+use Rattle.mdblock_definitions.specs.Sections.{before_defined, cut, defined_in, lines_defined, lines_of, paragraph_of, sections, text_in, is_in_table}
 use Rattle.mdblock_definitions.proofs.FilledTexts.{plain-none}
 use Rattle.mdblock_definitions.proofs.SectionSound.{cut-blank, no-table as none-tabled}
 use Rattle.mdblock_definitions.proofs.Uncut.{cut-once, plain, whole-part}

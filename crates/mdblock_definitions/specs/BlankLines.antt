@@ -1,8 +1,8 @@
 -- Where a blank line stands (CommonMark 0.31, 5.1 to 5.3), in one sentence: in what the lines before and behind it both stand in; and in the quotes whose
--- markers it has, and the items that begin in it.
+-- markers it has, and the items and footnote definitions that begin in it.
 use Rattle.std.specs.Prelude.{ℕ, zero, suc, ◌==◌, ◌&&◌, not, nat_le, Bool, true, cond, List, [], ◌∷◌, ◌++◌, drop, length, take}
 use Rattle.std.specs.List.{flat_map}
-use Rattle.mdblock_lines.specs.Containers.{Container, item, quote}
+use Rattle.mdblock_lines.specs.Containers.{Container, footnote, item, quote}
 use Rattle.mdblock_containers.specs.Prefixes.{containers_of}
 use Rattle.mdblock_containers.specs.Rows.{Row, has_none}
 use Rattle.mdblock_containers.specs.Skeleton.{Frame, Part, frames_of, further, shared}
@@ -16,10 +16,11 @@ abbrev pub frames_behind : List Row → List Frame
 frames_behind [] = []
 frames_behind (row ∷ behind) = cond row.is_left_blank (frames_behind behind) (flat_map frames_of (containers_in row))
 
--- a line has a container's marker: that of each quote, and of an item that begins in it
+-- a line has a container's marker: that of each quote, and of an item or a footnote definition that begins in it
 abbrev pub has_marker : (number : ℕ) → Container → Bool
 has_marker number (quote q) = true
 has_marker number (item i) = i.line == number
+has_marker number (footnote f) = f.line == number
 
 -- its containers up to the last whose marker it has
 abbrev pub marked : (number : ℕ) → List Container → List Container

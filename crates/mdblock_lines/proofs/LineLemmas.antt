@@ -1,16 +1,18 @@
 -- Lemmas on the definitions of lines: by induction on the line, and one byte on in a loop.
-use Rattle.std.proofs.Common.{◌≡◌, ℕ, zero, suc, ◌+◌, ◌-◌, ◌<◌, ◌≤◌, Bool, true, false, cond, List, [], ◌∷◌, length, take, drop, get_or, Bor, refl, sym, ap, ◌∙◌, arith, eq-eqb, ne_eqb}
+use Rattle.std.proofs.Common.{◌≡◌, ℕ, zero, suc, ◌+◌, ◌-◌, ◌<◌, ◌≤◌, Bool, true, false, cond, List, [], ◌∷◌, length, take, drop, get_or, Bor, refl, sym, ap, ◌∙◌, arith, eq-eqb, eqb-true, ne_eqb, length-drop}
 use Rattle.std.specs.Prelude.{◌==◌, ◌&&◌, ◌||◌, not, nat_le, map, Option, Some, None}
 use Rattle.std.specs.List.{list_all, prefix_len}
+use Rattle.std.proofs.lemmas.Bool.Decides.{nat_tests}
 use Rattle.std.proofs.lemmas.List.{drop_more, drop-drop}
 use Rattle.std.proofs.Math.Dec.{eqb-suc-suc}
+use Rattle.std.proofs.lemmas.Bool.{false≢true}
 use Rattle.std.proofs.Math.Seq.{drop-length}
 use Rattle.mdconstructs_tables.specs.Breaks.{is_white}
 use Rattle.mdblock_leaf_blocks.specs.LineWords.{starts_with, holds, lower, first_passes, is_blank_line, indent, unindented}
-use Rattle.mdblock_leaf_blocks.specs.LineKinds.{blank, indented, is_far, kind_of_rest, line_kind}
+use Rattle.mdblock_leaf_blocks.specs.LineKinds.{begins_with, blank, indented, is_far, kind_of_rest, line_kind}
 use Rattle.markdown_base.specs.declared.configuration.Constructs.{Constructs}
 use Rattle.mdblock_leaf_blocks.specs.HtmlLines.{is_named, behind_quote, ends_open_tag, behind_attribute, ends_tag}
-use Rattle.mdblock_lines.specs.Containers.{Prefix, first_byte, digits, is_marker, may_begin_item, item_at}
+use Rattle.mdblock_lines.specs.Containers.{Prefix, first_byte, digits, is_footnote, is_marker, label_size, may_begin_item, item_at}
 use Rattle.mdblock_lines.specs.Views.{is_name, next_in_tag, closes_tag, may_stand, is_marker_behind, prefix_behind, prefix_by}
 
 -- as many as there are pass a test, or all do
@@ -197,6 +199,54 @@ pub tag_ends : (whole t : List ℕ) → next_in_tag t ≡ None → IsSameTag who
 tag_ends whole t e w =
     let more : w.bound ≡ suc (w.bound - 1) = omega (arith, w.enough) in
     w.same ∙ ap (λ b. ends_open_tag b t) more ∙ tag_stops (w.bound - 1) t e
+
+-- footnote definitions
+pub starts_long : (what t : List ℕ) → starts_with what t ≡ true → length what ≤ length t
+starts_long [] t e = omega arith
+starts_long (b ∷ bs) [] e = absurd (cc)
+starts_long (b ∷ bs) (c ∷ cs) e = by (b == c) (starts_long bs cs) e
+  where
+    by : (s : Bool) → (starts_with bs cs ≡ true → length bs ≤ length cs) → (s && starts_with bs cs) ≡ true → suc (length bs) ≤ suc (length cs)
+    by true more q = let w = more q in omega (arith, w)
+    by false more q = absurd (cc)
+
+-- a label is not empty, and brackets, the mark and a colon are around it
+module _ (r : List ℕ) where
+  abbrev n : ℕ
+  n = label_size (drop 2 r)
+
+  pub footnote_some : is_footnote r ≡ true → 1 ≤ label_size (drop 2 r)
+  footnote_some e = by (starts_with (91 ∷ 94 ∷ []) r) (nat_le 1 n) (starts_with (93 ∷ 58 ∷ []) (drop (n + 2) r)) refl e
+    where
+      by : (a b c : Bool) → nat_le 1 n ≡ b → (a && (b && c)) ≡ true → 1 ≤ n
+      by true true c s h = grind (arith, nat_tests)
+      by true false c s h = absurd (cc)
+      by false b c s h = absurd (cc)
+
+  pub footnote_long : is_footnote r ≡ true → label_size (drop 2 r) + 4 ≤ length r
+  footnote_long e = by (starts_with (91 ∷ 94 ∷ []) r) (nat_le 1 n) (starts_with (93 ∷ 58 ∷ []) (drop (n + 2) r)) refl e
+    where
+      by : (a b c : Bool) → starts_with (93 ∷ 58 ∷ []) (drop (n + 2) r) ≡ c → (a && (b && c)) ≡ true → n + 4 ≤ length r
+      by true true true s h =
+          let two = starts_long (93 ∷ 58 ∷ []) (drop (n + 2) r) s in
+          let left : length (drop (n + 2) r) ≡ length r - (n + 2) = length-drop (n + 2) r in
+          omega (arith, two, left)
+      by true true false s h = absurd (cc)
+      by true false c s h = absurd (cc)
+      by false b c s h = absurd (cc)
+
+-- what begins with a bracket is no item, and what does not is no footnote definition
+pub bracket_is_no_item : (in_paragraph : Bool) (r : List ℕ) → begins_with 91 r ≡ true → may_begin_item in_paragraph r ≡ false
+bracket_is_no_item in_paragraph [] e = absurd (cc)
+bracket_is_no_item in_paragraph (b ∷ bs) e = ap (λ c. may_begin_item in_paragraph (c ∷ bs)) (eqb-true b 91 e)
+
+pub no_bracket_no_footnote : (r : List ℕ) → begins_with 91 r ≡ false → is_footnote r ≡ false
+no_bracket_no_footnote [] e = refl
+no_bracket_no_footnote (b ∷ bs) e = by (91 == b) refl
+  where
+    by : (s : Bool) → (91 == b) ≡ s → (s && starts_with (94 ∷ []) bs && (let n = label_size (drop 2 (b ∷ bs)) in nat_le 1 n && starts_with (93 ∷ 58 ∷ []) (drop (n + 2) (b ∷ bs)))) ≡ false
+    by false q = refl
+    by true q = absurd (false≢true (sym e ∙ eq-eqb b 91 (sym (eqb-true 91 b q))))
 
 -- items
 module _ (in_paragraph : Bool) (number : ℕ) (t : List ℕ) where

@@ -12,6 +12,8 @@ use Rattle.mdblock_lines.specs.declared.kinds.Fence.{Fence}
 use Rattle.mdblock_lines.specs.declared.kinds.LineKind.{LineKind}
 use Rattle.mdblock_lines.specs.declared.kinds.LineKind.TheVariants as kinds
 use Rattle.mdblock_lines.specs.declared.containers.Container.{Container}
+use Rattle.mdblock_lines.specs.declared.containers.ContainerKind.{ContainerKind}
+use Rattle.mdblock_lines.specs.declared.containers.ContainerKind.TheVariants as container_kinds
 use Rattle.mdblock_lines.specs.declared.containers.Prefix.{Prefix}
 use Rattle.mdblock_leaf_blocks.specs.LineKinds as lines
 use Rattle.mdblock_lines.specs.Containers as nested
@@ -49,13 +51,25 @@ unfenced_kind on r = elim (html_if_on on r) [
   | None ↦ cond (on.thematic_break && lines.is_thematic_break r) lines.thematic_break lines.text
 ]
 
--- a block quote
+-- a block quote, an item in a list that begins in this line, and a footnote definition
 abbrev pub quote_of : Container → nested.Quote
 quote_of c = record { line = c.line; is_near = c.is_near }
 
+abbrev pub item_of : (list : ℕ) → Container → nested.Item
+item_of list c = record { line = c.line; list = list; size = c.size; marker = c.marker; digits = c.digits; is_empty = c.is_blank }
+
+abbrev pub footnote_of : Container → nested.Footnote
+footnote_of c = record { line = c.line; label = c.label }
+
+-- a container of a kind
+abbrev pub container_by : ContainerKind → (list : ℕ) → Container → nested.Container
+container_by container_kinds.Quote list c = nested.quote (quote_of c)
+container_by container_kinds.Item list c = nested.item (item_of list c)
+container_by container_kinds.Footnote list c = nested.footnote (footnote_of c)
+
 -- a container, in a list that begins in this line
 abbrev pub container_of : (list : ℕ) → Container → nested.Container
-container_of list c = cond c.is_quote (nested.quote (quote_of c)) (nested.item (record { line = c.line; list = list; size = c.size; marker = c.marker; digits = c.digits; is_empty = c.is_blank }))
+container_of list c = container_by c.kind list c
 
 -- a container that begins, and the columns of its prefix
 abbrev pub prefix_of : (list : ℕ) → Prefix → nested.Prefix
@@ -77,6 +91,14 @@ is_past on t = (on.code_indented && nat_le 4 (indent t)) || (is_blank_line t || 
 
 abbrev pub is_quote_at : Constructs → List ℕ → Bool
 is_quote_at on t = on.block_quote && lines.begins_with 62 (lines.unindented t)
+
+abbrev pub is_footnote_at : Constructs → List ℕ → Bool
+is_footnote_at on t = on.gfm_footnote_definition && nested.is_footnote (lines.unindented t)
+
+-- the footnote definition behind white space of so many columns whose label has so many bytes, by what is behind the colon
+abbrev pub footnote_prefix : (number columns label : ℕ) → (after : List ℕ) → nested.Prefix
+footnote_prefix number columns label after =
+    record { container = nested.footnote (record { line = number; label = label }); size = columns + (label + 4) + indent after }
 
 -- tests of bytes that definitions write as λ
 abbrev pub is_name_byte : ℕ → Bool

@@ -2,19 +2,31 @@
 
 ghost use Rattle.std.specs.Prelude.{◌≡◌, ◌≤◌, ◌<◌, ◌+◌, ◌-◌, ◌*◌, ℕ, IfSome, Bool, true, length, drop, Some, None, ◌&&◌, cond, false, option_map, take, suc, ◌^◌, ◌==◌, slice_index, nat_le};
 ghost use Rattle.mdblock_leaf_blocks.specs.LineKinds.{indent, unindented, is_blank_line, is_thematic_break};
-ghost use Rattle.mdblock_lines.specs.Containers.{quote_size, goes_on, digits, is_one, is_marker, padding, item_at, may_begin_item, begins, quote};
-ghost use Rattle.mdblock_lines.specs.Views.{container_of, prefix_of, quote_prefix, is_marker_behind, may_stand, prefix_behind, prefix_by, is_past, is_quote_at};
+ghost use Rattle.mdblock_lines.specs.Containers.{quote_size, goes_on, digits, is_one, is_marker, padding, item_at, may_begin_item, begins, quote, is_footnote, is_in_label, label_size, footnote, item};
+ghost use Rattle.mdblock_lines.specs.Containers as nested;
+ghost use Rattle.mdblock_lines.specs.Views.{container_of, footnote_prefix, is_footnote_at, item_of, prefix_of, quote_prefix, is_marker_behind, may_stand, prefix_behind, prefix_by, is_past, is_quote_at};
 
-use crate::bytes::{begins_white, begins_with, behind, front, indent, run};
+use crate::bytes::{begins_white, begins_with, behind, front, indent, is_white, run};
 use markdown_base::configuration::Constructs;
 use mdconstructs_loop_counts::Turns;
 use std::sync::ledger::Ledger;
 
-/// A container: a block quote, or a list item.
+/// What a container is.
+#[derive(Clone, Copy)]
+pub enum ContainerKind {
+    /// A block quote.
+    Quote,
+    /// A list item.
+    Item,
+    /// A footnote definition.
+    Footnote,
+}
+
+/// A container: a block quote, a list item, or a footnote definition.
 #[derive(Clone, Copy)]
 pub struct Container {
-    /// It is a block quote.
-    pub is_quote: bool,
+    /// What it is.
+    pub kind: ContainerKind,
     /// Of a block quote: at most three columns of white space come before each of its markers.
     pub is_near: bool,
     /// The number of the line that begins it.
@@ -27,6 +39,8 @@ pub struct Container {
     pub digits: usize,
     /// Of an item: nothing is behind its marker.
     pub is_blank: bool,
+    /// Of a footnote definition: how many bytes its label has.
+    pub label: usize,
 }
 
 /// The first column from another on that is not white space, by such a column of a place before it. So white space is walked over once.
@@ -77,10 +91,10 @@ pub fn goes_on(c: &Container, number: usize, t: &[u8], columns: usize) -> Option
     requires within { columns ≤ length t.now }
     ensures { (list : ℕ) → result ≡ goes_on (container_of list c.now) number t.now }
 {
-    if c.is_quote {
-        quote_goes_on(c.is_near, t, columns)
-    } else {
-        item_goes_on(c, number, t, columns)
+    match c.kind {
+        ContainerKind::Quote => quote_goes_on(c.is_near, t, columns),
+        ContainerKind::Item => item_goes_on(c, number, t, columns),
+        ContainerKind::Footnote => footnote_goes_on(t, columns),
     }
 }
 
@@ -98,8 +112,7 @@ fn quote_goes_on(is_near: bool, t: &[u8], columns: usize) -> Option<usize>
 fn item_goes_on(c: &Container, number: usize, t: &[u8], columns: usize) -> Option<usize>
     requires columns { columns ≡ indent t.now }
     requires within { columns ≤ length t.now }
-    requires item { c.now.is_quote ≡ false }
-    ensures { (list : ℕ) → result ≡ goes_on (container_of list c.now) number t.now }
+    ensures { (list : ℕ) → result ≡ goes_on (item (item_of list c.now)) number t.now }
 {
     if is_all(t, columns) {
         if c.is_blank && number > c.line && number - c.line == 1 {
@@ -109,6 +122,21 @@ fn item_goes_on(c: &Container, number: usize, t: &[u8], columns: usize) -> Optio
     }
     if c.size <= columns {
         Some(c.size)
+    } else {
+        None
+    }
+}
+
+fn footnote_goes_on(t: &[u8], columns: usize) -> Option<usize>
+    requires columns { columns ≡ indent t.now }
+    requires within { columns ≤ length t.now }
+    ensures { (line : ℕ) → (label : ℕ) → (number : ℕ) → result ≡ goes_on (footnote (record { line = line; label = label })) number t.now }
+{
+    if columns >= 4 {
+        return Some(4);
+    }
+    if is_all(t, columns) {
+        Some(columns)
     } else {
         None
     }
@@ -260,13 +288,14 @@ fn item_of(
     let size = front + padding(after, white);
     let is_blank = is_all(after, white);
     let container = Container {
-        is_quote: false,
+        kind: ContainerKind::Item,
         is_near: false,
         line: number,
         size,
         marker,
         digits,
         is_blank,
+        label: 0,
     };
     Prefix {
         container,
@@ -282,18 +311,112 @@ fn quote_at(is_near: bool, number: usize, t: &[u8], columns: usize) -> Prefix
     ensures { prefix_of number result ≡ quote_prefix is_near number t.now }
 {
     let container = Container {
-        is_quote: true,
+        kind: ContainerKind::Quote,
         is_near,
         line: number,
         size: 0,
         marker: b'>',
         digits: 0,
         is_blank: false,
+        label: 0,
     };
     Prefix {
         container,
         size: quote_size(t, columns),
     }
+}
+
+/// Whether a byte may be in the label of a footnote.
+fn is_in_label(byte: u8) -> bool
+    ensures { result ≡ is_in_label byte }
+{
+    !is_white(byte) && byte != 0 && byte != b']'
+}
+
+/// How many bytes of the label of a footnote come first.
+fn label_size<L: Ledger>(r: &[u8], turns: &mut Turns<L>) -> usize
+    ensures value { result ≡ label_size r.now }
+    ensures within { result ≤ length r.now }
+    ensures turns { turns.new ≤ turns.old + result + 1 }
+{
+    let mut next = 0;
+    while next < r.len() {
+        turns.add_one();
+        if !is_in_label(r[next]) {
+            return next;
+        }
+        next += 1;
+    }
+    next
+}
+
+/// How many bytes the label of the footnote definition has that is at the front, if one is.
+fn label_at<L: Ledger>(r: &[u8], turns: &mut Turns<L>) -> Option<usize>
+    ensures value { result ≡ cond (is_footnote r.now) (Some (label_size (drop 2 r.now))) None }
+    ensures within { IfSome result (λ n. n + 4 ≤ length r.now) }
+    ensures found { IfSome result (λ n. turns.new ≤ turns.old + n + 1) }
+    ensures turns { turns.new ≤ turns.old + length r.now }
+{
+    if r.len() < 2 || r[0] != b'[' || r[1] != b'^' {
+        return None;
+    }
+    let label = label_size(behind(r, 2), turns);
+    match behind(r, label + 2) {
+        [b']', b':', ..] if label >= 1 => Some(label),
+        _ => None,
+    }
+}
+
+/// The footnote definition behind white space of so many columns whose label has so many bytes, by what is behind the colon.
+fn footnote_of<L: Ledger>(
+    number: usize,
+    columns: usize,
+    label: usize,
+    after: &[u8],
+    turns: &mut Turns<L>,
+) -> Prefix
+    requires room { columns + label + 4 + length after.now < 2 ^ 64 }
+    ensures value { prefix_of number result ≡ footnote_prefix number columns label after.now }
+    ensures size { result.size ≡ columns + (label + 4) + indent after.now }
+    ensures within { indent after.now ≤ length after.now }
+    ensures turns { turns.new ≤ turns.old + indent after.now + 1 }
+{
+    let container = Container {
+        kind: ContainerKind::Footnote,
+        is_near: false,
+        line: number,
+        size: 4,
+        marker: b'^',
+        digits: 0,
+        is_blank: false,
+        label,
+    };
+    Prefix {
+        container,
+        size: columns + (label + 4) + indent(after, turns),
+    }
+}
+
+/// The footnote definition that begins behind the white space, if one does.
+fn footnote_at<L: Ledger>(
+    on: &Constructs,
+    number: usize,
+    t: &[u8],
+    columns: usize,
+    turns: &mut Turns<L>,
+) -> Option<Prefix>
+    requires columns { columns ≡ indent t.now }
+    requires within { columns ≤ length t.now }
+    ensures value { option_map (prefix_of number) result ≡ cond (is_footnote_at on.now t.now) (Some (nested.footnote_at number t.now)) None }
+    ensures found { IfSome result (λ p. turns.new + columns ≤ turns.old + p.size) }
+    ensures turns { turns.new + columns ≤ turns.old + length t.now }
+{
+    if !on.gfm_footnote_definition {
+        return None;
+    }
+    let r = behind(t, columns);
+    let label = label_at(r, turns)?;
+    Some(footnote_of(number, columns, label, behind(r, label + 4), turns))
 }
 
 /// The container that begins with a line's rest, if one does. `columns` of white space come first; `is_break`: the rest is a thematic break.
@@ -318,6 +441,9 @@ pub fn begins<L: Ledger>(
     }
     if is_quote_at(on, t, columns) {
         return Some(quote_at(on.code_indented, number, t, columns));
+    }
+    if begins_with(behind(t, columns), b'[') {
+        return footnote_at(on, number, t, columns, turns);
     }
     if on.list_item {
         item_at(number, t, columns, in_paragraph, turns)

@@ -14,7 +14,7 @@ use Rattle.mdconstructs_machines.specs.Spans.{event}
 use Rattle.mdblock_leaf_blocks.specs.LeafBlocks.{bytes_of}
 use Rattle.mdblock_leaf_blocks.specs.LeafEvents.{Mark, leaf_marks, span_marks, white}
 use Rattle.mdblock_leaf_blocks.specs.LineKinds.{indent, unindented}
-use Rattle.mdblock_lines.specs.Containers.{Container, Prefix, item, quote}
+use Rattle.mdblock_lines.specs.Containers.{Container, footnote, item, Prefix, quote}
 use Rattle.mdblock_tables.specs.declared.rows.RowKind.{RowKind}
 use Rattle.mdblock_tables.specs.declared.rows.RowKind.TheVariants.{Text, Delimiter}
 use Rattle.mdblock_tables.specs.Pieces.{Pieces, nothing, leaf, span, joined, placed, size_of}
@@ -138,6 +138,7 @@ module _ (bytes : List ℕ) where
       both (white bytes (take n ss)) (span_marks bytes name.BlockQuotePrefix (drop n ss) (marker ++ white bytes (drop (suc n) ss))) (alone name.SpaceOrTab (take n ss) refl)
       (around name.BlockQuotePrefix (drop n ss) (marker ++ white bytes (drop (suc n) ss)) refl (both marker (white bytes (drop (suc n) ss)) (alone name.BlockQuoteMarker (take 1 (drop n ss)) refl) (alone name.SpaceOrTab (drop (suc n) ss) refl)))
   going (item i) ss = alone name.SpaceOrTab ss refl
+  going (footnote f) ss = alone name.SpaceOrTab ss refl
 
   prefixes : (ps : List Prefix) (ss : List Seat) → Good (prefixes_marks bytes ps ss)
   prefixes [] ss = tt

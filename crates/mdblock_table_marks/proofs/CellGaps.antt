@@ -5,7 +5,7 @@ use Rattle.std.proofs.lemmas.Bool.{false≢true}
 use Rattle.markdown_base.specs.declared.event.Event.{Event}
 use Rattle.markdown_edits.specs.Links.{next_of}
 use Rattle.markdown_base.specs.OpenNames.{names_after_all}
-use Rattle.mdblock_leaf_blocks.specs.LeafEvents.{Chunk, Mark}
+use Rattle.mdblock_leaf_blocks.specs.LeafEvents.{Mark}
 use Rattle.mdblock_containers.specs.SeatPlaces.{events_of}
 use Rattle.mdblock_containers.specs.Skeleton.{chained_from, next_chunk}
 use Rattle.mdblock_containers.specs.Written.{waits}

@@ -29,7 +29,7 @@ abbrev pub enters-last : Bool → List Event → Bool
 enters-last b [] = b
 enters-last b (e ∷ es) = enters-last (enters_cell e) es
 
-celled-length : (b : Bool) (es : List Event) → length (celled b es) ≡ length es
+pub celled-length : (b : Bool) (es : List Event) → length (celled b es) ≡ length es
 celled-length b [] = refl
 celled-length b (e ∷ es) = ap suc (celled-length (enters_cell e) es)
 

@@ -1,5 +1,5 @@
 -- The marks of containers, and of stretches of lines, enter no text of a cell; and behind them no chunk waits.
-use Rattle.std.proofs.Common.{◌≡◌, ℕ, suc, ◌+◌, Bool, true, false, cond, List, [], ◌∷◌, ◌++◌, drop, length, map, refl, sym, ap, take, ◌∙◌}
+use Rattle.std.proofs.Common.{◌≡◌, ℕ, suc, ◌+◌, Bool, true, false, cond, List, [], ◌∷◌, ◌++◌, drop, length, map, refl, ap, take, ◌∙◌}
 use Rattle.std.specs.Prelude.{None, Some, nat_le, not, reverse, ◌==◌}
 use Rattle.std.specs.List.{flat_map}
 use Rattle.markdown_base.specs.declared.event.Kind.TheVariants.{Enter, Exit}
@@ -14,10 +14,10 @@ use Rattle.mdconstructs_machines.specs.Spans.{event}
 use Rattle.mdblock_leaf_blocks.specs.LeafBlocks.{Line, bytes_of}
 use Rattle.mdblock_leaf_blocks.specs.LeafEvents.{Chunk, Mark, chunk_span, leaf_marks, span_marks, white}
 use Rattle.mdblock_leaf_blocks.specs.LineKinds.{indent}
-use Rattle.mdblock_lines.specs.Containers.{Container, Item, Prefix, item, quote}
+use Rattle.mdblock_lines.specs.Containers.{Container, footnote, Item, item, Prefix, quote}
 use Rattle.mdblock_containers.specs.Prefixes.{columns_of}
 use Rattle.mdblock_containers.specs.Rows.{Row, has_none}
-use Rattle.mdblock_containers.specs.Skeleton.{Frame, Part, Piece, begin_of, begun_all, begun_marks, chunks_of, ending_marks, enters_of, exits, going_marks, inside_of, is_held, joined_pieces, last_line, list_name, pieces_of, prefixes_marks}
+use Rattle.mdblock_containers.specs.Skeleton.{Frame, Part, Piece, begin_of, begun_all, begun_marks, chunks_of, ending_marks, enters_of, exits, going_marks, inside_of, is_held, joined_pieces, last_line, list_name, pieces_of, prefixes_marks, footnote_marks, label_marks}
 use Rattle.mdblock_containers.specs.Written.{waits}
 use Rattle.mdblock_containers.proofs.PrefixSpans.{begun_unlinked, leaf_unlinked, prefixes_unlinked}
 use Rattle.mdblock_containers.proofs.SkeletonChains.{Unlinked, unlinked_both}
@@ -25,7 +25,7 @@ use Rattle.mdblock_table_marks.specs.CellPlaces.{NoCells}
 use Rattle.mdblock_table_marks.proofs.CellGaps.{no-cells-both}
 
 -- another name
-abbrev IsOther : Name → Type 0
+abbrev pub IsOther : Name → Type 0
 IsOther n = same_name n name.GfmTableCellText ≡ false
 
 -- ---- behind marks
@@ -40,6 +40,14 @@ unlinked-waits w [] h = refl
 unlinked-waits w ((e, None) ∷ ms) h = unlinked-waits w ms h.1
 unlinked-waits w ((e, Some c) ∷ ms) h = absurd h
 
+-- what both names of lists have, the name of a list has
+pub list-named : (Has : Name → Type 0) → Has name.ListOrdered → Has name.ListUnordered → (i : Item) → Has (list_name i)
+list-named Has ordered unordered i = by (nat_le 1 i.digits)
+  where
+    by : (x : Bool) → Has (cond x name.ListOrdered name.ListUnordered)
+    by true = ordered
+    by false = unordered
+
 module _ (bytes : List ℕ) where
   -- ---- containers
 
@@ -51,7 +59,7 @@ module _ (bytes : List ℕ) where
   span-none n [] inside o h = h
   span-none n (s ∷ ss) inside o h = (o, no-cells-both inside ((event bytes Exit n (end_after s.end ss), None) ∷ []) h (refl, tt))
 
-  data-none : (chunk : Chunk) (ss : List Seat) → NoCells (chunk_span bytes (Some chunk) name.Data ss [])
+  pub data-none : (chunk : Chunk) (ss : List Seat) → NoCells (chunk_span bytes (Some chunk) name.Data ss [])
   data-none chunk [] = tt
   data-none chunk (s ∷ ss) = (refl, (refl, tt))
 
@@ -64,9 +72,27 @@ module _ (bytes : List ℕ) where
       (span-none name.BlockQuotePrefix (drop n ss) (marker ++ behind) refl
       (no-cells-both marker behind (leaf-none name.BlockQuoteMarker (take 1 (drop n ss)) refl) (leaf-none name.SpaceOrTab (drop (suc n) ss) refl)))
   going-none (item i) ss = leaf-none name.SpaceOrTab ss refl
+  going-none (footnote f) ss = leaf-none name.SpaceOrTab ss refl
+
+  label-none : (l : ℕ) (ss : List Seat) → NoCells (label_marks bytes l ss)
+  label-none l ss =
+      no-cells-both (leaf_marks bytes name.GfmFootnoteDefinitionLabelMarker (take 1 ss)) _ (leaf-none name.GfmFootnoteDefinitionLabelMarker (take 1 ss) refl)
+      (no-cells-both (leaf_marks bytes name.GfmFootnoteDefinitionMarker (take 1 (drop 1 ss))) _ (leaf-none name.GfmFootnoteDefinitionMarker (take 1 (drop 1 ss)) refl)
+      (no-cells-both (span_marks bytes name.GfmFootnoteDefinitionLabelString (take l (drop 2 ss)) (leaf_marks bytes name.Data (take l (drop 2 ss)))) _
+      (span-none name.GfmFootnoteDefinitionLabelString (take l (drop 2 ss)) _ refl (leaf-none name.Data (take l (drop 2 ss)) refl))
+      (leaf-none name.GfmFootnoteDefinitionLabelMarker (take 1 (drop (l + 2) ss)) refl)))
+
+  footnote-none : (l : ℕ) (ss : List Seat) → NoCells (footnote_marks bytes l ss)
+  footnote-none l ss =
+      span-none name.GfmFootnoteDefinitionPrefix ss _ refl
+      (no-cells-both (span_marks bytes name.GfmFootnoteDefinitionLabel (take (l + 3) ss) (label_marks bytes l ss)) _ (span-none name.GfmFootnoteDefinitionLabel (take (l + 3) ss) _ refl (label-none l ss))
+      (no-cells-both (leaf_marks bytes name.DefinitionMarker (take 1 (drop (l + 3) ss))) _ (leaf-none name.DefinitionMarker (take 1 (drop (l + 3) ss)) refl) (leaf-none name.SpaceOrTab (drop (l + 4) ss) refl)))
 
   begun-none : (c : Container) (ss : List Seat) → NoCells (begun_marks bytes c ss)
   begun-none (quote line) ss = going-none (quote line) ss
+  begun-none (footnote f) ss =
+      let n = indent (bytes_of ss) in
+      no-cells-both (white bytes (take n ss)) (footnote_marks bytes f.label (drop n ss)) (leaf-none name.SpaceOrTab (take n ss) refl) (footnote-none f.label (drop n ss))
   begun-none (item i) ss =
       let n = indent (bytes_of ss) in
       let value = leaf_marks bytes name.ListItemValue (take i.digits (drop n ss)) in
@@ -82,19 +108,13 @@ module _ (bytes : List ℕ) where
   prefixes-none (p ∷ ps) ss =
       no-cells-both (going_marks bytes p.container (take p.size ss)) (prefixes_marks bytes ps (drop p.size ss)) (going-none p.container (take p.size ss)) (prefixes-none ps (drop p.size ss))
 
-  list-is-other : (i : Item) → IsOther (list_name i)
-  list-is-other i = by (nat_le 1 i.digits)
-    where
-      by : (x : Bool) → IsOther (cond x name.ListOrdered name.ListUnordered)
-      by true = refl
-      by false = refl
-
   enters-none : (c : Container) (p : Point) → NoCells (enters_of bytes c p)
   enters-none (quote line) p = (refl, tt)
+  enters-none (footnote f) p = (refl, tt)
   enters-none (item i) p = by (i.list == i.line)
     where
       by : (x : Bool) → NoCells (cond x ((event bytes Enter (list_name i) p, None) ∷ []) [] ++ (event bytes Enter name.ListItem p, None) ∷ [])
-      by true = (list-is-other i, (refl, tt))
+      by true = (list-named IsOther refl refl i, (refl, tt))
       by false = (refl, tt)
 
   pub begun-all-none : (ps : List Prefix) (ss : List Seat) → NoCells (begun_all bytes ps ss)
@@ -132,6 +152,7 @@ module _ (bytes : List ℕ) where
     where
       entered : (c : Container) (q : Point) → Unlinked (enters_of bytes c q)
       entered (quote line) q = (refl, tt)
+      entered (footnote f) q = (refl, tt)
       entered (item i) q = by (i.list == i.line)
         where
           by : (x : Bool) → Unlinked (cond x ((event bytes Enter (list_name i) q, None) ∷ []) [] ++ (event bytes Enter name.ListItem q, None) ∷ [])

@@ -16,10 +16,9 @@ use Rattle.mdblock_tables.specs.declared.rows.RowKind.{RowKind}
 use Rattle.mdblock_tables.specs.TablePieces.{row_pieces}
 use Rattle.mdblock_tables.proofs.RowLemmas.{rows_are_whole}
 use Rattle.mdblock_tables.specs.Pieces.{Pieces, nothing, leaf, span, piece, placed, size_of, told}
-use Rattle.mdblock_containers.proofs.PrefixLemmas.{seats_take}
 use Rattle.mdblock_containers.specs.PlaceEvents.{HasColumns, event_at}
 use Rattle.mdblock_containers.specs.SeatPlaces.{AreSeatsAt, events_of}
-use Rattle.mdblock_containers.proofs.SeatLemmas.{here, seats_drop, span_is_full, span_is_leaf}
+use Rattle.mdblock_containers.proofs.SeatLemmas.{seats_drop, span_is_full, span_is_leaf, seats_take}
 use Rattle.mdblock_containers.proofs.WritingLemmas.{columns_behind, columns_front, place_add}
 use Rattle.mdblock_table_marks.specs.PiecePlaces.{pieces_at, piece_at, width, width_of}
 

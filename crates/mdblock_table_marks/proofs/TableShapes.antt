@@ -17,7 +17,7 @@ use Rattle.mdblock_leaf_blocks.proofs.Marks.MarkAccounts.{AreSpans}
 use Rattle.mdblock_leaf_blocks.specs.LeafBlocks.{bytes_of}
 use Rattle.mdblock_leaf_blocks.specs.LeafEvents.{Mark, leaf_marks, span_marks, white}
 use Rattle.mdblock_leaf_blocks.specs.LineKinds.{indent}
-use Rattle.mdblock_lines.specs.Containers.{Container, Prefix, item, quote}
+use Rattle.mdblock_lines.specs.Containers.{Container, footnote, item, Prefix, quote}
 use Rattle.mdblock_containers.proofs.JoinLemmas.{plain_span}
 use Rattle.mdblock_containers.proofs.PrefixSpans.{leaf_unlinked, next_part, span_unlinked, take_more}
 use Rattle.mdblock_containers.proofs.SkeletonChains.{Unlinked, unlinked_both}
@@ -47,6 +47,7 @@ module _ (bytes : List ℕ) (P : List Mark → List Seat → Type 0) (kept : IsK
       (kept.around name.BlockQuotePrefix inside (marker ++ space) refl
       (subst (P (marker ++ space)) whole (kept.both marker space (take 1 inside) (drop (suc n) ss) (kept.alone name.BlockQuoteMarker (take 1 inside)) (kept.alone name.SpaceOrTab (drop (suc n) ss))))))
   going-holds (item i) ss = kept.alone name.SpaceOrTab ss
+  going-holds (footnote f) ss = kept.alone name.SpaceOrTab ss
 
   prefixes-hold : (ps : List Prefix) (ss : List Seat) → P (prefixes_marks bytes ps ss) (take (columns_of ps) ss)
   prefixes-hold [] ss = kept.none

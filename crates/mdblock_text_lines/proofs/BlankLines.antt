@@ -13,7 +13,7 @@ use Rattle.markdown_base.specs.declared.configuration.Constructs.{Constructs}
 use Rattle.markdown_base.specs.declared.event.Name.TheVariants as name
 use Rattle.markdown_tokenizer.proofs.Positions.Order.{every-back}
 use Rattle.mdblock_leaf_blocks.specs.LeafBlocks.{Line}
-use Rattle.mdblock_lines.specs.Containers.{Container, Item, Prefix, item, quote}
+use Rattle.mdblock_lines.specs.Containers.{Container, Item, Prefix, footnote, item, quote}
 use Rattle.mdblock_containers.proofs.DocumentRows.{take_of_take}
 use Rattle.mdblock_containers.proofs.FrameFacts.{all_entered, begun_entered, begun_in, flat_parts, fresh, front_take, keep, kept_front, kept_of, left_is, none_is, none_reverse, shared_entered, shared_front, standing_blank, take_front}
 use Rattle.mdblock_containers.proofs.OpenFrames.{AreOpen, is_part, none_are_open}
@@ -33,6 +33,7 @@ use Rattle.mdblock_definitions.specs.BlankLines.{containers_in, frames_at, frame
 keep-last : (g : ℕ) (zs : List Container) (c : Container) → keep (suc g) (zs ++ c ∷ []) ≡ keep g zs ++ c ∷ []
 keep-last g [] (quote q) = refl
 keep-last g [] (item i) = let far : nat_le (suc g) 0 ≡ false = grind (arith, nat_tests) in ap (λ b. cond b [] (item i ∷ [])) far
+keep-last g [] (footnote f) = let far : nat_le (suc g) 0 ≡ false = grind (arith, nat_tests) in ap (λ b. cond b [] (footnote f ∷ [])) far
 keep-last g (quote q ∷ zs) c = refl
 keep-last g (item i ∷ zs) c = by (nat_le (suc g) (length (zs ++ c ∷ []))) (nat_le g (length zs)) refl refl (keep-last g zs c)
   where
@@ -41,6 +42,23 @@ keep-last g (item i ∷ zs) c = by (nat_le (suc g) (length (zs ++ c ∷ []))) (n
 
     by : (x y : Bool) → nat_le (suc g) (length (zs ++ c ∷ [])) ≡ x → nat_le g (length zs) ≡ y → keep (suc g) (zs ++ c ∷ []) ≡ keep g zs ++ c ∷ []
         → cond x (keep (suc g) (zs ++ c ∷ [])) (item i ∷ (zs ++ c ∷ [])) ≡ cond y (keep g zs) (item i ∷ zs) ++ c ∷ []
+    by true true ex ey h = h
+    by false false ex ey h = refl
+    by true false ex ey h =
+        let le : suc g ≤ length (zs ++ c ∷ []) = grind (arith, nat_tests) in
+        let gt : length zs < g = grind (arith, nat_tests) in
+        absurd (omega (arith, le, gt, size))
+    by false true ex ey h =
+        let gt : length (zs ++ c ∷ []) < suc g = grind (arith, nat_tests) in
+        let le : g ≤ length zs = grind (arith, nat_tests) in
+        absurd (omega (arith, le, gt, size))
+keep-last g (footnote f ∷ zs) c = by (nat_le (suc g) (length (zs ++ c ∷ []))) (nat_le g (length zs)) refl refl (keep-last g zs c)
+  where
+    size : length (zs ++ c ∷ []) ≡ length zs + 1
+    size = length-append zs (c ∷ [])
+
+    by : (x y : Bool) → nat_le (suc g) (length (zs ++ c ∷ [])) ≡ x → nat_le g (length zs) ≡ y → keep (suc g) (zs ++ c ∷ []) ≡ keep g zs ++ c ∷ []
+        → cond x (keep (suc g) (zs ++ c ∷ [])) (footnote f ∷ (zs ++ c ∷ [])) ≡ cond y (keep g zs) (footnote f ∷ zs) ++ c ∷ []
     by true true ex ey h = h
     by false false ex ey h = refl
     by true false ex ey h =
@@ -61,6 +79,11 @@ keep-none (item i ∷ zs) c =
     let same : nat_le 0 (length zs) ≡ true = grind (arith, nat_tests) in
     ap (λ b. cond b (keep 0 (zs ++ c ∷ [])) (item i ∷ (zs ++ c ∷ []))) all ∙ keep-none zs c
     ∙ ap (λ b. let front = cond b (keep 0 zs) (item i ∷ zs) in cond (has_none front) (keep 0 (c ∷ [])) (front ++ c ∷ [])) (sym same)
+keep-none (footnote f ∷ zs) c =
+    let all : nat_le 0 (length (zs ++ c ∷ [])) ≡ true = grind (arith, nat_tests) in
+    let same : nat_le 0 (length zs) ≡ true = grind (arith, nat_tests) in
+    ap (λ b. cond b (keep 0 (zs ++ c ∷ [])) (footnote f ∷ (zs ++ c ∷ []))) all ∙ keep-none zs c
+    ∙ ap (λ b. let front = cond b (keep 0 zs) (footnote f ∷ zs) in cond (has_none front) (keep 0 (c ∷ [])) (front ++ c ∷ [])) (sym same)
 
 kept-first : (g : ℕ) (c : Container) (cs : List Container) → kept_of (suc g) (c ∷ cs) ≡ c ∷ kept_of g cs
 kept-first g c cs =
@@ -74,6 +97,7 @@ module _ (n : ℕ) where
   one-marked : (c : Container) (ks : List Container) → BeganBefore n c → reverse (cond (has_none ks) (keep 0 (c ∷ [])) (ks ++ c ∷ [])) ≡ cond (has_none (reverse ks) && not (has_marker n c)) [] (c ∷ reverse ks)
   one-marked (quote q) [] h = refl
   one-marked (item i) [] h = ap (λ b. cond (not b) [] (item i ∷ [])) (sym (no-mark i h))
+  one-marked (footnote f) [] h = ap (λ b. cond (not b) [] (footnote f ∷ [])) (sym (ne_eqb f.line n (λ e. omega (arith, h, e))))
   one-marked c (k ∷ ks) h = reverse-append (k ∷ ks) (c ∷ []) ∙ ap (λ b. cond (b && not (has_marker n c)) [] (c ∷ reverse (k ∷ ks))) (sym (none_reverse k ks))
 
   -- if none goes on, those up to the last quote stay
@@ -115,6 +139,7 @@ module _ (n : ℕ) where
   -- a line has the markers of all containers up to those that begin in it
   begun-mark : (c : Container) → BeginsIn n c → has_marker n c ≡ true
   begun-mark (quote q) h = refl
+  begun-mark (footnote f) h = eq-eqb f.line n h
   begun-mark (item i) h = eq-eqb i.line n h.0
 
   all-marked : (cs : List Container) → AllByRecursion (BeginsIn n) cs → marked n cs ≡ cs
@@ -141,6 +166,7 @@ module _ (n : ℕ) where
 -- each container has one at least
 some-frames : (cs : List Container) → length cs ≤ length (flat_map frames_of cs)
 some-frames [] = omega arith
+some-frames (footnote f ∷ cs) = let more = some-frames cs in omega (arith, more)
 some-frames (quote q ∷ cs) = let more = some-frames cs in omega (arith, more)
 some-frames (item i ∷ cs) = let more = some-frames cs in omega (arith, more)
 
@@ -212,8 +238,9 @@ begun-list (p ∷ ps) = by p.container
     one i true = inr (i, refl)
     one i false = inl refl
 
-    by : (c : Container) → IsOneList (elim c as (λ _. List Frame) [ quote q ↦ [] | item i ↦ cond (nat_lt i.list i.line) (record { name = list_name i; line = i.list } ∷ []) [] ])
+    by : (c : Container) → IsOneList (elim c as (λ _. List Frame) [ quote q ↦ [] | item i ↦ cond (nat_lt i.list i.line) (record { name = list_name i; line = i.list } ∷ []) [] | footnote f ↦ [] ])
     by (quote q) = inl refl
+    by (footnote f) = inl refl
     by (item i) = one i (nat_lt i.list i.line)
 
 list-is : (rs : List Row) → IsOneList (list_at rs)
@@ -233,9 +260,15 @@ none-stands : (xs : List Frame) (ds : List Container) → IsOneList xs → stand
 none-stands xs [] h = refl
 none-stands xs (quote q ∷ ds) (inl e) = ap (λ (fs : List Frame). standing fs (quote q ∷ ds)) e
 none-stands xs (item j ∷ ds) (inl e) = ap (λ (fs : List Frame). standing fs (item j ∷ ds)) e
+none-stands xs (footnote f ∷ ds) (inl e) = ap (λ (fs : List Frame). standing fs (footnote f ∷ ds)) e
 none-stands xs (quote q ∷ ds) (inr (i, e)) = ap (λ (fs : List Frame). standing fs (quote q ∷ ds)) e ∙ by (nat_le 1 i.digits)
   where
     by : (b : Bool) → let f : Frame = record { name = cond b name.ListOrdered name.ListUnordered; line = i.list } in standing (f ∷ []) (quote q ∷ ds) ≡ []
+    by true = refl
+    by false = refl
+none-stands xs (footnote m ∷ ds) (inr (i, e)) = ap (λ (fs : List Frame). standing fs (footnote m ∷ ds)) e ∙ by (nat_le 1 i.digits)
+  where
+    by : (b : Bool) → let f : Frame = record { name = cond b name.ListOrdered name.ListUnordered; line = i.list } in standing (f ∷ []) (footnote m ∷ ds) ≡ []
     by true = refl
     by false = refl
 none-stands xs (item j ∷ ds) (inr (i, e)) = ap (λ (fs : List Frame). standing fs (item j ∷ ds)) e ∙ by (same_name (list_name j) (list_name i) && (j.list == i.list))

@@ -57,8 +57,8 @@ pub fn events_of(
     }
 }
 
-/// The events of a document: its block quotes and lists, the leaf blocks and link reference definitions in them, and each text of these read as
-/// inline text. Links and images refer to the definitions of the whole document.
+/// The events of a document: its block quotes, lists and footnote definitions, the leaf blocks and link reference definitions in them, and each
+/// text of these read as inline text. Links and images refer to the definitions of the whole document.
 ///
 /// The events are what a definition without states says of the document's lines (CommonMark, "Container blocks", "Leaf blocks" and "Inlines").
 /// They are well formed: balanced, each void span empty, at places of the document, and in order of these. It fails only if it runs out of
@@ -139,7 +139,7 @@ fn with_texts_read(
     with_ready_children(alloc, machine, bytes, options, events, wanted)
 }
 
-/// The events of a document as leaf blocks alone: a marker of a block quote or list is text there, and so is a definition. Each text
+/// The events of a document as leaf blocks alone: a marker of a block quote or list is text there, and so is a definition of either kind. Each text
 /// of them is read as inline text. The document is cut at these places, which leave no trace in the events.
 ///
 /// The events are what a definition without states says of the document's lines (CommonMark, "Leaf blocks" and "Inlines"). They are

@@ -1,4 +1,4 @@
-//! Documents with block quotes and lists: first these, with a chain of chunks for each stretch of lines, and then the leaf blocks of each chain.
+//! Documents with containers: first these, with a chain of chunks for each stretch of lines, and then the leaf blocks of each chain.
 
 ghost use Rattle.std.specs.Prelude.{◌≡◌, IfErr, IfOk, None};
 ghost use Rattle.markdown_base.specs.Virtual.{IsWithinLimit, virtual};

@@ -12,6 +12,7 @@ ghost use Rattle.mddocument_editing.specs.FirstRest.{IsFirstRest};
 ghost use Rattle.mddocument_editing.specs.Seen.{first_marker};
 
 use markdown_base::configuration::{Constructs, ParseOptions};
+use mdblock_containers::going::is_item;
 use mdblock_containers::leaves::Leaf;
 use mdblock_containers::rows::Row;
 use mdblock_definitions::rows::{Known, next_row};
@@ -55,10 +56,10 @@ fn list_of(known: &Known) -> Option<u8>
     ensures { result ≡ first_marker (map open_of known.now.before.stack.items) }
 {
     let first = known.before.stack.first()?;
-    if first.container.is_quote {
-        None
-    } else {
+    if is_item(first.container.kind) {
         Some(first.container.marker)
+    } else {
+        None
     }
 }
 
@@ -81,7 +82,7 @@ fn joins_list(list: Option<u8>, row: &Row) -> bool
     };
     match list {
         None => false,
-        Some(marker) => !first.container.is_quote && first.container.marker == marker,
+        Some(marker) => is_item(first.container.kind) && first.container.marker == marker,
     }
 }
 

@@ -88,6 +88,13 @@ definition-off = refl
 reference-off : has (record on { definition = false }) name.Reference (codes "[a][]" ++ 10 ∷ 10 ∷ codes "[a]: b") ≡ false
 reference-off = refl
 
+-- a footnote definition is one of a link where they are off; and where they are on, it has its colon though those are off
+footnote-off : has on name.GfmFootnoteDefinition (codes "[^a]: b") ≡ false
+footnote-off = refl
+
+footnote-alone : has (record on { definition = false; gfm_footnote_definition = true }) name.DefinitionMarker (codes "[^a]: b") ≡ true
+footnote-alone = refl
+
 -- a tilde is text where strikethrough is off; and where it is on, emphasis may be off
 strikethrough-off : has on name.GfmStrikethrough (codes "~a~") ≡ false
 strikethrough-off = refl

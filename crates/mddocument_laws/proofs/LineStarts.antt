@@ -1,10 +1,10 @@
 -- What lines begin with is told apart by their first bytes.
-use Rattle.mddocument_laws.proofs.Prelude.{◌≡◌, ℕ, suc, ◌≤◌, ◌==◌, ◌∙◌, ◌⊎◌, List, [], ◌∷◌, Bool, true, false, cond, inl, inr, None, arith, refl, sym, ap, subst, drop, and_parts, cases_Bool, eqb-true, false≢true, leb-true, ne_eqb, or_cases, nat_tests, list_all, is_ascii_alphabetic, ◌&&◌, ◌||◌, codes, html_raw_names, is_white, HtmlKind, any_tag, begins, behind_name, block_tag, cdata, comment, declaration, ends_name, first_passes, html_kind, is_block_name, is_named, name_at, instruction, is_closing_tag, is_open_tag, raw, starts_with, begins_with, is_break_of_marks, run, digits, first_byte, is_marker, BlankStartsNothing, LineStart, StartsExclude, atx, block_quote, dashes, equals_signs, has_precedence, line_break, list_item, markup, starts, ticks, tildes, nat_le}
+use Rattle.mddocument_laws.proofs.Prelude.{◌≡◌, ℕ, suc, ◌≤◌, ◌==◌, ◌∙◌, ◌⊎◌, List, [], ◌∷◌, Bool, true, false, cond, inl, inr, None, arith, refl, sym, ap, subst, drop, and_parts, cases_Bool, eqb-true, false≢true, leb-true, ne_eqb, or_cases, nat_tests, list_all, is_ascii_alphabetic, ◌&&◌, ◌||◌, codes, html_raw_names, is_white, HtmlKind, any_tag, begins, behind_name, block_tag, cdata, comment, declaration, ends_name, first_passes, html_kind, is_block_name, is_named, name_at, instruction, is_closing_tag, is_open_tag, raw, starts_with, begins_with, is_break_of_marks, run, digits, first_byte, is_marker, BlankStartsNothing, LineStart, StartsExclude, atx, block_quote, dashes, equals_signs, footnote_definition, has_precedence, line_break, list_item, markup, starts, ticks, tildes, nat_le}
 use Rattle.std.specs.Prelude.{is_some}
 
 -- the group of a first byte
 abbrev group_at : ℕ → ℕ
-group_at b = cond (is_white b) 8 (cond (b == 35) 1 (cond (b == 96) 2 (cond (b == 126) 3 (cond (b == 60) 4 (cond (b == 61) 5 (cond (b == 62) 6 7))))))
+group_at b = cond (is_white b) 8 (cond (b == 35) 1 (cond (b == 96) 2 (cond (b == 126) 3 (cond (b == 60) 4 (cond (b == 61) 5 (cond (b == 62) 6 (cond (b == 91) 9 7)))))))
 
 abbrev group : List ℕ → ℕ
 group [] = 0
@@ -20,6 +20,7 @@ group_of block_quote = 6
 group_of line_break = 7
 group_of dashes = 7
 group_of list_item = 7
+group_of footnote_definition = 9
 
 -- ---- first bytes
 by-byte : (mark n : ℕ) (b : ℕ) → (b == mark) ≡ true → group_at mark ≡ n → group_at b ≡ n
@@ -88,7 +89,8 @@ digit-group b h =
     let i : (b == 60) ≡ false = ne_eqb b 60 (λ e. omega arith) in
     let j : (b == 61) ≡ false = ne_eqb b 61 (λ e. omega arith) in
     let k : (b == 62) ≡ false = ne_eqb b 62 (λ e. omega arith) in
-    rw (a, c, d, f, g, i, j, k) refl
+    let l : (b == 91) ≡ false = ne_eqb b 91 (λ e. omega arith) in
+    rw (a, c, d, f, g, i, j, k, l) refl
 
 marker-group : (r : List ℕ) → is_marker r ≡ true → group r ≡ 7
 marker-group [] h = absurd (false≢true h)
@@ -123,6 +125,7 @@ starts-group line_break r h = elim (or_cases (is_break_of_marks 42 r) (is_break_
   ]
 ]
 starts-group list_item r h = marker-group r (and_parts (is_marker r) _ h).0
+starts-group footnote_definition r h = by-front 91 9 (94 ∷ []) r (and_parts (starts_with (91 ∷ 94 ∷ []) r) _ h).0 refl
 
 same-group : (a b : LineStart) → group_of a ≡ group_of b → (a ≡ b) ⊎ ((has_precedence a ≡ true) × (has_precedence b ≡ true))
 same-group atx atx e = inl refl
@@ -140,6 +143,7 @@ same-group dashes list_item e = inr (refl, refl)
 same-group list_item line_break e = inr (refl, refl)
 same-group list_item dashes e = inr (refl, refl)
 same-group list_item list_item e = inl refl
+same-group footnote_definition footnote_definition e = inl refl
 same-group _ _ e = absurd (omega arith)
 
 -- A line begins with one thing at most, but for the three of which one takes precedence
@@ -151,7 +155,7 @@ few-groups atx = (λ e. omega arith, λ e. omega arith)
 few-groups a = (λ e. omega arith, λ e. omega arith)
 
 blank-group : (b : ℕ) → is_white b ≡ true → group_at b ≡ 8
-blank-group b h = ap (λ t. cond t 8 (cond (b == 35) 1 (cond (b == 96) 2 (cond (b == 126) 3 (cond (b == 60) 4 (cond (b == 61) 5 (cond (b == 62) 6 7))))))) h
+blank-group b h = ap (λ t. cond t 8 (cond (b == 35) 1 (cond (b == 96) 2 (cond (b == 126) 3 (cond (b == 60) 4 (cond (b == 61) 5 (cond (b == 62) 6 (cond (b == 91) 9 7)))))))) h
 
 pub none-from : (a : LineStart) (r : List ℕ) → (starts a r ≡ true → ⊥) → starts a r ≡ false
 none-from a r never = elim (cases_Bool (starts a r)) [ inl s ↦ absurd (never s) | inr s ↦ s ]

@@ -14,7 +14,7 @@ use Rattle.mdinline_emphasis.specs.declared.pairs.Marker.{Marker}
 use Rattle.mdinline_emphasis.specs.declared.pairs.Marker.TheVariants.{Asterisk, Underscore, Tilde}
 use Rattle.mdinline_emphasis.specs.Emphasis.{Run, have_two, style_by, style_of}
 use Rattle.mdinline_emphasis.specs.Runs.{depth_after, index_of_event, is_sequence, marker_from, run_at, runs_from, runs_in}
-use Rattle.mdinline_links.specs.Linked.{Part, around, as_data, emphasised_parts, events, is_bracket, is_named, is_run, is_tail, label_text, last_place, linked_parts, made, opened, outermost_spans, part_of, run, runs_of_parts, spanning, spans_in, text_before, text_behind, with_links}
+use Rattle.mdinline_links.specs.Linked.{Part, around, as_data, emphasised_parts, events, is_bracket, is_named, is_run, is_tail, label_text, last_place, linked_parts, made, outermost_spans, part_of, run, runs_of_parts, spanning, spans_in, text_before, text_behind, with_links}
 use Rattle.mddocument_laws.specs.Names.{has_labels}
 use Rattle.mddocument_laws.proofs.LinkWalk.{AreParts, IsPart, IsWalk, before-is, behind-is, parts-are, runs-of}
 use Rattle.mddocument_laws.proofs.EmphasisEvents.{IsOfStyle, IsRun, as-data-are, emphasis-are, spanning-are}

@@ -82,7 +82,7 @@ pub use Rattle.mdblock_leaf_blocks.specs.HtmlLines.{HtmlKind, any_tag, begins, b
 pub use Rattle.mdblock_leaf_blocks.specs.LeafBlocks.{LeafBlock, Line, atx_heading, blank_line, block_of_kind, blocks_in, break_line, bytes_of, content_at, ends_text, fenced_code, further_code, html_block, indented_code, leaf_blocks, lines_through, lines_until, paragraph, setext_heading, text_of, underlined}
 pub use Rattle.mdblock_leaf_blocks.specs.LeafEvents.{Chunk, Mark, block_around, block_span, body, break_marks, chunk_span, code_fenced_around, code_marks, fence_around, fenced_marks, flow_events, heading_around, html_marks, last_end, leaf_block_marks, leaf_blocks_marks, leaf_marks, line_end, lines_marks, linked_from, sequence_marks, span_marks, string_chunk, text_chunk, text_marks, underline_marks, white}
 pub use Rattle.mdblock_leaf_blocks.specs.LineKinds.{Fence, LineKind, begins_with, blank, closes, fence, heading, heading_text, html, indent, indented, is_atx_heading, is_blank_line, is_break_of_marks, is_far, is_fence_of, is_thematic_break, is_underline_of_marks, kind_of_rest, line_kind, run, text, thematic_break, underline_rank, unindented}
-pub use Rattle.mdblock_lines.specs.Containers.{Container, Item, Prefix, digits, first_byte, goes_on, is_marker, item, item_at, may_begin_item, quote, quote_size}
+pub use Rattle.mdblock_lines.specs.Containers.{Container, Item, Prefix, digits, first_byte, footnote, footnote_at, goes_on, is_footnote, is_marker, item, item_at, may_begin_item, quote, quote_size}
 pub use Rattle.mdblock_containers.specs.Prefixes.{beginning, columns_of, containers_of, going_on, in_place_of, with_list}
 pub use Rattle.mdblock_containers.specs.Rows.{Before, Row, has_none, is_paragraph, is_raw, nothing_known, rest_of}
 pub use Rattle.mdblock_containers.specs.Skeleton.{Frame, Part, Piece, begin_of, begun_all, begun_marks, chained_from, chunks_of, end_of, ending_marks, enters_of, exits, frames_at, frames_of, further, going_marks, going_on_at, inside_of, is_held, joined_pieces, last_line, left_in, list_at, list_begun, list_name, parts_in, pieces_of, prefixes_marks, shared, standing}
@@ -98,7 +98,7 @@ pub use Rattle.mddocument.proofs.InContainers.Tight.{all-texts, events-tight, in
 pub use Rattle.mddocument.specs.DocumentEvents.{document_events, document_texts, is_defined_in}
 pub use Rattle.mddocument_laws.specs.EmphasisLaws.{DocumentsHaveSpansOfPairs, DocumentsHaveSpansOfTexts, PairsAreOfRuns, RunsAreApart, RunsHaveMarkers, TextsHaveSpansOfPairs, text_starts}
 pub use Rattle.mddocument_laws.specs.EmphasisSpans.{EmphasisSpan, emphasis_spans, is_emphasis, markers_given, spans_behind, spans_of_pairs, spans_of_runs}
-pub use Rattle.mddocument_laws.specs.LineStarts.{BlankStartsNothing, HtmlExcludes, KindsHaveNoOrder, LineStart, StartsExclude, atx, block_quote, dashes, equals_signs, has_own_name, has_precedence, line_break, list_item, markup, starts, ticks, tildes}
+pub use Rattle.mddocument_laws.specs.LineStarts.{BlankStartsNothing, HtmlExcludes, KindsHaveNoOrder, LineStart, StartsExclude, atx, block_quote, dashes, equals_signs, footnote_definition, has_own_name, has_precedence, line_break, list_item, markup, starts, ticks, tildes}
 pub use Rattle.mddocument_laws.specs.Names.{has_labels, may_be_named}
 pub use Rattle.mddocument_laws.specs.PairedApart.{runs_apart, runs_apart_from, runs_inside, runs_outside, spans_of_text}
 pub use Rattle.mddocument_laws.specs.Ranks.{EachHeadingTellsItsRank, HasRank, HeadingsHaveRanks, HeadingsTellTheirRanks, byte_of_first, enters, enters_heading, from_first, leaf_blocks_of, rank_at, rank_of, ranks_in, size_of_first}

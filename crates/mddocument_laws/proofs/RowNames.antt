@@ -1,5 +1,5 @@
 -- The containers of lines, the spans of parts and the definitions in sections are of constructs that are on.
-use Rattle.mddocument_laws.proofs.Prelude.{◌≡◌, ℕ, zero, suc, ◌==◌, List, [], ◌∷◌, ◌++◌, Bool, true, false, cond, Some, None, Option, take, drop, length, map, reverse, and_parts, cond_both, AllByRecursion, flat_map, ◌&&◌, ◌||◌, nat_le, nat_lt, every-append, every-drop, every-reverse, every-take, Constructs, Name, ListOrdered, ListUnordered, Definition, definitions, Line, text_of, begins_with, indent, is_blank_line, is_thematic_break, unindented, Container, Item, Prefix, goes_on, item, item_at, may_begin_item, quote, quote_size, beginning, columns_of, containers_of, going_on, in_place_of, with_list, Before, Row, is_paragraph, is_raw, nothing_known, Frame, Part, frames_at, frames_of, further, going_on_at, left_in, list_at, list_begun, list_name, parts_in, standing, Known, known_after, row_of, rows, rows_from, Inside, Section, before_defined, begins_text, defined, defined_in, defining, in_same, lines, lines_defined, paragraph_of, sections, sections_in, sections_of, text_in, undefined}
+use Rattle.mddocument_laws.proofs.Prelude.{◌≡◌, ℕ, zero, suc, ◌==◌, List, [], ◌∷◌, ◌++◌, Bool, true, false, cond, Some, None, Option, take, drop, length, map, reverse, and_parts, cond_both, AllByRecursion, flat_map, ◌&&◌, ◌||◌, nat_le, nat_lt, every-append, every-drop, every-reverse, every-take, Constructs, Name, ListOrdered, ListUnordered, Definition, definitions, Line, text_of, begins_with, indent, is_blank_line, is_thematic_break, unindented, Container, Item, Prefix, footnote, footnote_at, goes_on, is_footnote, item, item_at, may_begin_item, quote, quote_size, beginning, columns_of, containers_of, going_on, in_place_of, with_list, Before, Row, is_paragraph, is_raw, nothing_known, Frame, Part, frames_at, frames_of, further, going_on_at, left_in, list_at, list_begun, list_name, parts_in, standing, Known, known_after, row_of, rows, rows_from, Inside, Section, before_defined, begins_text, defined, defined_in, defining, in_same, lines, lines_defined, paragraph_of, sections, sections_in, sections_of, text_in, undefined}
 use Rattle.std.proofs.Common.{subst, sym}
 use Rattle.std.specs.List.{prefix_len}
 use Rattle.mdblock_lines.specs.Containers.{begins}
@@ -19,9 +19,10 @@ pub record AreStillOn (on other : Constructs) : Type 0 where
   pub items : on.list_item ≡ true → other.list_item ≡ true
   pub definitions : on.definition ≡ true → other.definition ≡ true
   pub tables : on.gfm_table ≡ true → other.gfm_table ≡ true
+  pub footnotes : on.gfm_footnote_definition ≡ true → other.gfm_footnote_definition ≡ true
 
 pub own : (on : Constructs) → AreStillOn on on
-own on = record { quotes = λ h. h; items = λ h. h; definitions = λ h. h; tables = λ h. h }
+own on = record { quotes = λ h. h; items = λ h. h; definitions = λ h. h; tables = λ h. h; footnotes = λ h. h }
 
 module _ (other : Constructs) where
   abbrev May : Name → Type 0
@@ -31,6 +32,7 @@ module _ (other : Constructs) where
   abbrev pub IsOn : Container → Type 0
   IsOn (quote q) = other.block_quote ≡ true
   IsOn (item i) = other.list_item ≡ true
+  IsOn (footnote f) = other.gfm_footnote_definition ≡ true
 
   abbrev pub AreOn : List Container → Type 0
   AreOn cs = AllByRecursion IsOn cs
@@ -52,7 +54,9 @@ module _ (other : Constructs) where
 
   in-place : (c new : Container) → IsOn new → IsOn (in_place_of c new)
   in-place (quote q) new h = h
+  in-place (footnote f) new h = h
   in-place (item old) (quote q) h = h
+  in-place (item old) (footnote f) h = h
   in-place (item old) (item new) h = h
 
   listed-on : (ended : List Container) (ps : List Prefix) → PrefixesAreOn ps → PrefixesAreOn (with_list ended ps)
@@ -78,10 +82,12 @@ module _ (other : Constructs) where
     begin-on number in_paragraph t =
         let r = unindented t in
         cond_both ((on.code_indented && nat_le 4 (indent t)) || (is_blank_line t || (on.thematic_break && is_thematic_break r))) None
-        (cond (on.block_quote && begins_with 62 r) (Some (record { container = quote (record { line = number; is_near = on.code_indented }); size = quote_size t })) (cond (on.list_item && may_begin_item in_paragraph r) (Some (item_at number t)) None)) IfOn (λ e. tt)
-        (λ e. cond_both (on.block_quote && begins_with 62 r) (Some (record { container = quote (record { line = number; is_near = on.code_indented }); size = quote_size t })) (cond (on.list_item && may_begin_item in_paragraph r) (Some (item_at number t)) None) IfOn
+        (cond (on.block_quote && begins_with 62 r) (Some (record { container = quote (record { line = number; is_near = on.code_indented }); size = quote_size t })) (cond (on.gfm_footnote_definition && is_footnote r) (Some (footnote_at number t)) (cond (on.list_item && may_begin_item in_paragraph r) (Some (item_at number t)) None))) IfOn (λ e. tt)
+        (λ e. cond_both (on.block_quote && begins_with 62 r) (Some (record { container = quote (record { line = number; is_near = on.code_indented }); size = quote_size t })) (cond (on.gfm_footnote_definition && is_footnote r) (Some (footnote_at number t)) (cond (on.list_item && may_begin_item in_paragraph r) (Some (item_at number t)) None)) IfOn
         (λ q. still.quotes (and_parts on.block_quote (begins_with 62 r) q).0)
-        (λ q. cond_both (on.list_item && may_begin_item in_paragraph r) (Some (item_at number t)) None IfOn (λ i. still.items (and_parts on.list_item (may_begin_item in_paragraph r) i).0) (λ i. tt)))
+        (λ q. cond_both (on.gfm_footnote_definition && is_footnote r) (Some (footnote_at number t)) (cond (on.list_item && may_begin_item in_paragraph r) (Some (item_at number t)) None) IfOn
+        (λ f. still.footnotes (and_parts on.gfm_footnote_definition (is_footnote r) f).0)
+        (λ f. cond_both (on.list_item && may_begin_item in_paragraph r) (Some (item_at number t)) None IfOn (λ i. still.items (and_parts on.list_item (may_begin_item in_paragraph r) i).0) (λ i. tt))))
 
     all-begin-on : (bound number : ℕ) (in_paragraph : Bool) (t : List ℕ) → PrefixesAreOn (beginning on bound number in_paragraph t)
     all-begin-on zero number in_paragraph t = tt
@@ -132,6 +138,7 @@ module _ (other : Constructs) where
 
   frames-of-on : (c : Container) → IsOn c → FramesAreOn (frames_of c)
   frames-of-on (quote q) h = (h, tt)
+  frames-of-on (footnote f) h = (h, tt)
   frames-of-on (item i) h = (list-on i h, (h, tt))
 
   frames-on : (cs : List Container) → AreOn cs → FramesAreOn (flat_map frames_of cs)
@@ -142,8 +149,9 @@ module _ (other : Constructs) where
   list-begun-on [] h = tt
   list-begun-on (p ∷ ps) h = by p.container h.0
     where
-      by : (c : Container) → IsOn c → FramesAreOn (elim c [ quote q ↦ [] | item i ↦ cond (nat_lt i.list i.line) (record { name = list_name i; line = i.list } ∷ []) [] ])
+      by : (c : Container) → IsOn c → FramesAreOn (elim c [ quote q ↦ [] | item i ↦ cond (nat_lt i.list i.line) (record { name = list_name i; line = i.list } ∷ []) [] | footnote f ↦ [] ])
       by (quote q) h = tt
+      by (footnote f) h = tt
       by (item i) h = cond_both (nat_lt i.list i.line) (record { name = list_name i; line = i.list } ∷ []) [] FramesAreOn (λ e. (list-on i h, tt)) (λ e. tt)
 
   list-at-on : (behind : List Row) → RowsAreOn behind → FramesAreOn (list_at behind)
@@ -153,6 +161,7 @@ module _ (other : Constructs) where
   left-on : (many number : ℕ) (cs : List Container) → AreOn cs → AreOn (left_in many number cs)
   left-on many number [] h = tt
   left-on many number (quote q ∷ cs) h = h
+  left-on many number (footnote f ∷ cs) h = cond_both (nat_le many (length cs) && nat_lt f.line number) (left_in many number cs) (footnote f ∷ cs) AreOn (λ e. left-on many number cs h.1) (λ e. h)
   left-on many number (item i ∷ cs) h = cond_both (nat_le many (length cs) && nat_lt i.line number) (left_in many number cs) (item i ∷ cs) AreOn (λ e. left-on many number cs h.1) (λ e. h)
 
   standing-on : (row : Row) (behind : List Row) → RowIsOn row → AreOn (standing row behind)

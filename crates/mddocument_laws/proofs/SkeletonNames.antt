@@ -1,12 +1,12 @@
 -- The events of containers, of definitions and of tables have names of the constructs that are on.
-use Rattle.mddocument_laws.proofs.Prelude.{◌≡◌, ℕ, suc, List, [], ◌∷◌, true, Some, None, Option, refl, AllByRecursion, every-map, Constructs, Name, Seat, lines_in, Mark, Container, Prefix, item, quote, Row, Part, chained_from, rows, Inside, Section, defined, lines, all_rows, sections_in_seats, sections_marks, skeleton}
+use Rattle.mddocument_laws.proofs.Prelude.{◌≡◌, ℕ, suc, List, [], ◌∷◌, true, Some, None, Option, refl, AllByRecursion, every-map, or_left, or_right, Constructs, Name, Seat, lines_in, Mark, Container, Prefix, footnote, item, quote, Row, Part, chained_from, rows, Inside, Section, defined, lines, all_rows, sections_in_seats, sections_marks, skeleton}
 use Rattle.markdown_base.specs.declared.event.Name.TheVariants as name
 use Rattle.mddocument.proofs.Walks.InnerTexts.{AnySeat}
 use Rattle.mddocument.proofs.Walks.MarksWalk.{Walk}
 use Rattle.mddocument_laws.proofs.Named.{Marked, Named, around, names-walk, none}
 use Rattle.mddocument_laws.proofs.PlainNames.{stands_bare}
 use Rattle.mddocument_laws.proofs.RowNames.{AreStillOn, InsideIsOn, IsOn, PartIsOn, PrefixesAreOn, RowIsOn, SectionIsOn, SectionsAreOn, list-on, own, rows-on, sections-on}
-use Rattle.mddocument.proofs.Walks.SkeletonWalk.{AreOfDefinition, InsideMay, MayHold, PartMay, PrefixesMay, SectionMay, any-texts, are-in-definition, prefix-may, prefixes, sections-are}
+use Rattle.mddocument.proofs.Walks.SkeletonWalk.{AreOfDefinition, InsideMay, MayHold, PartMay, PrefixesMay, SectionMay, any-begun, any-texts, are-in-definition, prefix-may, prefixes, sections-are}
 use Rattle.mddocument.proofs.Walks.TableWalk.{AreOfTable, are-in-table, tables-are}
 use Rattle.mdblock_leaf_blocks.specs.LeafEvents.{leaf_marks}
 use Rattle.mdblock_containers.specs.Skeleton.{prefixes_marks}
@@ -27,6 +27,7 @@ module _ (other : Constructs) (bytes : List ℕ) where
   holds : (c : Container) → IsOn other c → MayHold May c
   holds (quote q) h = (h, h, h)
   holds (item i) h = (list-on other i h, h, h, h, h)
+  holds (footnote f) h = (h, (h, h, h, h, h, or_right other.definition other.gfm_footnote_definition h))
 
   all-hold : (ps : List Prefix) → PrefixesAreOn other ps → PrefixesMay May ps
   all-hold ps h = every-map (λ (p : Prefix). IsOn other p.container) (λ (p : Prefix). MayHold May p.container) (λ p k. holds p.container k) ps h
@@ -39,7 +40,7 @@ module _ (other : Constructs) (bytes : List ℕ) where
   }
 
   of-definition : other.definition ≡ true → AreOfDefinition May
-  of-definition h = record { definition = h; inside = are-in-definition May (h, (h, (h, (h, (h, (h, (h, (h, (h, (h, (h, (h, tt)))))))))))) }
+  of-definition h = record { definition = h; inside = are-in-definition May (h, (h, (h, (or_left other.definition other.gfm_footnote_definition h, (h, (h, (h, (h, (h, (h, (h, (h, tt)))))))))))) }
 
   of-table : other.gfm_table ≡ true → AreOfTable May
   of-table h = record { table = h; inside = are-in-table May (h, (h, (h, (h, (h, (h, (h, (h, (h, (h, (h, tt))))))))))) }
@@ -65,7 +66,7 @@ module _ (other : Constructs) (bytes : List ℕ) where
   inside-may part (defined ds) h = (of-definition h, any-texts (all_rows part))
 
   sections-may : (ss : List Section) → SectionsAreOn other ss → AllByRecursion (SectionMay May AnySeat Table) ss
-  sections-may ss h = every-map (SectionIsOn other) (SectionMay May AnySeat Table) (λ s k. record { part = part-may s.part k.part; inside = inside-may s.part s.inside k.inside }) ss h
+  sections-may ss h = every-map (SectionIsOn other) (SectionMay May AnySeat Table) (λ s k. record { part = part-may s.part k.part; begun = any-begun s.part.first; inside = inside-may s.part s.inside k.inside }) ss h
 
   chained : (i : ℕ) (previous : Option ℕ) (marks : List Mark) → AllByRecursion (λ (m : Mark). May m.0.name) marks → AllByRecursion (λ e. May e.name) (chained_from i previous marks)
   chained i previous [] h = tt

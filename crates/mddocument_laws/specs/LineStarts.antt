@@ -3,7 +3,7 @@ use Rattle.std.specs.Prelude.{◌≡◌, ◌⊎◌, ◌&&◌, ℕ, Bool, List, S
 use Rattle.markdown_base.specs.declared.configuration.Constructs.{Constructs}
 use Rattle.mdblock_leaf_blocks.specs.HtmlLines.{HtmlKind, any_tag, begins, block_tag, html_kind, raw}
 use Rattle.mdblock_leaf_blocks.specs.LineKinds.{begins_with, fence, heading, html, is_atx_heading, is_blank_line, is_fence_of, is_thematic_break, is_underline_of_marks, kind_of_rest, run, thematic_break}
-use Rattle.mdblock_lines.specs.Containers.{may_begin_item}
+use Rattle.mdblock_lines.specs.Containers.{is_footnote, may_begin_item}
 
 -- What a line may begin with: leaf blocks, setext heading underlines and containers
 pub data LineStart : Type 0 where
@@ -16,9 +16,10 @@ pub data LineStart : Type 0 where
   dashes : LineStart
   block_quote : LineStart
   list_item : LineStart
+  footnote_definition : LineStart
 
 -- A line begins with it: an ATX heading (4.2), a fence of grave accents or of tildes (4.5), HTML (4.6), a thematic break (4.1), an underline (4.3),
--- a block quote marker (5.1) or a list marker (5.2)
+-- a block quote marker (5.1), a list marker (5.2), or the label of a footnote definition and its colon, which are in no specification
 abbrev pub starts : LineStart → List ℕ → Bool
 starts atx r = is_atx_heading r
 starts ticks r = is_fence_of 96 r
@@ -29,6 +30,7 @@ starts equals_signs r = is_underline_of_marks 61 r
 starts dashes r = is_underline_of_marks 45 r
 starts block_quote r = begins_with 62 r
 starts list_item r = may_begin_item false r
+starts footnote_definition r = is_footnote r
 
 -- thematic breaks, underlines of dashes and list items may be of one line, and CommonMark says which comes first: "If a line of dashes that meets the
 -- above conditions for being a thematic break could also be interpreted as the underline of a setext heading, the interpretation as a setext heading

@@ -3,7 +3,7 @@
 use Rattle.std.specs.Prelude.{◌&&◌, ◌||◌, Bool, false, true}
 use Rattle.markdown_base.specs.declared.configuration.Constructs.{Constructs}
 use Rattle.markdown_base.specs.declared.event.Name.{Name}
-use Rattle.markdown_base.specs.declared.event.Name.TheVariants.{Autolink, AutolinkEmail, AutolinkMarker, AutolinkProtocol, BlankLineEnding, BlockQuote, BlockQuoteMarker, BlockQuotePrefix, CharacterEscape, CharacterEscapeMarker, CharacterEscapeValue, CharacterReference, CharacterReferenceMarker, CharacterReferenceMarkerHexadecimal, CharacterReferenceMarkerNumeric, CharacterReferenceMarkerSemi, CharacterReferenceValue, CodeFenced, CodeFencedFence, CodeFencedFenceInfo, CodeFencedFenceMeta, CodeFencedFenceSequence, CodeFlowChunk, CodeIndented, CodeText, CodeTextData, CodeTextSequence, Data, Definition, DefinitionDestination, DefinitionDestinationLiteral, DefinitionDestinationLiteralMarker, DefinitionDestinationRaw, DefinitionDestinationString, DefinitionLabel, DefinitionLabelMarker, DefinitionLabelString, DefinitionMarker, DefinitionTitle, DefinitionTitleMarker, DefinitionTitleString, Emphasis, EmphasisSequence, EmphasisText, GfmStrikethrough, GfmStrikethroughSequence, GfmStrikethroughText, GfmTable, GfmTableBody, GfmTableCell, GfmTableCellDivider, GfmTableCellText, GfmTableDelimiterCell, GfmTableDelimiterCellValue, GfmTableDelimiterFiller, GfmTableDelimiterMarker, GfmTableDelimiterRow, GfmTableHead, GfmTableRow, HardBreakEscape, HardBreakTrailing, HeadingAtx, HeadingAtxSequence, HeadingAtxText, HeadingSetext, HeadingSetextText, HeadingSetextUnderline, HeadingSetextUnderlineSequence, HtmlFlow, HtmlFlowData, HtmlText, HtmlTextData, Image, Label, LabelEnd, LabelImage, LabelImageMarker, LabelLink, LabelMarker, LabelText, LineEnding, Link, ListItem, ListItemMarker, ListItemPrefix, ListItemValue, ListOrdered, ListUnordered, Paragraph, Reference, ReferenceMarker, ReferenceString, Resource, ResourceDestination, ResourceDestinationLiteral, ResourceDestinationLiteralMarker, ResourceDestinationRaw, ResourceDestinationString, ResourceMarker, ResourceTitle, ResourceTitleMarker, ResourceTitleString, SpaceOrTab, Strong, StrongSequence, StrongText, ThematicBreak, ThematicBreakSequence}
+use Rattle.markdown_base.specs.declared.event.Name.TheVariants.{Autolink, AutolinkEmail, AutolinkMarker, AutolinkProtocol, BlankLineEnding, BlockQuote, BlockQuoteMarker, BlockQuotePrefix, CharacterEscape, CharacterEscapeMarker, CharacterEscapeValue, CharacterReference, CharacterReferenceMarker, CharacterReferenceMarkerHexadecimal, CharacterReferenceMarkerNumeric, CharacterReferenceMarkerSemi, CharacterReferenceValue, CodeFenced, CodeFencedFence, CodeFencedFenceInfo, CodeFencedFenceMeta, CodeFencedFenceSequence, CodeFlowChunk, CodeIndented, CodeText, CodeTextData, CodeTextSequence, Data, Definition, DefinitionDestination, DefinitionDestinationLiteral, DefinitionDestinationLiteralMarker, DefinitionDestinationRaw, DefinitionDestinationString, DefinitionLabel, DefinitionLabelMarker, DefinitionLabelString, DefinitionMarker, DefinitionTitle, DefinitionTitleMarker, DefinitionTitleString, Emphasis, EmphasisSequence, EmphasisText, GfmFootnoteDefinition, GfmFootnoteDefinitionLabel, GfmFootnoteDefinitionLabelMarker, GfmFootnoteDefinitionLabelString, GfmFootnoteDefinitionMarker, GfmFootnoteDefinitionPrefix, GfmStrikethrough, GfmStrikethroughSequence, GfmStrikethroughText, GfmTable, GfmTableBody, GfmTableCell, GfmTableCellDivider, GfmTableCellText, GfmTableDelimiterCell, GfmTableDelimiterCellValue, GfmTableDelimiterFiller, GfmTableDelimiterMarker, GfmTableDelimiterRow, GfmTableHead, GfmTableRow, HardBreakEscape, HardBreakTrailing, HeadingAtx, HeadingAtxSequence, HeadingAtxText, HeadingSetext, HeadingSetextText, HeadingSetextUnderline, HeadingSetextUnderlineSequence, HtmlFlow, HtmlFlowData, HtmlText, HtmlTextData, Image, Label, LabelEnd, LabelImage, LabelImageMarker, LabelLink, LabelMarker, LabelText, LineEnding, Link, ListItem, ListItemMarker, ListItemPrefix, ListItemValue, ListOrdered, ListUnordered, Paragraph, Reference, ReferenceMarker, ReferenceString, Resource, ResourceDestination, ResourceDestinationLiteral, ResourceDestinationLiteralMarker, ResourceDestinationRaw, ResourceDestinationString, ResourceMarker, ResourceTitle, ResourceTitleMarker, ResourceTitleString, SpaceOrTab, Strong, StrongSequence, StrongText, ThematicBreak, ThematicBreakSequence}
 
 -- links and images are on: a bracket that no end of a label follows is text, and so is a `]` that no bracket waits for
 abbrev pub has_links : Constructs → Bool
@@ -47,7 +47,7 @@ may_be_named on CodeFlowChunk = on.code_indented || on.code_fenced
 -- HTML blocks (4.6)
 may_be_named on HtmlFlow = on.html_flow
 may_be_named on HtmlFlowData = on.html_flow
--- Link reference definitions (4.7)
+-- Link reference definitions (4.7), which share the name of their colon with footnote definitions
 may_be_named on Definition = on.definition
 may_be_named on DefinitionDestination = on.definition
 may_be_named on DefinitionDestinationLiteral = on.definition
@@ -57,7 +57,7 @@ may_be_named on DefinitionDestinationString = on.definition
 may_be_named on DefinitionLabel = on.definition
 may_be_named on DefinitionLabelMarker = on.definition
 may_be_named on DefinitionLabelString = on.definition
-may_be_named on DefinitionMarker = on.definition
+may_be_named on DefinitionMarker = on.definition || on.gfm_footnote_definition
 may_be_named on DefinitionTitle = on.definition
 may_be_named on DefinitionTitleMarker = on.definition
 may_be_named on DefinitionTitleString = on.definition
@@ -85,6 +85,13 @@ may_be_named on ListItemPrefix = on.list_item
 may_be_named on ListItemValue = on.list_item
 may_be_named on ListOrdered = on.list_item
 may_be_named on ListUnordered = on.list_item
+-- Footnote definitions, which are in no specification
+may_be_named on GfmFootnoteDefinition = on.gfm_footnote_definition
+may_be_named on GfmFootnoteDefinitionLabel = on.gfm_footnote_definition
+may_be_named on GfmFootnoteDefinitionLabelMarker = on.gfm_footnote_definition
+may_be_named on GfmFootnoteDefinitionLabelString = on.gfm_footnote_definition
+may_be_named on GfmFootnoteDefinitionMarker = on.gfm_footnote_definition
+may_be_named on GfmFootnoteDefinitionPrefix = on.gfm_footnote_definition
 -- Backslash escapes (2.4) and character references (2.5)
 may_be_named on CharacterEscape = on.character_escape
 may_be_named on CharacterEscapeMarker = on.character_escape

@@ -50,9 +50,10 @@ pub fn character_references_end_behind_their_semicolon()
     ensures spelled { ReferencesAreSpelled }
 {}
 
-/// A line begins with one thing at most: an ATX heading, a fence, HTML, a thematic break, an underline, a block quote or a list item; but for thematic
-/// breaks, underlines of dashes and list items, of which CommonMark says which comes first. A blank line begins with none. HTML is of one kind,
-/// but that a tag whose name has a kind of its own may also be any tag. So it does not matter in which order kinds of lines are asked for.
+/// A line begins with one thing at most: an ATX heading, a fence, HTML, a thematic break, an underline, a block quote, a list item or a footnote
+/// definition; but for thematic breaks, underlines of dashes and list items, of which CommonMark says which comes first. A blank line begins with
+/// none. HTML is of one kind, but that a tag whose name has a kind of its own may also be any tag. So it does not matter in which order kinds of
+/// lines are asked for.
 pub fn line_starts_exclude_one_another()
     ensures starts { StartsExclude }
     ensures blank { BlankStartsNothing }

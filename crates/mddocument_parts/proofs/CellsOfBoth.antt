@@ -6,7 +6,7 @@ use Rattle.markdown_base.specs.declared.event.Event.{Event}
 use Rattle.markdown_base.specs.declared.event.Name.TheVariants as name
 use Rattle.markdown_base.specs.Events.{IsBalanced, empty, is_enter, same_name, span}
 use Rattle.mdblock_table_marks.specs.Cells.{as_text, celled, enters_cell, with_cells}
-use Rattle.mddocument.proofs.InContainers.CellLinks.{as-many}
+use Rattle.mdblock_table_marks.proofs.CellLemmas.{celled-length}
 use Rattle.mddocument_parts.specs.Moved.{moved_event}
 
 -- the last of events enters the text of a cell, or, if there is none, so did the one before
@@ -51,5 +51,5 @@ cells-of-both on lines bytes xs ys = by on.gfm_table
         celled-append false xs (map (moved_event lines bytes (length xs)) ys)
         ∙ ap (λ b. celled false xs ++ celled b (map (moved_event lines bytes (length xs)) ys)) (sym (ends-celled false false xs) ∙ ends-balanced balanced)
         ∙ ap (λ l. celled false xs ++ l) (celled-moved lines bytes (length xs) false ys)
-        ∙ ap (λ n. celled false xs ++ map (moved_event lines bytes n) (celled false ys)) (sym (as-many false xs))
+        ∙ ap (λ n. celled false xs ++ map (moved_event lines bytes n) (celled false ys)) (sym (celled-length false xs))
     by false balanced = refl

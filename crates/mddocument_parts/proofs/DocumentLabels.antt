@@ -27,7 +27,7 @@ use Rattle.mdblock_definitions.specs.Sections.{Section, before_defined, begins_t
 use Rattle.mdblock_table_marks.specs.TableCuts.{Cut, before_table, begins_in_table, table_lines}
 use Rattle.mdblock_tables.specs.Tables.{is_row}
 use Rattle.mdblock_definitions.proofs.FilledTexts.{plain-none, without-none}
-use Rattle.mdblock_definitions.proofs.KnownReads.{blank-same}
+use Rattle.mdblock_definitions.proofs.KnownReads.{blank-same, fourth-fails}
 use Rattle.mdblock_definitions.specs.Skeleton.{all_rows, labels_in, labels_of_section, letters_of_section, text_begin, written_labels}
 use Rattle.mddocument_parts.proofs.DocumentBytes.{counted, document-rows-of-both}
 use Rattle.mddocument_parts.proofs.DocumentRests.{anew-same, begins-anew, closed-is, first-row, is-not-blank, not-left, row_new}
@@ -386,13 +386,7 @@ module _ (on : Constructs) (not-blank : (k : Known) (n : ℕ) (line : Line) → 
   anew-untabled k n line shut =
       let row = row_without on k n line in
       ap (λ leaf. is_table (cond (on.gfm_table && (row.stays && (is_paragraph row.leaf && ((is_paragraph leaf && begins_table on k row) || (is_table leaf && is_row (rest_of row)))))) open_table row.leaf)) shut
-      ∙ ap (λ b. is_table (cond b open_table row.leaf)) (none on.gfm_table row.stays (is_paragraph row.leaf)) ∙ without-none on k n line
-    where
-      none : (a b c : Bool) → (a && (b && (c && false))) ≡ false
-      none true true true = refl
-      none true true false = refl
-      none true false c = refl
-      none false b c = refl
+      ∙ ap (λ b. is_table (cond b open_table row.leaf)) (fourth-fails on.gfm_table row.stays (is_paragraph row.leaf)) ∙ without-none on k n line
 
   follows : (q : Row) (qs : List Row) → Starts q → Follows q qs
   follows q qs s = by q.stays refl

@@ -9,11 +9,12 @@ use Rattle.markdown_base.proofs.Facts.Bools.{and-left, cond-same}
 use Rattle.markdown_base.specs.declared.configuration.Constructs.{Constructs}
 use Rattle.mdblock_leaf_blocks.specs.LeafBlocks.{Line, interrupts, text_of}
 use Rattle.mdblock_leaf_blocks.specs.LineKinds.{blank, indented, is_blank_line, is_far, kind_of_rest, indent, line_kind, underline_rank, unindented}
-use Rattle.mdblock_lines.specs.Containers.{Container, Prefix, item, quote}
+use Rattle.mdblock_lines.specs.Containers.{Container, footnote, item, Prefix, quote}
 use Rattle.mdblock_containers.proofs.FrameFacts.{none_is}
 use Rattle.mdblock_containers.specs.Prefixes.{beginning, columns_of, containers_of, going_on, in_place_of, with_list}
 use Rattle.mdblock_containers.specs.Rows.{Before, Leaf, Row, closed, has_none, holds_ending, is_lazily, is_paragraph, is_raw, is_table, leaf_after, nothing_known, open_paragraph, open_table, rest_of, row_with}
 use Rattle.mdblock_containers.specs.Rows as without
+use Rattle.mdblock_definitions.proofs.KnownReads.{fourth-fails, third-fails}
 use Rattle.mdblock_definitions.specs.Rows.{Known, begins_table, is_behind_text, is_used_up, known_after, row_of, row_without, rows_from, text_after}
 use Rattle.mdblock_tables.specs.Tables.{is_row}
 use Rattle.mddocument_parts.specs.DocumentRests.{DocumentRestsForget, RowsOfBoth, StretchesGoOnAtTop, begins_anew, is_at_document_rest, is_closed, joins_list, known_at_start, known_behind, moved_container, moved_known, moved_prefix, moved_row}
@@ -42,7 +43,9 @@ no-list (c ∷ cs) (p ∷ ps) h = ap (λ d. (let q : Prefix = record { container
   where
     same : (c d : Container) → joins_list (c ∷ cs) ((let q : Prefix = record { container = in_place_of c d; size = p.size } in q) ∷ ps) ≡ false → in_place_of c d ≡ d
     same (quote q) d h = refl
+    same (footnote f) d h = refl
     same (item old) (quote q) h = refl
+    same (item old) (footnote f) h = refl
     same (item old) (item i) h = by (old.marker == i.marker) refl h
       where
         by : (b : Bool) → (old.marker == i.marker) ≡ b → joins_list (item old ∷ cs) ((let q : Prefix = record { container = item (cond b (record i { list = old.list }) i); size = p.size } in q) ∷ ps) ≡ false
@@ -83,7 +86,7 @@ module _ (on : Constructs) (number : ℕ) (line : Line) where
       let all_go_on = 0 == b.depth in
       let columns = 0 + columns_of ps in
       let rest = drop columns t in
-      let lazy : is_lazily on b all_go_on (has_none ps) rest ≡ false = (λ i. not all_go_on && (has_none ps && (is_paragraph (e i) && not (interrupts (line_kind on rest))))) ∙ by (not all_go_on) (has_none ps) in
+      let lazy : is_lazily on b all_go_on (has_none ps) rest ≡ false = (λ i. not all_go_on && (has_none ps && (is_paragraph (e i) && not (interrupts (line_kind on rest))))) ∙ third-fails (not all_go_on) (has_none ps) in
       let stays = (row_with on b number line [] ps).stays in
       let holds : (stays && holds_ending b.leaf) ≡ false = ap (λ leaf. stays && holds_ending leaf) e ∙ and-false stays in
       let before : cond stays b.leaf closed ≡ closed = ap (λ leaf. cond stays leaf closed) e ∙ cond-same stays closed in
@@ -100,9 +103,6 @@ module _ (on : Constructs) (number : ℕ) (line : Line) where
         is_left_blank = left i;
         leaf = cond (left i) closed (cond (lazy i) open_paragraph (leaf_after on (before i) rest));
       })
-    where
-      by : (x y : Bool) → (x && (y && false)) ≡ false
-      by x y = grind arith
 
   -- the row of a line with which no container goes on, and which goes on with no list
   plain-new : (b : Before) → b.leaf ≡ closed → (without.row_of on b number line).went_on ≡ [] → joins_list b.stack (without.row_of on b number line).begun ≡ false
@@ -142,19 +142,13 @@ module _ (on : Constructs) (number : ℕ) (line : Line) where
   not-behind b row e = ap (λ leaf. row.stays && is_paragraph leaf) e ∙ and-false row.stays
 
   -- where no leaf block is open, a line is in no table
-  none-tabled : (a b c : Bool) → (a && (b && (c && false))) ≡ false
-  none-tabled true true true = refl
-  none-tabled true true false = refl
-  none-tabled true false c = refl
-  none-tabled false b c = refl
-
   row-same : (k : Known) → k.before.leaf ≡ closed → row_of on k number line ≡ without.row_of on k.before number line
   row-same k e =
       let row = without.row_of on k.before number line in
       let own = row_without on k number line in
       let u = is_some (underline_rank on (rest_of row)) && is_used_up k.text in
       (λ i. record own { leaf = cond (on.gfm_table && (own.stays && (is_paragraph own.leaf && ((is_paragraph (e i) && begins_table on k own) || (is_table (e i) && is_row (rest_of own)))))) open_table own.leaf })
-      ∙ ap (λ c. record own { leaf = cond c open_table own.leaf }) (none-tabled on.gfm_table own.stays (is_paragraph own.leaf))
+      ∙ ap (λ c. record own { leaf = cond c open_table own.leaf }) (fourth-fails on.gfm_table own.stays (is_paragraph own.leaf))
       ∙ (λ i. record row { leaf = cond (on.definition && (not-behind k.before row e i && u)) open_paragraph row.leaf })
       ∙ ap (λ c. record row { leaf = cond c open_paragraph row.leaf }) (and-false on.definition)
 
@@ -270,12 +264,15 @@ module _ (on : Constructs) where
   joins-moved l [] ps = refl
   joins-moved l (quote q ∷ cs) [] = refl
   joins-moved l (quote q ∷ cs) (p ∷ ps) = refl
+  joins-moved l (footnote f ∷ cs) [] = refl
+  joins-moved l (footnote f ∷ cs) (p ∷ ps) = refl
   joins-moved l (item old ∷ cs) [] = refl
   joins-moved l (item old ∷ cs) (p ∷ ps) = by p.container
     where
       by : (c : Container) → joins_list (item old ∷ cs) ((let q : Prefix = record { container = moved_container l c; size = 0 } in q) ∷ ps) ≡ joins_list (item old ∷ cs) ((let q : Prefix = record { container = c; size = 0 } in q) ∷ ps)
       by (quote q) = refl
       by (item i) = refl
+      by (footnote f) = refl
 
   anew-moved : (l n : ℕ) (k : Known) (number n2 : ℕ) (line : Line) → n2 ≡ number + l → begins_anew on (moved_known l k) n2 (moved_line l n line) ≡ begins_anew on k number line
   anew-moved l n k number n2 line e =

@@ -45,16 +45,18 @@ use Rattle.mdinline_machine.specs.InlineChains.{with_inlines, with_strings as wi
 use Rattle.mdinline_machine.specs.InlineEvents.{inline_events}
 use Rattle.mdinline_machine.specs.StringEvents.{string_events}
 use Rattle.mdblock_leaf_blocks.specs.BlockLines.{block_lines}
-use Rattle.mdblock_leaf_blocks.specs.LeafBlocks.{LeafBlock, Line, atx_heading, blank_line, fenced_code, leaf_blocks, paragraph, setext_heading}
+use Rattle.mdblock_leaf_blocks.specs.LeafBlocks.{LeafBlock, Line, leaf_blocks}
 use Rattle.mdblock_leaf_blocks.specs.LeafEvents.{Chunk, Mark, chunk_span, flow_events, leaf_block_marks, leaf_marks, linked_from}
-use Rattle.mdblock_lines.specs.Containers.{Container, Item, Prefix, item, quote}
+use Rattle.mdblock_lines.specs.Containers.{Container, Prefix, footnote, item, quote}
 use Rattle.mdblock_containers.proofs.FrameFacts.{Turn, all_entered, entered}
+use Rattle.mdblock_containers.proofs.PartSpans.{RowFits}
 use Rattle.mdblock_containers.proofs.SeatFacts.{document_lines}
 use Rattle.mdblock_containers.specs.Rows.{Row}
 use Rattle.mdblock_containers.specs.Skeleton.{Frame, Part, chained_from, list_name, prefixes_marks}
+use Rattle.mdblock_table_marks.proofs.NoCellMarks.{list-named}
 use Rattle.mdblock_table_marks.specs.TableMarks.{table_marks}
 use Rattle.mdblock_definitions.proofs.Covered.{rows_of}
-use Rattle.mdblock_definitions.proofs.SectionTurns.{AreCut, all-of-sections, document-cut}
+use Rattle.mdblock_definitions.proofs.SectionTurns.{AreCut, all-of-sections, document-cut, document-lines, rows-fit}
 use Rattle.mdblock_text_lines.specs.DocumentBlocks.{document_blocks}
 use Rattle.mdblock_definitions.specs.Rows.{rows}
 use Rattle.mdblock_definitions.specs.Sections.{Inside, Section, defined, lines as lines_inside, sections, table as table_inside}
@@ -66,11 +68,11 @@ use Rattle.mddocument.proofs.InContainers.Skeletons.{skeleton-laws}
 use Rattle.mddocument.proofs.InContainers.Texts.{blocks-textual}
 use Rattle.mddocument.proofs.InContainers.TextsFormed.{content-ready, strings-ready}
 use Rattle.mddocument.specs.DocumentEvents.{document_events, document_texts, is_defined_in}
-use Rattle.mddocument.proofs.Walks.BlockWalk.{MayBlock, block-are}
+use Rattle.mddocument.proofs.Walks.BlockWalk.{all-may, block-are, block_names}
 use Rattle.mddocument.proofs.Walks.InnerTexts.{AnySeat, any-each}
 use Rattle.mddocument.proofs.Walks.MarksWalk.{Walk, walk-of-marks}
 use Rattle.mddocument.proofs.InContainers.CellLinks.{no-content}
-use Rattle.mddocument.proofs.Walks.SkeletonWalk.{AreOfDefinition, InsideMay, MayHold, PartMay, PrefixesMay, RowAt, SectionMay, are-in-definition, prefix-may, prefixes, sections-are}
+use Rattle.mddocument.proofs.Walks.SkeletonWalk.{AreOfDefinition, InsideMay, MayHold, PartMay, PrefixesMay, RowAt, SectionMay, are-in-definition, begun-in-text, prefix-may, prefixes, sections-are}
 use Rattle.mddocument.proofs.Walks.TableWalk.{AreOfTable, are-in-table, tables-are}
 use Rattle.mddocument_parts.proofs.TextLines.{AreInner, AreTextLines, AreTextSeats, lines-of-texts, text-blocks}
 
@@ -245,16 +247,11 @@ module _ (g : Given) (is : IsDocument g) where
   events-unlinked = (strings_keep g.options.constructs g.tab g.bytes (document_texts g)).1 texts-unlinked
 
 -- ==== Where data of leaf blocks stands: chunks are data, and if the virtual bytes of texts stand at some places, so does data.
-abbrev IsOther : Name → Type 0
-IsOther n = same_name n name.Data ≡ false
+abbrev IsNoData : Name → Type 0
+IsNoData n = same_name n name.Data ≡ false
 
-other-block : (block : LeafBlock) → MayBlock IsOther block
-other-block (blank_line line) = tt
-other-block (atx_heading line) = (refl, refl, refl)
-other-block (paragraph lines) = refl
-other-block (setext_heading rank lines underline) = (refl, refl, refl, refl)
-other-block (fenced_code f is_closed lines) = record { code_fenced = refl; fence = refl; sequence = refl; info = refl; meta = refl; code = refl }
-other-block block = (refl, refl)
+no-data-names : AllByRecursion IsNoData block_names
+no-data-names = (refl, (refl, (refl, (refl, (refl, (refl, (refl, (refl, (refl, (refl, (refl, (refl, (refl, (refl, (refl, (refl, (refl, (refl, (refl, tt)))))))))))))))))))
 
 module _ (At : Point → Type 0) (bytes : List ℕ) where
   -- a mark without a link, or of a chunk that is data, and where data may stand
@@ -266,9 +263,9 @@ module _ (At : Point → Type 0) (bytes : List ℕ) where
     all : AllByRecursion IsPlaced marks
 
   -- data stands where its virtual bytes do, and other spans anywhere
-  placed-walk : Walk bytes ArePlaced IsOther AnySeat
+  placed-walk : Walk bytes ArePlaced IsNoData AnySeat
   placed-walk =
-      walk-of-marks bytes ArePlaced IsOther (record { all = tt }) (λ xs ys h k. record { all = every-append IsPlaced xs ys h.all k.all })
+      walk-of-marks bytes ArePlaced IsNoData (record { all = tt }) (λ xs ys h k. record { all = every-append IsPlaced xs ys h.all k.all })
       (λ k n place other. record { all = ((refl, λ e. absurd (false≢true (sym other ∙ e))), tt) }) refl refl refl
 
   placed-chunk : (c : Chunk) (seats : List Seat) → AllByRecursion AnySeat seats → AreInner (EndsAt At bytes) seats → ArePlaced (chunk_span bytes (Some c) name.Data seats [])
@@ -277,7 +274,7 @@ module _ (At : Point → Type 0) (bytes : List ℕ) where
 
   -- ---- blocks
   block-placed : (block : LeafBlock) → AreTextLines (EndsAt At bytes) (block_lines block) → ArePlaced (leaf_block_marks bytes block)
-  block-placed block i = block-are bytes ArePlaced IsOther AnySeat (EndsAt At bytes) placed-walk placed-chunk block (other-block block) (any-each (block_lines block)) i
+  block-placed block i = block-are bytes ArePlaced IsNoData AnySeat (EndsAt At bytes) placed-walk placed-chunk block (all-may IsNoData no-data-names block) (any-each (block_lines block)) i
 
   blocks-placed : (blocks : List LeafBlock) → AllByRecursion (λ b. AreTextLines (EndsAt At bytes) (block_lines b)) blocks → ArePlaced (flat_map (leaf_block_marks bytes) blocks)
   blocks-placed [] h = placed-walk.none
@@ -343,40 +340,39 @@ module _ (At : Point → Type 0) where
       left-from events ws gone 0 None ms h (λ j. let z : 0 + j ≡ j = omega arith in ap (slice_get events) z) k e is (let z : 0 + k ≡ k = omega arith in ap (is_removed ws) z ∙ stays)
 
 -- ---- spans of containers are no data
-abbrev AreOther : List Frame → Type 0
-AreOther fs = AllByRecursion (λ (f : Frame). IsOther f.name) fs
+abbrev AreNoData : List Frame → Type 0
+AreNoData fs = AllByRecursion (λ (f : Frame). IsNoData f.name) fs
 
-list-other : (i : Item) → IsOther (list_name i)
-list-other i = cond_both (nat_le 1 i.digits) name.ListOrdered name.ListUnordered IsOther (λ e. refl) (λ e. refl)
+entered-no-data : (c : Container) → AreNoData (entered c)
+entered-no-data (quote q) = (refl, tt)
+entered-no-data (footnote f) = (refl, tt)
+entered-no-data (item i) =
+    every-append (λ (f : Frame). IsNoData f.name) (cond (i.list == i.line) (record { name = list_name i; line = i.list } ∷ []) []) (record { name = name.ListItem; line = i.line } ∷ [])
+    (cond_both (i.list == i.line) (record { name = list_name i; line = i.list } ∷ []) [] AreNoData (λ e. (list-named IsNoData refl refl i, tt)) (λ e. tt)) (refl, tt)
 
-entered-other : (c : Container) → AreOther (entered c)
-entered-other (quote q) = (refl, tt)
-entered-other (item i) =
-    every-append (λ (f : Frame). IsOther f.name) (cond (i.list == i.line) (record { name = list_name i; line = i.list } ∷ []) []) (record { name = name.ListItem; line = i.line } ∷ [])
-    (cond_both (i.list == i.line) (record { name = list_name i; line = i.list } ∷ []) [] AreOther (λ e. (list-other i, tt)) (λ e. tt)) (refl, tt)
+all-no-data : (ps : List Prefix) → AreNoData (all_entered ps)
+all-no-data [] = tt
+all-no-data (p ∷ ps) = every-append (λ (f : Frame). IsNoData f.name) (entered p.container) (all_entered ps) (entered-no-data p.container) (all-no-data ps)
 
-all-other : (ps : List Prefix) → AreOther (all_entered ps)
-all-other [] = tt
-all-other (p ∷ ps) = every-append (λ (f : Frame). IsOther f.name) (entered p.container) (all_entered ps) (entered-other p.container) (all-other ps)
+turned-no-data : (fs gs : List Frame) (ps : List Prefix) → Turn fs gs ps → AreNoData fs → AreNoData gs
+turned-no-data fs gs ps turn h =
+    subst AreNoData (sym turn.after_are)
+    (every-append (λ (f : Frame). IsNoData f.name) turn.kept (all_entered ps) (every-front (λ (f : Frame). IsNoData f.name) turn.kept turn.ended (subst AreNoData turn.before_are h)) (all-no-data ps))
 
-turned-other : (fs gs : List Frame) (ps : List Prefix) → Turn fs gs ps → AreOther fs → AreOther gs
-turned-other fs gs ps turn h =
-    subst AreOther (sym turn.after_are)
-    (every-append (λ (f : Frame). IsOther f.name) turn.kept (all_entered ps) (every-front (λ (f : Frame). IsOther f.name) turn.kept turn.ended (subst AreOther turn.before_are h)) (all-other ps))
+-- neither are their prefixes
+holds-no-data : (c : Container) → MayHold IsNoData c
+holds-no-data (quote q) = (refl, refl, refl)
+holds-no-data (item i) = (list-named IsNoData refl refl i, refl, refl, refl, refl)
+holds-no-data (footnote f) = (refl, (refl, refl, refl, refl, refl, refl))
 
--- each container's spans are other ones
-holds-other : (c : Container) → MayHold IsOther c
-holds-other (quote q) = (refl, refl, refl)
-holds-other (item i) = (list-other i, refl, refl, refl, refl)
+all-hold : (ps : List Prefix) → PrefixesMay IsNoData ps
+all-hold ps = every-all (λ (p : Prefix). MayHold IsNoData p.container) (λ p. holds-no-data p.container) ps
 
-all-hold : (ps : List Prefix) → PrefixesMay IsOther ps
-all-hold ps = every-all (λ (p : Prefix). MayHold IsOther p.container) (λ p. holds-other p.container) ps
+of-definition : AreOfDefinition IsNoData
+of-definition = record { definition = refl; inside = are-in-definition IsNoData (refl, (refl, (refl, (refl, (refl, (refl, (refl, (refl, (refl, (refl, (refl, (refl, tt)))))))))))) }
 
-of-definition : AreOfDefinition IsOther
-of-definition = record { definition = refl; inside = are-in-definition IsOther (refl, (refl, (refl, (refl, (refl, (refl, (refl, (refl, (refl, (refl, (refl, (refl, tt)))))))))))) }
-
-of-table : AreOfTable IsOther
-of-table = record { table = refl; inside = are-in-table IsOther (refl, (refl, (refl, (refl, (refl, (refl, (refl, (refl, (refl, (refl, (refl, tt))))))))))) }
+of-table : AreOfTable IsNoData
+of-table = record { table = refl; inside = are-in-table IsNoData (refl, (refl, (refl, (refl, (refl, (refl, (refl, (refl, (refl, (refl, (refl, tt))))))))))) }
 
 module _ (At : Point → Type 0) (bytes : List ℕ) where
   abbrev Ends : Seat → Type 0
@@ -385,11 +381,11 @@ module _ (At : Point → Type 0) (bytes : List ℕ) where
   record Are (marks : List Mark) : Type 0 where
     all : Stand At marks
 
-  mark : (k : Kind) (n : Name) (place : Point) → IsOther n → Are ((event bytes k n place, None) ∷ [])
+  mark : (k : Kind) (n : Name) (place : Point) → IsNoData n → Are ((event bytes k n place, None) ∷ [])
   mark k n place other = record { all = ((λ e. absurd (false≢true (sym other ∙ e))), tt) }
 
-  walk : Walk bytes Are IsOther AnySeat
-  walk = walk-of-marks bytes Are IsOther (record { all = tt }) (λ xs ys h k. record { all = stand-both At xs ys h.all k.all }) mark refl refl refl
+  walk : Walk bytes Are IsNoData AnySeat
+  walk = walk-of-marks bytes Are IsNoData (record { all = tt }) (λ xs ys h k. record { all = stand-both At xs ys h.all k.all }) mark refl refl refl
 
   some-data : (seats : List Seat) → AllByRecursion Ends seats → Are (leaf_marks bytes name.Data seats)
   some-data [] i = record { all = tt }
@@ -404,29 +400,30 @@ module _ (At : Point → Type 0) (bytes : List ℕ) where
   abbrev Table : Part → Type 0
   Table part = AllByRecursion (RowAt Ends) (all_rows part)
 
-  row-prefixes : (r : Row) → PrefixesMay IsOther r.went_on → Are (prefixes_marks bytes r.went_on r.line)
-  row-prefixes r h = prefixes walk (MayHold IsOther) (prefix-may IsOther) r.went_on r.line h
+  row-prefixes : (r : Row) → PrefixesMay IsNoData r.went_on → Are (prefixes_marks bytes r.went_on r.line)
+  row-prefixes r h = prefixes walk (MayHold IsNoData) (prefix-may IsNoData) r.went_on r.line h
 
-  tabled : (part : Part) → PartMay IsOther part → Table part → Are (table_marks bytes part)
+  tabled : (part : Part) → PartMay IsNoData part → Table part → Are (table_marks bytes part)
   tabled part m h =
-      tables-are walk Ends some-data of-table part.first part.more (every-map (λ (r : Row). PrefixesMay IsOther r.went_on) (λ (r : Row). Are (prefixes_marks bytes r.went_on r.line)) row-prefixes part.more m.rows.1) h
+      tables-are walk Ends some-data of-table part.first part.more (every-map (λ (r : Row). PrefixesMay IsNoData r.went_on) (λ (r : Row). Are (prefixes_marks bytes r.went_on r.line)) row-prefixes part.more m.rows.1) h
 
-  inside-may : (part : Part) (inside : Inside) → AllByRecursion (RowAt Ends) (all_rows part) → InsideMay IsOther Ends Table part inside
+  inside-may : (part : Part) (inside : Inside) → AllByRecursion (RowAt Ends) (all_rows part) → InsideMay IsNoData Ends Table part inside
   inside-may part (lines_inside is_behind) h = tt
   inside-may part table_inside h = h
   inside-may part (defined ds) h = (of-definition, h)
 
-  section-may : (s : Section) → AreOther s.part.frames → AllByRecursion (RowAt Ends) (all_rows s.part) → SectionMay IsOther Ends Table s
-  section-may s fs h = record {
-    part = record { rows = every-all (λ (r : Row). PrefixesMay IsOther r.went_on) (λ r. all-hold r.went_on) (all_rows s.part); begun = all-hold s.part.first.begun; frames = fs };
+  section-may : (s : Section) → AreNoData s.part.frames → RowFits s.part.first → AllByRecursion (RowAt Ends) (all_rows s.part) → SectionMay IsNoData Ends Table s
+  section-may s fs fits h = record {
+    part = record { rows = every-all (λ (r : Row). PrefixesMay IsNoData r.went_on) (λ r. all-hold r.went_on) (all_rows s.part); begun = all-hold s.part.first.begun; frames = fs };
+    begun = begun-in-text Ends s.part.first fits h.0;
     inside = inside-may s.part s.inside h;
   }
 
-  sections-may : (fs : List Frame) (ss : List Section) → AreOther fs → AreCut bytes fs ss → AllByRecursion (RowAt Ends) (rows_of ss) → AllByRecursion (SectionMay IsOther Ends Table) ss
-  sections-may fs [] other cut h = tt
-  sections-may fs (s ∷ more) other cut h =
-      let turned = turned-other fs s.part.frames s.part.first.begun cut.0 other in
-      (section-may s turned (every-front (RowAt Ends) (all_rows s.part) (rows_of more) h), sections-may s.part.frames more turned cut.2 (every-back (RowAt Ends) (all_rows s.part) (rows_of more) h))
+  sections-may : (fs : List Frame) (ss : List Section) → AreNoData fs → AreCut bytes fs ss → AllByRecursion RowFits (rows_of ss) → AllByRecursion (RowAt Ends) (rows_of ss) → AllByRecursion (SectionMay IsNoData Ends Table) ss
+  sections-may fs [] other cut fit h = tt
+  sections-may fs (s ∷ more) other cut fit h =
+      let turned = turned-no-data fs s.part.frames s.part.first.begun cut.0 other in
+      (section-may s turned fit.0 (every-front (RowAt Ends) (all_rows s.part) (rows_of more) h), sections-may s.part.frames more turned cut.2 (every-back RowFits (all_rows s.part) (rows_of more) fit) (every-back (RowAt Ends) (all_rows s.part) (rows_of more) h))
 
   rows-at : (rs : List Row) → AllByRecursion (λ (line : Line). AllByRecursion Ends (line_text line)) (map (λ (r : Row). r.line) rs) → AllByRecursion (RowAt Ends) rs
   rows-at [] h = tt
@@ -439,4 +436,4 @@ module _ (At : Point → Type 0) (bytes : List ℕ) where
       let ls = lines_in (virtual t bytes) in
       let at = rows-at (rows_of (sections on (rows on ls))) (subst (AllByRecursion (λ (line : Line). AllByRecursion Ends (line_text line))) (sym (all-of-sections bytes on ls)) h) in
       let ss = sections on (rows on ls) in
-      (sections-are bytes Are IsOther walk mark Ends some-data chunk Table tabled ss (sections-may [] ss tt (document-cut bytes on ls (document_lines t bytes)) at)).all
+      (sections-are bytes Are IsNoData walk mark Ends some-data chunk Table tabled ss (sections-may [] ss tt (document-cut bytes on ls (document_lines t bytes)) (rows-fit (rows_of ss) (document-lines bytes on ls (document_lines t bytes))) at)).all

@@ -17,9 +17,8 @@ use Rattle.mdconstructs_machines.specs.LineEvents.{lines_in}
 use Rattle.mdinline_labels.specs.Definitions.{definitions}
 use Rattle.mdinline_labels.specs.declared.definitions.Definition.{Definition}
 use Rattle.mdblock_leaf_blocks.proofs.Lines.WholeLines.{IsWhole}
-use Rattle.mdblock_leaf_blocks.specs.HtmlLines.{ends}
 use Rattle.mdblock_leaf_blocks.specs.LeafBlocks.{Line, interrupts, text_of}
-use Rattle.mdblock_leaf_blocks.specs.LineKinds.{blank, is_blank_line, line_kind}
+use Rattle.mdblock_leaf_blocks.specs.LineKinds.{is_blank_line, line_kind}
 use Rattle.mdblock_lines.specs.Containers.{Container, Prefix}
 use Rattle.mdblock_containers.proofs.DocumentRows.{going_few}
 use Rattle.mdblock_containers.proofs.FrameFacts.{none_is}

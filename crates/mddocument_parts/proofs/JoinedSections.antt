@@ -20,7 +20,7 @@ use Rattle.mdblock_table_marks.proofs.TableCuts.{cuts_need_tables}
 use Rattle.mdblock_table_marks.specs.TableCuts.{Cut, before_table, table_lines, tabled, untabled}
 use Rattle.mddocument_parts.proofs.CutsJoined.{CutsJoin, behind_table, cut_seam, cuts, cuts-fuel, cuts-join, cuts_apart}
 use Rattle.mdblock_definitions.specs.Skeleton.{all_rows}
-use Rattle.mddocument_parts.proofs.SectionRows.{AllLeft, Apart, Follows, FurtherApart, LeftIsBlank, before-apart, cut_off, defined-apart, defined-within, further-apart, further-cut, going, joined, joined-begin, joined-behind, joined-drop, joined-left, left-behind, paragraph-apart, text-taken}
+use Rattle.mddocument_parts.proofs.SectionRows.{AllLeft, Apart, Follows, FurtherApart, LeftIsBlank, before-apart, cut_off, defined-apart, defined-within, further-apart, further-cut, going, joined, joined-begin, joined-behind, joined-behind-table, joined-drop, left-behind, paragraph-apart, text-taken}
 use Rattle.mddocument_parts.specs.JoinedStretches.{AllStay, Begin, IsBlankPart, IsSame, SectionsJoin, Stretch, firsts, joined_part, plain_section, plain_sections, section_seam, sections_apart}
 
 -- ==== Parts of rows behind others. Where the second go on with a stretch with which the first end, it is one part of the whole: in the parts it is two, and blank lines between them.
@@ -565,7 +565,7 @@ module _ (on : Constructs) (around : Part) (Before : List Row → Type 0) (Known
       let z = drop n (q ∷ x) in
       let m = table_lines is_in_table z in
       record {
-        apart = joined-left false m z (r ∷ rs) (joined-left false n (q ∷ x) (r ∷ rs) h.apart);
+        apart = joined-behind-table (q ∷ x) (r ∷ rs) h.apart;
         blank = every-drop LeftIsBlank m z (every-drop LeftIsBlank n (q ∷ x) h.blank);
         known = placing.table q x h.known less;
       }

@@ -1,7 +1,7 @@
 -- The marks of a document's skeleton are those of its parts, where the second go on with no stretch of lines.
 use Rattle.std.proofs.Common.{Bool, List, [], ap, append_assoc, arith, cond, drop, false, length, length-append, length-drop, nat_le, nat_lt, refl, subst, suc, sym, take, true, zero, ℕ, ◌&&◌, ◌++◌, ◌+◌, ◌<◌, ◌==◌, ◌||◌, ◌∙◌, ◌∷◌, ◌≡◌, ◌≤◌}
 use Rattle.std.proofs.Math.Bool.{and-false}
-use Rattle.std.proofs.lemmas.Bool.{eqb-true, le-ltb}
+use Rattle.std.proofs.lemmas.Bool.{cond_both, eqb-true, le-ltb}
 use Rattle.std.proofs.lemmas.Grind.{flat_map-append}
 use Rattle.std.proofs.lemmas.List.{append-nil, drop-append-le, reverse-append, take-append-le}
 use Rattle.std.specs.List.{AllByRecursion, flat_map}
@@ -16,7 +16,7 @@ use Rattle.mdinline_labels.specs.Definitions.{definitions}
 use Rattle.mdinline_labels.specs.declared.definitions.Definition.{Definition}
 use Rattle.mdblock_leaf_blocks.specs.LeafBlocks.{Line, text_of}
 use Rattle.mdblock_leaf_blocks.specs.LineKinds.{begins_with, indent, is_blank_line, is_thematic_break, unindented}
-use Rattle.mdblock_lines.specs.Containers.{Container, Item, Prefix, digits, first_byte, goes_on, item, item_at, may_begin_item, padding, quote, quote_size}
+use Rattle.mdblock_lines.specs.Containers.{Container, digits, first_byte, footnote, footnote_at, goes_on, is_footnote, Item, item, item_at, may_begin_item, padding, Prefix, quote, quote_size}
 use Rattle.mdblock_containers.proofs.OpenFrames.{none_in}
 use Rattle.mdblock_containers.proofs.RestLemmas.{further_few, parts_bound}
 use Rattle.mdblock_containers.specs.Prefixes.{beginning, columns_of, containers_of, going_on, in_place_of, with_list}
@@ -43,6 +43,7 @@ module _ (P : ℕ → Type 0) where
   abbrev pub NumbersOf : Container → Type 0
   NumbersOf (quote q) = P q.line
   NumbersOf (item i) = P i.line × P i.list
+  NumbersOf (footnote f) = P f.line
 
   abbrev All : List Container → Type 0
   All cs = AllByRecursion NumbersOf cs
@@ -73,18 +74,21 @@ module _ (P : ℕ → Type 0) where
   begin on zero number p t h = tt
   begin on (suc bound) number p t h =
       by (λ n. begin on bound number false (drop n t) h) ((on.code_indented && nat_le 4 (indent t)) || (is_blank_line t || (on.thematic_break && is_thematic_break (unindented t)))) (on.block_quote && begins_with 62 (unindented t))
-      (on.list_item && may_begin_item p (unindented t))
+      (on.gfm_footnote_definition && is_footnote (unindented t)) (on.list_item && may_begin_item p (unindented t))
     where
-      by : ((n : ℕ) → AllIn (beginning on bound number false (drop n t))) → (b c d : Bool)
-          → AllIn (elim (cond b None (cond c (Some (record { container = quote (record { line = number; is_near = on.code_indented }); size = quote_size t })) (cond d (Some (item_at number t)) None))) [ None ↦ [] | Some p ↦ p ∷ beginning on bound number false (drop p.size t) ])
-      by more true c d = tt
-      by more false true d = (h, more (quote_size t))
-      by more false false true = ((h, h), more (item_at number t).size)
-      by more false false false = tt
+      by : ((n : ℕ) → AllIn (beginning on bound number false (drop n t))) → (b c f d : Bool)
+          → AllIn (elim (cond b None (cond c (Some (record { container = quote (record { line = number; is_near = on.code_indented }); size = quote_size t })) (cond f (Some (footnote_at number t)) (cond d (Some (item_at number t)) None)))) [ None ↦ [] | Some p ↦ p ∷ beginning on bound number false (drop p.size t) ])
+      by more true c f d = tt
+      by more false true f d = (h, more (quote_size t))
+      by more false false true d = (h, more (footnote_at number t).size)
+      by more false false false true = ((h, h), more (item_at number t).size)
+      by more false false false false = tt
 
   placed : (old new : Container) → NumbersOf old → NumbersOf new → NumbersOf (in_place_of old new)
-  placed (quote q) new h k = k
+  placed (quote q) _ h k = k
+  placed (footnote f) _ h k = k
   placed (item old) (quote q) h k = k
+  placed (item old) (footnote f) h k = k
   placed (item old) (item i) h k = by (old.marker == i.marker)
     where
       by : (b : Bool) → NumbersOf (item (cond b (record i { list = old.list }) i))
@@ -137,11 +141,8 @@ module _ (P : ℕ → Type 0) where
   left-is : (many number : ℕ) (cs : List Container) → All cs → All (left_in many number cs)
   left-is many number [] h = tt
   left-is many number (quote q ∷ cs) h = h
-  left-is many number (item i ∷ cs) h = by (nat_le many (length cs) && nat_lt i.line number) (left-is many number cs h.1)
-    where
-      by : (b : Bool) → All (left_in many number cs) → All (cond b (left_in many number cs) (item i ∷ cs))
-      by true m = m
-      by false m = h
+  left-is many number (item i ∷ cs) h = cond_both (nat_le many (length cs) && nat_lt i.line number) (left_in many number cs) (item i ∷ cs) All (λ e. left-is many number cs h.1) (λ e. h)
+  left-is many number (footnote f ∷ cs) h = cond_both (nat_le many (length cs) && nat_lt f.line number) (left_in many number cs) (footnote f ∷ cs) All (λ e. left-is many number cs h.1) (λ e. h)
 
   standing-is : (row : Row) (behind : List Row) → RowIs row → All (standing row behind)
   standing-is row behind h =
@@ -156,6 +157,7 @@ module _ (P : ℕ → Type 0) where
   frames-of : (cs : List Container) → All cs → AllByRecursion FrameIs (flat_map frames_of cs)
   frames-of [] h = tt
   frames-of (quote q ∷ cs) h = (h.0, frames-of cs h.1)
+  frames-of (footnote f ∷ cs) h = (h.0, frames-of cs h.1)
   frames-of (item i ∷ cs) h = (h.0.1, (h.0.0, frames-of cs h.1))
 
   begun-is : (ps : List Prefix) → AllIn ps → AllByRecursion FrameIs (list_begun ps)
@@ -164,6 +166,7 @@ module _ (P : ℕ → Type 0) where
     where
       by : (c : Container) → NumbersOf c → AllByRecursion FrameIs (list_begun ((let q : Prefix = record { container = c; size = 0 } in q) ∷ []))
       by (quote q) m = tt
+      by (footnote f) m = tt
       by (item i) m = two (nat_lt i.list i.line)
         where
           two : (b : Bool) → AllByRecursion FrameIs (cond b ((let f : Frame = record { name = list_name i; line = i.list } in f) ∷ []) [])
@@ -333,18 +336,20 @@ own-list i e = ap (λ b. cond b ((let f : Frame = record { name = list_name i; l
 new-lists : (on : Constructs) (bound number : ℕ) (in_paragraph : Bool) (t : List ℕ) → list_begun (beginning on bound number in_paragraph t) ≡ []
 new-lists on zero number in_paragraph t = refl
 new-lists on (suc bound) number in_paragraph t =
-    by ((on.code_indented && nat_le 4 (indent t)) || (is_blank_line t || (on.thematic_break && is_thematic_break (unindented t)))) (on.block_quote && begins_with 62 (unindented t)) (on.list_item && may_begin_item in_paragraph (unindented t))
+    by ((on.code_indented && nat_le 4 (indent t)) || (is_blank_line t || (on.thematic_break && is_thematic_break (unindented t)))) (on.block_quote && begins_with 62 (unindented t))
+    (on.gfm_footnote_definition && is_footnote (unindented t)) (on.list_item && may_begin_item in_paragraph (unindented t))
   where
     first : Option Prefix → List Frame
     first o = list_begun (elim o [ None ↦ [] | Some p ↦ p ∷ beginning on bound number false (drop p.size t) ])
 
-    by : (b c d : Bool) → first (cond b None (cond c (Some (record { container = quote (record { line = number; is_near = on.code_indented }); size = quote_size t })) (cond d (Some (item_at number t)) None))) ≡ []
-    by true c d = refl
-    by false true d = refl
-    by false false true =
+    by : (b c f d : Bool) → first (cond b None (cond c (Some (record { container = quote (record { line = number; is_near = on.code_indented }); size = quote_size t })) (cond f (Some (footnote_at number t)) (cond d (Some (item_at number t)) None)))) ≡ []
+    by true c f d = refl
+    by false true f d = refl
+    by false false true d = refl
+    by false false false true =
         (let n = digits (unindented t) in let after = drop (suc n) (unindented t) in
         own-list (record { line = number; list = number; size = indent t + suc n + padding after; marker = first_byte (drop n (unindented t)); digits = n; is_empty = is_blank_line after }) refl)
-    by false false false = refl
+    by false false false false = refl
 
 pub sections-of-both : SectionsOfBoth
 sections-of-both on t a b rest cut_off =

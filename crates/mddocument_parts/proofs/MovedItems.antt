@@ -23,7 +23,7 @@ use Rattle.mdinline_text_machine.specs.CodeSpan.{before_backtick_string, code_sp
 use Rattle.mdinline_text_machine.specs.Construct.{Found}
 use Rattle.mdinline_text_machine.specs.Escape.{escape, escape_at}
 use Rattle.mdinline_text_machine.specs.Items.{item_length}
-use Rattle.mdinline_text_machine.specs.Parts.{Part as TextPart, bytes_of, cut, line_ending, part, part_at, part_events, part_length, plain_run}
+use Rattle.mdinline_text_machine.specs.Parts.{Part as TextPart, bytes_of, cut, line_ending, part, part_events, plain_run}
 use Rattle.mdinline_text_machine.specs.TextEvents.{item_events}
 use Rattle.mdinline_labels.specs.Definitions.{end}
 use Rattle.mdinline_labels.specs.Resources.{resource_at}

@@ -8,7 +8,7 @@ use Rattle.std.proofs.lemmas.Bool.Decides.{nat_tests}
 use Rattle.markdown_base.specs.declared.configuration.Constructs.{Constructs}
 use Rattle.mdblock_leaf_blocks.specs.LeafBlocks.{Line, text_of}
 use Rattle.mdblock_leaf_blocks.specs.LineKinds.{begins_with, indent, is_blank_line, is_far, is_thematic_break, underline_rank, unindented}
-use Rattle.mdblock_lines.specs.Containers.{Container, Item, Prefix, begins, goes_on, item, item_at, may_begin_item, quote, quote_size}
+use Rattle.mdblock_lines.specs.Containers.{Container, begins, footnote, footnote_at, goes_on, is_footnote, Item, item, item_at, may_begin_item, Prefix, quote, quote_size}
 use Rattle.mdblock_containers.specs.Prefixes.{beginning, columns_of, containers_of, going_on, in_place_of, with_list}
 use Rattle.mdblock_containers.specs.Rows.{Before, Row, closed, has_none, holds_ending, is_lazily, is_paragraph, is_raw, is_table, leaf_after, open_paragraph, open_table, rest_of, row_with}
 use Rattle.mdblock_containers.specs.Rows as without
@@ -49,6 +49,7 @@ module _ (l : ℕ) where
 
   goes-moved : (c : Container) (number n2 : ℕ) (t : List ℕ) → n2 ≡ number + l → goes_on (mc c) n2 t ≡ goes_on c number t
   goes-moved (quote q) number n2 t e = refl
+  goes-moved (footnote f) number n2 t e = refl
   goes-moved (item i) number n2 t e =
       let same = same-number number n2 i.line e in
       (λ j. cond (is_blank_line t) (cond (i.is_empty && same j) None (Some (min i.size (indent t)))) (cond (nat_le i.size (indent t)) (Some i.size) None))
@@ -67,7 +68,9 @@ module _ (l : ℕ) where
   -- ---- containers that begin
   place-moved : (old new : Container) → in_place_of (mc old) (mc new) ≡ mc (in_place_of old new)
   place-moved (quote q) new = refl
+  place-moved (footnote f) new = refl
   place-moved (item old) (quote q) = refl
+  place-moved (item old) (footnote f) = refl
   place-moved (item old) (item new) = by (old.marker == new.marker)
     where
       by : (b : Bool) → let there : Item = record new { line = new.line + l; list = old.list + l } in let here : Item = record new { line = new.line + l; list = new.list + l } in item (cond b there here) ≡ mc (item (cond b (record new { list = old.list }) new))
@@ -83,18 +86,18 @@ module _ (l : ℕ) where
     begins-moved : (number n2 : ℕ) (in_paragraph : Bool) (t : List ℕ) → n2 ≡ number + l → begins on n2 in_paragraph t ≡ option_map mp (begins on number in_paragraph t)
     begins-moved number n2 in_paragraph t e =
         let r = unindented t in
-        let first : Option Prefix = Some (mp (record { container = quote (record { line = number; is_near = on.code_indented }); size = quote_size t })) in
         (λ i. cond ((on.code_indented && nat_le 4 (indent t)) || (is_blank_line t || (on.thematic_break && is_thematic_break r))) None
         (cond (on.block_quote && begins_with 62 r) (Some (record { container = quote (record { line = e i; is_near = on.code_indented }); size = quote_size t }))
-        (cond (on.list_item && may_begin_item in_paragraph r) (Some (item_at (e i) t)) None)))
-        ∙ by ((on.code_indented && nat_le 4 (indent t)) || (is_blank_line t || (on.thematic_break && is_thematic_break r))) (on.block_quote && begins_with 62 r) (on.list_item && may_begin_item in_paragraph r)
+        (cond (on.gfm_footnote_definition && is_footnote r) (Some (footnote_at (e i) t)) (cond (on.list_item && may_begin_item in_paragraph r) (Some (item_at (e i) t)) None))))
+        ∙ by ((on.code_indented && nat_le 4 (indent t)) || (is_blank_line t || (on.thematic_break && is_thematic_break r))) (on.block_quote && begins_with 62 r) (on.gfm_footnote_definition && is_footnote r) (on.list_item && may_begin_item in_paragraph r)
       where
-        by : (b c d : Bool) → cond b None (cond c (Some (record { container = quote (record { line = number + l; is_near = on.code_indented }); size = quote_size t })) (cond d (Some (item_at (number + l) t)) None))
-            ≡ option_map mp (cond b None (cond c (Some (record { container = quote (record { line = number; is_near = on.code_indented }); size = quote_size t })) (cond d (Some (item_at number t)) None)))
-        by true c d = refl
-        by false true d = refl
-        by false false true = refl
-        by false false false = refl
+        by : (b c f d : Bool) → cond b None (cond c (Some (record { container = quote (record { line = number + l; is_near = on.code_indented }); size = quote_size t })) (cond f (Some (footnote_at (number + l) t)) (cond d (Some (item_at (number + l) t)) None)))
+            ≡ option_map mp (cond b None (cond c (Some (record { container = quote (record { line = number; is_near = on.code_indented }); size = quote_size t })) (cond f (Some (footnote_at number t)) (cond d (Some (item_at number t)) None))))
+        by true c f d = refl
+        by false true f d = refl
+        by false false true d = refl
+        by false false false true = refl
+        by false false false false = refl
 
     pub beginning-moved : (bound number n2 : ℕ) (in_paragraph : Bool) (t : List ℕ) → n2 ≡ number + l → beginning on bound n2 in_paragraph t ≡ map mp (beginning on bound number in_paragraph t)
     beginning-moved zero number n2 in_paragraph t e = refl

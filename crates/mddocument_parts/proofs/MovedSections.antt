@@ -7,7 +7,7 @@ use Rattle.std.proofs.lemmas.Bool.Decides.{nat_tests}
 use Rattle.markdown_base.specs.declared.configuration.Constructs.{Constructs}
 use Rattle.mdinline_labels.specs.declared.definitions.Definition.{Definition}
 use Rattle.mdinline_labels.specs.Definitions.{definitions}
-use Rattle.mdblock_lines.specs.Containers.{Container, Prefix, item, quote}
+use Rattle.mdblock_lines.specs.Containers.{Container, footnote, item, Prefix, quote}
 use Rattle.mdblock_containers.specs.Prefixes.{containers_of}
 use Rattle.mdblock_containers.specs.Rows.{Row, is_paragraph}
 use Rattle.mdblock_containers.specs.Skeleton.{Frame, Part, frames_at, frames_of, further, going_on_at, left_in, list_at, list_begun, list_name, parts, parts_in, standing}
@@ -50,6 +50,9 @@ module _ (l n : ℕ) where
   left-moved many number (item i ∷ cs) =
       (λ j. cond (nat_le many (length-map cs mc j) && less-moved i.line number j) (left-moved many number cs j) (mc (item i) ∷ map mc cs))
       ∙ cond-of (map mc) (nat_le many (length cs) && nat_lt i.line number) (left_in many number cs) (item i ∷ cs)
+  left-moved many number (footnote f ∷ cs) =
+      (λ j. cond (nat_le many (length-map cs mc j) && less-moved f.line number j) (left-moved many number cs j) (mc (footnote f) ∷ map mc cs))
+      ∙ cond-of (map mc) (nat_le many (length cs) && nat_lt f.line number) (left_in many number cs) (footnote f ∷ cs)
 
   going-moved : (rows : List Row) → going_on_at (mrs rows) ≡ going_on_at rows
   going-moved [] = refl
@@ -61,6 +64,7 @@ module _ (l n : ℕ) where
     where
       by : (c : Container) → list_begun ((let q : Prefix = record { container = mc c; size = 0 } in q) ∷ []) ≡ map mf (list_begun ((let q : Prefix = record { container = c; size = 0 } in q) ∷ []))
       by (quote q) = refl
+      by (footnote f) = refl
       by (item i) =
           let frame : Frame = record { name = list_name i; line = i.list } in
           (λ j. cond (less-moved i.list i.line j) (mf frame ∷ []) []) ∙ cond-of (map mf) (nat_lt i.list i.line) (frame ∷ []) []
@@ -84,6 +88,7 @@ module _ (l n : ℕ) where
   frames-of-moved : (c : Container) → frames_of (mc c) ≡ map mf (frames_of c)
   frames-of-moved (quote q) = refl
   frames-of-moved (item i) = refl
+  frames-of-moved (footnote f) = refl
 
   frames-moved : (row : Row) (behind : List Row) → frames_at (mr row) (mrs behind) ≡ map mf (frames_at row behind)
   frames-moved row behind =

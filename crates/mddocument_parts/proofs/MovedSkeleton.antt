@@ -23,12 +23,12 @@ use Rattle.mdinline_labels.specs.declared.definitions.Stretch.{Stretch}
 use Rattle.mdblock_leaf_blocks.specs.LeafBlocks.{bytes_of}
 use Rattle.mdblock_leaf_blocks.specs.LeafEvents.{Chunk, Mark, chunk_span, leaf_marks, span_marks, white}
 use Rattle.mdblock_leaf_blocks.specs.LineKinds.{indent}
-use Rattle.mdblock_lines.specs.Containers.{Container, Prefix, item, quote}
+use Rattle.mdblock_lines.specs.Containers.{Container, footnote, item, Prefix, quote}
 use Rattle.mdblock_tables.proofs.PieceLemmas.{end-moved, two}
 use Rattle.mdblock_containers.proofs.JoinLemmas.{join, join_is}
 use Rattle.mdblock_containers.specs.Prefixes.{columns_of}
 use Rattle.mdblock_containers.specs.Rows.{Row, has_none, holds_ending, rest_of}
-use Rattle.mdblock_containers.specs.Skeleton.{Frame, Part, Piece, begin_of, begun_all, begun_marks, chunks_of, end_of, ending_marks, enters_of, exits, going_marks, inside_of, is_held, joined_pieces, last_of, list_name, piece_of, pieces_of, prefixes_marks, shared}
+use Rattle.mdblock_containers.specs.Skeleton.{Frame, Part, Piece, begin_of, begun_all, begun_marks, chunks_of, end_of, ending_marks, enters_of, exits, footnote_marks, going_marks, inside_of, is_held, joined_pieces, label_marks, last_of, list_name, piece_of, pieces_of, prefixes_marks, shared}
 use Rattle.mdblock_definitions.specs.Definitions as those
 use Rattle.mdblock_definitions.proofs.StringEnds.{every-before, every-last}
 use Rattle.mdblock_definitions.specs.Definitions.{Place, StringLine, all_seats, before_prefixes, between, byte_at, definitions_marks, destination_marks, ending_at, ending_marks as place_ending_marks, further_line, gap_marks, is_byte, last_prefixes, line_marks, marked, parts_marks, places_in, places_of, seats_of, string_lines, text_of}
@@ -70,6 +70,7 @@ module _ (m : Shift) where
   abbrev pub mc : Container → Container
   mc (quote q) = quote (record q { line = m.number q.line })
   mc (item i) = item (record i { line = m.number i.line; list = m.number i.list })
+  mc (footnote f) = footnote (record f { line = m.number f.line })
 
   abbrev pub mp : Prefix → Prefix
   mp p = record p { container = mc p.container }
@@ -170,6 +171,20 @@ module _ (m : Shift) where
       two _ _ _ _ _ (whites m _ _ (tk m s r _ _ e p))
       (span m None name.BlockQuotePrefix _ _ _ _ (dr m s r _ _ e p) (two _ _ _ _ _ (leaf m name.BlockQuoteMarker _ _ (tk m _ _ 1 1 refl (dr m s r _ _ e p))) (whites m _ _ (dr m s r _ _ (ap suc e) p))))
   going (item i) s r p = whites m s r p
+  going (footnote f) s r p = whites m s r p
+
+  label : (n : ℕ) (s r : List Seat) → Moved m s r → label_marks m.places.new n s ≡ mk m (label_marks m.places.old n r)
+  label n s r p =
+      let string = tk m _ _ n n refl (dr m s r 2 2 refl p) in
+      two _ _ _ _ _ (leaf m name.GfmFootnoteDefinitionLabelMarker _ _ (tk m s r 1 1 refl p))
+      (two _ _ _ _ _ (leaf m name.GfmFootnoteDefinitionMarker _ _ (tk m _ _ 1 1 refl (dr m s r 1 1 refl p)))
+      (two _ _ _ _ _ (span m None name.GfmFootnoteDefinitionLabelString _ _ _ _ string (leaf m name.Data _ _ string)) (leaf m name.GfmFootnoteDefinitionLabelMarker _ _ (tk m _ _ 1 1 refl (dr m s r (n + 2) (n + 2) refl p)))))
+
+  note : (n : ℕ) (s r : List Seat) → Moved m s r → footnote_marks m.places.new n s ≡ mk m (footnote_marks m.places.old n r)
+  note n s r p =
+      span m None name.GfmFootnoteDefinitionPrefix s r _ _ p
+      (two _ _ _ _ _ (span m None name.GfmFootnoteDefinitionLabel _ _ _ _ (tk m s r (n + 3) (n + 3) refl p) (label n s r p))
+      (two _ _ _ _ _ (leaf m name.DefinitionMarker _ _ (tk m _ _ 1 1 refl (dr m s r (n + 3) (n + 3) refl p))) (whites m _ _ (dr m s r (n + 4) (n + 4) refl p))))
 
   begun : (c : Container) (s r : List Seat) → Moved m s r → begun_marks m.places.new (mc m c) s ≡ mk m (begun_marks m.places.old c r)
   begun (quote q) s r p = going (quote q) s r p
@@ -179,6 +194,7 @@ module _ (m : Shift) where
       (span m None name.ListItemPrefix _ _ _ _ (dr m s r _ _ e p)
       (two _ _ _ _ _ (leaf m name.ListItemValue _ _ (tk m _ _ i.digits i.digits refl (dr m s r _ _ e p)))
       (two _ _ _ _ _ (leaf m name.ListItemMarker _ _ (tk m _ _ 1 1 refl (dr m s r _ _ (ap (λ n. n + i.digits) e) p))) (whites m _ _ (dr m s r _ _ (ap (λ n. suc (n + i.digits)) e) p)))))
+  begun (footnote f) s r p = let e = ap indent (bs m s r p) in two _ _ _ _ _ (whites m _ _ (tk m s r _ _ e p)) (note f.label _ _ (dr m s r _ _ e p))
 
   pub prefixes : (ps : List Prefix) (s r : List Seat) → Moved m s r → prefixes_marks m.places.new (mps m ps) s ≡ mk m (prefixes_marks m.places.old ps r)
   prefixes [] s r q = refl
@@ -186,6 +202,7 @@ module _ (m : Shift) where
 
   enters : (c : Container) (p : Point) → IsOk m p → enters_of m.places.new (mc m c) (m.places.to p) ≡ mk m (enters_of m.places.old c p)
   enters (quote q) p k = let e = event-moved m Enter name.BlockQuote p k in (λ i. (e i, None) ∷ [])
+  enters (footnote f) p k = let e = event-moved m Enter name.GfmFootnoteDefinition p k in (λ i. (e i, None) ∷ [])
   enters (item i) p k =
       let list = event-moved m Enter (list_name i) p k in
       let this = event-moved m Enter name.ListItem p k in

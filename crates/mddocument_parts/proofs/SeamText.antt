@@ -19,7 +19,7 @@ use Rattle.mdinline_labels.specs.Definitions.{definitions}
 use Rattle.mdblock_leaf_blocks.specs.HtmlLines.{ends, waits_for_blank}
 use Rattle.mdblock_leaf_blocks.specs.LeafBlocks.{Line, blank_line, interrupts, text_of}
 use Rattle.mdblock_leaf_blocks.specs.LeafEvents.{Mark, last_end, leaf_block_marks, leaf_blocks_marks, leaf_marks}
-use Rattle.mdblock_leaf_blocks.specs.LineKinds.{Fence, LineKind, closes, fence, html, indent, is_blank_line, line_kind, text, underline_rank}
+use Rattle.mdblock_leaf_blocks.specs.LineKinds.{Fence, LineKind, closes, fence, html, indent, is_blank_line, line_kind, underline_rank}
 use Rattle.mdblock_containers.proofs.FrameFacts.{none_is}
 use Rattle.mdblock_containers.proofs.SkeletonChains.{Runs, idle}
 use Rattle.mdblock_containers.proofs.TightMarks.{Tight, leaf_tight, tight_more}
@@ -29,6 +29,7 @@ use Rattle.mdblock_containers.specs.Rows as without
 use Rattle.mdblock_containers.specs.Rows.{Before, Leaf, Row, closed, has_none, holds_ending, is_paragraph, is_table, leaf_after, open_fence, open_html, open_paragraph, opened_by, rest_of, open_table}
 use Rattle.mdblock_containers.specs.Skeleton.{Part, frames_at, further, is_held, last_of, parts_in, standing}
 use Rattle.mdblock_definitions.proofs.Covered.{rows_of, sections-hold-lines}
+use Rattle.mdblock_definitions.proofs.KnownReads.{fourth-fails}
 use Rattle.mdblock_definitions.specs.Rows.{Known, begins_table, is_row_of_table, is_used_up, known_after, row_of, row_without, rows, rows_from, underlines_nothing}
 use Rattle.mdblock_tables.specs.Tables.{is_row}
 use Rattle.mdblock_definitions.specs.Sections.{Section, before_defined, cut, defined_in, defining, is_in_table, lines, paragraph_of, sections, sections_in, sections_of_cut, text_in, undefined}
@@ -281,12 +282,6 @@ module _ (on : Constructs) where
   held-no-table open_table h = absurd (cc)
   held-no-table leaf h = refl
 
-  none-tabled : (a b c : Bool) → (a && (b && (c && false))) ≡ false
-  none-tabled true true true = refl
-  none-tabled true true false = refl
-  none-tabled true false c = refl
-  none-tabled false b c = refl
-
   module _ (k : Known) (n : ℕ) (line : Line) where
     abbrev row : Row
     row = row_of on k n line
@@ -339,7 +334,7 @@ module _ (on : Constructs) where
             let own = row_without on k n line in
             let untabled : is_row_of_table on k own ≡ false =
             (λ i. on.gfm_table && (own.stays && (is_paragraph own.leaf && ((held-no-text k.before.leaf f i && begins_table on k own) || (held-no-table k.before.leaf f i && is_row (rest_of own))))))
-            ∙ none-tabled on.gfm_table own.stays (is_paragraph own.leaf) in
+            ∙ fourth-fails on.gfm_table own.stays (is_paragraph own.leaf) in
             let leaf : row.leaf ≡ leaf_after on k.before.leaf [] =
             ap (λ w. cond w open_table own.leaf) untabled
             ∙ (λ i. cond (none i) open_paragraph (cond (left i) closed (cond (lazy i) open_paragraph (leaf_after on (cond (stays i) k.before.leaf closed) (empty i))))) in

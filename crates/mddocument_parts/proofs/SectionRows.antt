@@ -52,11 +52,17 @@ pub joined-taken : (n : ℕ) (x : List Row) (r : Row) (rs : List Row) → joined
 joined-taken zero x r rs h = joined-nothing false x
 joined-taken (suc n) x r rs h = joined-begin false x r (take n rs) rs ∙ h
 
-pub joined-left : (p : Bool) (n : ℕ) (x y : List Row) → joined p x y ≡ false → joined false (drop n x) y ≡ false
+joined-left : (p : Bool) (n : ℕ) (x y : List Row) → joined p x y ≡ false → joined false (drop n x) y ≡ false
 joined-left p zero [] y h = refl
 joined-left p zero (q ∷ x) y h = h
 joined-left p (suc n) [] y h = refl
 joined-left p (suc n) (q ∷ x) y h = joined-left (is_paragraph q.leaf) n x y h
+
+pub joined-behind-table : (x y : List Row) → joined false x y ≡ false → joined false (behind_table x) y ≡ false
+joined-behind-table x y h =
+    let n = before_table is_in_table x in
+    let z = drop n x in
+    joined-left false (table_lines is_in_table z) z y (joined-left false n x y h)
 
 abbrev is_text_row : Row → Bool
 is_text_row row = is_paragraph row.leaf
@@ -301,13 +307,8 @@ module _ {A : Type 0} (on : Constructs) (h : Bool → Row → List A) (d : List 
     abbrev Ends : List Row → Type 0
     Ends rows = joined false rows (r ∷ rs) ≡ false
 
-    ends-behind : (q : Row) (x : List Row) → Ends (q ∷ x) → before_table is_in_table (q ∷ x) < length (q ∷ x) → Ends (behind_table (q ∷ x))
-    ends-behind q x h less =
-        let z = drop (before_table is_in_table (q ∷ x)) (q ∷ x) in
-        joined-left false (table_lines is_in_table z) z (r ∷ rs) (joined-left false (before_table is_in_table (q ∷ x)) (q ∷ x) (r ∷ rs) h)
-
     pub cuts-append : (c b b2 : ℕ) (x : List Row) → length (x ++ (r ∷ rs)) ≤ c → length x ≤ b → length (r ∷ rs) ≤ b2 → joined false x (r ∷ rs) ≡ false → of_cuts c (x ++ (r ∷ rs)) ≡ of_cuts b x ++ of_cuts b2 (r ∷ rs)
-    cuts-append c b b2 x l m m2 e = by (cuts-join r rs none Ends ends-behind c b b2 x l m m2 e)
+    cuts-append c b b2 x l m m2 e = by (cuts-join r rs none Ends (λ q x h less. joined-behind-table (q ∷ x) (r ∷ rs) h) c b b2 x l m m2 e)
       where
         by : CutsJoin r rs none Ends x (cuts c (x ++ (r ∷ rs))) (cuts b x) (cuts b2 (r ∷ rs)) → of_cuts c (x ++ (r ∷ rs)) ≡ of_cuts b x ++ of_cuts b2 (r ∷ rs)
         by (cuts_apart k) = ap (flat_map of_cut) k ∙ flat_map-append of_cut (cuts b x) (cuts b2 (r ∷ rs))

@@ -13,7 +13,7 @@ use Rattle.mdinline_labels.specs.Definitions.{definitions}
 use Rattle.mdinline_labels.specs.declared.definitions.Definition.{Definition}
 use Rattle.mdblock_leaf_blocks.specs.LeafBlocks.{Line}
 use Rattle.mdblock_leaf_blocks.specs.LeafEvents.{Mark}
-use Rattle.mdblock_lines.specs.Containers.{Container, Prefix, item, quote}
+use Rattle.mdblock_lines.specs.Containers.{Container, footnote, item, Prefix, quote}
 use Rattle.mdblock_containers.proofs.WrittenLemmas.{chained_length}
 use Rattle.mdblock_containers.specs.Rows.{Row, is_paragraph}
 use Rattle.mdblock_containers.specs.Skeleton.{Frame, Part, chained_from, end_of, ending_marks, exits, frames_at, further, next_chunk, parts_in, shared, standing}
@@ -224,6 +224,7 @@ module _ (m : Shift) (to-is : (p : Point) → m.places.to p ≡ p) (number-is : 
 
   container-is : (c : Container) → mc m c ≡ c
   container-is (quote q) = let a = number-is q.line in (λ j. quote (record q { line = a j }))
+  container-is (footnote f) = let a = number-is f.line in (λ j. footnote (record f { line = a j }))
   container-is (item i) = let a = number-is i.line in let b = number-is i.list in (λ j. item (record i { line = a j; list = b j }))
 
   prefix-is : (p : Prefix) → mp m p ≡ p
@@ -344,6 +345,7 @@ module _ (a b : List ℕ) (h : begins_line b a ≡ true) where
   unfolding goes
   container-goes (quote q) = refl
   container-goes (item i) = refl
+  container-goes (footnote f) = refl
 
   prefix-goes : (p : Prefix) → moved_prefix (line_endings a) p ≡ mp goes p
   prefix-goes p = let c = container-goes p.container in (λ i. record p { container = c i })

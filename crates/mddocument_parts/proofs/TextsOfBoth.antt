@@ -12,7 +12,7 @@ use Rattle.markdown_base.proofs.Common.{every-append, every-map, filter-none}
 use Rattle.markdown_base.proofs.Scans.{IsReturnPlace, IsSeatPlace, place-of}
 use Rattle.markdown_base.specs.Events.{EndsBelow}
 use Rattle.markdown_base.specs.Places.{IsPointOf, in_range, stands_before}
-use Rattle.markdown_base.specs.Virtual.{Seat, begins_with_lf, in_tab, point, virtual}
+use Rattle.markdown_base.specs.Virtual.{Seat, begins_with_lf, point, virtual}
 use Rattle.markdown_base.specs.declared.configuration.ParseOptions.{ParseOptions}
 use Rattle.markdown_base.specs.declared.event.Content.{Content}
 use Rattle.markdown_base.specs.declared.event.Event.{Event}

@@ -2,7 +2,7 @@
 use Rattle.std.specs.Prelude.{◌≡◌, ℕ, suc, ◌+◌, ◌≤◌, ◌==◌, ◌&&◌, not, Bool, true, false, List, [], ◌∷◌, ◌++◌, length, map}
 use Rattle.markdown_base.specs.declared.configuration.Constructs.{Constructs}
 use Rattle.mdblock_leaf_blocks.specs.LeafBlocks.{Line}
-use Rattle.mdblock_lines.specs.Containers.{Container, Prefix, item, quote}
+use Rattle.mdblock_lines.specs.Containers.{Container, Prefix, footnote, item, quote}
 use Rattle.mdblock_containers.specs.Rows.{Before, Leaf, Row, closed, has_none, nothing_known}
 use Rattle.mdblock_definitions.specs.Rows.{Known, known_after, row_of, rows, rows_from}
 use Rattle.markdown_base.specs.Virtual.{virtual}
@@ -19,7 +19,7 @@ is_closed _ = false
 
 -- the first container that begins goes on with a list, in the place of an item that ended
 abbrev pub joins_list : (ended : List Container) → (begun : List Prefix) → Bool
-joins_list (item old ∷ cs) (p ∷ ps) = elim p.container [ quote q ↦ false | item new ↦ old.marker == new.marker ]
+joins_list (item old ∷ cs) (p ∷ ps) = elim p.container [ quote q ↦ false | item new ↦ old.marker == new.marker | footnote f ↦ false ]
 joins_list _ _ = false
 
 -- The constructs that are on
@@ -48,6 +48,7 @@ module _ (lines : ℕ) where
   abbrev pub moved_container : Container → Container
   moved_container (quote q) = quote (record q { line = q.line + lines })
   moved_container (item i) = item (record i { line = i.line + lines; list = i.list + lines })
+  moved_container (footnote f) = footnote (record f { line = f.line + lines })
 
   abbrev pub moved_prefix : Prefix → Prefix
   moved_prefix p = record p { container = moved_container p.container }

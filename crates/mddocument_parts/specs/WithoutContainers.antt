@@ -12,7 +12,7 @@ use Rattle.mddocument.specs.FlowTexts.{flow_inlines}
 use Rattle.mdconstructs_machines.specs.LineEvents.{lines_in}
 use Rattle.mdinline_link_strings.specs.Strings.{with_strings}
 
--- No line of a document begins a block quote or a list item, so none goes on with one
+-- No line of a document begins a block quote, a list item or a footnote definition, so none goes on with one
 abbrev pub begins_no_container : ParseOptions → (bytes : List ℕ) → Bool
 begins_no_container options bytes = list_all (λ row. has_none row.begun) (rows options.constructs (lines_in (virtual_bytes options bytes)))
 
@@ -29,6 +29,6 @@ DocumentsWithoutContainers = (options : ParseOptions) (bytes : List ℕ) → IsD
     AreFlowEvents options bytes (document_blocks (document options bytes))
     × (document_events (document options bytes) ≡ with_strings on options.tab_size bytes (flow_inlines on bytes (virtual_bytes options bytes)))
 
--- Where block quotes and lists are off, no line of a document begins one
+-- Where block quotes, lists and footnote definitions are off, no line of a document begins one
 abbrev pub NoneBeginsWhereOff : Type 0
-NoneBeginsWhereOff = (options : ParseOptions) (bytes : List ℕ) → options.constructs.block_quote ≡ false → options.constructs.list_item ≡ false → begins_no_container options bytes ≡ true
+NoneBeginsWhereOff = (options : ParseOptions) (bytes : List ℕ) → options.constructs.block_quote ≡ false → options.constructs.list_item ≡ false → options.constructs.gfm_footnote_definition ≡ false → begins_no_container options bytes ≡ true

@@ -106,9 +106,9 @@ pub fn asked_labels_move()
     ensures { AskedLabelsMove }
 {}
 
-/// A document in which no line begins a block quote or a list item, and none has a bracket in front, is read as its leaf blocks are, with their
-/// chunks, and with their texts and strings read, and then the strings in which destinations, titles and labels stand. No line begins a
-/// block quote or a list item where these are off; and where definitions are off, brackets may be in front.
+/// A document in which no line begins a block quote, a list item or a footnote definition, and none has a bracket in front, is read as its leaf
+/// blocks are, with their chunks, and with their texts and strings read, and then the strings in which destinations, titles and labels
+/// stand. No line begins one of these where they are off; and where definitions are off, brackets may be in front.
 pub fn documents_without_containers()
     ensures read { DocumentsWithoutContainers }
     ensures off { NoneBeginsWhereOff }

@@ -38,7 +38,7 @@ module _ (names : List Name) (off : (on : Constructs) → AllByRecursion (λ (m 
 
   skeleton-other : (on : Constructs) (bytes : List ℕ) (seats : List Seat) → Named IsOther (skeleton on bytes seats)
   skeleton-other on bytes seats =
-      let still : AreStillOn on (without on) = record { quotes = λ h. h; items = λ h. h; definitions = λ h. h; tables = λ h. h } in
+      let still : AreStillOn on (without on) = record { quotes = λ h. h; items = λ h. h; definitions = λ h. h; tables = λ h. h; footnotes = λ h. h } in
       weaker (λ n h. other-name on n (plain-may (without on) n (bare-plain (without on) n h))) (skeleton on bytes seats) (skeleton-named-by (without on) bytes on still seats)
 
   flow-other : (on : Constructs) (is_text : Line → Bool) (bytes : List ℕ) (seats : List Seat) → Named IsOther (flow_events on is_text bytes seats)

@@ -9,14 +9,11 @@ use Rattle.mddocument_link_targets.proofs.CostLemmas.{linear}
 use Rattle.mddocument_link_targets.specs.Costs.{DefinitionsHoldNone}
 use Rattle.mddocument_link_targets.specs.Spans.{enters, inside, size_by, size_from}
 use Rattle.mddocument_rules.proofs.DocumentStands.{documents-stand}
-use Rattle.mddocument_rules.proofs.Places.{by-wanted}
+use Rattle.mddocument_rules.proofs.Places.{by-wanted, holders}
 use Rattle.mddocument_rules.specs.DefinitionLaws.{DefinitionsOfDocumentsAreLinear, NoDefinitionInADefinition}
 
 abbrev is_one : Event → Bool
 is_one e = enters name.Definition e
-
-abbrev holders : List Name
-holders = name.BlockQuote ∷ name.ListItem ∷ []
 
 -- a name in which neither blocks nor items stand, and one that is none of them
 abbrev pub Bare : Name → Type 0
@@ -38,7 +35,7 @@ low h n around b m =
 -- what is none of them holds none
 pub bare : (n : Name) → Low n → Bare n
 bare n l = (
-  false_from_ne_true (is_wanted holders n) (λ e. by-wanted (λ m. Low m → ⊥) holders n ((λ h. false≢true (sym h.1)), ((λ h. false≢true (sym h.0)), tt)) e l),
+  false_from_ne_true (is_wanted holders n) (λ e. by-wanted (λ m. Low m → ⊥) holders n ((λ h. false≢true (sym h.1)), ((λ h. false≢true (sym h.0)), ((λ h. false≢true (sym h.1)), tt))) e l),
   false_from_ne_true (is_wanted list_names n) (λ e. by-wanted (λ m. Low m → ⊥) list_names n ((λ h. false≢true (sym h.1)), ((λ h. false≢true (sym h.1)), tt)) e l),
 )
 

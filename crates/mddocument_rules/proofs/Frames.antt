@@ -1,5 +1,5 @@
 -- Spans of containers: each begins where it may stand, and all that begin in a part end behind it.
-use Rattle.mddocument_rules.proofs.Prelude.{◌≡◌, ◌∙◌, ◌==◌, ℕ, zero, suc, Bool, true, false, cond, List, [], ◌∷◌, ◌++◌, drop, length, map, reverse, take, None, refl, sym, ap, subst, append-nil, append_assoc, cond_both, or_right, flat_map, nat_le, nat_lt, Enter, Exit, Name, Point, Seat, is_wanted, event, bytes_of, Mark, leaf_marks, span_marks, white, indent, Container, Item, Prefix, item, quote, all_entered, entered, list_names, Row, Frame, begin_of, begun_all, begun_marks, enters_of, exits, frames_at, frames_of, going_marks, going_on_at, list_at, list_begun, list_name, prefixes_marks, standing, holds_blocks, is_in, may_stand, ◌&&◌, not}
+use Rattle.mddocument_rules.proofs.Prelude.{◌≡◌, ◌∙◌, ◌==◌, ℕ, zero, suc, Bool, true, false, cond, List, [], ◌∷◌, ◌++◌, drop, length, map, reverse, take, None, refl, sym, ap, subst, append-nil, append_assoc, cond_both, or_right, flat_map, nat_le, nat_lt, Enter, Exit, Name, Point, Seat, is_wanted, event, bytes_of, Mark, leaf_marks, span_marks, white, indent, Container, Item, Prefix, footnote, item, quote, all_entered, entered, list_names, Row, Frame, begin_of, begun_all, begun_marks, enters_of, exits, frames_at, frames_of, going_marks, going_on_at, list_at, list_begun, list_name, prefixes_marks, standing, holds_blocks, is_in, may_stand, ◌&&◌, not}
 use Rattle.std.proofs.lemmas.List.{reverse-append}
 use Rattle.markdown_base.specs.declared.event.Name.TheVariants as name
 use Rattle.mddocument_rules.proofs.Definitions.{begins-are}
@@ -40,6 +40,7 @@ list-is i = cond_both (nat_le 1 i.digits) name.ListOrdered name.ListUnordered (�
 
 one-stacked : (c : Container) (around : List Name) → Roomy around → Stacked around (frames_of c) × Roomy (within around (frames_of c))
 one-stacked (quote q) around h = ((h, tt), refl)
+one-stacked (footnote f) around h = ((h, tt), refl)
 one-stacked (item i) around h = ((list-stands i around h, (list-is i, tt)), refl)
 
 pub containers-stacked : (cs : List Container) (around : List Name) → Roomy around → Stacked around (flat_map frames_of cs) × Roomy (within around (flat_map frames_of cs))
@@ -53,8 +54,9 @@ begun-stacked : (ps : List Prefix) (around : List Name) → Roomy around → Sta
 begun-stacked [] around h = tt
 begun-stacked (p ∷ ps) around h = by p.container
   where
-    by : (c : Container) → Stacked around (elim c [ quote q ↦ [] | item i ↦ cond (nat_lt i.list i.line) (record { name = list_name i; line = i.list } ∷ []) [] ])
+    by : (c : Container) → Stacked around (elim c [ quote q ↦ [] | item i ↦ cond (nat_lt i.list i.line) (record { name = list_name i; line = i.list } ∷ []) [] | footnote f ↦ [] ])
     by (quote q) = tt
+    by (footnote f) = tt
     by (item i) = cond_both (nat_lt i.list i.line) (record { name = list_name i; line = i.list } ∷ []) [] (Stacked around) (λ e. (list-stands i around h, tt)) (λ e. tt)
 
 list-stacked : (rs : List Row) (around : List Name) → Roomy around → Stacked around (list_at rs)
@@ -145,6 +147,7 @@ module _ (bytes : List ℕ) where
       drop-one (suc n) [] = refl
       drop-one (suc n) (x ∷ xs) = drop-one n xs
   goings (item i) seats = spaces seats
+  goings (footnote f) seats = spaces seats
 
   pub prefixes-pass : (ps : List Prefix) (seats : List Seat) → Anywhere (prefixes_marks bytes ps seats)
   prefixes-pass [] seats = anywhere-none
@@ -153,6 +156,7 @@ module _ (bytes : List ℕ) where
   -- ---- containers that begin
   one-begins : (c : Container) (place : Point) (around : List Name) (ys : List Mark) → Stacked around (entered c) → (NotInList (within around (entered c)) → MarksStand (within around (entered c)) ys) → MarksStand around (enters_of bytes c place ++ ys)
   one-begins (quote q) place around ys h k = ((h.0, tt), k refl)
+  one-begins (footnote f) place around ys h k = ((h.0, tt), k refl)
   one-begins (item i) place around ys h k = by (i.list == i.line) h k
     where
       by : (b : Bool) → Stacked around (item_frames i b) → (NotInList (within around (item_frames i b)) → MarksStand (within around (item_frames i b)) ys)

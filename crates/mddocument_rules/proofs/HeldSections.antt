@@ -1,5 +1,5 @@
 -- What is in the definitions of a skeleton is what its sections have of them.
-use Rattle.mddocument_rules.proofs.Prelude.{◌≡◌, ◌∙◌, ℕ, suc, ◌+◌, ◌==◌, Bool, true, false, cond, not, List, [], ◌∷◌, ◌++◌, None, Option, Some, append_assoc, ap, drop, flat_map, length, map, refl, reverse, subst, sym, take, cond_both, false_from_ne_true, false≢true, AllByRecursion, every-all, every-append, every-drop, every-front, IsBalanced, empty, span, IsBalanced-append, Event, Enter, Exit, Name, Point, Seat, end_after, is_wanted, block_names, same_name-true, nat_le, ending_of, event, Definition, Chunk, Mark, chunk_span, leaf_marks, span_marks, white, indent, Container, Prefix, item, quote, Turn, all_entered, entered, Row, has_none, rest_of, Frame, Part, Piece, begin_of, begun_all, begun_marks, chained_from, chunks_of, end_of, ending_marks, enters_of, exits, is_held, joined_pieces, last_line, list_name, next_chunk, pieces_of, prefixes_marks, shared, stretch-is, PieceIs, Inside, Section, defined, lines, table, all_rows, behind_marks, inside_marks, section_marks, sections_marks}
+use Rattle.mddocument_rules.proofs.Prelude.{◌≡◌, ◌∙◌, ℕ, suc, ◌+◌, ◌==◌, Bool, true, false, cond, not, List, [], ◌∷◌, ◌++◌, None, Option, Some, append_assoc, ap, drop, flat_map, length, map, refl, reverse, subst, sym, take, cond_both, false_from_ne_true, false≢true, AllByRecursion, every-all, every-append, every-drop, every-front, IsBalanced, empty, span, IsBalanced-append, Event, Enter, Exit, Name, Point, Seat, end_after, is_wanted, block_names, same_name-true, nat_le, ending_of, event, Definition, Chunk, Mark, chunk_span, leaf_marks, span_marks, white, indent, Container, Prefix, footnote, item, quote, Turn, all_entered, entered, Row, has_none, rest_of, Frame, Part, Piece, begin_of, begun_all, begun_marks, chained_from, chunks_of, end_of, ending_marks, enters_of, exits, is_held, joined_pieces, last_line, list_name, next_chunk, pieces_of, prefixes_marks, shared, stretch-is, PieceIs, Inside, Section, defined, lines, table, all_rows, behind_marks, inside_marks, section_marks, sections_marks}
 use Rattle.std.proofs.lemmas.List.{map-append}
 use Rattle.markdown_base.proofs.Common.{every-reverse, every-take}
 use Rattle.markdown_base.specs.declared.event.Content.TheVariants as content
@@ -242,6 +242,7 @@ module _ (bytes : List ℕ) where
 
   enters-lack : (c : Container) (place : Point) → Lacks (enters_of bytes c place)
   enters-lack (quote q) place = lacks-mark (event bytes Enter name.BlockQuote place) refl
+  enters-lack (footnote f) place = lacks-mark (event bytes Enter name.GfmFootnoteDefinition place) refl
   enters-lack (item i) place =
       lacks-both (cond (i.list == i.line) ((event bytes Enter (list_name i) place, None) ∷ []) []) ((event bytes Enter name.ListItem place, None) ∷ [])
       (cond_both (i.list == i.line) ((event bytes Enter (list_name i) place, None) ∷ []) [] Lacks (λ e. lacks-mark (event bytes Enter (list_name i) place) (list-other (nat_le 1 i.digits))) (λ e. lacks-none)) (lacks-mark (event bytes Enter name.ListItem place) refl)
@@ -257,6 +258,7 @@ module _ (bytes : List ℕ) where
 
   entered-other : (c : Container) → AllByRecursion FrameIs (entered c)
   entered-other (quote q) = (refl, tt)
+  entered-other (footnote f) = (refl, tt)
   entered-other (item i) =
       every-append FrameIs (cond (i.list == i.line) (record { name = list_name i; line = i.list } ∷ []) []) (record { name = name.ListItem; line = i.line } ∷ [])
       (cond_both (i.list == i.line) (record { name = list_name i; line = i.list } ∷ []) [] (AllByRecursion FrameIs) (λ e. (list-other (nat_le 1 i.digits), tt)) (λ e. tt)) (refl, tt)

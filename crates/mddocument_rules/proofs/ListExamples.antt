@@ -5,7 +5,7 @@ use Rattle.markdown_base.specs.Presets.{default_parse_options}
 use Rattle.markdown_base.specs.Virtual.{virtual}
 use Rattle.markdown_tokenizer.specs.Text.{Given}
 use Rattle.mdconstructs_machines.specs.LineEvents.{lines_in}
-use Rattle.mdblock_lines.specs.Containers.{Container, item, quote}
+use Rattle.mdblock_lines.specs.Containers.{Container, footnote, item, quote}
 use Rattle.mdblock_containers.specs.declared.lists.Marker.{Marker}
 use Rattle.mdblock_containers.specs.declared.lists.Marker.TheVariants.{Dash, Period, Plus}
 use Rattle.mdblock_containers.specs.Lists.{behind_enter, items_in, list_names}
@@ -41,11 +41,12 @@ delimiters = refl
 abbrev rows_of : List ℕ → List Row
 rows_of d = rows default_parse_options.constructs (lines_in (virtual 4 d))
 
--- of the container at a depth, the line in which it began, or its list; and its marker
+-- of the container at a depth, the line in which it began, or its list; and its marker, or how long its label is
 abbrev shown : Option Container → List ℕ
 shown None = []
 shown (Some (quote q)) = q.line ∷ []
 shown (Some (item i)) = i.list ∷ i.marker ∷ []
+shown (Some (footnote f)) = f.line ∷ f.label ∷ []
 
 -- what is open before a line at the depth of what begins in it, and what begins there
 abbrev in_a_row : ℕ → List ℕ → List (List ℕ)

@@ -16,7 +16,7 @@ use Rattle.markdown_tokenizer.specs.Text.{Given}
 use Rattle.mdconstructs_machines.specs.LineEvents.{lines_in}
 use Rattle.mdblock_leaf_blocks.proofs.Lines.WholeLines.{IsWhole, whole-lines}
 use Rattle.mdblock_leaf_blocks.specs.LeafBlocks.{Line}
-use Rattle.mdblock_lines.specs.Containers.{Container, Item, Prefix, item, quote}
+use Rattle.mdblock_lines.specs.Containers.{Container, Item, Prefix, footnote, item, quote}
 use Rattle.mdblock_containers.proofs.FrameFacts.{Turn, all_entered, begun_entered, entered, left_is, none_is, standing_begun, take_front}
 use Rattle.mdblock_containers.proofs.OpenFrames.{AreTurned, document_turned}
 use Rattle.mdblock_containers.proofs.PlainLetters.{lines_each}
@@ -73,10 +73,12 @@ module _ (rs : List Row) (bytes : List ℕ) where
   -- ---- how many containers spans are
   deep-one : (d : ℕ) (c : Container) → deep rs d (frames_of c) ≡ suc d
   deep-one d (quote q) = refl
+  deep-one d (footnote f) = refl
   deep-one d (item i) = ap (λ b. deep rs (cond b d (suc d)) (record { name = name.ListItem; line = i.line } ∷ [])) (list-is rs bytes i).0
 
   deep-entered : (d : ℕ) (c : Container) → deep rs d (entered c) ≡ suc d
   deep-entered d (quote q) = refl
+  deep-entered d (footnote f) = refl
   deep-entered d (item i) = by (i.list == i.line)
     where
       by : (x : Bool) → deep rs d (cond x (record { name = list_name i; line = i.list } ∷ []) [] ++ record { name = name.ListItem; line = i.line } ∷ []) ≡ suc d
@@ -93,8 +95,9 @@ module _ (rs : List Row) (bytes : List ℕ) where
   deep-list d [] = refl
   deep-list d (p ∷ ps) = by p.container
     where
-      by : (c : Container) → deep rs d (elim c as (λ _. List Frame) [ quote q ↦ [] | item i ↦ cond (nat_lt i.list i.line) (record { name = list_name i; line = i.list } ∷ []) [] ]) ≡ d
+      by : (c : Container) → deep rs d (elim c as (λ _. List Frame) [ quote q ↦ [] | item i ↦ cond (nat_lt i.list i.line) (record { name = list_name i; line = i.list } ∷ []) [] | footnote f ↦ [] ]) ≡ d
       by (quote q) = refl
+      by (footnote f) = refl
       by (item i) = cond_both (nat_lt i.list i.line) (record { name = list_name i; line = i.list } ∷ []) [] (λ fs. deep rs d fs ≡ d) (λ e. ap (λ b. cond b d (suc d)) (list-is rs bytes i).0) (λ e. refl)
 
   -- ---- what begins in a line
@@ -115,6 +118,7 @@ module _ (rs : List Row) (bytes : List ℕ) where
   begins-own : (n d : ℕ) (around : List (Option Marker)) (c : Container) (size : ℕ) (ps : List Prefix) (seats : List Seat) → AreWritten bytes (record { container = c; size = size } ∷ ps) seats → BeginsIn n c × BeginsList c
       → AreListed d (record { container = c; size = size } ∷ ps) → Begins rs bytes d around c (take size seats)
   begins-own n d around (quote q) size ps seats w b h = tt
+  begins-own n d around (footnote f) size ps seats w b h = tt
   begins-own n d around (item i) size ps seats w b h = record {
     written = w.0.0;
     named = w.0.1;
@@ -149,6 +153,7 @@ module _ (rs : List Row) (bytes : List ℕ) where
   first-begins : (n : ℕ) (went : List Container) (c : Container) (size : ℕ) (ps : List Prefix) (seats : List Seat) → BeginsIn n c → AreWritten bytes (record { container = c; size = size } ∷ ps) seats → AreListed (length went) (record { container = c; size = size } ∷ ps)
       → let kept = flat_map frames_of went ++ list_begun (record { container = c; size = size } ∷ ps) in Begins rs bytes (deep rs 0 kept) (within rs 0 [] kept) c (take size seats)
   first-begins n went (quote q) size ps seats b w h = tt
+  first-begins n went (footnote f) size ps seats b w h = tt
   first-begins n went (item i) size ps seats b w h = record {
     written = w.0.0;
     named = w.0.1;

@@ -13,7 +13,7 @@ use Rattle.markdown_base.specs.declared.event.Point.{Point}
 use Rattle.markdown_edits.specs.SpanWalks.{is_wanted}
 use Rattle.mdconstructs_machines.specs.Spans.{event}
 use Rattle.mdblock_leaf_blocks.specs.LeafEvents.{Mark}
-use Rattle.mdblock_lines.specs.Containers.{Container, Item, Prefix, item, quote}
+use Rattle.mdblock_lines.specs.Containers.{Container, Item, Prefix, footnote, item, quote}
 use Rattle.mdblock_containers.proofs.FrameFacts.{Turn, all_entered, entered}
 use Rattle.mdblock_containers.specs.declared.lists.Marker.{Marker}
 use Rattle.mdblock_containers.specs.Lists.{list_names, marker_of}
@@ -31,6 +31,7 @@ use Rattle.mddocument_rules.specs.MarkerLaws.{item_marker}
 abbrev pub container_marker : Container → Option Marker
 container_marker (quote q) = None
 container_marker (item i) = marker_of i.marker
+container_marker (footnote f) = None
 
 -- the marker of a list that stands in so many containers and begins in the line of this number
 abbrev pub marker_at : List Row → (depth number : ℕ) → Option Marker
@@ -110,6 +111,7 @@ module _ (rs : List Row) where
     abbrev pub Begins : (d : ℕ) (around : List (Option Marker)) → Container → List Seat → Type 0
     Begins d around (quote q) seats = Unit {0}
     Begins d around (item i) seats = ItemBegins d around i seats
+    Begins d around (footnote f) seats = Unit {0}
 
     abbrev pub AllBegin : (d : ℕ) (around : List (Option Marker)) → List Prefix → List Seat → Type 0
     AllBegin d around [] seats = Unit {0}
@@ -120,6 +122,8 @@ module _ (rs : List Row) where
 
     one-begins : (c : Container) (place : Point) (d : ℕ) (around : List (Option Marker)) (seats : List Seat) (ys : List Mark) → Begins d around c seats → MarksAre bytes (within d around (entered c)) ys → MarksAre bytes around (enters_of bytes c place ++ (begun_marks bytes c seats ++ ys))
     one-begins (quote q) place d around seats ys b h = enters-plain bytes name.BlockQuote place around (begun_marks bytes (quote q) seats ++ ys) (refl, refl) ((begins-plain bytes (quote q) seats).passes (None ∷ around) ys h)
+    one-begins (footnote f) place d around seats ys b h =
+        enters-plain bytes name.GfmFootnoteDefinition place around (begun_marks bytes (footnote f) seats ++ ys) (refl, refl) ((begins-plain bytes (footnote f) seats).passes (None ∷ around) ys h)
     one-begins (item i) place d around seats ys b h = by (i.list == i.line) refl h
       where
         rest : List Mark

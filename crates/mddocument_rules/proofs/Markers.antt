@@ -11,7 +11,7 @@ use Rattle.markdown_base.specs.declared.event.Name.TheVariants.{ListOrdered, Lis
 use Rattle.markdown_edits.proofs.Edits.Survivors.{slice_get-behind}
 use Rattle.markdown_tokenizer.proofs.Positions.Cursors.{get-after}
 use Rattle.mdblock_leaf_blocks.specs.LeafBlocks.{Line}
-use Rattle.mdblock_lines.specs.Containers.{Container, Item, Prefix, item, quote}
+use Rattle.mdblock_lines.specs.Containers.{Container, Item, Prefix, footnote, item, quote}
 use Rattle.mdblock_containers.proofs.RowFacts.{BeganBefore, BeginsIn, BeginsList, is_ordered, went_are}
 use Rattle.mdblock_containers.specs.Prefixes.{containers_of, in_place_of}
 use Rattle.mdblock_containers.specs.Rows.{Row, nothing_known}
@@ -74,21 +74,24 @@ module _ (rs : List Row) where
         let is = subst (λ (y : Item). (y.line ≡ n) × (y.list ≡ y.line)) same (begins.0.0, begins.1) in
         begins-list d i h is.0 is.1
 
-    placed : (d : ℕ) (i : Item) (old new : Container) → slice_get (containers_in r) d ≡ Some (item i) → slice_get k.before.stack d ≡ Some old → BeginsIn n new × BeginsList new → item i ≡ in_place_of old new → IsOfItsList rs d i
-    placed d i (item old) (item new) h at begins e = in-place d i old new h at begins (old.marker == new.marker) refl e
-    placed d i (item old) (quote m) h at begins e = absurd (cc)
-    placed d i (quote q) (quote m) h at begins e = absurd (cc)
-    placed d i (quote q) (item new) h at begins e =
-        let same : new ≡ i = cc in
-        let is = subst (λ (y : Item). (y.line ≡ n) × (y.list ≡ y.line)) same (begins.0.0, begins.1) in
-        begins-list d i h is.0 is.1
-
     new-item : (d : ℕ) (i : Item) (c : Container) → slice_get (containers_in r) d ≡ Some (item i) → BeginsIn n c × BeginsList c → item i ≡ c → IsOfItsList rs d i
     new-item d i (item new) h begins e =
         let same : new ≡ i = cc in
         let is = subst (λ (y : Item). (y.line ≡ n) × (y.list ≡ y.line)) same (begins.0.0, begins.1) in
         begins-list d i h is.0 is.1
     new-item d i (quote m) h begins e = absurd (cc)
+    new-item d i (footnote f) h begins e = absurd (cc)
+
+    placed : (d : ℕ) (i : Item) (old new : Container) → slice_get (containers_in r) d ≡ Some (item i) → slice_get k.before.stack d ≡ Some old → BeginsIn n new × BeginsList new → item i ≡ in_place_of old new → IsOfItsList rs d i
+    placed d i (item old) (item new) h at begins e = in-place d i old new h at begins (old.marker == new.marker) refl e
+    placed d i (item old) (quote m) h at begins e = absurd (cc)
+    placed d i (item old) (footnote f) h at begins e = absurd (cc)
+    placed d i (quote q) (quote m) h at begins e = absurd (cc)
+    placed d i (quote q) (footnote f) h at begins e = absurd (cc)
+    placed d i (quote q) (item new) h at begins e = new-item d i (item new) h begins e
+    placed d i (footnote f) (quote m) h at begins e = absurd (cc)
+    placed d i (footnote f) (footnote g) h at begins e = absurd (cc)
+    placed d i (footnote f) (item new) h at begins e = new-item d i (item new) h begins e
 
     pub line-items : AreOfTheirLists rs (containers_in r)
     line-items d i h =

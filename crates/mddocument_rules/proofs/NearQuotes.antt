@@ -7,7 +7,7 @@ use Rattle.markdown_base.proofs.Common.{every-append, every-take}
 use Rattle.markdown_base.specs.declared.configuration.Constructs.{Constructs}
 use Rattle.mdblock_leaf_blocks.specs.LeafBlocks.{Line}
 use Rattle.mdblock_leaf_blocks.specs.LineKinds.{begins_with, indent, is_blank_line, is_thematic_break, unindented}
-use Rattle.mdblock_lines.specs.Containers.{Container, Prefix, begins, item, item_at, may_begin_item, quote, quote_size}
+use Rattle.mdblock_lines.specs.Containers.{Container, Prefix, begins, footnote, footnote_at, is_footnote, item, item_at, may_begin_item, quote, quote_size}
 use Rattle.mdblock_containers.proofs.RowFacts.{went_are}
 use Rattle.mdblock_containers.specs.Prefixes.{beginning, containers_of, in_place_of, with_list}
 use Rattle.mdblock_containers.specs.Rows.{Row, is_raw}
@@ -21,6 +21,7 @@ module _ (on : Constructs) where
   abbrev pub IsNear : Container → Type 0
   IsNear (quote q) = q.is_near ≡ on.code_indented
   IsNear (item i) = Unit {0}
+  IsNear (footnote f) = Unit {0}
 
   abbrev pub AreNear : List Container → Type 0
   AreNear cs = AllByRecursion IsNear cs
@@ -31,13 +32,14 @@ module _ (on : Constructs) where
   -- ---- containers that begin
   begins-near : (n : ℕ) (in_text : Bool) (t : List ℕ) (p : Prefix) → begins on n in_text t ≡ Some p → IsNear p.container
   begins-near n in_text t p e =
-      by ((on.code_indented && nat_le 4 (indent t)) || (is_blank_line t || (on.thematic_break && is_thematic_break (unindented t)))) (on.block_quote && begins_with 62 (unindented t)) (on.list_item && may_begin_item in_text (unindented t)) e
+      by ((on.code_indented && nat_le 4 (indent t)) || (is_blank_line t || (on.thematic_break && is_thematic_break (unindented t)))) (on.block_quote && begins_with 62 (unindented t)) (on.gfm_footnote_definition && is_footnote (unindented t)) (on.list_item && may_begin_item in_text (unindented t)) e
     where
-      by : (past q l : Bool) → cond past None (cond q (Some (record { container = quote (record { line = n; is_near = on.code_indented }); size = quote_size t })) (cond l (Some (item_at n t)) None)) ≡ Some p → IsNear p.container
-      by true q l h = absurd (none-some p h)
-      by false true l h = subst (λ (x : Prefix). IsNear x.container) (same_Some (record { container = quote (record { line = n; is_near = on.code_indented }); size = quote_size t }) p h) refl
-      by false false true h = subst (λ (x : Prefix). IsNear x.container) (same_Some (item_at n t) p h) tt
-      by false false false h = absurd (none-some p h)
+      by : (past q f l : Bool) → cond past None (cond q (Some (record { container = quote (record { line = n; is_near = on.code_indented }); size = quote_size t })) (cond f (Some (footnote_at n t)) (cond l (Some (item_at n t)) None))) ≡ Some p → IsNear p.container
+      by true q f l h = absurd (none-some p h)
+      by false true f l h = subst (λ (x : Prefix). IsNear x.container) (same_Some (record { container = quote (record { line = n; is_near = on.code_indented }); size = quote_size t }) p h) refl
+      by false false true l h = subst (λ (x : Prefix). IsNear x.container) (same_Some (footnote_at n t) p h) tt
+      by false false false true h = subst (λ (x : Prefix). IsNear x.container) (same_Some (item_at n t) p h) tt
+      by false false false false h = absurd (none-some p h)
 
   all-begin-near : (bound n : ℕ) (in_text : Bool) (t : List ℕ) → BeginNear (beginning on bound n in_text t)
   all-begin-near zero n in_text t = tt
@@ -48,8 +50,10 @@ module _ (on : Constructs) where
       by rest (Some p) e = (begins-near n in_text t p e, rest (drop p.size t))
 
   placed-near : (old new : Container) → IsNear new → IsNear (in_place_of old new)
-  placed-near (quote q) new h = h
+  placed-near (quote q) c h = h
+  placed-near (footnote f) c h = h
   placed-near (item i) (quote q) h = h
+  placed-near (item i) (footnote f) h = h
   placed-near (item i) (item j) h = tt
 
   listed-near : (cs : List Container) (ps : List Prefix) → BeginNear ps → BeginNear (with_list cs ps)

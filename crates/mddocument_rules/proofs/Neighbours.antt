@@ -11,7 +11,7 @@ use Rattle.markdown_base.proofs.Facts.Lists.{get-take}
 use Rattle.markdown_base.specs.declared.configuration.Constructs.{Constructs}
 use Rattle.mdblock_leaf_blocks.specs.LeafBlocks.{Line, text_of}
 use Rattle.mdblock_leaf_blocks.specs.LineKinds.{begins_with, indent, is_blank_line, is_thematic_break, unindented}
-use Rattle.mdblock_lines.specs.Containers.{Container, Item, Prefix, begins, goes_on, item, item_at, may_begin_item, quote, quote_size, Quote}
+use Rattle.mdblock_lines.specs.Containers.{Container, Item, Prefix, begins, footnote, footnote_at, goes_on, is_footnote, item, item_at, may_begin_item, quote, quote_size, Quote}
 use Rattle.mdblock_containers.proofs.RowFacts.{BeganBefore, BeginsIn, BeginsList}
 use Rattle.mdblock_containers.specs.Prefixes.{columns_of, containers_of, going_on, in_place_of}
 use Rattle.mdblock_containers.specs.Rows.{Row}
@@ -40,6 +40,7 @@ one-list n old new j before begins false ex e =
 by-place : (n : ℕ) (old j : Item) (c : Container) → BeganBefore n (item old) → BeginsIn n c × BeginsList c → item j ≡ in_place_of (item old) c → (old.list ≡ j.list) ↔ (old.marker ≡ j.marker)
 by-place n old j (item new) before begins e = one-list n old new j before begins (old.marker == new.marker) refl e
 by-place n old j (quote m) before begins e = absurd (cc)
+by-place n old j (footnote f) before begins e = absurd (cc)
 
 pub neighbours-differ : NeighboursDiffer
 neighbours-differ on ls i j b =
@@ -73,27 +74,35 @@ stops-at (d ∷ cs) n t c h = by (goes_on d n t) refl h (λ u. stops-at cs n u c
 abbrev is_quote : Container → Bool
 is_quote (quote q) = true
 is_quote (item i) = false
+is_quote (footnote f) = false
 
 -- a quote that begins would go on: no more white space is before it
 would-go : (on : Constructs) (n : ℕ) (in_text : Bool) (t : List ℕ) (p : Prefix) (first second : Quote) → first.is_near ≡ on.code_indented → begins on n in_text t ≡ Some p → quote second ≡ p.container → goes_on (quote first) n t ≡ None → ⊥
 would-go on n in_text t p first second near e is stop =
-    by (on.code_indented && nat_le 4 (indent t)) (is_blank_line t || (on.thematic_break && is_thematic_break (unindented t))) on.block_quote (begins_with 62 (unindented t)) (on.list_item && may_begin_item in_text (unindented t)) e
+    by (on.code_indented && nat_le 4 (indent t)) (is_blank_line t || (on.thematic_break && is_thematic_break (unindented t))) on.block_quote (begins_with 62 (unindented t)) (on.gfm_footnote_definition && is_footnote (unindented t)) (on.list_item && may_begin_item in_text (unindented t)) e
     (ap (λ b. cond (begins_with 62 (unindented t) && not (b && nat_le 4 (indent t))) (Some (quote_size t)) None) (sym near) ∙ stop)
   where
-    by : (far other quoted sign listed : Bool)
-        → cond (far || other) None (cond (quoted && sign) (Some (record { container = quote (record { line = n; is_near = on.code_indented }); size = quote_size t })) (cond listed (Some (item_at n t)) None)) ≡ Some p
+    no-quote : (q : Prefix) → is_quote q.container ≡ false → Some q ≡ Some p → ⊥
+    no-quote q other e = false≢true (sym other ∙ ap (λ (x : Prefix). is_quote x.container) (same_Some q p e) ∙ ap is_quote (sym is))
+
+    by : (far other quoted sign noted listed : Bool)
+        → cond (far || other) None
+        (cond (quoted && sign) (Some (record { container = quote (record { line = n; is_near = on.code_indented }); size = quote_size t })) (cond noted (Some (footnote_at n t)) (cond listed (Some (item_at n t)) None))) ≡ Some p
         → cond (sign && not far) (Some (quote_size t)) None ≡ None → ⊥
-    by true other quoted sign listed e s = none-some p e
-    by false true quoted sign listed e s = none-some p e
-    by false false quoted true listed e s = none-some (quote_size t) (sym s)
-    by false false true false true e s = false≢true (ap (λ (q : Prefix). is_quote q.container) (same_Some (item_at n t) p e) ∙ ap is_quote (sym is))
-    by false false false false true e s = false≢true (ap (λ (q : Prefix). is_quote q.container) (same_Some (item_at n t) p e) ∙ ap is_quote (sym is))
-    by false false true false false e s = none-some p e
-    by false false false false false e s = none-some p e
+    by true other quoted sign noted listed e s = none-some p e
+    by false true quoted sign noted listed e s = none-some p e
+    by false false quoted true noted listed e s = none-some (quote_size t) (sym s)
+    by false false true false true listed e s = no-quote (footnote_at n t) refl e
+    by false false true false false true e s = no-quote (item_at n t) refl e
+    by false false true false false false e s = none-some p e
+    by false false false false true listed e s = no-quote (footnote_at n t) refl e
+    by false false false false false true e s = no-quote (item_at n t) refl e
+    by false false false false false false e s = none-some p e
 
 quote-place : (q : Quote) (c : Container) → in_place_of (quote q) c ≡ c
 quote-place q (quote r) = refl
 quote-place q (item i) = refl
+quote-place q (footnote f) = refl
 
 -- where a quote begins in the place of one, all that went on so far goes on
 module _ (on : Constructs) (k : Known) (n : ℕ) (l : Line) (first second : Quote) (near : first.is_near ≡ on.code_indented) where

@@ -36,10 +36,14 @@ free-may around n h ok =
 pub free-inside : (n : Name) → is_free n ≡ true → is_wanted list_names n ≡ false
 free-inside n h = false_from_ne_true (is_wanted list_names n) (λ e. by-wanted (λ m. is_free m ≡ true → ⊥) list_names n ((λ f. false≢true f), ((λ f. false≢true f), tt)) e h)
 
+-- the names of spans that hold blocks
+abbrev pub holders : List Name
+holders = name.BlockQuote ∷ name.ListItem ∷ name.GfmFootnoteDefinition ∷ []
+
 -- where blocks or inline text may stand is no list
 pub blocks-apart : (around : List Name) → holds_blocks around ≡ true → NotInList around
 blocks-apart [] h = refl
-blocks-apart (n ∷ around) h = by-wanted (λ m. is_wanted list_names m ≡ false) (name.BlockQuote ∷ name.ListItem ∷ []) n (refl, (refl, tt)) h
+blocks-apart (n ∷ around) h = by-wanted (λ m. is_wanted list_names m ≡ false) holders n (refl, (refl, (refl, tt))) h
 
 pub texts-apart : (around : List Name) → is_in text_names around ≡ true → NotInList around
 texts-apart [] h = refl

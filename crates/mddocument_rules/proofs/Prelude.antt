@@ -29,7 +29,7 @@ pub use Rattle.mdinline_emphasis.specs.Emphasis.{Run, closings, data_of, emphasi
 pub use Rattle.mdblock_leaf_blocks.specs.LeafBlocks.{LeafBlock, Line, atx_heading, blank_line, break_line, bytes_of, fenced_code, html_block, indented_code, leaf_blocks, paragraph, setext_heading}
 pub use Rattle.mdblock_leaf_blocks.specs.LeafEvents.{Chunk, Mark, block_span, body, chunk_span, code_marks, flow_events, last_end, leaf_block_marks, leaf_marks, linked_from, span_marks, string_chunk, text_chunk, text_marks, underline_marks, white}
 pub use Rattle.mdblock_leaf_blocks.specs.LineKinds.{indent}
-pub use Rattle.mdblock_lines.specs.Containers.{Container, Item, Prefix, item, quote}
+pub use Rattle.mdblock_lines.specs.Containers.{Container, Item, Prefix, footnote, item, quote}
 pub use Rattle.mdblock_containers.proofs.FrameFacts.{Turn, all_entered, entered, left_is}
 pub use Rattle.mdblock_containers.specs.Lists.{block_names, item_names, list_names}
 pub use Rattle.mdblock_containers.specs.Rows.{Row, has_none, nothing_known, rest_of}

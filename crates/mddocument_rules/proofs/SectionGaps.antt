@@ -1,5 +1,5 @@
 -- What stands between the chunks of a skeleton is between the lines of its sections: the prefixes of lines.
-use Rattle.mddocument_rules.proofs.Prelude.{◌≡◌, ◌∙◌, ◌==◌, ℕ, Bool, true, false, cond, not, List, [], ◌∷◌, ◌++◌, Some, None, append-nil, append_assoc, drop, every-back, every-front, length, map, refl, reverse, sym, ap, subst, take, cond_both, false≢true, not-true, AllByRecursion, flat_map, Event, Exit, Point, Seat, ending_of, event, Chunk, Mark, chunk_span, leaf_marks, white, indent, Container, Prefix, item, quote, Row, has_none, rest_of, Frame, Part, Piece, begin_of, begun_all, chunks_of, end_of, ending_marks, enters_of, is_held, joined_pieces, last_line, pieces_of, prefixes_marks, shared, Inside, Section, defined, lines, table, all_rows, behind_marks, inside_marks, section_marks, sections_marks, PieceIs, stretch-is}
+use Rattle.mddocument_rules.proofs.Prelude.{◌≡◌, ◌∙◌, ◌==◌, ℕ, Bool, true, false, cond, not, List, [], ◌∷◌, ◌++◌, Some, None, append-nil, append_assoc, drop, every-back, every-front, length, map, refl, reverse, sym, ap, subst, take, cond_both, false≢true, not-true, AllByRecursion, flat_map, Event, Exit, Point, Seat, ending_of, event, Chunk, Mark, chunk_span, leaf_marks, white, indent, Container, Prefix, footnote, item, quote, Row, has_none, rest_of, Frame, Part, Piece, begin_of, begun_all, chunks_of, end_of, ending_marks, enters_of, is_held, joined_pieces, last_line, pieces_of, prefixes_marks, shared, Inside, Section, defined, lines, table, all_rows, behind_marks, inside_marks, section_marks, sections_marks, PieceIs, stretch-is}
 use Rattle.markdown_base.specs.declared.event.Content.TheVariants as content
 use Rattle.markdown_base.specs.declared.event.Name.TheVariants as name
 use Rattle.mdblock_containers.specs.Prefixes.{columns_of}
@@ -69,6 +69,7 @@ module _ (bytes : List ℕ) (Ok : Event → List Event → Type 0) (exits_are : 
   -- ---- sections
   enters-apart : (c : Container) (place : Point) → Apart Ok (enters_of bytes c place)
   enters-apart (quote q) place = apart-mark Ok _
+  enters-apart (footnote f) place = apart-mark Ok _
   enters-apart (item i) place = apart-both Ok _ _ (cond_both (i.list == i.line) _ [] (Apart Ok) (λ e. apart-mark Ok _) (λ e. apart-none Ok)) (apart-mark Ok _)
 
   begun-apart : (ps : List Prefix) (seats : List Seat) → Apart Ok (begun_all bytes ps seats)

@@ -1,7 +1,7 @@
 -- Some lists of spans, and some documents, in which each span stands where it may or does not, by computation.
 use Rattle.mddocument_rules.proofs.Prelude.{◌≡◌, ℕ, List, [], ◌∷◌, ◌++◌, Bool, true, false, None, refl, codes, Event, Enter, Exit, Name, point, Given, document_blocks, all_stand, is_outside_links, may_stand}
 use Rattle.markdown_base.specs.declared.event.Name.TheVariants as name
-use Rattle.markdown_base.specs.Presets.{default_parse_options}
+use Rattle.markdown_base.specs.Presets.{default_parse_options, gfm_parse_options}
 use Rattle.mddocument.specs.DocumentEvents.{document_events}
 
 -- ---- spans written by hand
@@ -32,6 +32,13 @@ heading-in-paragraph = refl
 -- an item stands in nothing but a list
 item-in-quote : all_stand may_stand [] (in_span name.BlockQuote name.ListItem) ≡ false
 item-in-quote = refl
+
+-- blocks stand in a footnote definition, which is one, and so stands in no paragraph
+footnote-in-footnote : all_stand may_stand [] (in_span name.GfmFootnoteDefinition name.GfmFootnoteDefinition) ≡ true
+footnote-in-footnote = refl
+
+footnote-in-paragraph : all_stand may_stand [] (in_span name.Paragraph name.GfmFootnoteDefinition) ≡ false
+footnote-in-paragraph = refl
 
 -- strikethrough stands in a text, and not in a block quote itself
 strikethrough-in-paragraph : all_stand may_stand [] (in_span name.Paragraph name.GfmStrikethrough) ≡ true
@@ -71,6 +78,10 @@ quote = refl
 -- a paragraph that goes on over the prefix of its quote
 lines : stands (codes "> a\n> b") ≡ true
 lines = refl
+
+-- a list in a footnote definition, in a quote
+footnote : all_stand may_stand [] (document_blocks (record { bytes = codes "> [^a]: - b\n>\n>     c"; options = gfm_parse_options; tab = 4 })) ≡ true
+footnote = refl
 
 -- the brackets around a link are text
 outer-brackets : all_stand is_outside_links [] (document_events (given (codes "[[a](b)](c)"))) ≡ true

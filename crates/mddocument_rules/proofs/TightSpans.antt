@@ -1,8 +1,7 @@
 -- Spans in which neither items nor blocks stand: so it is of all spans in them. What stands in such a span and is no inline text stands anywhere but in a list.
 use Rattle.mddocument_rules.proofs.Prelude.{◌≡◌, ◌∙◌, ℕ, zero, suc, ◌+◌, Bool, true, false, cond, not, List, [], ◌∷◌, ◌++◌, None, arith, drop, take, refl, sym, ap, subst, false_from_ne_true, false≢true, AllByRecursion, every-back, every-front, slice_get, option_and_then, ◌&&◌, ◌||◌, Event, Name, IsBalanced, empty, span, content_of, is_wanted, block_names, item_names, list_names, holds_blocks, inline_names, is_in, may_stand, text_names, between_names}
-use Rattle.markdown_base.specs.declared.event.Name.TheVariants as name
 use Rattle.std.proofs.Common.{◌<◌, ◌≤◌}
-use Rattle.mddocument_rules.proofs.Places.{ChunkFits, NotInList, Stands, by-wanted, free-inside, free-may, is_free}
+use Rattle.mddocument_rules.proofs.Places.{ChunkFits, NotInList, Stands, by-wanted, free-inside, free-may, holders, is_free}
 use Rattle.mddocument_rules.proofs.Walk.{MayBe, Stays, Walks, span-walks, stays-span, walks-span}
 
 abbrev pub Tight : List Name → Type 0
@@ -12,7 +11,7 @@ Tight around = NotInList around × (holds_blocks around ≡ false)
 pub texts-tight : (around : List Name) → is_in text_names around ≡ true → Tight around
 texts-tight [] h = absurd (false≢true h)
 texts-tight (n ∷ around) h =
-    by-wanted (λ m. (is_wanted list_names m ≡ false) × (is_wanted (name.BlockQuote ∷ name.ListItem ∷ []) m ≡ false)) text_names n
+    by-wanted (λ m. (is_wanted list_names m ≡ false) × (is_wanted holders m ≡ false)) text_names n
     ((refl, refl), ((refl, refl), ((refl, refl), ((refl, refl), ((refl, refl), ((refl, refl), ((refl, refl), ((refl, refl), tt)))))))) h
 
 -- ---- what stands there
@@ -35,8 +34,8 @@ tight-name around n t m = (no-item, no-block)
 inside-tight : (around : List Name) (n : Name) → (is_wanted item_names n ≡ false) × (is_wanted block_names n ≡ false) → Tight (n ∷ around)
 inside-tight around n h = (
   false_from_ne_true (is_wanted list_names n) (λ e. by-wanted (λ m. is_wanted block_names m ≡ false → ⊥) list_names n ((λ f. false≢true (sym f)), ((λ f. false≢true (sym f)), tt)) e h.1),
-  false_from_ne_true (is_wanted (name.BlockQuote ∷ name.ListItem ∷ []) n)
-      (λ e. by-wanted (λ m. (is_wanted item_names m ≡ false) × (is_wanted block_names m ≡ false) → ⊥) (name.BlockQuote ∷ name.ListItem ∷ []) n ((λ f. false≢true (sym f.1)), ((λ f. false≢true (sym f.0)), tt)) e h),
+  false_from_ne_true (is_wanted holders n)
+      (λ e. by-wanted (λ m. (is_wanted item_names m ≡ false) × (is_wanted block_names m ≡ false) → ⊥) holders n ((λ f. false≢true (sym f.1)), ((λ f. false≢true (sym f.0)), ((λ f. false≢true (sym f.1)), tt))) e h),
 )
 
 -- All that is around what stands there is such

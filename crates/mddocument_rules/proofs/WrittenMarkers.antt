@@ -23,7 +23,7 @@ use Rattle.mdblock_leaf_blocks.proofs.Lines.WholeLines.{IsWhole}
 use Rattle.mdblock_leaf_blocks.specs.LeafBlocks.{Line, bytes_of, text_of}
 use Rattle.mdblock_leaf_blocks.specs.LeafEvents.{Mark, leaf_marks, span_marks, white}
 use Rattle.mdblock_leaf_blocks.specs.LineKinds.{begins_with, indent, is_blank_line, is_thematic_break, unindented}
-use Rattle.mdblock_lines.specs.Containers.{Container, Item, Prefix, begins, digits, first_byte, is_marker, item, item_at, padding, quote, quote_size}
+use Rattle.mdblock_lines.specs.Containers.{Container, Item, Prefix, begins, digits, first_byte, footnote, footnote_at, is_footnote, is_marker, item, item_at, padding, quote, quote_size}
 use Rattle.mdblock_containers.proofs.GoingLemmas.{begins_within}
 use Rattle.mdblock_containers.proofs.RowFacts.{columns_within}
 use Rattle.mdblock_containers.proofs.SeatFacts.{line_front}
@@ -131,6 +131,7 @@ module _ (bytes : List ℕ) where
   -- the marker of an item that begins is that of its prefix, and its list may have it
   abbrev pub IsWritten : Container → List Seat → Type 0
   IsWritten (quote q) seats = Unit {0}
+  IsWritten (footnote f) seats = Unit {0}
   IsWritten (item i) seats =
       ((j : ℕ) (previous : Option ℕ) (ys : List Mark) → item_marker bytes (chained_from j previous (begun_marks bytes (item i) seats ++ ys)) ≡ marker_of i.marker)
       × (marks (list_name i) (marker_of i.marker) ≡ true)
@@ -199,18 +200,19 @@ module _ (bytes : List ℕ) where
 
   begins-written : (on : Constructs) (n : ℕ) (in_text : Bool) (t : List ℕ) (p : Prefix) (z : List Seat) → begins on n in_text t ≡ Some p → bytes_of z ≡ take p.size t → AllByRecursion (IsByte bytes) z → IsWritten p.container z
   begins-written on n in_text t p z h e are =
-      by ((on.code_indented && nat_le 4 (indent t)) || (is_blank_line t || (on.thematic_break && is_thematic_break (unindented t)))) (on.block_quote && begins_with 62 (unindented t)) on.list_item (is_marker (unindented t)) _ refl h
+      by ((on.code_indented && nat_le 4 (indent t)) || (is_blank_line t || (on.thematic_break && is_thematic_break (unindented t)))) (on.block_quote && begins_with 62 (unindented t)) (on.gfm_footnote_definition && is_footnote (unindented t)) on.list_item (is_marker (unindented t)) _ refl h
     where
-      by : (past q l m rest : Bool) → is_marker (unindented t) ≡ m
-          → cond past None (cond q (Some (record { container = quote (record { line = n; is_near = on.code_indented }); size = quote_size t })) (cond (l && (m && rest)) (Some (item_at n t)) None)) ≡ Some p → IsWritten p.container z
-      by true q l m rest em h = absurd (none-some p h)
-      by false true l m rest em h = subst (λ (x : Prefix). IsWritten x.container z) (same_Some (record { container = quote (record { line = n; is_near = on.code_indented }); size = quote_size t }) p h) tt
-      by false false true true true em h =
+      by : (past q f l m rest : Bool) → is_marker (unindented t) ≡ m
+          → cond past None (cond q (Some (record { container = quote (record { line = n; is_near = on.code_indented }); size = quote_size t })) (cond f (Some (footnote_at n t)) (cond (l && (m && rest)) (Some (item_at n t)) None))) ≡ Some p → IsWritten p.container z
+      by true q f l m rest em h = absurd (none-some p h)
+      by false true f l m rest em h = subst (λ (x : Prefix). IsWritten x.container z) (same_Some (record { container = quote (record { line = n; is_near = on.code_indented }); size = quote_size t }) p h) tt
+      by false false true l m rest em h = subst (λ (x : Prefix). IsWritten x.container z) (same_Some (footnote_at n t) p h) tt
+      by false false false true true true em h =
           let same : item_at n t ≡ p = same_Some (item_at n t) p h in
           subst (λ (x : Prefix). IsWritten x.container z) same (at-written n t z em (e ∙ ap (λ (x : Prefix). take x.size t) (sym same)) are)
-      by false false false m rest em h = absurd (none-some p h)
-      by false false true false rest em h = absurd (none-some p h)
-      by false false true true false em h = absurd (none-some p h)
+      by false false false false m rest em h = absurd (none-some p h)
+      by false false false true false rest em h = absurd (none-some p h)
+      by false false false true true false em h = absurd (none-some p h)
 
   beginning-written : (on : Constructs) (n bound : ℕ) (in_text : Bool) (seats : List Seat) (t e : List ℕ) → bytes_of seats ≡ t ++ e → AllByRecursion (IsByte bytes) seats → AreWritten (beginning on bound n in_text t) seats
   beginning-written on n zero in_text seats t e same are = tt
@@ -233,8 +235,9 @@ module _ (bytes : List ℕ) where
       by true h = h
       by false h = h
   place-written (item old) (quote m) z h = tt
-  place-written (quote q) (quote m) z h = tt
-  place-written (quote q) (item i) z h = h
+  place-written (item old) (footnote f) z h = tt
+  place-written (quote q) c z h = h
+  place-written (footnote f) c z h = h
 
   listed-written : (x : Bool) (cs : List Container) (ps : List Prefix) (seats : List Seat) → AreWritten ps seats → AreWritten (cond x [] (with_list cs ps)) seats
   listed-written true cs ps seats h = tt

@@ -1,5 +1,5 @@
 -- What is written between two lines: white space alone, as a line ending is, and the prefixes of a line but for the markers of block quotes.
-use Rattle.mddocument_rules.proofs.Prelude.{◌≡◌, ◌∙◌, ℕ, zero, suc, ◌+◌, ◌==◌, Bool, true, false, cond, List, [], ◌∷◌, ◌++◌, append_assoc, None, Option, Some, ap, arith, drop, flat_map, length, refl, subst, sym, take, or_left, every-append, every-drop, AllByRecursion, ◌&&◌, ◌||◌, nat_le, Event, Exit, Name, Seat, end_after, same_name, event, Mark, leaf_marks, span_marks, white, indent, Container, Item, Prefix, item, quote, going_marks, prefixes_marks}
+use Rattle.mddocument_rules.proofs.Prelude.{◌≡◌, ◌∙◌, ℕ, zero, suc, ◌+◌, ◌==◌, Bool, true, false, cond, List, [], ◌∷◌, ◌++◌, append_assoc, None, Option, Some, ap, arith, drop, flat_map, length, refl, subst, sym, take, or_left, every-append, every-drop, AllByRecursion, ◌&&◌, ◌||◌, nat_le, Event, Exit, Name, Seat, end_after, same_name, event, Mark, leaf_marks, span_marks, white, indent, Container, Item, Prefix, footnote, item, quote, going_marks, prefixes_marks}
 use Rattle.std.proofs.lemmas.List.{drop-append-le, drop-drop, drop-map, drop-take, length-map, map-append, take-append-drop, take-append-le, take-map}
 use Rattle.std.specs.Prelude.{◌≤◌, min, not}
 use Rattle.markdown_base.proofs.Common.{every-map, every-take}
@@ -7,7 +7,7 @@ use Rattle.markdown_base.specs.declared.event.Name.TheVariants as name
 use Rattle.mdconstructs_tables.specs.Breaks.{is_white}
 use Rattle.mdblock_leaf_blocks.specs.LeafBlocks.{bytes_of}
 use Rattle.mdblock_leaf_blocks.specs.LineKinds.{begins_with, is_blank_line, unindented}
-use Rattle.mdblock_lines.specs.Containers.{Quote, goes_on, quote_size}
+use Rattle.mdblock_lines.specs.Containers.{Footnote, Quote, goes_on, quote_size}
 use Rattle.mdblock_containers.proofs.GoingLemmas.{goes_on_within}
 use Rattle.mdblock_containers.specs.Prefixes.{going_on}
 use Rattle.mdinline_labels.specs.Labels.{is_label_white}
@@ -64,6 +64,17 @@ item-blank i number n ss e = front-blank n ss (by (is_blank_line t) (i.is_empty 
     by true false c s q = let same : min i.size (indent t) ≡ n = cc in omega (arith, same)
     by false b true s q = let same : i.size ≡ n = cc in let le : i.size ≤ indent t = grind (arith) in omega (arith, same, le)
     by false b false s q = absurd (cc)
+
+footnote-blank : (f : Footnote) (number n : ℕ) (ss : List Seat) → goes_on (footnote f) number (bytes_of ss) ≡ Some n → AreBlank (take n ss)
+footnote-blank f number n ss e = front-blank n ss (by (is_blank_line t) (nat_le 4 (indent t)) refl e)
+  where
+    t : List ℕ
+    t = bytes_of ss
+
+    by : (a c : Bool) → nat_le 4 (indent t) ≡ c → cond a (Some (min 4 (indent t))) (cond c (Some 4) None) ≡ Some n → n ≤ indent t
+    by true c s q = let same : min 4 (indent t) ≡ n = cc in omega (arith, same)
+    by false true s q = let same : 4 ≡ n = cc in let le : 4 ≤ indent t = grind (arith) in omega (arith, same, le)
+    by false false s q = absurd (cc)
 
 quote-sized : (q : Quote) (number n : ℕ) (t : List ℕ) → goes_on (quote q) number t ≡ Some n → quote_size t ≡ n
 quote-sized q number n t e = by (begins_with 62 (unindented t) && not (q.is_near && nat_le 4 (indent t))) e
@@ -153,6 +164,7 @@ module _ (bytes : List ℕ) where
   -- the prefix of a container that goes on
   going-gap : (c : Container) (number n : ℕ) (ss rest : List Seat) → goes_on c number (bytes_of ss) ≡ Some n → AreInLine ss rest → IsGap (going_marks bytes c (take n ss))
   going-gap (item i) number n ss rest e h = gap-white (take n ss) (drop n ss ++ rest) (line-front n ss rest h) (item-blank i number n ss e)
+  going-gap (footnote f) number n ss rest e h = gap-white (take n ss) (drop n ss ++ rest) (line-front n ss rest h) (footnote-blank f number n ss e)
   going-gap (quote q) number n ss rest e h =
       let part = take n ss in
       let behind = drop n ss ++ rest in

@@ -33,11 +33,11 @@ text_names = name.Paragraph ∷ name.HeadingAtxText ∷ name.HeadingSetextText �
 abbrev pub between_names : List Name
 between_names = name.BlankLineEnding ∷ name.LineEnding ∷ name.SpaceOrTab ∷ name.BlockQuotePrefix ∷ []
 
--- "Blocks can contain other blocks" in a block quote or a list item alone, or stand in the document itself (5)
+-- "Blocks can contain other blocks" in a block quote or a list item alone, or stand in the document itself (5); and in a footnote definition
 abbrev pub holds_blocks : (around : List Name) → Bool
-holds_blocks around = is_top around || is_in (name.BlockQuote ∷ name.ListItem ∷ []) around
+holds_blocks around = is_top around || is_in (name.BlockQuote ∷ name.ListItem ∷ name.GfmFootnoteDefinition ∷ []) around
 
--- Items stand directly in lists, and nothing else does but what is between items; blocks in the document, a quote or an item; and inline text in texts
+-- Items stand directly in lists, and nothing else does but what is between items; blocks in the document, a quote, an item or a footnote definition; and inline text in texts
 abbrev pub may_stand : (around : List Name) → Name → Bool
 may_stand around n =
     cond (is_wanted item_names n) (is_in list_names around)

@@ -22,7 +22,7 @@ SkeletonsStand = (g : Given) → all_stand may_stand [] (document_skeleton g) �
 abbrev pub BlocksStand : Type 0
 BlocksStand = (g : Given) → IsDocument g → all_stand may_stand [] (document_blocks g) ≡ true
 
--- And so it is of each document: items stand in lists, blocks in the document, a quote or an item, and inline text in texts
+-- And so it is of each document: items stand in lists, blocks in the document, a quote, an item or a footnote definition, and inline text in texts
 abbrev pub SpansStand : Type 0
 SpansStand = (g : Given) → IsDocument g → all_stand may_stand [] (document_events g) ≡ true
 

@@ -11,15 +11,15 @@ ghost use Rattle.mddocument_rules.specs.StandingLaws.{BlocksStand, LeafBlocksSta
 ghost use Rattle.mddocument_rules.specs.TextLaws.{EmphasisStands, InlineTextStands, LinksStand, NoLinkInALinkOfText};
 
 /// What may stand in what, of the parts of a document. Leaf blocks stand where blocks may. Of containers and definitions, items stand in lists,
-/// and the others in the document itself, in a block quote or in an item.
+/// and the others in the document itself, in a block quote, in an item or in a footnote definition.
 pub fn parts_stand_where_they_may()
     ensures leaf_blocks { LeafBlocksStand }
     ensures skeletons { SkeletonsStand }
 {}
 
 /// So it is of all blocks of each document, whatever its bytes and its constructs: each span stands where it may. In a list stand its items, and
-/// else only blank lines and what is between lines; other blocks stand in the document itself, in a block quote or in an item. Inline text is not
-/// read yet.
+/// else only blank lines and what is between lines; other blocks stand in the document itself, in a block quote, in an item or in a footnote
+/// definition. Inline text is not read yet.
 pub fn blocks_stand_where_they_may()
     ensures { BlocksStand }
 {}
@@ -39,8 +39,8 @@ pub fn no_link_is_in_a_link()
 {}
 
 /// What may stand in what, of whole documents, whatever their bytes and their constructs. Inline text stands in texts, whichever labels are defined; and
-/// each span of a document stands where it may: items in lists, blocks in the document itself, in a block quote or in an item, and inline text
-/// in paragraphs, in headings and in the texts of emphasis, links and images.
+/// each span of a document stands where it may: items in lists, blocks in the document itself, in a block quote, in an item or in a footnote
+/// definition, and inline text in paragraphs, in headings and in the texts of emphasis, links and images.
 pub fn spans_stand_where_they_may()
     ensures texts { InlineTextStands }
     ensures documents { SpansStand }

@@ -21,7 +21,7 @@ use mdblock_containers::spans::{RowAt, Span, end_of, start_of, text_end_of};
 use mdblock_containers::writing::{
     begun_prefix, enter, exit, going_prefix, item_prefix, quote_prefix, span, white,
 };
-use mdblock_lines::containers::{Container, Prefix};
+use mdblock_lines::containers::{Container, ContainerKind, Prefix};
 use mdblock_lines::html::HtmlKind;
 use mdblock_lines::kinds::Fence;
 use mdcases_forms::spans::spans_of;
@@ -33,24 +33,26 @@ use std::sync::ledger::{Blank, Ledger};
 
 /// A quote that the first line begins.
 const QUOTE: Container = Container {
-    is_quote: true,
+    kind: ContainerKind::Quote,
     is_near: true,
     line: 1,
     size: 0,
     marker: b'>',
     digits: 0,
     is_blank: false,
+    label: 0,
 };
 
 /// An item that the first line begins, with `- ` before its text.
 const ITEM: Container = Container {
-    is_quote: false,
+    kind: ContainerKind::Item,
     is_near: false,
     line: 1,
     size: 2,
     marker: b'-',
     digits: 0,
     is_blank: false,
+    label: 0,
 };
 
 /// Whether open containers are cut into first ones and others.
@@ -68,8 +70,12 @@ fn containers_are_cut() -> bool {
     let (first, rest) = (first_of(&stack, 1), rest_of(&stack, 1));
     first.len() == 1
         && rest.len() == 1
-        && first.iter().all(|open| open.container.is_quote)
-        && !rest.iter().any(|open| open.container.is_quote)
+        && first
+            .iter()
+            .all(|open| matches!(open.container.kind, ContainerKind::Quote))
+        && !rest
+            .iter()
+            .any(|open| matches!(open.container.kind, ContainerKind::Quote))
 }
 
 /// Lines, whether a paragraph may go on before each, how many containers begin in it, and the columns of their prefixes. A thematic break is no

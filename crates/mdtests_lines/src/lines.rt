@@ -8,7 +8,7 @@ use markdown_base::configuration::{Constructs, TabSize};
 use markdown_base::event::Point;
 use mdblock_lines::breaks::{Breaks, breaks_in};
 use mdblock_lines::bytes::{behind, front, indent, is_blank_line, unindented};
-use mdblock_lines::containers::{Container, begins, first_from, goes_on};
+use mdblock_lines::containers::{Container, ContainerKind, begins, first_from, goes_on};
 use mdblock_lines::html::{HtmlKind, begins as begins_html, ends, html_kind, waits_for_blank};
 use mdblock_lines::kinds::{
     Fence, LineKind, closes, is_atx_heading, is_far, is_fence_of, is_thematic_break,
@@ -123,24 +123,26 @@ const UNDER: &[(&[u8], Option<u8>, bool)] = &[
 
 /// A quote that the first line begins.
 const QUOTE: Container = Container {
-    is_quote: true,
+    kind: ContainerKind::Quote,
     is_near: true,
     line: 1,
     size: 0,
     marker: b'>',
     digits: 0,
     is_blank: false,
+    label: 0,
 };
 
 /// A quote without indented code.
 const FAR_QUOTE: Container = Container {
-    is_quote: true,
+    kind: ContainerKind::Quote,
     is_near: false,
     line: 1,
     size: 0,
     marker: b'>',
     digits: 0,
     is_blank: false,
+    label: 0,
 };
 
 /// Whether a quote goes on with its marker alone, behind three columns of white space at most if its markers are near.

@@ -18,7 +18,7 @@ use Rattle.mdblock_leaf_blocks.specs.LeafEvents.{Chunk, Mark, chunk_span}
 use Rattle.mdconstructs_machines.proofs.Innermost.{enter-more, exit-more, span-more}
 use Rattle.mdconstructs_machines.specs.Innermost.{AccountFor, ended_next, innermost_spans, span_over, stretch_bytes}
 use Rattle.mdconstructs_machines.specs.Spans.{event}
-use Rattle.mdblock_lines.specs.Containers.{Container, Prefix, item, quote}
+use Rattle.mdblock_lines.specs.Containers.{Container, Prefix, footnote, item, quote}
 use Rattle.mdblock_containers.proofs.Pieces.{Over}
 use Rattle.mdblock_containers.proofs.PrefixSpans.{begun_kept, take_more}
 use Rattle.mdblock_containers.specs.Prefixes.{columns_of}
@@ -74,6 +74,7 @@ module _ (bytes : List ℕ) where
 
   pub container_spans : (c : Container) (p : Point) (ms : List Mark) (s : Seat) (ss : List Seat) → AreSpans bytes ms (s ∷ ss) → AreSpans bytes (enters_of bytes c p ++ ms) (s ∷ ss)
   container_spans (quote q) p ms s ss h = enter_spans (event bytes Enter name.BlockQuote p) ms s ss refl h
+  container_spans (footnote f) p ms s ss h = enter_spans (event bytes Enter name.GfmFootnoteDefinition p) ms s ss refl h
   container_spans (item i) p ms s ss h = by (i.list == i.line)
     where
       by : (b : Bool) → AreSpans bytes ((cond b ((event bytes Enter (list_name i) p, None) ∷ []) [] ++ (event bytes Enter name.ListItem p, None) ∷ []) ++ ms) (s ∷ ss)

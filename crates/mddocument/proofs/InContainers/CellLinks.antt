@@ -16,6 +16,7 @@ use Rattle.markdown_children.specs.Children.{chain_changes, child_changes, first
 use Rattle.markdown_children.specs.Parts.{Divided, divided, divided_over, parts}
 use Rattle.markdown_children.specs.Reads.{pieces_behind, pieces_of, text_from, text_of_chain}
 use Rattle.markdown_children.specs.Ready.{place_at}
+use Rattle.mdblock_table_marks.proofs.CellLemmas.{celled-length}
 use Rattle.mdblock_table_marks.specs.Cells.{as_text, celled, enters_cell}
 use Rattle.mdblock_table_marks.specs.CellPlaces.{CellsAreFree, is_cell_at}
 use Rattle.mddocument.proofs.InContainers.Rising.{filter-same}
@@ -92,10 +93,6 @@ cell-none true (e ∷ es) zero h is = ap (option_map (λ (l : Link). l.content))
 cell-none false (e ∷ es) zero h is = absurd (false≢true is)
 cell-none b (e ∷ es) (suc k) h is = cell-none (enters_cell e) es k h.1 is
 
-pub as-many : (b : Bool) (es : List Event) → length (celled b es) ≡ length es
-as-many b [] = refl
-as-many b (e ∷ es) = ap suc (as-many (enters_cell e) es)
-
 pub either : (b : Bool) → (b ≡ true) ⊎ (b ≡ false)
 either true = inl refl
 either false = inr refl
@@ -119,7 +116,7 @@ module _ (es : List Event) (free : CellsAreFree false es) where
 
   pub starts-same : fitting_starts of_content new ≡ fitting_starts of_content es
   starts-same =
-      ap (λ n. filter_by n) (as-many false es) ∙ filter-same (begins of_content new) (begins of_content es) begins-same (range_with_len 0 (length es))
+      ap (λ n. filter_by n) (celled-length false es) ∙ filter-same (begins of_content new) (begins of_content es) begins-same (range_with_len 0 (length es))
     where
       filter_by : ℕ → List ℕ
       filter_by n = filter (begins of_content new) (range_with_len 0 n)
@@ -133,7 +130,7 @@ module _ (es : List Event) (free : CellsAreFree false es) where
       by more (Some d) = ap (λ (l : List ℕ). i ∷ l) (more d)
 
   pub chain-same : (c : ℕ) → chain_of new c ≡ chain_of es c
-  chain-same c = ap (λ n. chain_from n new c) (as-many false es) ∙ from-same (length es) c
+  chain-same c = ap (λ n. chain_from n new c) (celled-length false es) ∙ from-same (length es) c
 
   -- ---- their texts
   behind-same : (ks : List ℕ) → pieces_behind new ks ≡ pieces_behind es ks

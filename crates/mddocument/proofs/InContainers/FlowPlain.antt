@@ -1,6 +1,7 @@
 -- Leaf blocks have no cells.
 use Rattle.std.proofs.Common.{◌≡◌, ℕ, ◌+◌, false, List, [], ◌∷◌, None, Some, refl}
 use Rattle.std.specs.Prelude.{◌&&◌}
+use Rattle.std.specs.List.{AllByRecursion}
 use Rattle.markdown_base.specs.declared.configuration.Constructs.{Constructs}
 use Rattle.markdown_base.specs.declared.event.Kind.{Kind}
 use Rattle.markdown_base.specs.declared.event.Kind.TheVariants.{Enter, Exit}
@@ -10,18 +11,15 @@ use Rattle.markdown_base.specs.Events.{is_enter, same_name}
 use Rattle.markdown_base.specs.Virtual.{Seat}
 use Rattle.mdconstructs_machines.specs.LineEvents.{lines_in}
 use Rattle.mdblock_leaf_blocks.specs.BlockLines.{block_lines}
-use Rattle.mdblock_leaf_blocks.specs.LeafBlocks.{LeafBlock, atx_heading, blank_line, break_line, fenced_code, html_block, indented_code, leaf_blocks, paragraph, setext_heading}
-use Rattle.mdblock_leaf_blocks.specs.LeafEvents.{Chunk, Mark, chunk_span, flow_events, leaf_block_marks, leaf_blocks_marks, linked_from}
+use Rattle.mdblock_leaf_blocks.specs.LeafBlocks.{LeafBlock, leaf_blocks}
+use Rattle.mdblock_leaf_blocks.specs.LeafEvents.{Mark, flow_events, leaf_block_marks, leaf_blocks_marks, linked_from}
 use Rattle.mdblock_table_marks.proofs.CellGaps.{no-cells-both}
+use Rattle.mdblock_table_marks.proofs.NoCellMarks.{IsOther, data-none}
 use Rattle.mdblock_table_marks.specs.CellPlaces.{NoCells}
 use Rattle.mddocument.proofs.InContainers.CellsWoven.{ArePlain}
-use Rattle.mddocument.proofs.Walks.BlockWalk.{MayBlock, block-are}
+use Rattle.mddocument.proofs.Walks.BlockWalk.{all-may, block-are, block_names}
 use Rattle.mddocument.proofs.Walks.InnerTexts.{AnySeat, any-each, any-lines}
 use Rattle.mddocument.proofs.Walks.MarksWalk.{Walk, walk-of-marks}
-
--- another name than that of the texts of cells
-abbrev pub IsOther : Name → Type 0
-IsOther n = same_name n name.GfmTableCellText ≡ false
 
 pub other-plain : (k : Kind) (n : Name) → IsOther n → (is_enter k && same_name n name.GfmTableCellText) ≡ false
 other-plain Enter n h = h
@@ -32,26 +30,15 @@ no-cells i [] h = tt
 no-cells i ((e, None) ∷ ms) h = (h.0, no-cells (i + 1) ms h.1)
 no-cells i ((e, Some k) ∷ ms) h = (h.0, no-cells (i + 1) ms h.1)
 
+other-names : AllByRecursion IsOther block_names
+other-names = (refl, (refl, (refl, (refl, (refl, (refl, (refl, (refl, (refl, (refl, (refl, (refl, (refl, (refl, (refl, (refl, (refl, (refl, (refl, tt)))))))))))))))))))
+
 module _ (bytes : List ℕ) where
   walk : Walk bytes NoCells IsOther AnySeat
   walk = walk-of-marks bytes NoCells IsOther tt no-cells-both (λ k n place m. (other-plain k n m, tt)) refl refl refl
 
-  chunk : (c : Chunk) (ss : List Seat) → NoCells (chunk_span bytes (Some c) name.Data ss [])
-  chunk c [] = tt
-  chunk c (s ∷ ss) = (refl, (refl, tt))
-
-  may : (block : LeafBlock) → MayBlock IsOther block
-  may (blank_line line) = tt
-  may (break_line line) = (refl, refl)
-  may (atx_heading line) = (refl, refl, refl)
-  may (paragraph lines) = refl
-  may (setext_heading rank lines underline) = (refl, refl, refl, refl)
-  may (indented_code lines) = (refl, refl)
-  may (fenced_code f is_closed lines) = record { code_fenced = refl; fence = refl; sequence = refl; info = refl; meta = refl; code = refl }
-  may (html_block kind is_closed lines) = (refl, refl)
-
   one-block : (block : LeafBlock) → NoCells (leaf_block_marks bytes block)
-  one-block block = block-are bytes NoCells IsOther AnySeat AnySeat walk (λ c seats q i. chunk c seats) block (may block) (any-each (block_lines block)) (any-lines (block_lines block))
+  one-block block = block-are bytes NoCells IsOther AnySeat AnySeat walk (λ c seats q i. data-none bytes c seats) block (all-may IsOther other-names block) (any-each (block_lines block)) (any-lines (block_lines block))
 
   blocks : (bs : List LeafBlock) → NoCells (leaf_blocks_marks bytes bs)
   blocks [] = tt

@@ -13,14 +13,14 @@ use Rattle.markdown_tokenizer.specs.Text.{Given, IsDocument}
 use Rattle.mdconstructs_machines.specs.LineEvents.{lines_in}
 use Rattle.mdconstructs_machines.specs.Spans.{event}
 use Rattle.mdblock_leaf_blocks.specs.LeafEvents.{Mark, leaf_marks}
-use Rattle.mdblock_lines.specs.Containers.{Container, item, quote}
+use Rattle.mdblock_lines.specs.Containers.{Container, footnote, item, quote}
 use Rattle.mdinline_labels.specs.declared.definitions.Definition.{Definition}
 use Rattle.mdblock_containers.specs.Rows.{Row}
 use Rattle.mdblock_containers.specs.SeatPlaces.{events_of}
 use Rattle.mdblock_containers.specs.Skeleton.{Part, begun_all, chained_from, ending_marks, exits, inside_of, is_held, pieces_of, prefixes_marks}
 use Rattle.mdblock_table_marks.proofs.CellData.{both-events, tables_have_cell_data}
 use Rattle.mdblock_table_marks.proofs.CellGaps.{cells-free, no-cell-in-gaps, no-cells-both}
-use Rattle.mdblock_table_marks.proofs.NoCellMarks.{PlainPieces, begun-all-none, chunks-none, ending-none, exits-none, inside-none, joined-plain, leaf-none, pieces-plain, prefixes-none}
+use Rattle.mdblock_table_marks.proofs.NoCellMarks.{IsOther, PlainPieces, begun-all-none, chunks-none, ending-none, exits-none, inside-none, joined-plain, leaf-none, pieces-plain, prefixes-none}
 use Rattle.mdblock_table_marks.specs.CellPlaces.{CellsAreFree, NoCellInGaps, NoCells}
 use Rattle.mdblock_table_marks.specs.Cells.{BeginsWithData, CellsHaveData}
 use Rattle.mdblock_definitions.proofs.SectionApart.{all-sections-apart}
@@ -31,7 +31,7 @@ use Rattle.mdblock_definitions.specs.Definitions.{definitions_marks, places_in}
 use Rattle.mdblock_definitions.specs.Rows.{rows}
 use Rattle.mdblock_definitions.specs.Sections.{Inside, Section, defined, lines, sections, table}
 use Rattle.mdblock_definitions.specs.Skeleton.{all_rows, behind_definitions, inside_marks, sections_marks}
-use Rattle.mddocument.proofs.InContainers.FlowPlain.{IsOther, other-plain}
+use Rattle.mddocument.proofs.InContainers.FlowPlain.{other-plain}
 use Rattle.mddocument.proofs.Walks.InnerTexts.{AnySeat, any-seats}
 use Rattle.mddocument.proofs.Walks.MarksWalk.{Walk, walk-of-marks}
 use Rattle.mddocument.proofs.Walks.SkeletonWalk.{AnyContainer, AreInDefinition, MayPrefix, any-rows, any-texts, are-in-definition, definitions-are, places}
@@ -72,6 +72,7 @@ module _ (bytes : List ℕ) where
   prefix-other : (c : Container) → AnyContainer c → MayPrefix IsOther c
   prefix-other (quote q) h = (refl, refl)
   prefix-other (item i) h = (refl, refl, refl)
+  prefix-other (footnote f) h = (refl, refl, refl, refl, refl, refl)
 
   in-definition : AreInDefinition IsOther
   in-definition = are-in-definition IsOther (refl, (refl, (refl, (refl, (refl, (refl, (refl, (refl, (refl, (refl, (refl, (refl, tt))))))))))))

@@ -16,6 +16,14 @@ use Rattle.mddocument.proofs.Walks.InnerTexts.{AreTextLines, inner-text, texts-f
 use Rattle.mddocument.proofs.Walks.MarksWalk.{Walk, leafs, whites}
 
 -- ---- the names that spans of a block have
+
+-- what blocks are made of
+abbrev pub block_names : List Name
+block_names =
+    name.ThematicBreak ∷ name.ThematicBreakSequence ∷ name.HeadingAtx ∷ name.HeadingAtxSequence ∷ name.HeadingAtxText ∷ name.Paragraph ∷ name.HeadingSetext ∷ name.HeadingSetextText ∷ name.HeadingSetextUnderline
+    ∷ name.HeadingSetextUnderlineSequence ∷ name.CodeIndented ∷ name.CodeFlowChunk ∷ name.CodeFenced ∷ name.CodeFencedFence ∷ name.CodeFencedFenceSequence ∷ name.CodeFencedFenceInfo ∷ name.CodeFencedFenceMeta
+    ∷ name.HtmlFlow ∷ name.HtmlFlowData ∷ []
+
 module _ (May : Name → Type 0) where
   -- of what is in fenced code, and of fenced code
   pub record MayInFence : Type 0 where
@@ -45,6 +53,20 @@ module _ (May : Name → Type 0) where
   MayBlock (indented_code lines) = May name.CodeIndented × May name.CodeFlowChunk
   MayBlock (fenced_code f is_closed lines) = MayFence
   MayBlock (html_block kind is_closed lines) = May name.HtmlFlow × May name.HtmlFlowData
+
+  -- Where all names of blocks are such, those of each block are
+  pub all-may : AllByRecursion May block_names → (block : LeafBlock) → MayBlock block
+  all-may (a, (b, (c, (d, (e, (f, (g, (h, (i, (j, (k, (l, (m, (n, (o, (p, (q, (r, (s, _))))))))))))))))))) block = by block
+    where
+      by : (x : LeafBlock) → MayBlock x
+      by (blank_line line) = tt
+      by (break_line line) = (a, b)
+      by (atx_heading line) = (c, d, e)
+      by (paragraph lines) = f
+      by (setext_heading rank lines underline) = (g, h, i, j)
+      by (indented_code lines) = (k, l)
+      by (fenced_code fence is_closed lines) = record { code_fenced = m; fence = n; sequence = o; info = p; meta = q; code = l }
+      by (html_block kind is_closed lines) = (r, s)
 
 -- Lists of marks that spans of such names over such virtual bytes, and lists one behind another keep
 module _ {bytes : List ℕ} {Are : List Mark → Type 0} {May : Name → Type 0} {Q : Seat → Type 0} (w : Walk bytes Are May Q) where

@@ -1,10 +1,12 @@
 -- What lists of marks have, if lists of spans with such names have it, and data, chunks and tables: the marks of containers, of definitions and of sections have it.
-use Rattle.std.proofs.Common.{ℕ, ◌+◌, ◌-◌, ◌==◌, List, [], ◌∷◌, ◌++◌, Bool, true, false, cond, Some, None, Option, take, drop, length, map, reverse}
+use Rattle.std.proofs.Common.{ℕ, ◌+◌, ◌-◌, ◌==◌, List, [], ◌∷◌, ◌++◌, Bool, true, false, cond, Some, None, Option, arith, subst, sym, take, drop, length, map, reverse}
 use Rattle.std.proofs.lemmas.Bool.{cond_both}
+use Rattle.std.proofs.lemmas.List.{drop-take, take-take}
+use Rattle.std.proofs.lemmas.List.Sums.{sum_by-cons}
 use Rattle.std.specs.List.{AllByRecursion, flat_map, prefix_len}
 use Rattle.markdown_base.proofs.Common.{every-append, every-drop, every-reverse, every-take}
 use Rattle.markdown_base.specs.declared.event.Kind.TheVariants.{Enter, Exit}
-use Rattle.markdown_tokenizer.proofs.Positions.Order.{every-all}
+use Rattle.markdown_tokenizer.proofs.Positions.Order.{every-all, every-front}
 use Rattle.markdown_base.specs.declared.event.Name.{Name}
 use Rattle.markdown_base.specs.declared.event.Point.{Point}
 use Rattle.markdown_base.specs.Virtual.{Seat}
@@ -13,13 +15,15 @@ use Rattle.mdinline_labels.specs.declared.definitions.Stretch.{Stretch}
 use Rattle.mdinline_labels.specs.Definitions.{end}
 use Rattle.mdconstructs_machines.specs.LineEvents.{ending_of, line_text}
 use Rattle.mdconstructs_machines.specs.Spans.{event}
+use Rattle.mdblock_leaf_blocks.proofs.Lines.WholeLines.{text-behind}
 use Rattle.mdblock_leaf_blocks.specs.LeafBlocks.{bytes_of}
 use Rattle.mdblock_leaf_blocks.specs.LeafEvents.{Chunk, Mark, chunk_span, leaf_marks, span_marks, white}
 use Rattle.mdblock_leaf_blocks.specs.LineKinds.{indent}
-use Rattle.mdblock_lines.specs.Containers.{Container, Prefix, item, quote}
+use Rattle.mdblock_lines.specs.Containers.{Container, Footnote, Prefix, footnote, item, quote}
+use Rattle.mdblock_containers.proofs.PartSpans.{RowFits}
 use Rattle.mdblock_containers.specs.Prefixes.{columns_of}
 use Rattle.mdblock_containers.specs.Rows.{Row, has_none, rest_of}
-use Rattle.mdblock_containers.specs.Skeleton.{Frame, Part, Piece, begin_of, begun_all, begun_marks, chunks_of, end_of, ending_marks, enters_of, exits, going_marks, inside_of, is_held, joined_pieces, last_line, list_name, pieces_of, prefixes_marks, shared}
+use Rattle.mdblock_containers.specs.Skeleton.{Frame, Part, Piece, begin_of, begun_all, begun_marks, chunks_of, end_of, ending_marks, enters_of, exits, going_marks, inside_of, is_held, joined_pieces, label_marks, last_line, list_name, pieces_of, prefixes_marks, shared}
 use Rattle.mdblock_table_marks.specs.TableMarks.{table_marks}
 use Rattle.mdblock_definitions.specs.Sections.{Inside, Section, defined, lines, table}
 use Rattle.mdblock_definitions.specs.Skeleton.{all_rows, behind_definitions, behind_marks, inside_marks, section_marks, sections_marks}
@@ -46,14 +50,18 @@ module _ (May : Name → Type 0) where
   abbrev pub MayPrefix : Container → Type 0
   MayPrefix (quote q) = May name.BlockQuotePrefix × May name.BlockQuoteMarker
   MayPrefix (item i) = May name.ListItemPrefix × May name.ListItemValue × May name.ListItemMarker
+  MayPrefix (footnote f) =
+      May name.GfmFootnoteDefinitionPrefix × May name.GfmFootnoteDefinitionLabel × May name.GfmFootnoteDefinitionLabelMarker × May name.GfmFootnoteDefinitionMarker × May name.GfmFootnoteDefinitionLabelString × May name.DefinitionMarker
 
   abbrev pub MayHold : Container → Type 0
   MayHold (quote q) = May name.BlockQuote × May name.BlockQuotePrefix × May name.BlockQuoteMarker
   MayHold (item i) = May (list_name i) × May name.ListItem × May name.ListItemPrefix × May name.ListItemValue × May name.ListItemMarker
+  MayHold (footnote f) = May name.GfmFootnoteDefinition × MayPrefix (footnote f)
 
   pub prefix-may : (c : Container) → MayHold c → MayPrefix c
   prefix-may (quote q) m = (m.1, m.2)
   prefix-may (item i) m = (m.2, m.3, m.4)
+  prefix-may (footnote f) m = m.1
 
   abbrev pub PrefixesMay : List Prefix → Type 0
   PrefixesMay ps = AllByRecursion (λ (p : Prefix). MayHold p.container) ps
@@ -108,7 +116,22 @@ module _ (May : Name → Type 0) where
 abbrev pub RowAt : (Seat → Type 0) → Row → Type 0
 RowAt At row = AllByRecursion At (line_text row.line)
 
+-- the virtual bytes of the prefixes with which containers begin in a line
+abbrev pub BegunAt : (Seat → Type 0) → Row → Type 0
+BegunAt At row = AllByRecursion At (take (columns_of row.begun) (drop (columns_of row.went_on) row.line))
+
+-- they are of the text of the line
+pub begun-in-text : (At : Seat → Type 0) (row : Row) → RowFits row → RowAt At row → BegunAt At row
+begun-in-text At row fits at =
+    let a = columns_of row.went_on in
+    let b = columns_of row.begun in
+    let front = every-front At (take (a + b) row.line) (line_text (drop (a + b) row.line)) (subst (AllByRecursion At) (sym (text-behind (a + b) row.line fits.line.whole fits.within)) at) in
+    subst (AllByRecursion At) (drop-take a b row.line) (every-drop At a (take (a + b) row.line) front)
+
 -- ---- nothing is said of virtual bytes, nor of containers
+pub any-begun : (row : Row) → BegunAt AnySeat row
+any-begun row = any-seats (take (columns_of row.begun) (drop (columns_of row.went_on) row.line))
+
 pub any-texts : (rs : List Row) → AllByRecursion (RowAt AnySeat) rs
 any-texts rs = every-all (RowAt AnySeat) (λ r. any-seats (line_text r.line)) rs
 
@@ -124,7 +147,7 @@ any-prefixes ps = every-all (λ (p : Prefix). AnyContainer p.container) (λ p. t
 pub any-rows : (rs : List Row) → AllByRecursion (λ (r : Row). AnyPrefixes r.went_on) rs
 any-rows rs = every-all (λ (r : Row). AnyPrefixes r.went_on) (λ r. any-prefixes r.went_on) rs
 
--- where definitions are, there are such virtual bytes alone; and this is said of tables
+-- where containers begin and where definitions are, there are such virtual bytes alone; and this is said of tables
 module _ (May : Name → Type 0) (At : Seat → Type 0) (Table : Part → Type 0) where
   abbrev pub InsideMay : Part → Inside → Type 0
   InsideMay part (lines is_behind) = Unit {0}
@@ -133,6 +156,7 @@ module _ (May : Name → Type 0) (At : Seat → Type 0) (Table : Part → Type 0
 
   pub record SectionMay (s : Section) : Type 0 where
     pub part : PartMay May s.part
+    pub begun : BegunAt At s.part.first
     pub inside : InsideMay s.part s.inside
 
 -- Lists of marks that spans of such names, over any virtual bytes, and lists one behind another keep
@@ -150,10 +174,25 @@ module _ {bytes : List ℕ} {Are : List Mark → Type 0} {May : Name → Type 0}
   pub goings : (c : Container) (seats : List Seat) → MayPrefix May c → Are (going_marks bytes c seats)
   goings (quote q) seats m = w.both _ _ (spaces _) (over name.BlockQuotePrefix _ m.0 (w.both _ _ (bare name.BlockQuoteMarker _ m.1) (spaces _)))
   goings (item i) seats m = spaces seats
+  goings (footnote f) seats m = spaces seats
 
-  pub begins : (c : Container) (seats : List Seat) → MayPrefix May c → Are (begun_marks bytes c seats)
-  begins (quote q) seats m = goings (quote q) seats m
-  begins (item i) seats m = w.both _ _ (spaces _) (over name.ListItemPrefix _ m.0 (w.both _ _ (bare name.ListItemValue _ m.1) (w.both _ _ (bare name.ListItemMarker _ m.2) (spaces _))))
+  -- where data is at such virtual bytes, as that of the labels of footnote definitions
+  module _ (At : Seat → Type 0) (some-data : (seats : List Seat) → AllByRecursion At seats → Are (leaf_marks bytes name.Data seats)) where
+    labels : (f : Footnote) (seats : List Seat) → MayPrefix May (footnote f) → AllByRecursion At seats → Are (label_marks bytes f.label seats)
+    labels f seats m at =
+        let string = take f.label (drop 2 seats) in
+        w.both _ _ (bare name.GfmFootnoteDefinitionLabelMarker _ m.2)
+        (w.both _ _ (bare name.GfmFootnoteDefinitionMarker _ m.3)
+        (w.both _ _ (over name.GfmFootnoteDefinitionLabelString string m.4 (some-data string (every-take At f.label (drop 2 seats) (every-drop At 2 seats at)))) (bare name.GfmFootnoteDefinitionLabelMarker _ m.2)))
+
+    pub begins : (c : Container) (seats : List Seat) → MayPrefix May c → AllByRecursion At seats → Are (begun_marks bytes c seats)
+    begins (quote q) seats m at = goings (quote q) seats m
+    begins (item i) seats m at = w.both _ _ (spaces _) (over name.ListItemPrefix _ m.0 (w.both _ _ (bare name.ListItemValue _ m.1) (w.both _ _ (bare name.ListItemMarker _ m.2) (spaces _))))
+    begins (footnote f) seats m at =
+        let behind = drop (indent (bytes_of seats)) seats in
+        w.both _ _ (spaces _)
+        (over name.GfmFootnoteDefinitionPrefix behind m.0
+        (w.both _ _ (over name.GfmFootnoteDefinitionLabel _ m.1 (labels f behind m (every-drop At (indent (bytes_of seats)) seats at))) (w.both _ _ (bare name.DefinitionMarker _ m.5) (spaces _))))
 
   -- where containers that are so have such names in their prefixes
   module _ (Goes : Container → Type 0) (goes : (c : Container) → Goes c → MayPrefix May c) where
@@ -306,10 +345,15 @@ module _ (bytes : List ℕ) (Are : List Mark → Type 0) (May : Name → Type 0)
   enters (quote q) place m = mark Enter name.BlockQuote place m.0
   enters (item i) place m =
       w.both _ _ (cond_both (i.list == i.line) ((event bytes Enter (list_name i) place, None) ∷ []) [] Are (λ e. mark Enter (list_name i) place m.0) (λ e. w.none)) (mark Enter name.ListItem place m.1)
+  enters (footnote f) place m = mark Enter name.GfmFootnoteDefinition place m.0
 
-  all-begun : (ps : List Prefix) (seats : List Seat) → PrefixesMay May ps → Are (begun_all bytes ps seats)
-  all-begun [] seats m = w.none
-  all-begun (p ∷ ps) seats m = w.both _ _ (enters p.container (begin_of seats) m.0) (w.both _ _ (begins w p.container (take p.size seats) (prefix-may May p.container m.0)) (all-begun ps (drop p.size seats) m.1))
+  all-begun : (ps : List Prefix) (seats : List Seat) → PrefixesMay May ps → AllByRecursion At (take (columns_of ps) seats) → Are (begun_all bytes ps seats)
+  all-begun [] seats m at = w.none
+  all-begun (p ∷ ps) seats m at =
+      let all = subst (λ n. AllByRecursion At (take n seats)) (sum_by-cons (λ (q : Prefix). q.size) p ps) at in
+      let here = subst (AllByRecursion At) (take-take p.size (p.size + columns_of ps) seats (omega arith)) (every-take At p.size (take (p.size + columns_of ps) seats) all) in
+      let rest = subst (AllByRecursion At) (drop-take p.size (columns_of ps) seats) (every-drop At p.size (take (p.size + columns_of ps) seats) all) in
+      w.both _ _ (enters p.container (begin_of seats) m.0) (w.both _ _ (begins w At some-data p.container (take p.size seats) (prefix-may May p.container m.0) here) (all-begun ps (drop p.size seats) m.1 rest))
 
   -- ---- what is in a section
   stretch : (part : Part) → PartMay May part → AllByRecursion (PieceIs bytes Are) (joined_pieces bytes (pieces_of bytes (is_held part) part.first part.more))
@@ -347,7 +391,7 @@ module _ (bytes : List ℕ) (Are : List Mark → Type 0) (May : Name → Type 0)
       let first = s.part.first in
       let n = length s.part.stands in
       w.both _ _ (held (take n first.went_on) first.line (every-take (λ (p : Prefix). MayHold May p.container) n first.went_on m.part.rows.0))
-      (w.both _ _ (all-begun first.begun (drop (columns_of first.went_on) first.line) m.part.begun) (in-section s.part m.part s.inside m.inside))
+      (w.both _ _ (all-begun first.begun (drop (columns_of first.went_on) first.line) m.part.begun m.begun) (in-section s.part m.part s.inside m.inside))
 
   exit-marks : (fs : List Frame) (place : Point) → FramesMay May fs → Are (map (λ (f : Frame). (event bytes Exit f.name place, None)) fs)
   exit-marks [] place m = w.none

@@ -1,22 +1,22 @@
--- Where block quotes and lists are off, no container begins.
+-- Where block quotes, lists and footnote definitions are off, no container begins.
 use Rattle.mddocument_parts.proofs.Prelude.{◌≡◌, ℕ, zero, suc, ◌&&◌, ◌||◌, ◌==◌, nat_le, List, [], ◌∷◌, Bool, true, false, cond, Option, None, Some, length, take, drop, refl, ap, ◌∙◌, Constructs, Line, is_blank_line, text_of, lines_in}
 use Rattle.std.specs.List.{list_all}
 use Rattle.markdown_base.proofs.Facts.Bools.{cond-same}
 use Rattle.mdblock_leaf_blocks.specs.LineKinds.{begins_with, indent, is_thematic_break, unindented}
-use Rattle.mdblock_lines.specs.Containers.{Container, Prefix, begins, item_at, may_begin_item, quote, quote_size}
+use Rattle.mdblock_lines.specs.Containers.{Container, begins, footnote_at, is_footnote, item_at, may_begin_item, Prefix, quote, quote_size}
 use Rattle.mdblock_containers.specs.Prefixes.{beginning, columns_of, going_on, with_list}
 use Rattle.mdblock_containers.specs.Rows.{Before, Row, has_none, is_paragraph, is_raw, known_after, nothing_known, row_of, rows_from}
 use Rattle.mddocument.specs.Documents.{virtual_bytes}
 use Rattle.mddocument_parts.specs.WithoutContainers.{NoneBeginsWhereOff}
 
-module _ (on : Constructs) (quotes : on.block_quote ≡ false) (items : on.list_item ≡ false) where
+module _ (on : Constructs) (quotes : on.block_quote ≡ false) (items : on.list_item ≡ false) (notes : on.gfm_footnote_definition ≡ false) where
   off-begins : (number : ℕ) (in_paragraph : Bool) (t : List ℕ) → begins on number in_paragraph t ≡ None
   off-begins number in_paragraph t =
       let r = unindented t in
       let other = (on.code_indented && nat_le 4 (indent t)) || (is_blank_line t || (on.thematic_break && is_thematic_break r)) in
       (λ i. cond other None
       (cond (quotes i && begins_with 62 r) (Some (record { container = quote (record { line = number; is_near = on.code_indented }); size = quote_size t }))
-      (cond (items i && may_begin_item in_paragraph r) (Some (item_at number t)) None)))
+      (cond (notes i && is_footnote r) (Some (footnote_at number t)) (cond (items i && may_begin_item in_paragraph r) (Some (item_at number t)) None))))
       ∙ cond-same other None
 
   off-beginning : (bound number : ℕ) (in_paragraph : Bool) (t : List ℕ) → beginning on bound number in_paragraph t ≡ []
@@ -41,4 +41,4 @@ module _ (on : Constructs) (quotes : on.block_quote ≡ false) (items : on.list_
   off-rows b number (line ∷ lines) = (λ i. off-row b number line i && off-rows (known_after on b (row_of on b number line)) (suc number) lines i)
 
 pub none-begins-where-off : NoneBeginsWhereOff
-none-begins-where-off options bytes quotes items = let on = options.constructs in off-rows on quotes items (nothing_known on) 1 (lines_in (virtual_bytes options bytes))
+none-begins-where-off options bytes quotes items notes = let on = options.constructs in off-rows on quotes items notes (nothing_known on) 1 (lines_in (virtual_bytes options bytes))

@@ -1,4 +1,4 @@
-use Rattle.std.proofs.Common.{◌≡◌, ◌+◌, length, sym, ◌∙◌, arith}
+use Rattle.std.proofs.Common.{sym, ◌∙◌, arith}
 use Rattle.mdblock_containers.proofs.FrameLemmas.{shared_more, shared_stops, shared_none, shared_none_behind}
 use Rattle.mdblock_containers.proofs.frames.shared.Goals as goal
 

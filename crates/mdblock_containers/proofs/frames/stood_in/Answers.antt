@@ -1,4 +1,5 @@
-use Rattle.std.proofs.Common.{◌≡◌, ◌-◌, ◌<◌, ap, arith}
+use Rattle.mdblock_lines.specs.declared.containers.ContainerKind.TheVariants as kinds
+use Rattle.std.proofs.Common.{◌-◌, ap, arith}
 use Rattle.std.specs.Prelude.{false}
 use Rattle.mdblock_containers.specs.declared.frames.Stood.{Stood}
 use Rattle.mdblock_containers.specs.declared.going.Open.{Open}
@@ -7,7 +8,7 @@ use Rattle.mdblock_containers.proofs.frames.stood_in.Goals as goal
 
 -- what the code reads where there is nothing
 abbrev no : Open
-no = record { container = record { is_quote = false; is_near = false; line = 0; size = 0; marker = 0; digits = 0; is_blank = false }; list = 0 }
+no = record { container = record { kind = kinds.Quote; is_near = false; line = 0; size = 0; marker = 0; digits = 0; is_blank = false; label = 0 }; list = 0 }
 
 pub bounds-stack-containers : goal.bounds-stack-containers
 bounds-stack-containers g c =

@@ -1,4 +1,4 @@
-use Rattle.std.proofs.Common.{◌≡◌, ◌+◌, ◌*◌, ℕ, List, ap, drop, length, sym, refl, ◌∙◌, arith, ◌≤◌}
+use Rattle.std.proofs.Common.{◌≡◌, ℕ, List, ap, drop, length, sym, refl, ◌∙◌, arith, ◌≤◌}
 use Rattle.std.proofs.lemmas.List.{length-map}
 use Rattle.mdblock_leaf_blocks.specs.LeafBlocks.{text_of}
 use Rattle.mdblock_lines.specs.Lines.{line_at, line_bytes}

@@ -1,14 +1,14 @@
-use Rattle.std.proofs.Common.{◌≡◌, ℕ, ◌<◌, ◌≤◌, ◌+◌, ◌-◌, Bool, true, false, List, length, take, drop, get_or, ap, arith, ◌∙◌, length-drop}
+use Rattle.mdblock_lines.specs.declared.containers.ContainerKind.TheVariants as kinds
+use Rattle.std.proofs.Common.{◌≡◌, ◌<◌, false, length, take, drop, get_or, ap, arith, ◌∙◌, length-drop}
 use Rattle.mdblock_leaf_blocks.specs.LineKinds.{indent}
 use Rattle.mdblock_lines.specs.declared.containers.Prefix.{Prefix}
 use Rattle.mdblock_lines.specs.Lines.{place_after}
-use Rattle.mdblock_containers.specs.SeatPlaces.{IsInside}
-use Rattle.mdblock_containers.proofs.PrefixLemmas.{inside_drop, inside_some, begun_columns, begun_written, begun_end}
+use Rattle.mdblock_containers.proofs.PrefixLemmas.{inside_drop, inside_some, begun_columns, begun_written}
 use Rattle.mdblock_containers.proofs.WritingLemmas.{columns_behind, place_chain}
 use Rattle.mdblock_containers.proofs.prefixes.begun_prefixes.Goals as goal
 
 abbrev none : Prefix
-none = record { container = record { is_quote = false; is_near = false; line = 0; size = 0; marker = 0; digits = 0; is_blank = false }; size = 0 }
+none = record { container = record { kind = kinds.Quote; is_near = false; line = 0; size = 0; marker = 0; digits = 0; is_blank = false; label = 0 }; size = 0 }
 
 pub front-text-requires : goal.front-text-requires
 front-text-requires g c =
@@ -28,6 +28,7 @@ begun_prefix-requires g c =
           (omega (arith, c.front-text.ensures.len, in_line.0.within, length-drop c.loop-prefix.at c.args.t.now, i.within));
       quote = λ q. let w = in_line.0.of_quote q in omega (arith, n, w, c.front-text.ensures.len);
       item = λ q. let w = in_line.0.of_item q in omega (arith, n, w, c.front-text.ensures.len);
+      footnote = λ q. let w = in_line.0.of_footnote q in (w.0, omega (arith, n, w.1, c.front-text.ensures.len));
     }
 
 pub loop-prefix-preserved : goal.loop-prefix-preserved

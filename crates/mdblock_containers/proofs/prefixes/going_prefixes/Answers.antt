@@ -1,14 +1,12 @@
-use Rattle.std.proofs.Common.{◌≡◌, ◌<◌, ◌≤◌, ◌+◌, ℕ, List, [], length, map, ap, drop, arith, ◌∙◌}
+use Rattle.std.proofs.Common.{◌≡◌, ◌<◌, ◌≤◌, ℕ, List, [], length, map, ap, drop, arith, ◌∙◌}
 use Rattle.std.proofs.lemmas.List.{drop_all, length-map}
 use Rattle.markdown_base.specs.Virtual.{Seat}
 use Rattle.mdconstructs_tables.specs.Breaks.{is_white}
 use Rattle.mdblock_leaf_blocks.specs.LineKinds.{indent}
-use Rattle.mdblock_lines.specs.Containers.{Prefix}
 use Rattle.mdblock_lines.specs.Lines.{place_after}
-use Rattle.mdblock_containers.specs.Prefixes.{columns_of}
 use Rattle.mdblock_containers.specs.Views.{open_of}
 use Rattle.mdblock_containers.proofs.CostLemmas.{first_within, some_size_at}
-use Rattle.mdblock_containers.proofs.GoingLemmas.{prefix_within, going_columns, going_end}
+use Rattle.mdblock_containers.proofs.GoingLemmas.{prefix_within, going_columns}
 use Rattle.mdblock_containers.proofs.PrefixLemmas.{quote_fits, going_written, going_nothing, nothing_columns}
 use Rattle.mdblock_containers.proofs.WritingLemmas.{columns_behind, place_chain}
 use Rattle.mdblock_containers.proofs.prefixes.going_prefixes.Goals as goal

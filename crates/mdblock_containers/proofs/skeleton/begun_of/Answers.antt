@@ -1,4 +1,4 @@
-use Rattle.std.proofs.Common.{◌≡◌, ◌+◌, ◌≤◌, ℕ, List, ◌++◌, length, drop, map, ap, sym, subst, ◌∙◌, arith}
+use Rattle.std.proofs.Common.{◌≡◌, ℕ, List, ◌++◌, length, drop, ap, sym, subst, ◌∙◌, arith}
 use Rattle.std.proofs.lemmas.List.{drop-map, length-map}
 use Rattle.markdown_base.specs.declared.event.Point.{Point}
 use Rattle.markdown_base.specs.Virtual.{Seat, point}

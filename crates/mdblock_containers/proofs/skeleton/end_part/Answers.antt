@@ -1,4 +1,4 @@
-use Rattle.std.proofs.Common.{◌≡◌, ◌+◌, ◌≤◌, List, ◌++◌, length, take, drop, map, min, length-drop, length-take, ap, sym, ◌∙◌, append_assoc, arith}
+use Rattle.std.proofs.Common.{◌≡◌, ◌+◌, List, ◌++◌, length, take, drop, map, length-drop, length-take, ap, sym, ◌∙◌, append_assoc, arith}
 use Rattle.std.proofs.lemmas.List.{drop-map}
 use Rattle.markdown_base.specs.declared.event.Event.{Event}
 use Rattle.mdblock_containers.specs.declared.frames.Frame.{Frame}

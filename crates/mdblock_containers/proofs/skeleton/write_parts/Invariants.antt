@@ -1,4 +1,4 @@
-use Rattle.std.proofs.Common.{◌≡◌, ◌≤◌, ◌+◌, ◌*◌, ◌-◌, length, take, drop, map}
+use Rattle.std.proofs.Common.{◌≤◌, ◌+◌, ◌*◌, ◌-◌, length, take, drop, map}
 use Rattle.std.specs.Prelude.{false, None}
 use Rattle.mdblock_containers.specs.Costs.{IsEnough, columns_in}
 use Rattle.mdblock_containers.specs.Frames.{frame_of}

@@ -1,8 +1,8 @@
-use Rattle.std.proofs.Common.{◌≡◌, ◌≤◌, ◌+◌, ◌-◌, ℕ, List, true, drop, length, map, ap, ◌∙◌, subst, arith, length-drop}
+use Rattle.std.proofs.Common.{◌≡◌, ◌≤◌, ◌+◌, ◌-◌, ℕ, List, true, drop, length, map, ap, subst, arith, length-drop}
 use Rattle.mdblock_containers.specs.Views.{open_of}
 use Rattle.mdblock_definitions.specs.Cursor.{Goes, left_at}
 use Rattle.mdblock_definitions.specs.Definitions.{Place}
-use Rattle.mdblock_definitions.proofs.MarksCursor.{behind-line, goes-nowhere, has-columns, has-room, here-of, line-full, line-more, lines-last, lines-next}
+use Rattle.mdblock_definitions.proofs.MarksCursor.{behind-line, goes-nowhere, has-columns, has-room, here-of, line-full, line-more, lines-next}
 use Rattle.mdblock_definitions.proofs.MarksCosts.{leaf-fits}
 use Rattle.mdblock_definitions.proofs.MarksStrings.{ends-here, ends-over, lines-end}
 use Rattle.mdblock_definitions.proofs.marks.write_lines.Goals as goal

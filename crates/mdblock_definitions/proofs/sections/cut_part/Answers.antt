@@ -1,4 +1,4 @@
-use Rattle.std.proofs.Common.{◌≡◌, length, subst, sym, ap, ◌∙◌, arith}
+use Rattle.std.proofs.Common.{◌≡◌, length, subst, sym, arith}
 use Rattle.mdblock_containers.proofs.AheadLemmas.{rows_length}
 use Rattle.mdblock_table_marks.specs.TableCuts.{before_table}
 use Rattle.mdblock_definitions.specs.Sections.{is_in_table}

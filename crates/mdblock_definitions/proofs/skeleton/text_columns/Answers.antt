@@ -1,4 +1,4 @@
-use Rattle.std.proofs.Common.{List, ℕ, ap, arith, length, ◌∙◌}
+use Rattle.std.proofs.Common.{List, ℕ, ap, arith, length}
 use Rattle.mdblock_definitions.proofs.skeleton.text_columns.Goals as goal
 
 pub returns-in_err-read-clause-turns : goal.returns-in_err-read-clause-turns

@@ -1,4 +1,4 @@
-use Rattle.std.proofs.Common.{◌≡◌, ◌<◌, ◌≤◌, ◌+◌, ℕ, List, [], ◌++◌, length, map, take, length-append, length-take, arith, refl, sym, ap, subst, ◌∙◌}
+use Rattle.std.proofs.Common.{◌≡◌, ◌+◌, ℕ, List, [], ◌++◌, length, map, length-append, length-take, arith, refl, sym, ap, subst, ◌∙◌}
 use Rattle.std.proofs.lemmas.List.{append-nil, take-map, length-map, length-take-le}
 use Rattle.mdblock_lines.specs.declared.containers.Prefix.{Prefix as CodePrefix}
 use Rattle.mdblock_lines.specs.Containers.{Container, Prefix}
