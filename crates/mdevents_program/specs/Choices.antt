@@ -37,7 +37,8 @@ choice_together n is_deep which t = cond (is_deep && not (links_text which)) Non
 abbrev pub CanCut : Choice → Type 0
 CanCut choice = IfSome choice.cut (λ n. 1 ≤ n)
 
--- Events are those of a document with the constructs of GFM: its blocks, tables among them; or, deep, with inline text, checks of tasks and literals
+-- Events are those of a document with the constructs of GFM: its blocks, tables and footnote definitions among them; or, deep, with inline text, checks of
+-- tasks, calls of footnotes and literals
 abbrev pub AreGfmEvents : (deep : Bool) → (t : ℕ) → List ℕ → List Event → Type 0
 AreGfmEvents false t bytes events = AreDocumentBlocks (options_with gfm_constructs t) bytes events
 AreGfmEvents true t bytes events = events ≡ gfm_events (options_with gfm_constructs t) bytes

@@ -32,7 +32,8 @@ pub enum Which {
     Flow,
     /// `document`: block quotes and lists, the leaf blocks and link reference definitions in them, and their inline text.
     Document,
-    /// `gfm`: as `document`, with the constructs of GFM: tables, and with inline text also checks of tasks, strikethrough and autolink literals.
+    /// `gfm`: as `document`, with the constructs of GFM: tables and footnote definitions, and with inline text also checks of tasks, strikethrough,
+    /// calls of footnotes and autolink literals.
     Gfm,
 }
 

@@ -1,4 +1,4 @@
--- The events of a document go ahead, with checks and literals too: in order, at places of the document, and over line endings.
+-- The events of a document go ahead, with checks, calls and literals too: in order, at places of the document, and over line endings.
 use Rattle.std.proofs.Common.{ℕ, ◌≤◌, List, length, Bool, true, false, cond, refl, arith}
 use Rattle.std.specs.List.{AllByRecursion}
 use Rattle.markdown_base.proofs.Common.{every-map}
@@ -9,11 +9,14 @@ use Rattle.markdown_base.specs.Virtual.{point}
 use Rattle.markdown_tokenizer.specs.Text.{IsDocument}
 use Rattle.mddocument.specs.Documents.{document}
 use Rattle.mdgfm_documents.specs.Documents.{gfm_events}
+use Rattle.mdgfm_footnotes.specs.CallEvents.{call_events, is_one_of, labels_in, with_calls}
+use Rattle.mdgfm_footnotes.proofs.Ordered.{calls-go}
 use Rattle.mdgfm_literals.proofs.Order.{Goes, pairs-go-all}
 use Rattle.mdgfm_literals.specs.LiteralEvents.{events_with as with_literals, literal_events}
 use Rattle.mdgfm_literals.specs.Stretches.{literals_of}
 use Rattle.mdgfm_tasks.specs.declared.awaited.Awaited.TheVariants.{Nothing}
 use Rattle.mdgfm_tasks.specs.TaskEvents.{events_with as with_tasks, task_events}
+use Rattle.mdgfm_documents.proofs.CallsAhead.{calls-ended, calls-inside}
 use Rattle.mdgfm_documents.proofs.Ended.{AreEnded}
 use Rattle.mdgfm_documents.proofs.LiteralsAhead.{literals-ended, literals-go, literals-inside, others-found, places-found}
 use Rattle.mdgfm_documents.proofs.DocumentAhead.{document-ended, document-inside}
@@ -43,16 +46,31 @@ tasks-ahead options bytes es h = by options.constructs.gfm_task_list_item
     }
     by false = h
 
+-- events that are ahead are within the document
+up-to : (tab : ℕ) (bytes : List ℕ) (es : List Event) → IsAhead tab (length bytes) es → AllByRecursion (λ (e : Event). e.point.index ≤ length bytes) es
+up-to tab bytes es h = every-map (λ (e : Event). IsInside tab (length bytes) e.point) (λ (e : Event). e.point.index ≤ length bytes) (λ e k. k.0) es h.inside
+
+calls-ahead : (options : ParseOptions) (bytes : List ℕ) (es : List Event) → IsAhead options.tab_size (length bytes) es → IsAhead options.tab_size (length bytes) (call_events options bytes es)
+calls-ahead options bytes es h = by options.constructs.gfm_label_start_footnote
+  where
+    defined : (label : List ℕ) → Bool
+    defined = is_one_of (labels_in bytes es)
+
+    by : (t : Bool) → IsAhead options.tab_size (length bytes) (cond t (with_calls defined options.tab_size bytes es) es)
+    by true = record {
+      goes = calls-go options.tab_size bytes defined es h.goes;
+      inside = calls-inside options.tab_size (length bytes) bytes defined es (up-to options.tab_size bytes es h) h.inside;
+      ended = calls-ended options.tab_size bytes defined es h.ended;
+    }
+    by false = h
+
 literals-ahead : (options : ParseOptions) (bytes : List ℕ) (es : List Event) → IsAhead options.tab_size (length bytes) es → IsAhead options.tab_size (length bytes) (literal_events options bytes es)
 literals-ahead options bytes es h = by options.constructs.gfm_autolink_literal
   where
-    at : AllByRecursion (λ (e : Event). e.point.index ≤ length bytes) es
-    at = every-map (λ (e : Event). IsInside options.tab_size (length bytes) e.point) (λ (e : Event). e.point.index ≤ length bytes) (λ e k. k.0) es h.inside
-
     by : (t : Bool) → IsAhead options.tab_size (length bytes) (cond t (with_literals options.tab_size bytes 0 0 start (literals_of bytes true 0 0 es) es) es)
     by true = record {
       goes = literals-go options.tab_size bytes start es refl refl h.goes;
-      inside = literals-inside options.tab_size (length bytes) bytes 0 0 start (literals_of bytes true 0 0 es) es (omega arith, omega arith) (places-found (length bytes) bytes es at) h.inside;
+      inside = literals-inside options.tab_size (length bytes) bytes 0 0 start (literals_of bytes true 0 0 es) es (omega arith, omega arith) (places-found (length bytes) bytes es (up-to options.tab_size bytes es h)) h.inside;
       ended = literals-ended options.tab_size bytes 0 0 start (literals_of bytes true 0 0 es) es (others-found bytes options.tab_size es) h.ended;
     }
     by false = h
@@ -69,4 +87,6 @@ module _ (options : ParseOptions) (bytes : List ℕ) (is : IsDocument (document 
   }
 
   pub gfm-ahead : IsAhead options.tab_size (length bytes) (gfm_events options bytes)
-  gfm-ahead = literals-ahead options bytes (task_events options bytes (document_events g)) (tasks-ahead options bytes (document_events g) document-ahead)
+  gfm-ahead =
+      let tasks = task_events options bytes (document_events g) in
+      literals-ahead options bytes (call_events options bytes tasks) (calls-ahead options bytes tasks (tasks-ahead options bytes (document_events g) document-ahead))

@@ -9,3 +9,4 @@ pub mod Ended
 pub mod GoAhead
 pub mod LiteralsAhead
 pub mod TasksAhead
+pub mod CallsAhead

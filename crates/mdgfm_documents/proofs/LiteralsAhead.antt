@@ -104,10 +104,10 @@ module _ (tab most : ℕ) (bytes : List ℕ) where
 
 -- ---- line endings
 
-abbrev is_other : Name → Bool
+abbrev pub is_other : Name → Bool
 is_other n = not (same_name n LineEnding)
 
-abbrev IsOther : Literal → Type 0
+abbrev pub IsOther : Literal → Type 0
 IsOther l = is_other l.name ≡ true
 
 text-other : (depth : ℕ) (e : Event) → is_text depth e ≡ true → same_name e.name LineEnding ≡ false

@@ -36,7 +36,7 @@ pub either-inside : (tab most : ℕ) (t : Bool) (xs ys : List Event) → AreInsi
 either-inside tab most true xs ys h k = h
 either-inside tab most false xs ys h k = k
 
-leaf-inside : (tab most : ℕ) (n : Name) (p q : Point) (es : List Event) → IsInside tab most p → IsInside tab most q → AreInside tab most es → AreInside tab most (leaf n p q ++ es)
+pub leaf-inside : (tab most : ℕ) (n : Name) (p q : Point) (es : List Event) → IsInside tab most p → IsInside tab most q → AreInside tab most es → AreInside tab most (leaf n p q ++ es)
 leaf-inside tab most n p q es h k more = by (nat_lt p.index q.index)
   where
     by : (t : Bool) → AreInside tab most (cond t (event Enter n p ∷ event Exit n q ∷ []) [] ++ es)

@@ -1,4 +1,4 @@
-//! The events of a document with checks of task list items and with autolink literals.
+//! The events of a document with checks of task list items, calls of footnotes and autolink literals.
 
 ghost use Rattle.std.specs.Prelude.{◌≡◌, IfOk, IsOk, false};
 ghost use Rattle.markdown_base.specs.Events.{IsBalanced, IsInOrder};
@@ -8,11 +8,12 @@ ghost use Rattle.mdgfm_documents.specs.Documents.{gfm_events, with_gfm};
 use markdown_base::configuration::ParseOptions;
 use markdown_base::event::Event;
 use mddocument::documents::read_document;
+use mdgfm_footnotes::events::with_calls;
 use mdgfm_literals::events::with_literals;
 use mdgfm_tasks::events::with_tasks;
 use std::alloc::{AllocError, Global};
 
-/// Events with checks of task list items, and then with autolink literals, each if its option is on. It fails only if it runs out of memory.
+/// Events with checks of task list items, then with calls of footnotes, and then with autolink literals, each if its option is on. It fails only if it runs out of memory.
 ///
 /// Without these options they are returned as they are, and not copied.
 pub fn with_gfm(
@@ -22,13 +23,14 @@ pub fn with_gfm(
     events: Vec<Event>,
 ) -> Result<Vec<Event>, AllocError>
     ensures events { IfOk result (λ all. all.items ≡ with_gfm options.now bytes.now events.items) }
-    ensures off { options.now.constructs.gfm_task_list_item ≡ false → options.now.constructs.gfm_autolink_literal ≡ false → IsOk result }
+    ensures off { options.now.constructs.gfm_task_list_item ≡ false → options.now.constructs.gfm_label_start_footnote ≡ false → options.now.constructs.gfm_autolink_literal ≡ false → IsOk result }
 {
     let tasks = with_tasks(alloc, bytes, options, events)?;
-    with_literals(alloc, bytes, options, tasks)
+    let calls = with_calls(alloc, bytes, options, tasks)?;
+    with_literals(alloc, bytes, options, calls)
 }
 
-/// The events of a document: those of `read_document`, with checks of task list items and autolink literals, each if its option is on. They are
+/// The events of a document: those of `read_document`, with checks of task list items, calls of footnotes and autolink literals, each if its option is on. They are
 /// balanced, and in order of place. It fails only if it runs out of memory.
 pub fn read_gfm_document(
     alloc: Global,

@@ -1,4 +1,4 @@
-//! Laws of documents with checks and literals. Each is a function that does nothing; its contract is the law.
+//! Laws of documents with checks, calls and literals. Each is a function that does nothing; its contract is the law.
 
 ghost use Rattle.mdgfm_documents.specs.Laws.{GfmIsBalanced, GfmIsInOrder, GfmIsNamed, OffIsDocument, OrderIsKept};
 
@@ -12,13 +12,13 @@ pub fn gfm_documents_are_balanced()
     ensures { GfmIsBalanced }
 {}
 
-/// The events of each document are in order of place, and so are events in order with checks and literals.
+/// The events of each document are in order of place, and so are events in order with checks, calls and literals.
 pub fn gfm_documents_are_in_order()
     ensures kept { OrderIsKept }
     ensures documents { GfmIsInOrder }
 {}
 
-/// Checks and literals bring no names but their own, and those of white space and data.
+/// Checks, calls and literals bring no names but their own, and those of white space and data.
 pub fn gfm_documents_have_names()
     ensures { GfmIsNamed }
 {}

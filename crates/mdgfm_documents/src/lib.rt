@@ -1,4 +1,4 @@
-//! Documents with what GFM adds by rewriting events: checks of task list items, and autolink literals.
+//! Documents with what GFM adds by rewriting events: checks of task list items, calls of footnotes, and autolink literals.
 #![tactic(auto)]
 
 // documents: their events

@@ -24,7 +24,7 @@ ascend-few i most [] a all h = let goal : i + 0 ≤ most = omega (arith, h) in g
 ascend-few i most (l ∷ ls) a all h = let more = ascend-few l.to most ls a.2 all.1 all.0 in let low = a.0 in let some = a.1 in let goal : i + suc (length ls) ≤ most = omega (arith, more, low, some) in goal
 
 module _ (tab : ℕ) (bytes : List ℕ) where
-  leaf-few : (n : Name) (p q : Point) → length (leaf n p q) ≤ 2
+  pub leaf-few : (n : Name) (p q : Point) → length (leaf n p q) ≤ 2
   leaf-few n p q = by (nat_lt p.index q.index)
     where
       by : (t : Bool) → length (cond t (leaf-events n p q) []) ≤ 2
@@ -63,7 +63,7 @@ module _ (tab : ℕ) (bytes : List ℕ) where
       by true = let goal : length span ≤ length span + 2 = omega arith in goal
       by false = let few = leaf-few Data place last in let goal : length (leaf Data place last) ≤ length span + 2 = omega (arith, few) in goal
 
-  with-few : (skip depth : ℕ) (place : Point) (ls : List Literal) (es : List Event) → length (events_with tab bytes skip depth place ls es) ≤ 3 * length (drop skip es) + 4 * length ls
+  pub with-few : (skip depth : ℕ) (place : Point) (ls : List Literal) (es : List Event) → length (events_with tab bytes skip depth place ls es) ≤ 3 * length (drop skip es) + 4 * length ls
   with-few skip depth place ls [] = from-zero _
   with-few (suc skip) depth place ls (e ∷ es) = with-few skip depth place ls es
   with-few zero depth place ls (e ∷ es) =

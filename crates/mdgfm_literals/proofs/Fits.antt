@@ -102,9 +102,21 @@ pub record LiesIn (bytes : List ℕ) (i j : ℕ) (l : Literal) : Type 0 where
   pub first : (slice_index bytes l.from == 10) ≡ false
   pub last : follows_cr bytes l.to ≡ false
 
-no-cr : (bytes : List ℕ) (to : ℕ) → 1 ≤ to → (slice_index bytes (to - 1) == 13) ≡ false → follows_cr bytes to ≡ false
+pub no-cr : (bytes : List ℕ) (to : ℕ) → 1 ≤ to → (slice_index bytes (to - 1) == 13) ≡ false → follows_cr bytes to ≡ false
 no-cr bytes zero h e = absurd (omega (arith, h))
 no-cr bytes (suc to) h e = let one : to ≡ suc to - 1 = omega arith in ap (λ n. slice_index bytes n == 13) one ∙ e
+
+-- a byte of what is left of a slice is one of all bytes
+pub byte-in : (bytes : List ℕ) (i j k m n : ℕ) → k + m < j - i → i + (k + m) ≡ n → slice_index (drop k (slice_range bytes i j)) m ≡ slice_index bytes n
+byte-in bytes i j k m n less is =
+    get_or-drop k (slice_range bytes i j) m 0 ∙ get_or-take (j - i) (drop i bytes) (k + m) 0 less ∙ get_or-drop i bytes (k + m) 0 ∙ ap (λ x. get_or bytes x 0) is
+
+-- so many bytes are left of a slice at most
+pub left-in : (bytes : List ℕ) (i j k m : ℕ) → m ≤ length (drop k (slice_range bytes i j)) → 1 ≤ m → k + m ≤ j - i
+left-in bytes i j k m within some =
+    let long : length (drop k (slice_range bytes i j)) ≡ length (slice_range bytes i j) - k = length-drop k (slice_range bytes i j) in
+    let longer : length (slice_range bytes i j) ≡ min (j - i) (length (drop i bytes)) = length-take (j - i) (drop i bytes) in
+    omega (arith, within, some, long, longer)
 
 module _ (bytes : List ℕ) (i j : ℕ) where
   abbrev text : List ℕ
@@ -115,19 +127,10 @@ module _ (bytes : List ℕ) (i j : ℕ) where
   lies end (l ∷ ls) h (low, some, (before, there), more) =
       let rest = lies l.to ls (omega (arith, h, low, some)) more in
       let ends = found-ends before (drop (l.from - i) text) (record { size = l.to - l.from; name = l.name }) there in
-      let long : length (drop (l.from - i) text) ≡ length text - (l.from - i) = length-drop (l.from - i) text in
-      let longer : length text ≡ min (j - i) (length (drop i bytes)) = length-take (j - i) (drop i bytes) in
-      let within : l.to - l.from ≤ length (drop (l.from - i) text) = ends.within in
-      let size : l.to - l.from ≤ length text - (l.from - i) = omega (arith, within, long) in
-      let fits : length text ≤ j - i = omega (arith, longer) in
-      let inside : l.to ≤ j = omega (arith, size, fits, h, low, some) in
+      let fits : l.from - i + (l.to - l.from) ≤ j - i = left-in bytes i j (l.from - i) (l.to - l.from) ends.within (omega (arith, some)) in
+      let inside : l.to ≤ j = omega (arith, fits, h, low, some) in
       let byte : (m k : ℕ) → m < l.to - l.from → l.from + m ≡ k → slice_index (drop (l.from - i) text) m ≡ slice_index bytes k =
-      λ m k less is.
-      let sum : i + (l.from - i + m) ≡ k = omega (arith, is, h, low) in
-      get_or-drop (l.from - i) text m 0
-      ∙ get_or-take (j - i) (drop i bytes) (l.from - i + m) 0 (omega (arith, less, size, fits))
-      ∙ get_or-drop i bytes (l.from - i + m) 0
-      ∙ ap (λ x. get_or bytes x 0) sum in (
+      λ m k less is. byte-in bytes i j (l.from - i) m k (omega (arith, less, fits)) (omega (arith, is, h, low)) in (
         (low, some, rest.0),
         (
           record {
@@ -144,22 +147,52 @@ module _ (bytes : List ℕ) (i j : ℕ) where
 pub between-lies : (bytes : List ℕ) (fresh : Bool) (i j : ℕ) → Ascend i (literals_between bytes fresh i j) × AllByRecursion (LiesIn bytes i j) (literals_between bytes fresh i j)
 between-lies bytes fresh i j = lies bytes i j i (literals_between bytes fresh i j) (omega arith) (literals-are (before_stretch bytes fresh i) i (slice_range bytes i j))
 
-pub literals-rise : (bytes : List ℕ) (fresh : Bool) (depth skip i : ℕ) (es : List Event) → Rise i (drop skip es) → Ascend i (literals_of bytes fresh depth skip es)
-literals-rise bytes fresh depth skip i [] r = tt
-literals-rise bytes fresh depth (suc skip) i (e ∷ es) r = literals-rise bytes fresh depth skip i es r
-literals-rise bytes fresh depth zero i (e ∷ es) r =
+-- ---- what is found in stretches
+
+-- what is found in all stretches of events behind the first `skip`, by what is found between two indices
+abbrev pub found_of : (between : (fresh : Bool) → (from to : ℕ) → List Literal) → (fresh : Bool) → (depth skip : ℕ) → List Event → List Literal
+found_of between fresh depth skip [] = []
+found_of between fresh depth (suc skip) (e ∷ es) = found_of between fresh depth skip es
+found_of between fresh depth zero (e ∷ es) =
+    let r = reach (span_size 0 es) (span_end e.point 0 es).index es in
+    let stretch = between fresh e.point.index r.stop ++ found_of between false depth r.size es in
+    cond (is_text depth e) stretch (found_of between (is_fresh e) (depth_behind depth e) 0 es)
+
+pub literals-found-of : (bytes : List ℕ) (fresh : Bool) (depth skip : ℕ) (es : List Event) → found_of (literals_between bytes) fresh depth skip es ≡ literals_of bytes fresh depth skip es
+literals-found-of bytes fresh depth skip [] = refl
+literals-found-of bytes fresh depth (suc skip) (e ∷ es) = literals-found-of bytes fresh depth skip es
+literals-found-of bytes fresh depth zero (e ∷ es) =
+    let r = reach (span_size 0 es) (span_end e.point 0 es).index es in
+    let here = literals_between bytes fresh e.point.index r.stop in
+    let other = found_of (literals_between bytes) (is_fresh e) (depth_behind depth e) 0 es in
+    ap (λ ls. cond (is_text depth e) (here ++ ls) other) (literals-found-of bytes false depth r.size es)
+    ∙ ap (λ ls. cond (is_text depth e) (here ++ literals_of bytes false depth r.size es) ls) (literals-found-of bytes (is_fresh e) (depth_behind depth e) 0 es)
+
+-- between two indices it rises, and lies among bytes
+abbrev pub AllLie : (bytes : List ℕ) → (between : (fresh : Bool) → (from to : ℕ) → List Literal) → Type 0
+AllLie bytes between = (fresh : Bool) (i j : ℕ) → Ascend i (between fresh i j) × AllByRecursion (LiesIn bytes i j) (between fresh i j)
+
+pub found-rise : (bytes : List ℕ) (between : Bool → ℕ → ℕ → List Literal) → AllLie bytes between → (fresh : Bool) (depth skip i : ℕ) (es : List Event) → Rise i (drop skip es)
+    → Ascend i (found_of between fresh depth skip es)
+found-rise bytes between lie fresh depth skip i [] r = tt
+found-rise bytes between lie fresh depth (suc skip) i (e ∷ es) r = found-rise bytes between lie fresh depth skip i es r
+found-rise bytes between lie fresh depth zero i (e ∷ es) r =
     let q = span_end e.point 0 es in
     let end = rise-end e.point 0 es r.1 in
     let s = reach (span_size 0 es) q.index es in
     let far = rise-reach (span_size 0 es) q.index es end.1 in
-    let here = literals_between bytes fresh e.point.index s.stop in
-    let between = between-lies bytes fresh e.point.index s.stop in
-    let other = literals_of bytes (is_fresh e) (depth_behind depth e) 0 es in
-    either-ascend i (is_text depth e) (here ++ literals_of bytes false depth s.size es) other
-    (ascend-append i s.stop here (literals_of bytes false depth s.size es) (ascend-less i e.point.index here r.0 between.0)
-    (every-map (LiesIn bytes e.point.index s.stop) (λ l. l.to ≤ s.stop) (λ l h. h.before) here between.1) (omega (arith, r.0, end.0, far.0))
-    (literals-rise bytes false depth s.size s.stop es far.1))
-    (ascend-less i e.point.index other r.0 (literals-rise bytes (is_fresh e) (depth_behind depth e) 0 e.point.index es r.1))
+    let here = between fresh e.point.index s.stop in
+    let both = lie fresh e.point.index s.stop in
+    let other = found_of between (is_fresh e) (depth_behind depth e) 0 es in
+    either-ascend i (is_text depth e) (here ++ found_of between false depth s.size es) other
+    (ascend-append i s.stop here (found_of between false depth s.size es) (ascend-less i e.point.index here r.0 both.0)
+    (every-map (LiesIn bytes e.point.index s.stop) (λ l. l.to ≤ s.stop) (λ l h. h.before) here both.1) (omega (arith, r.0, end.0, far.0))
+    (found-rise bytes between lie false depth s.size s.stop es far.1))
+    (ascend-less i e.point.index other r.0 (found-rise bytes between lie (is_fresh e) (depth_behind depth e) 0 e.point.index es r.1))
+
+pub literals-rise : (bytes : List ℕ) (fresh : Bool) (depth skip i : ℕ) (es : List Event) → Rise i (drop skip es) → Ascend i (literals_of bytes fresh depth skip es)
+literals-rise bytes fresh depth skip i es r =
+    subst (Ascend i) (literals-found-of bytes fresh depth skip es) (found-rise bytes (literals_between bytes) (between-lies bytes) fresh depth skip i es r)
 
 -- ---- what is no text is not in a literal
 
@@ -263,15 +296,16 @@ pub from-each : (i : ℕ) (P R : Literal → Type 0) → ((l : Literal) → i �
 from-each i P R f [] h k = tt
 from-each i P R f (l ∷ ls) h k = (f l h.0 k.0, from-each i P R f ls h.1 k.1)
 
--- all literals of events fit
-pub all-fit : (bytes : List ℕ) (fresh : Bool) (depth skip i : ℕ) (es : List Event) → Rise i (drop skip es) → AllByRecursion (λ l. Fits l depth skip es) (literals_of bytes fresh depth skip es)
-all-fit bytes fresh depth skip i [] r = tt
-all-fit bytes fresh depth (suc skip) i (e ∷ es) r = all-fit bytes fresh depth skip i es r
-all-fit bytes fresh depth zero i (e ∷ es) r =
+-- all that is found in events fits
+pub found-fit : (bytes : List ℕ) (between : Bool → ℕ → ℕ → List Literal) → AllLie bytes between → (fresh : Bool) (depth skip i : ℕ) (es : List Event) → Rise i (drop skip es)
+    → AllByRecursion (λ l. Fits l depth skip es) (found_of between fresh depth skip es)
+found-fit bytes between lie fresh depth skip i [] r = tt
+found-fit bytes between lie fresh depth (suc skip) i (e ∷ es) r = found-fit bytes between lie fresh depth skip i es r
+found-fit bytes between lie fresh depth zero i (e ∷ es) r =
     by (is_text depth e) refl
-    (all-fit bytes false depth (reach (span_size 0 es) (span_end e.point 0 es).index es).size (reach (span_size 0 es) (span_end e.point 0 es).index es).stop es
+    (found-fit bytes between lie false depth (reach (span_size 0 es) (span_end e.point 0 es).index es).size (reach (span_size 0 es) (span_end e.point 0 es).index es).stop es
     (rise-reach (span_size 0 es) (span_end e.point 0 es).index es (rise-end e.point 0 es r.1).1).1)
-    (all-fit bytes (is_fresh e) (depth_behind depth e) 0 e.point.index es r.1)
+    (found-fit bytes between lie (is_fresh e) (depth_behind depth e) 0 e.point.index es r.1)
   where
     q : Point
     q = span_end e.point 0 es
@@ -289,13 +323,13 @@ all-fit bytes fresh depth zero i (e ∷ es) r =
     far = rise-reach n q.index es end.1
 
     here : List Literal
-    here = literals_between bytes fresh e.point.index s.stop
+    here = between fresh e.point.index s.stop
 
     rest : List Literal
-    rest = literals_of bytes false depth s.size es
+    rest = found_of between false depth s.size es
 
     other : List Literal
-    other = literals_of bytes (is_fresh e) (depth_behind depth e) 0 es
+    other = found_of between (is_fresh e) (depth_behind depth e) 0 es
 
     P : Literal → Type 0
     P l = Fits l depth 0 (e ∷ es)
@@ -318,8 +352,12 @@ all-fit bytes fresh depth zero i (e ∷ es) r =
               ((λ before. absurd (omega (arith, before, far.0, from))), (λ later. subst (λ d. Fits l d n es) (sym flat) (fits-skip l n q.index es end.1 from (subst (λ d. Fits l d s.size es) flat fit))))),
           (λ isnt. never (is_text depth e) text isnt),
         ) in
-        every-append P here rest (every-map (LiesIn bytes e.point.index s.stop) P in_here here (between-lies bytes fresh e.point.index s.stop).1)
-        (from-each s.stop (λ l. Fits l depth s.size es) P in_rest rest (ascend-from s.stop rest (literals-rise bytes false depth s.size s.stop es far.1)) behind)
+        every-append P here rest (every-map (LiesIn bytes e.point.index s.stop) P in_here here (lie fresh e.point.index s.stop).1)
+        (from-each s.stop (λ l. Fits l depth s.size es) P in_rest rest (ascend-from s.stop rest (found-rise bytes between lie false depth s.size s.stop es far.1)) behind)
     by false no_text rest_fits fit =
         from-each e.point.index (λ l. Fits l (depth_behind depth e) 0 es) P (λ l from fit. (from, (λ text. never (is_text depth e) text no_text), (λ is. fit))) other
-        (ascend-from e.point.index other (literals-rise bytes (is_fresh e) (depth_behind depth e) 0 e.point.index es r.1)) fit
+        (ascend-from e.point.index other (found-rise bytes between lie (is_fresh e) (depth_behind depth e) 0 e.point.index es r.1)) fit
+
+pub all-fit : (bytes : List ℕ) (fresh : Bool) (depth skip i : ℕ) (es : List Event) → Rise i (drop skip es) → AllByRecursion (λ l. Fits l depth skip es) (literals_of bytes fresh depth skip es)
+all-fit bytes fresh depth skip i es r =
+    subst (AllByRecursion (λ l. Fits l depth skip es)) (literals-found-of bytes fresh depth skip es) (found-fit bytes (literals_between bytes) (between-lies bytes) fresh depth skip i es r)

@@ -24,41 +24,16 @@ pub either-all : {A : Type 0} (P : A → Type 0) (b : Bool) (xs ys : List A) →
 either-all P true xs ys h k = h
 either-all P false xs ys h k = k
 
-module _ (test : Name → Bool) (of_data : test Data ≡ true) (five : AllByRecursion (λ n. test n ≡ true) literal_names) where
-  abbrev Named : Literal → Type 0
+-- ---- with any literals
+
+module _ (test : Name → Bool) (of_data : test Data ≡ true) where
+  abbrev pub Named : Literal → Type 0
   Named l = test l.name ≡ true
 
-  abbrev Passes : Event → Type 0
+  abbrev pub Passes : Event → Type 0
   Passes e = test e.name ≡ true
 
-  literal-named : (before : Option ℕ) (text : List ℕ) (f : Found) → literal_at before text ≡ Some f → test f.name ≡ true
-  literal-named before text =
-      literal-has (λ f. test f.name ≡ true) before text ((λ n h. five.0), ((λ n h. five.1.0), ((λ n h. five.1.1.0), ((λ n h. five.1.1.1.0), ((λ n h. five.1.1.1.1.0), tt)))))
-
-  text-named : (skip : ℕ) (before : Option ℕ) (at : ℕ) (text : List ℕ) → AllByRecursion Named (literals_from skip before at text)
-  text-named skip before at [] = tt
-  text-named (suc skip) before at (b ∷ bs) = text-named skip before (at + 1) bs
-  text-named zero before at (b ∷ bs) =
-      by (literal_at before (b ∷ bs)) refl (text-named (more_passed (b ∷ bs)) (slice_get (b ∷ bs) (more_passed (b ∷ bs))) (at + 1) bs) (λ f. text-named (f.size - 1) None (at + 1) bs)
-    where
-      by : (o : Option Found) → literal_at before (b ∷ bs) ≡ o
-          → AllByRecursion Named (literals_from (more_passed (b ∷ bs)) (slice_get (b ∷ bs) (more_passed (b ∷ bs))) (at + 1) bs)
-          → ((f : Found) → AllByRecursion Named (literals_from (f.size - 1) None (at + 1) bs))
-          → AllByRecursion Named (elim o [ Some f ↦ record { from = at; to = at + f.size; name = f.name } ∷ literals_from (f.size - 1) None (at + 1) bs | None ↦ literals_from (more_passed (b ∷ bs)) (slice_get (b ∷ bs) (more_passed (b ∷ bs))) (at + 1) bs ])
-      by None q none more = none
-      by (Some f) q none more = (literal-named before (b ∷ bs) f q, more f)
-
   module _ (tab : ℕ) (bytes : List ℕ) where
-    all-named : (fresh : Bool) (depth skip : ℕ) (es : List Event) → AllByRecursion Named (literals_of bytes fresh depth skip es)
-    all-named fresh depth skip [] = tt
-    all-named fresh depth (suc skip) (e ∷ es) = all-named fresh depth skip es
-    all-named fresh depth zero (e ∷ es) =
-        let r = reach (span_size 0 es) (span_end e.point 0 es).index es in
-        let here = literals_between bytes fresh e.point.index r.stop in
-        either-all Named (is_text depth e) (here ++ literals_of bytes false depth r.size es) (literals_of bytes (is_fresh e) (depth_behind depth e) 0 es)
-        (every-append Named here (literals_of bytes false depth r.size es) (text-named 0 (before_stretch bytes fresh e.point.index) e.point.index _) (all-named false depth r.size es))
-        (all-named (is_fresh e) (depth_behind depth e) 0 es)
-
     one-passes : (from : Point) (l : Literal) → Named l → AllByRecursion Passes (with_one tab bytes from l)
     one-passes from l h =
         every-append Passes (leaf Data from (start_of tab bytes from l)) (leaf l.name (start_of tab bytes from l) (end_of tab bytes from l))
@@ -76,7 +51,7 @@ module _ (test : Name → Bool) (of_data : test Data ≡ true) (five : AllByRecu
         by true more p = (every-append Passes (with_one tab bytes (later place first) l) more.events (one-passes (later place first) l h.0) p.0, p.1)
         by false more p = (tt, h)
 
-    with-passes : (skip depth : ℕ) (place : Point) (ls : List Literal) (es : List Event) → AllByRecursion Named ls → AllByRecursion Passes es
+    pub with-passes : (skip depth : ℕ) (place : Point) (ls : List Literal) (es : List Event) → AllByRecursion Named ls → AllByRecursion Passes es
         → AllByRecursion Passes (events_with tab bytes skip depth place ls es)
     with-passes skip depth place ls [] h k = tt
     with-passes (suc skip) depth place ls (e ∷ es) h k = with-passes skip depth place ls es h k.1
@@ -94,7 +69,41 @@ module _ (test : Name → Bool) (of_data : test Data ≡ true) (five : AllByRecu
         (with-passes n depth w.place w.left es p.1 k.1)))
         (k.0, with-passes 0 (depth_behind depth e) place ls es h k.1)
 
+-- ---- with literals of texts
+
+module _ (test : Name → Bool) (of_data : test Data ≡ true) (five : AllByRecursion (λ n. test n ≡ true) literal_names) where
+  abbrev IsNamed : Literal → Type 0
+  IsNamed = Named test of_data
+
+  literal-named : (before : Option ℕ) (text : List ℕ) (f : Found) → literal_at before text ≡ Some f → test f.name ≡ true
+  literal-named before text =
+      literal-has (λ f. test f.name ≡ true) before text ((λ n h. five.0), ((λ n h. five.1.0), ((λ n h. five.1.1.0), ((λ n h. five.1.1.1.0), ((λ n h. five.1.1.1.1.0), tt)))))
+
+  text-named : (skip : ℕ) (before : Option ℕ) (at : ℕ) (text : List ℕ) → AllByRecursion IsNamed (literals_from skip before at text)
+  text-named skip before at [] = tt
+  text-named (suc skip) before at (b ∷ bs) = text-named skip before (at + 1) bs
+  text-named zero before at (b ∷ bs) =
+      by (literal_at before (b ∷ bs)) refl (text-named (more_passed (b ∷ bs)) (slice_get (b ∷ bs) (more_passed (b ∷ bs))) (at + 1) bs) (λ f. text-named (f.size - 1) None (at + 1) bs)
+    where
+      by : (o : Option Found) → literal_at before (b ∷ bs) ≡ o
+          → AllByRecursion IsNamed (literals_from (more_passed (b ∷ bs)) (slice_get (b ∷ bs) (more_passed (b ∷ bs))) (at + 1) bs)
+          → ((f : Found) → AllByRecursion IsNamed (literals_from (f.size - 1) None (at + 1) bs))
+          → AllByRecursion IsNamed (elim o [ Some f ↦ record { from = at; to = at + f.size; name = f.name } ∷ literals_from (f.size - 1) None (at + 1) bs | None ↦ literals_from (more_passed (b ∷ bs)) (slice_get (b ∷ bs) (more_passed (b ∷ bs))) (at + 1) bs ])
+      by None q none more = none
+      by (Some f) q none more = (literal-named before (b ∷ bs) f q, more f)
+
+  module _ (tab : ℕ) (bytes : List ℕ) where
+    all-named : (fresh : Bool) (depth skip : ℕ) (es : List Event) → AllByRecursion IsNamed (literals_of bytes fresh depth skip es)
+    all-named fresh depth skip [] = tt
+    all-named fresh depth (suc skip) (e ∷ es) = all-named fresh depth skip es
+    all-named fresh depth zero (e ∷ es) =
+        let r = reach (span_size 0 es) (span_end e.point 0 es).index es in
+        let here = literals_between bytes fresh e.point.index r.stop in
+        either-all IsNamed (is_text depth e) (here ++ literals_of bytes false depth r.size es) (literals_of bytes (is_fresh e) (depth_behind depth e) 0 es)
+        (every-append IsNamed here (literals_of bytes false depth r.size es) (text-named 0 (before_stretch bytes fresh e.point.index) e.point.index _) (all-named false depth r.size es))
+        (all-named (is_fresh e) (depth_behind depth e) 0 es)
+
 pub names-kept : NamesAreKept
 names-kept test options bytes events five before =
     either-all (λ (e : Event). test e.name ≡ true) options.constructs.gfm_autolink_literal (events_with options.tab_size bytes 0 0 (point 1 1 0 0) (literals_of bytes true 0 0 events) events) events
-    (with-passes test five.0 five.1 options.tab_size bytes 0 0 (point 1 1 0 0) (literals_of bytes true 0 0 events) events (all-named test five.0 five.1 options.tab_size bytes true 0 0 events) before) before
+    (with-passes test five.0 options.tab_size bytes 0 0 (point 1 1 0 0) (literals_of bytes true 0 0 events) events (all-named test five.0 five.1 options.tab_size bytes true 0 0 events) before) before

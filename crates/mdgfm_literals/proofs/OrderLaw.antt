@@ -25,7 +25,7 @@ use Rattle.mdgfm_literals.proofs.Order.{Goes, beyond, goes-pairs, goes-rise, pai
 
 module _ (bytes : List ℕ) where
   -- a literal has no line ending at either end
-  abbrev HasNone : Literal → Type 0
+  abbrev pub HasNone : Literal → Type 0
   HasNone l = ((slice_index bytes l.from == 10) ≡ false) × (follows_cr bytes l.to ≡ false)
 
   have-none : (fresh : Bool) (depth skip : ℕ) (es : List Event) → AllByRecursion HasNone (literals_of bytes fresh depth skip es)
@@ -45,7 +45,7 @@ module _ (bytes : List ℕ) where
   pub shown-from : (p : Point) → (slice_index bytes p.index == 10) ≡ false → IsShown bytes p
   shown-from p h = ap (λ t. cond (t && follows_cr bytes p.index) (record { line = p.line; column = p.column; index = p.index - 1; vs = p.vs }) p) h
 
-  shown-to : (p : Point) → follows_cr bytes p.index ≡ false → IsShown bytes p
+  pub shown-to : (p : Point) → follows_cr bytes p.index ≡ false → IsShown bytes p
   shown-to p h =
       ap (λ t. cond ((slice_index bytes p.index == 10) && t) (record { line = p.line; column = p.column; index = p.index - 1; vs = p.vs }) p) h
       ∙ ap (λ t. cond t (record { line = p.line; column = p.column; index = p.index - 1; vs = p.vs }) p) (and-false (slice_index bytes p.index == 10))
@@ -70,7 +70,7 @@ module _ (bytes : List ℕ) where
   leaf-shows n p q h k = either-all Shows (nat_lt p.index q.index) (event Enter n p ∷ event Exit n q ∷ []) [] (h, (k, tt)) tt
 
   module _ (tab : ℕ) where
-    at-shown : (p : Point) (i : ℕ) → IsShown bytes p → IsShown bytes (beyond tab bytes p i) → IsShown bytes (place_at tab bytes p i)
+    pub at-shown : (p : Point) (i : ℕ) → IsShown bytes p → IsShown bytes (beyond tab bytes p i) → IsShown bytes (place_at tab bytes p i)
     at-shown p i h k = by (nat_le i p.index)
       where
         by : (t : Bool) → IsShown bytes (cond t p (beyond tab bytes p i))
@@ -104,7 +104,7 @@ module _ (bytes : List ℕ) where
             (every-append Shows (with_one tab bytes (later place first) l) more.events (one-shows (later place first) l (later-shown place first p f) h.0) k.0, k.1, k.2)
         by false more k = (tt, p, h)
 
-    with-shows : (skip depth : ℕ) (place : Point) (ls : List Literal) (es : List Event) → IsShown bytes place → AllByRecursion HasNone ls → AllByRecursion Shows es
+    pub with-shows : (skip depth : ℕ) (place : Point) (ls : List Literal) (es : List Event) → IsShown bytes place → AllByRecursion HasNone ls → AllByRecursion Shows es
         → AllByRecursion Shows (events_with tab bytes skip depth place ls es)
     with-shows skip depth place ls [] p h k = tt
     with-shows (suc skip) depth place ls (e ∷ es) p h k = with-shows skip depth place ls es p h k.1
@@ -122,7 +122,7 @@ module _ (bytes : List ℕ) where
         (with-shows n depth w.place w.left es v.1 v.2 k.1)))
         (k.0, with-shows 0 (depth_behind depth e) place ls es p h k.1)
 
-start-shown-at : (bytes : List ℕ) → IsShown bytes (point 1 1 0 0)
+pub start-shown-at : (bytes : List ℕ) → IsShown bytes (point 1 1 0 0)
 start-shown-at bytes = shown-to bytes (point 1 1 0 0) refl
 
 pub order-kept : OrderIsKept

@@ -151,7 +151,7 @@ pub(crate) fn run_size(text: &[u8]) -> usize
 }
 
 /// Whether a backslash comes first, and punctuation behind it.
-pub(crate) fn is_escape(text: &[u8]) -> bool
+pub fn is_escape(text: &[u8]) -> bool
     ensures { result ≡ is_escape text.now }
 {
     match text {

@@ -88,7 +88,7 @@ fn push_left(
 }
 
 /// The events with these literals. It fails only if it runs out of memory.
-fn events_with(
+pub fn events_with(
     alloc: Global,
     bytes: &[u8],
     tab: usize,

@@ -3,7 +3,7 @@
 
 // grammar: the literal at the front of a text, of bytes alone
 mod addresses;
-mod bytes;
+pub mod bytes;
 pub mod found;
 pub mod grammar;
 // texts: all literals of a text, and whether there can be any

@@ -48,14 +48,14 @@ fn begins_line(name: Name) -> bool
 }
 
 /// Whether an event enters a span of text.
-pub(crate) fn is_text(depth: usize, event: &Event) -> bool
+pub fn is_text(depth: usize, event: &Event) -> bool
     ensures { result ≡ is_text depth event.now }
 {
     depth == 0 && event.kind == Kind::Enter && is_plain(event.name)
 }
 
 /// In how many spans that hold no literal is what is behind an event.
-pub(crate) fn depth_behind(depth: usize, event: &Event) -> usize
+pub fn depth_behind(depth: usize, event: &Event) -> usize
     requires { depth + 1 < 2 ^ 64 }
     ensures depth { result ≡ depth_behind depth event.now }
     ensures few { result ≤ depth + 1 }
@@ -84,7 +84,7 @@ fn goes_on(event: &Event, stop: usize) -> bool
 }
 
 /// How far a stretch reaches that has come to a byte index, by the events that come.
-fn stretch_from(events: &[Event], from: usize) -> Reach
+pub fn stretch_from(events: &[Event], from: usize) -> Reach
     ensures reach { result ≡ reach 0 from events.now }
     ensures within { result.size ≤ length events.now }
 {

@@ -21,7 +21,7 @@ pub struct Literal {
 }
 
 /// How many bytes are passed with the first one, if it begins no literal.
-fn more_passed(text: &[u8]) -> usize
+pub fn more_passed(text: &[u8]) -> usize
     ensures value { result ≡ more_passed text.now }
     ensures within { 1 ≤ length text.now → result + 1 ≤ length text.now }
 {

@@ -1,0 +1,12 @@
+-- laws
+pub mod CallLaws
+pub mod Places
+pub mod Insides
+pub mod Unchanged
+pub mod Ordered
+pub mod Named
+pub mod Read
+pub mod Examples
+-- loops: what loops over texts, labels and events leave, turn by turn
+pub mod Steps
+pub mod Pushed

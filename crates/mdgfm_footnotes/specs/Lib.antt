@@ -1,0 +1,7 @@
+-- calls
+pub mod Calls
+-- events
+pub mod CallEvents
+-- laws
+pub mod Laws
+pub mod Examples
