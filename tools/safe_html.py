@@ -34,27 +34,30 @@ import usage  # noqa: E402
 ENTITIES = {b"amp": b"&", b"lt": b"<", b"gt": b">", b"quot": b'"', b"#x27": b"'", b"#x1B": b"\x1b"}
 ENTITY = re.compile(rb"&(" + b"|".join(ENTITIES) + rb");")
 TEXT = re.compile(rb'(?:[^<>&"\0\x1b]|' + ENTITY.pattern + rb")*")
-NAMES = rb"a|blockquote|br|code|del|em|h1|h2|h3|h4|h5|h6|hr|img|input|li|ol|p|pre|strong|table|tbody|td|th|thead|tr|ul"
-TAG = re.compile(rb"<(/?)(" + NAMES + rb')(?=[ >])((?: [a-z]+="[^"]*")*)( /)?>')
-ATTRIBUTE = re.compile(rb' ([a-z]+)="([^"]*)"')
+NAMES = rb"a|blockquote|br|code|del|em|h1|h2|h3|h4|h5|h6|hr|img|input|li|ol|p|pre|section|strong|sup|table|tbody|td|th|thead|tr|ul"
+TAG = re.compile(rb"<(/?)(" + NAMES + rb')(?=[ >])((?: [-a-z]+="[^"]*")*)( /)?>')
+ATTRIBUTE = re.compile(rb' ([-a-z]+)="([^"]*)"')
 VOID = {b"br", b"hr", b"img", b"input"}
 # the attributes of an element, in the order in which they stand
-ATTRIBUTES = {b"a": [b"href", b"title"], b"code": [b"class"], b"img": [b"src", b"alt", b"title"], b"ol": [b"start"], b"td": [b"align"], b"th": [b"align"]}
+ATTRIBUTES = {b"a": [b"href", b"title", b"id", b"class", b"data-footnote-ref", b"data-footnote-backref", b"aria-label"], b"code": [b"class"], b"img": [b"src", b"alt", b"title"], b"ol": [b"start"], b"td": [b"align"], b"th": [b"align"]}
 ATTRIBUTES[b"input"] = [b"type", b"checked", b"disabled"]
+ATTRIBUTES |= {b"li": [b"id"], b"section": [b"class", b"data-footnotes"], b"sup": [b"class"]}
 # attributes that an element must have, and those that have one value
 GIVEN = {b"input": {b"type", b"disabled"}}
-FIXED = {b"type": b"checkbox", b"checked": b"", b"disabled": b""}
+FIXED = {b"type": b"checkbox", b"checked": b"", b"disabled": b"", b"data-footnotes": b"", b"data-footnote-ref": b"", b"data-footnote-backref": b""}
 # parts of tables by what they stand in, which holds line feeds and nothing else
 PARTS = {b"tbody": {b"table"}, b"thead": {b"table"}, b"tr": {b"tbody", b"thead"}, b"td": {b"tr"}, b"th": {b"tr"}}
 HOLD_PARTS = {b"table", b"tbody", b"thead", b"tr"}
 # elements of text, which stand where text does; the others stand among blocks, and `li` in lists
-PHRASES = {b"a", b"br", b"code", b"del", b"em", b"img", b"input", b"strong"}
+PHRASES = {b"a", b"br", b"code", b"del", b"em", b"img", b"input", b"strong", b"sup"}
 LISTS = {b"ol", b"ul"}
-HOLD_BLOCKS = {b"blockquote", b"li"}
+HOLD_BLOCKS = {b"blockquote", b"li", b"section"}
 ADDRESS = re.compile(rb"[-_.+!*(),%#@?=;:/$~&'A-Za-z0-9]*")
 SCHEME = re.compile(rb"([^:/?#]*):")
 SCHEMES = {b"href": {b"http", b"https", b"irc", b"ircs", b"mailto", b"xmpp"}, b"src": {b"http", b"https"}}
 LANGUAGE = re.compile(rb"language-[^ \t\n\f\r]*")
+NOTE_CLASSES = {b"footnotes", b"footnote-ref", b"footnote-backref"}
+ID = re.compile(rb"user-content-[-A-Za-z0-9]*")
 
 
 def undone(value):
@@ -62,8 +65,8 @@ def undone(value):
     return ENTITY.sub(lambda it: ENTITIES[it[1]], value)
 
 
-def value_fault(name, value):
-    """What is wrong with the value of an attribute; None if nothing is."""
+def value_fault(element, name, value):
+    """What is wrong with the value of an attribute of an element; None if nothing is."""
     if name == b"start":
         return None if re.fullmatch(rb"[0-9]*", value) else "no digits"
     if name in FIXED:
@@ -72,8 +75,12 @@ def value_fault(name, value):
         return None if value in {b"left", b"center", b"right"} else "no alignment"
     if not TEXT.fullmatch(value):
         return "no text"
-    if name == b"class" and not LANGUAGE.fullmatch(value):
+    if name == b"class" and element == b"code" and not LANGUAGE.fullmatch(value):
         return "no language"
+    if name == b"class" and element != b"code" and value not in NOTE_CLASSES:
+        return "no class of footnotes"
+    if name == b"id" and not ID.fullmatch(value):
+        return "no id"
     if name in SCHEMES:
         address = undone(value)
         if not ADDRESS.fullmatch(address):
@@ -94,7 +101,7 @@ def attributes_fault(name, attributes):
         if attribute not in left:
             return f"an attribute {attribute!r} here"
         del left[: left.index(attribute) + 1]
-        if fault := value_fault(attribute, value):
+        if fault := value_fault(name, attribute, value):
             return f"{fault} in {attribute!r}"
     return None
 

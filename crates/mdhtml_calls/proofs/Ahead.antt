@@ -21,15 +21,17 @@ use Rattle.mddocument_link_targets.specs.declared.targets.Parts.{Parts}
 use Rattle.mddocument_link_targets.specs.Spans.{behind_first, enters, inside, size_from}
 use Rattle.mddocument_link_targets.specs.Strings.{given_at}
 use Rattle.mddocument_link_targets.specs.Targets.{definition_of, definition_parts, parts_of}
-use Rattle.mdhtml_document.specs.Html.{are_too_many, defined_in, extent, html_of_events, led_to, place_of_first, references, size_of_label}
-use Rattle.mdhtml_document.specs.HtmlLaws.{are_apart, length_of_parts, room, rows}
+use Rattle.mdhtml_document.specs.Html.{are_too_many, defined_in, extent, html_by, known_in, led_to, references, size_of_label}
+use Rattle.mdhtml_document.specs.HtmlLaws.{AreBrief, are_apart, calls, length_of_parts, room, rows}
+use Rattle.mdhtml_document.specs.Notes.{place_of_first}
 use Rattle.mdhtml_document.specs.Spans.{events_of, spans_of}
 use Rattle.mdhtml_document.proofs.Both.{keep-events}
 use Rattle.mdhtml_document.proofs.Linear.{HasExit, exit-at, none-there, parts-said, references-none, said_in, same-first, text-more}
 use Rattle.mdgfm_literals.proofs.Order.{forward-index}
 use Rattle.mdhtml_document.proofs.Rooms.{given-full}
-use Rattle.mdhtml_document.proofs.Short.{html-short}
+use Rattle.mdhtml_document.proofs.Short.{calls-count, calls_room, html-short}
 use Rattle.mdhtml_document.proofs.SpanFacts.{opened-kinded}
+use Rattle.mdhtml_calls.proofs.OwnShort.{weight}
 use Rattle.mdhtml_calls.proofs.Referred.{references-in-proportion}
 
 -- the event behind the enter of a line ending is behind its place
@@ -309,20 +311,46 @@ all-times (suc x) t =
     let more = all-times x t in
     omega (arith, one, other, third, more)
 
-together : (long a refs b c p q nine all rows : ℕ) → long ≤ (a + 9 * refs) + rows → a ≤ b + c → refs ≤ p + q → nine ≡ 9 * p → all ≡ c + 9 * q → long ≤ ((b + nine) + all) + rows
-together long a refs b c p q nine all rows h k l m n = omega arith
+together : (long a refs b c p q nine all notes rows : ℕ) → long ≤ ((a + 9 * refs) + notes) + rows → a ≤ b + c → refs ≤ p + q → nine ≡ 9 * p → all ≡ c + 9 * q → long ≤ (((b + nine) + all) + rows) + notes
+together long a refs b c p q nine all notes rows h k l m n = omega arith
 
--- The HTML of events that go ahead is in proportion to the bytes and to these
-pub html-ahead : (options : CompileOptions) (bytes : List ℕ) (tab : ℕ) (from : Point) (events : List Event) → IsBalanced events → GoAhead tab (length bytes) from events → are_apart (spans_of events) ≡ true
-    → length (html_of_events options bytes tab events)
-    ≤ ((144 * length bytes + max 100000 (length bytes) * (18 * tab + 90)) + length events * (198 * tab + 60)) + 2500 * rows (spans_of events)
-html-ahead options bytes tab from events balanced go free =
-    let short = html-short options bytes (led_to bytes events) tab events balanced free in
+-- The HTML of events that go ahead, but for the section of footnotes, is in proportion to the bytes and to these
+pub html-ahead : (options : CompileOptions) (bytes : List ℕ) (tab digits : ℕ) (from : Point) (events : List Event) → IsBalanced events → GoAhead tab (length bytes) from events
+    → AreBrief digits (known_in bytes events) → are_apart (spans_of events) ≡ true
+    → length (html_by options bytes (known_in bytes events) tab events)
+    ≤ (((144 * length bytes + max 100000 (length bytes) * (18 * tab + 90)) + length events * (198 * tab + 60)) + 2500 * rows (spans_of events)) + 9 * ((digits + 8) * calls (spans_of events))
+html-ahead options bytes tab digits from events balanced go brief free =
+    let short = html-short options bytes (known_in bytes events) tab digits events balanced brief free in
     let rooms = room-ahead tab (length bytes) from events go in
     let left = left-by (are_too_many bytes events) bytes tab from events balanced go refl in
     let nine = nine-times (max 100000 (length bytes)) tab in
     let all = all-times (length events) tab in
     let n = length events in
     let most = max 100000 (length bytes) in
-    together (length (html_of_events options bytes tab events)) (36 * room tab events + 24 * n) (references bytes (λ label. length_of_parts (led_to bytes events label)) (spans_of events)) (144 * length bytes)
-    (n * (180 * tab + 60)) (most * (2 * tab + 10)) (n * (2 * tab)) (most * (18 * tab + 90)) (n * (198 * tab + 60)) (2500 * rows (spans_of events)) short rooms left nine all
+    together (length (html_by options bytes (known_in bytes events) tab events)) (36 * room tab events + 24 * n) (references bytes (λ label. length_of_parts (led_to bytes events label)) (spans_of events))
+    (144 * length bytes) (n * (180 * tab + 60)) (most * (2 * tab + 10)) (n * (2 * tab)) (most * (18 * tab + 90)) (n * (198 * tab + 60)) (9 * ((digits + 8) * calls (spans_of events)))
+    (2500 * rows (spans_of events)) short rooms left nine all
+
+weigh : (rooms refs notes rows b c p q nine all : ℕ) → rooms ≤ b + c → refs ≤ p + q → nine ≡ 9 * p → all ≡ c + 9 * q → (rooms + 9 * (refs + notes)) + 2500 * rows ≤ (((b + nine) + all) + 2500 * rows) + 9 * notes
+weigh rooms refs notes rows b c p q nine all h k l m = omega (arith, h, k, l, m)
+
+-- and so is what spans have room for
+pub weight-ahead : (options : CompileOptions) (bytes : List ℕ) (tab digits : ℕ) (from : Point) (events : List Event) (brief : AreBrief digits (known_in bytes events)) → IsBalanced events
+    → GoAhead tab (length bytes) from events → weight options bytes (known_in bytes events) tab digits brief (spans_of events)
+    ≤ (((144 * length bytes + max 100000 (length bytes) * (18 * tab + 90)) + length events * (198 * tab + 60)) + 2500 * rows (spans_of events)) + 9 * ((digits + 8) * calls (spans_of events))
+weight-ahead options bytes tab digits from events brief balanced go =
+    let s = spans_of events in
+    let keep = keep-events events balanced in
+    let n = length events in
+    let most = max 100000 (length bytes) in
+    let rooms : 36 * room tab (events_of s) + 24 * length (events_of s) ≤ 144 * length bytes + n * (180 * tab + 60) =
+    subst (λ (es : List Event). 36 * room tab es + 24 * length es ≤ 144 * length bytes + n * (180 * tab + 60)) (sym keep) (room-ahead tab (length bytes) from events go)
+    in
+    let left = left-by (are_too_many bytes events) bytes tab from events balanced go refl in
+    let count = calls-count options bytes (known_in bytes events) tab digits brief s in
+    let all =
+    weigh (36 * room tab (events_of s) + 24 * length (events_of s)) (references bytes (λ label. length_of_parts (led_to bytes events label)) s)
+    (calls_room options bytes (known_in bytes events) tab digits brief s) (rows s) (144 * length bytes) (n * (180 * tab + 60)) (most * (2 * tab + 10)) (n * (2 * tab)) (most * (18 * tab + 90))
+    (n * (198 * tab + 60)) rooms left (nine-times most tab) (all-times n tab)
+    in
+    subst (λ c. weight options bytes (known_in bytes events) tab digits brief s ≤ (((144 * length bytes + most * (18 * tab + 90)) + n * (198 * tab + 60)) + 2500 * rows s) + 9 * c) count all

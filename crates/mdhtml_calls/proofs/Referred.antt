@@ -32,6 +32,7 @@ module _ (bytes : List ℕ) (size more : (label : List ℕ) → ℕ) (c d : ℕ)
   referred-less inline.Email es a b n h = let k = one-more n in omega (arith, h, k)
   referred-less inline.Address es a b n h = let k = one-more n in omega (arith, h, k)
   referred-less inline.Check es a b n h = let k = one-more n in omega (arith, h, k)
+  referred-less inline.Call es a b n h = let k = one-more n in omega (arith, h, k)
   referred-less inline.Link es a b n h =
       let t = target-less (target_in bytes es) in
       let k = one-more n in

@@ -5,7 +5,7 @@ use Rattle.mdgfm_documents.specs.Documents.{gfm_events}
 use Rattle.mdhtml_depth.specs.Depth.{within}
 use Rattle.mdhtml_document.specs.Html.{html_of_events}
 
--- of the document's events, with tables, checks of task list items and autolink literals, if these are on
+-- of the document's events, with tables, footnotes, checks of task list items and autolink literals, if these are on
 abbrev pub html_of_document : Options → List ℕ → List ℕ
 html_of_document options bytes = html_of_events options.compile bytes options.parse.tab_size (gfm_events options.parse bytes)
 

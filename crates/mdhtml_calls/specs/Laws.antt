@@ -1,5 +1,5 @@
 -- Laws of the HTML of documents.
-use Rattle.std.specs.Prelude.{◌≡◌, ℕ, ◌+◌, ◌*◌, ◌≤◌, max, true, List, length}
+use Rattle.std.specs.Prelude.{◌≡◌, ℕ, ◌+◌, ◌*◌, ◌^◌, ◌<◌, ◌≤◌, max, true, List, [], length}
 use Rattle.markdown_base.specs.declared.configuration.CompileOptions.{CompileOptions}
 use Rattle.markdown_base.specs.declared.configuration.Options.{Options}
 use Rattle.markdown_base.specs.Presets.{default_compile_options}
@@ -7,7 +7,8 @@ use Rattle.markdown_tokenizer.specs.Text.{IsDocument}
 use Rattle.mddocument.specs.Documents.{document}
 use Rattle.mdgfm_documents.specs.Documents.{gfm_events}
 use Rattle.mdhtml_calls.specs.Document.{html_of_document}
-use Rattle.mdhtml_document.specs.HtmlLaws.{are_apart, rows}
+use Rattle.mdhtml_document.specs.HtmlLaws.{are_apart, calls, rows}
+use Rattle.mdhtml_document.specs.Notes.{calls_in}
 use Rattle.mdhtml_document.specs.Spans.{spans_of}
 
 -- CommonMark's options for HTML, but for what these let through
@@ -23,12 +24,26 @@ abbrev pub OtherOptionsDoNothing : Type 0
 OtherOptionsDoNothing =
     (options : Options) (bytes : List ℕ) → html_of_document options bytes ≡ html_of_document (record options { compile = as_let_through options.compile }) bytes
 
--- The HTML of a document in which no link is in a link is in proportion to its bytes, or to 100,000 bytes, to its events, and to its rows of tables:
--- whatever it refers to
+-- The HTML of a document in which no link is in a link is in proportion to its bytes, or to 100,000 bytes, to its events, to its rows of tables, and to its calls
+-- of footnotes, by how many digits their number has: whatever it refers to, and however often it calls a footnote. (All is counted twice, as it may stand in a
+-- footnote)
 abbrev pub HtmlOfDocumentsIsLinear : Type 0
 HtmlOfDocumentsIsLinear =
+    (options : Options) (bytes : List ℕ) (digits : ℕ) → IsDocument (document options.parse bytes) → let events = gfm_events options.parse bytes in
+    let tab = options.parse.tab_size in
+    let called = length (calls_in bytes events) in
+    are_apart (spans_of events) ≡ true → 0 < digits → called < 10 ^ digits → called < 2 ^ 64
+    → length (html_of_document options bytes)
+    ≤ 2
+    * ((((144 * length bytes + max 100000 (length bytes) * (18 * tab + 90)) + length events * (198 * tab + 60)) + 2500 * rows (spans_of events))
+    + 9 * ((digits + 8) * calls (spans_of events)))
+    + called * (4 * digits + 371)
+
+-- Of a document that calls no footnote it is at most half of that
+abbrev pub HtmlWithoutCallsIsLinear : Type 0
+HtmlWithoutCallsIsLinear =
     (options : Options) (bytes : List ℕ) → IsDocument (document options.parse bytes) → let events = gfm_events options.parse bytes in
     let tab = options.parse.tab_size in
-    are_apart (spans_of events) ≡ true
+    are_apart (spans_of events) ≡ true → calls_in bytes events ≡ []
     → length (html_of_document options bytes)
     ≤ ((144 * length bytes + max 100000 (length bytes) * (18 * tab + 90)) + length events * (198 * tab + 60)) + 2500 * rows (spans_of events)

@@ -1,13 +1,15 @@
 //! Laws of the HTML of documents. Each is a function that does nothing; its contract is the law.
 
-ghost use Rattle.mdhtml_calls.specs.Laws.{HtmlOfDocumentsIsLinear, OtherOptionsDoNothing};
+ghost use Rattle.mdhtml_calls.specs.Laws.{HtmlOfDocumentsIsLinear, HtmlWithoutCallsIsLinear, OtherOptionsDoNothing};
 
 /// Of the options for HTML only `allow_any_img_src`, `allow_dangerous_html` and `allow_dangerous_protocol` do something.
 pub fn other_options_do_nothing()
     ensures { OtherOptionsDoNothing }
 {}
 
-/// The HTML of a document is in proportion to the document, its events and its rows of tables, where no link is in a link.
+/// The HTML of a document is in proportion to the document, its events, its rows of tables and its calls of footnotes, where no link is in a link. A footnote is
+/// written once, however often it is called; where none is called, it is at most half of that.
 pub fn html_of_documents_is_linear()
-    ensures { HtmlOfDocumentsIsLinear }
+    ensures calls { HtmlOfDocumentsIsLinear }
+    ensures uncalled { HtmlWithoutCallsIsLinear }
 {}

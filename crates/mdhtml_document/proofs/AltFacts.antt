@@ -6,14 +6,13 @@ use Rattle.markdown_base.specs.declared.event.Kind.TheVariants.{Enter, Exit}
 use Rattle.markdown_base.specs.Events.{is_enter}
 use Rattle.mdhtml_document.specs.declared.names.Inline.{Inline}
 use Rattle.mdhtml_document.specs.declared.names.Inline.TheVariants as inline
-use Rattle.mdhtml_document.specs.Html.{referred, references, size_of_target}
+use Rattle.mdhtml_document.specs.Html.{referred, references}
 use Rattle.mdhtml_document.specs.Names.{inline_of}
 use Rattle.mdhtml_document.specs.Spans.{Nothing, Span, Spans, events_of}
 use Rattle.mdhtml_document.specs.Values.{alt_by, alt_of, said}
 use Rattle.mdhtml_document.specs.Walks.{alt_from, is_left, is_passed, left, passed, references_from, said_at}
 use Rattle.mdhtml_document.proofs.SpanFacts.{AreKinded, inside-of, said-of, span-append}
 use Rattle.mddocument_link_targets.specs.Spans.{inside}
-use Rattle.mddocument_link_targets.specs.Targets.{target_in}
 
 module _ (bytes : List ℕ) where
   -- events that are passed over
@@ -35,6 +34,7 @@ module _ (bytes : List ℕ) where
   alt-parts inline.Email es own alt = sym (ap (λ x. x ++ alt) (append-nil own))
   alt-parts inline.Address es own alt = sym (ap (λ x. x ++ alt) (append-nil own))
   alt-parts inline.Check es own alt = sym (ap (λ x. x ++ alt) (append-nil own))
+  alt-parts inline.Call es own alt = sym (ap (λ x. x ++ alt) (append-nil own))
   alt-parts inline.Link es own alt = sym (ap (λ x. x ++ alt) (append-nil own))
   alt-parts inline.Image es own alt = sym (ap (λ x. x ++ alt) (append-nil own))
   alt-parts inline.Tail es own alt = refl
@@ -105,6 +105,7 @@ module _ (bytes : List ℕ) where
   other-alt inline.Email es own h = refl
   other-alt inline.Address es own h = refl
   other-alt inline.Check es own h = refl
+  other-alt inline.Call es own h = refl
   other-alt inline.Link es own h = refl
   other-alt inline.Image es own h = refl
   other-alt inline.Tail es own h = cc
@@ -124,6 +125,7 @@ module _ (bytes : List ℕ) where
   none-passed inline.Email a b c d e = refl
   none-passed inline.Address a b c d e = refl
   none-passed inline.Check a b c d e = refl
+  none-passed inline.Call a b c d e = refl
   none-passed inline.Link a b c d e = refl
   none-passed inline.Image a b c d e = refl
   none-passed inline.Tail a b c d e = absurd (e refl)
@@ -163,6 +165,7 @@ module _ (bytes : List ℕ) (size : (label : List ℕ) → ℕ) where
   parts-of-references inline.Email es inner = omega arith
   parts-of-references inline.Address es inner = omega arith
   parts-of-references inline.Check es inner = omega arith
+  parts-of-references inline.Call es inner = omega arith
   parts-of-references inline.Link es inner = omega arith
   parts-of-references inline.Image es inner = omega arith
   parts-of-references inline.Tail es inner = omega arith

@@ -25,15 +25,14 @@ use Rattle.mdhtml_document.specs.declared.shapes.End.TheVariants as end
 use Rattle.mdhtml_document.specs.declared.shapes.Frame.{Frame}
 use Rattle.mdhtml_document.specs.declared.shapes.Mode.{Mode}
 use Rattle.mdhtml_document.specs.declared.shapes.Mode.TheVariants as mode
-use Rattle.mdhtml_document.specs.Frames.{AreListsOf, Open, Opens, closed_by, closed_of, columns_at, ends, events_past, from_list, is_list, is_over, left_by, list_at, lists_behind, lists_past, lookup_of, loose_of, mode_of, moved, past_by, start_of}
+use Rattle.mdhtml_document.specs.Frames.{AreListsOf, Open, Opens, closed_by, closed_of, columns_at, ends, events_past, from_list, is_list, is_over, left_by, list_at, lists_behind, lists_past, known_of, loose_of, mode_of, moved, past_by, start_of}
 use Rattle.mdhtml_document.specs.Written.{after}
-use Rattle.mdhtml_document.specs.Html.{Shape, block_shape, columns_behind, columns_in, inline_shape, is_in_cell, lacking, paragraph_shape, shape_by, told}
+use Rattle.mdhtml_document.specs.Html.{Known, Shape, block_shape, columns_behind, columns_in, inline_shape, is_in_cell, lacking, paragraph_shape, shape_by, told}
 use Rattle.mdhtml_document.specs.Names.{block_of, blocks_by_name, inline_of, named}
 use Rattle.mdhtml_document.specs.Walks.{Entered, alt_from, inner_bytes, is_bytes, is_inline, said_at, says_bytes, shape_at, shape_in, walked_in}
 use Rattle.mdhtml_document.proofs.SpanFacts.{said_bytes}
 use Rattle.mdhtml_document.proofs.Walked.{enter-walked, exit-walked, over-walked}
 use Rattle.mdhtml_document.proofs.Written.{after-append}
-use Rattle.mddocument_link_targets.specs.declared.targets.Parts.{Parts}
 use Rattle.mddocument_link_targets.specs.Spans.{inside}
 use Rattle.mdhtml_markup.specs.Escapes.{escaped}
 use Rattle.mdhtml_markup.specs.Pieces.{Piece}
@@ -213,16 +212,16 @@ no-list n m h k same = absurd (no (sym k ∙ ap (is_wanted list_names) (sym (sam
     no : true ≡ false → ⊥
     no e = cc
 
-module _ (options : CompileOptions) (bytes : List ℕ) (lookup : (label : List ℕ) → Option Parts) (tab : ℕ) where
+module _ (options : CompileOptions) (bytes : List ℕ) (known : Known) (tab : ℕ) where
   block-unlisted : (tight : Bool) (n : Name) (es : List Event) (l m : Bool) (s t : Option ℕ) → is_wanted list_names n ≡ false
-      → block_shape options bytes lookup tab tight (block_of n) es l s ≡ block_shape options bytes lookup tab tight (block_of n) es m t
+      → block_shape options bytes known tab tight (block_of n) es l s ≡ block_shape options bytes known tab tight (block_of n) es m t
   block-unlisted tight n es l m s t h =
-      named-each (λ b. block_shape options bytes lookup tab tight b es l s ≡ block_shape options bytes lookup tab tight b es m t) blocks_by_name block.Other n
+      named-each (λ b. block_shape options bytes known tab tight b es l s ≡ block_shape options bytes known tab tight b es m t) blocks_by_name block.Other n
       (λ _. refl, (λ _. refl, (λ _. refl, (λ _. refl, (λ _. refl, (λ _. refl, (λ e. no-list n name.ListUnordered h refl e, (λ e. no-list n name.ListOrdered h refl e, (λ _. refl, (λ _. refl, (λ _. refl, (λ _. refl, (λ _. refl, (λ _. refl, (λ _. refl, (λ _. refl, (λ _. refl, (λ _. refl, (λ _. refl, tt)))))))))))))))))))
       refl
 
   unlisted : (w : Mode) (columns : List Event) (n : Name) (es : List Event) (l m : Bool) (s t : Option ℕ) (said alt : List ℕ) → is_wanted list_names n ≡ false
-      → shape_by options bytes lookup tab w columns n es l s said alt ≡ shape_by options bytes lookup tab w columns n es m t said alt
+      → shape_by options bytes known tab w columns n es l s said alt ≡ shape_by options bytes known tab w columns n es m t said alt
   unlisted mode.Flow columns n es l m s t said alt h = block-unlisted false n es l m s t h
   unlisted mode.Tight columns n es l m s t said alt h = block-unlisted true n es l m s t h
   unlisted mode.LooseItems columns n es l m s t said alt h = refl
@@ -236,8 +235,8 @@ module _ (options : CompileOptions) (bytes : List ℕ) (lookup : (label : List �
   unlisted mode.Nothing columns n es l m s t said alt h = refl
 
   listed-by : (c : Bool) (w : Mode) (columns : List Event) (n : Name) (at : ℕ) (es inner : List Event) (said alt : List ℕ) → is_wanted list_names n ≡ c
-      → shape_by options bytes lookup tab w columns n inner (loose_of (cond c (Some (shape_of bytes at es)) None)) (start_of (cond c (Some (shape_of bytes at es)) None)) said alt
-      ≡ shape_by options bytes lookup tab w columns n inner (is_loose es) (list_start bytes es) said alt
+      → shape_by options bytes known tab w columns n inner (loose_of (cond c (Some (shape_of bytes at es)) None)) (start_of (cond c (Some (shape_of bytes at es)) None)) said alt
+      ≡ shape_by options bytes known tab w columns n inner (is_loose es) (list_start bytes es) said alt
   listed-by true w columns n at es inner said alt h = refl
   listed-by false w columns n at es inner said alt h = unlisted w columns n inner false (is_loose es) None (list_start bytes es) said alt h
 
@@ -247,22 +246,22 @@ pub enter-step : (w : Whole) (os next : List Open) (lists : List ListShape) (e :
     → Entered (shape_in w (mode_of os) (columns_at os) (list_at lists e) e es) e (inside es) old new os next
     → after new (walked_in w next es) ≡ after old (walked_in w os (e ∷ es))
 enter-step w os next lists e es old new enters h entered =
-    let lookup = lookup_of w in
-    let by = λ (list : Option ListShape). shape_by w.options.now w.bytes.now lookup w.tab (mode_of os) (columns_at os) e.name (inside es) (loose_of list) (start_of list) (said_at w.bytes.now e es) (alt_from w.bytes.now 0 (inside es)) in
-    let here = shape_at w.options.now w.bytes.now lookup w.tab (mode_of os) (columns_at os) e es in
+    let known = known_of w in
+    let by = λ (list : Option ListShape). shape_by w.options.now w.bytes.now known w.tab (mode_of os) (columns_at os) e.name (inside es) (loose_of list) (start_of list) (said_at w.bytes.now e es) (alt_from w.bytes.now 0 (inside es)) in
+    let here = shape_at w.options.now w.bytes.now known w.tab (mode_of os) (columns_at os) e es in
     let b = block_of e.name in
     let stack : Shape → List Open = λ s. record { mode = s.inside; columns = columns_in b (columns_at os) (inside es); closed = s.closed } ∷ moved b os in
     let listed : is_list e ≡ is_wanted list_names e.name = ap (λ k. is_enter k && is_wanted list_names e.name) enters in
     let same : by (list_at lists e) ≡ here =
     ap by (list-at w.bytes.now lists e es h ∙ ap (λ c. cond c (Some (shape_of w.bytes.now h.at es)) None) listed)
-    ∙ listed-by w.options.now w.bytes.now lookup w.tab (is_wanted list_names e.name) (mode_of os) (columns_at os) e.name h.at es (inside es) (said_at w.bytes.now e es) (alt_from w.bytes.now 0 (inside es)) refl
+    ∙ listed-by w.options.now w.bytes.now known w.tab (is_wanted list_names e.name) (mode_of os) (columns_at os) e.name h.at es (inside es) (said_at w.bytes.now e es) (alt_from w.bytes.now 0 (inside es)) refl
     in
     let go = λ (s : Shape). after (after old s.opened) (walked_in w (stack s) es) in
     ap (λ (out : List ℕ). after out (walked_in w next es)) entered.written
     ∙ ap (λ (o : List Open). after (after old (by (list_at lists e)).opened) (walked_in w o es)) entered.stack
     ∙ ap go same
     ∙ sym (after-append old here.opened (walked_in w (stack here) es))
-    ∙ ap (after old) (sym (enter-walked w.options.now w.bytes.now lookup w.tab os e es enters))
+    ∙ ap (after old) (sym (enter-walked w.options.now w.bytes.now known w.tab os e es enters))
 
 -- outside of columns nothing moves
 unmoved-by : (b : Block) (o : Open) (os : List Open) (columns : List Event) → o.columns ≡ columns → is_in_cell columns ≡ false → moved b (o ∷ os) ≡ o ∷ os
@@ -283,7 +282,7 @@ over-step w os next lists list e es rest f old new enters h listed begun behind 
     let s = shape_in w (mode_of os) (columns_at os) (list_at lists e) e es in
     let o : Open = record { mode = s.inside; columns = columns_in (block_of e.name) (columns_at os) (inside es); closed = s.closed } in
     ap (λ (x : List Open). after new (walked_in w x rest)) behind ∙ ap (λ (x : List Event). after new (walked_in w (moved (block_of e.name) os) x)) passed
-    ∙ ap (after new) (sym (over-walked w.options.now w.bytes.now (lookup_of w) w.tab f.end f.mode o (moved (block_of e.name) os) es over (sym opened.mode) (sym opened.closed)))
+    ∙ ap (after new) (sym (over-walked w.options.now w.bytes.now (known_of w) w.tab f.end f.mode o (moved (block_of e.name) os) es over (sym opened.mode) (sym opened.closed)))
     ∙ enter-step w os (o ∷ moved (block_of e.name) os) lists e es old new enters h (record { written = opened.written; stack = refl })
 
 -- and another one is open
@@ -309,7 +308,7 @@ exit-step w os next e es old new exits written rest =
     let behind = lacking (mode_of os) (columns_at os) in
     ap (λ (out : List ℕ). after out (walked_in w next es)) written ∙ ap (λ (o : List Open). after (after (after old behind) (closed_of os)) (walked_in w o es)) rest
     ∙ sym (after-append old behind (closed_of os ++ walked_in w (drop 1 os) es) ∙ after-append (after old behind) (closed_of os) (walked_in w (drop 1 os) es))
-    ∙ ap (after old) (sym (exit-walked w.options.now w.bytes.now (lookup_of w) w.tab os e es exits))
+    ∙ ap (after old) (sym (exit-walked w.options.now w.bytes.now (known_of w) w.tab os e es exits))
 
 -- ---- a span that says its bytes
 
@@ -371,9 +370,9 @@ unmoved-other (o ∷ os) = ap (λ (x : List Event). record o { columns = x } ∷
 told-in : (w : Whole) (m : Mode) (columns : List Event) (list : Option ListShape) (e : Event) (es : List Event) → is_inline m ≡ true → inline_of e.name ≡ inline.Other
     → shape_in w m columns list e es ≡ told (said_at w.bytes.now e es)
 told-in w mode.Text columns list e es h other =
-    ap (λ i. inline_shape w.options.now w.bytes.now (lookup_of w) w.tab (is_in_cell columns) i (inside es) (said_at w.bytes.now e es) (alt_from w.bytes.now 0 (inside es))) other
+    ap (λ i. inline_shape w.options.now w.bytes.now (known_of w) w.tab (is_in_cell columns) i (inside es) (said_at w.bytes.now e es) (alt_from w.bytes.now 0 (inside es))) other
 told-in w mode.Paragraph columns list e es h other =
-    ap (λ i. paragraph_shape w.options.now w.bytes.now (lookup_of w) w.tab (is_in_cell columns) i (inside es) (said_at w.bytes.now e es) (alt_from w.bytes.now 0 (inside es))) other
+    ap (λ i. paragraph_shape w.options.now w.bytes.now (known_of w) w.tab (is_in_cell columns) i (inside es) (said_at w.bytes.now e es) (alt_from w.bytes.now 0 (inside es))) other
 told-in w mode.Flow columns list e es h other = cc
 told-in w mode.Tight columns list e es h other = cc
 told-in w mode.LooseItems columns list e es h other = cc

@@ -1,23 +1,25 @@
 -- What the code writes of a document's events is their HTML.
-use Rattle.std.proofs.Common.{◌≡◌, ℕ, List, [], ap, sym, ◌∙◌, Option, None, Some, refl}
+use Rattle.std.proofs.Common.{◌≡◌, ℕ, List, [], ◌++◌, ap, sym, ◌∙◌, Option, None}
 use Rattle.std.specs.Option.{option_map_or}
-use Rattle.std.specs.Prelude.{Bool, cond, drop, length, max, nat_lt, option_and_then}
+use Rattle.std.specs.Prelude.{Bool, cond, drop, length, max, nat_lt, option_and_then, reverse}
 use mathlib.Core.Path.{fun_ext}
 use Rattle.markdown_base.specs.declared.configuration.CompileOptions.{CompileOptions}
 use Rattle.markdown_base.specs.declared.event.Event.{Event}
 use Rattle.markdown_base.specs.Events.{IsBalanced}
 use Rattle.mdhtml_document.specs.Frames.{led_by, size_by}
 use Rattle.mdhtml_document.specs.Written.{after}
-use Rattle.mdhtml_document.specs.Html.{are_too_many, extent, html_of_events, led_to, pieces, references, size_of_label}
+use Rattle.mdhtml_document.specs.Html.{Known, are_too_many, extent, html_of_events, known_in, led_to, pieces, section, size_of_label}
+use Rattle.mdhtml_document.specs.Notes.{called_at, calls_in}
+use Rattle.mdhtml_document.specs.declared.notes.Called.{Called}
 use Rattle.mdhtml_document.specs.declared.shapes.Mode.TheVariants as mode
-use Rattle.mdhtml_document.specs.Spans.{spans_of, events_of}
+use Rattle.mdhtml_document.specs.Spans.{spans_of}
 use Rattle.mdhtml_document.specs.Walks.{references_from, walked}
 use Rattle.mdhtml_document.proofs.AltFacts.{references-of}
 use Rattle.mdhtml_document.proofs.Both.{keep-events}
 use Rattle.mdhtml_document.proofs.SpanFacts.{opened-kinded}
 use Rattle.mdhtml_document.proofs.Walked.{walked-all}
-use Rattle.mdhtml_document.proofs.Written.{after-nothing}
-use Rattle.mdhtml_markup.specs.Pieces.{html}
+use Rattle.mdhtml_document.proofs.Written.{after-append, after-nothing}
+use Rattle.mdhtml_markup.specs.Pieces.{Piece}
 use Rattle.mddocument_link_targets.specs.declared.definitions.Definitions.{Definitions}
 use Rattle.mddocument_link_targets.specs.declared.targets.Parts.{Parts}
 use Rattle.mddocument_link_targets.specs.Defined.{defined_at}
@@ -40,9 +42,20 @@ module _ (options : CompileOptions) (bytes : List ℕ) (tab : ℕ) (events : Lis
       (λ label. ap (λ b. cond b None (option_and_then (λ at. parts_of bytes events at) (defined_at definitions label))) h
       ∙ ap (λ o. cond (are_too_many bytes events) None (option_and_then (λ at. parts_of bytes events at) o)) (defined label))
 
-  pub html-walked : (many : Bool) → many ≡ nat_lt (max 100000 (length bytes)) (references_from bytes (size_by events definitions) 0 events)
-      → after [] (walked options bytes (led_by bytes events definitions many) tab [] events) ≡ html_of_events options bytes tab events
-  html-walked many h =
-      ap (λ (lookup : (label : List ℕ) → Option Parts). after [] (walked options bytes lookup tab [] events)) (led many (too-many many h))
-      ∙ ap (after []) (walked-all options bytes (led_to bytes events) tab events balanced)
-      ∙ after-nothing (pieces options bytes (led_to bytes events) tab mode.Flow [] (spans_of events))
+  -- what the code knows of the document
+  known-is : (many : Bool) (called : (place : ℕ) → Option Called) → many ≡ are_too_many bytes events
+      → ((place : ℕ) → called place ≡ called_at (reverse (calls_in bytes events)) place) → record { lookup = led_by bytes events definitions many; called = called } ≡ known_in bytes events
+  known-is many called h calls =
+      ap (λ (lookup : (label : List ℕ) → Option Parts). record { lookup = lookup; called = called }) (led many h)
+      ∙ ap (λ (at : (place : ℕ) → Option Called). record { lookup = led_to bytes events; called = at }) (fun_ext calls)
+
+  pub html-walked : (many : Bool) (called : (place : ℕ) → Option Called) → many ≡ nat_lt (max 100000 (length bytes)) (references_from bytes (size_by events definitions) 0 events)
+      → ((place : ℕ) → called place ≡ called_at (reverse (calls_in bytes events)) place)
+      → let known : Known = record { lookup = led_by bytes events definitions many; called = called } in
+      after (after [] (walked options bytes known tab [] events)) (section options bytes known tab events) ≡ html_of_events options bytes tab events
+  html-walked many called h calls =
+      let known = known_in bytes events in
+      let ps = pieces options bytes known tab mode.Flow [] (spans_of events) in
+      ap (λ (k : Known). after (after [] (walked options bytes k tab [] events)) (section options bytes k tab events)) (known-is many called (too-many many h) calls)
+      ∙ ap (λ (x : List Piece). after (after [] x) (section options bytes known tab events)) (walked-all options bytes known tab events balanced)
+      ∙ sym (after-append [] ps (section options bytes known tab events)) ∙ after-nothing (ps ++ section options bytes known tab events)

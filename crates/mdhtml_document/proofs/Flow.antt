@@ -1,7 +1,8 @@
 -- The HTML of a document is read as the tree that it is written as, where no link is in a link: each tag stands where its element may.
-use Rattle.std.proofs.Common.{◌≡◌, ℕ, List, [], ◌∷◌, ◌++◌, ap, sym, refl, subst, ◌∙◌, Option, None, Some, append_assoc, append-nil}
+use Rattle.std.proofs.Common.{◌≡◌, ℕ, List, [], ◌∷◌, ◌++◌, ap, sym, refl, subst, Option, None, Some, append_assoc, append-nil}
 use Rattle.std.proofs.lemmas.Bool.{and_parts, false≢true, not-true, or_parts}
 use Rattle.std.specs.Char.{is_ascii_whitespace}
+use Rattle.std.specs.Fmt.{decimal}
 use Rattle.std.specs.List.{flat_map, list_any, take_while}
 use Rattle.std.specs.Prelude.{zero, suc, ◌&&◌, ◌||◌, ◌==◌, ⊤, Bool, true, false, cond, codes, not}
 use Rattle.markdown_base.specs.declared.configuration.CompileOptions.{CompileOptions}
@@ -15,22 +16,25 @@ use Rattle.mdhtml_document.specs.declared.names.Inline.{Inline}
 use Rattle.mdhtml_document.specs.declared.names.Inline.TheVariants as inline
 use Rattle.mdhtml_document.specs.declared.shapes.Mode.{Mode}
 use Rattle.mdhtml_document.specs.declared.shapes.Mode.TheVariants as mode
-use Rattle.mdhtml_document.specs.Html.{Shape, address_at, address_link, aligned, alignment_of, alone, autolink, behind_column, block_shape, blocks, cell, cell_element, cell_shape, check, code, columns_behind, columns_in, container, empty_cell, empty_cells, heading, heading_shape, image_of, inline_shape, is_check, is_checked, is_in_cell, item_shape, items, language, lacking, length_of_first, line, link_to, literal, ordered, paragraph_shape, parts_in_link, pieces, raw, row_shape, setext_rank, shape, shape_by, table_shape, through, titled, told, within_line}
+use Rattle.mdhtml_document.specs.Html.{Known, Shape, address_at, address_link, aligned, alignment_of, alone, autolink, behind_column, block_shape, blocks, call_shape, cell, cell_element, cell_shape, check, code, columns_behind, columns_in, container, empty_cell, empty_cells, heading, heading_shape, image_of, inline_shape, is_check, is_checked, is_in_cell, item_shape, items, language, lacking, length_of_first, line, link_to, literal, ordered, paragraph_shape, parts_in_link, pieces, raw, row_shape, setext_rank, shape, shape_by, table_shape, through, titled, within_line}
+use Rattle.mdhtml_document.specs.declared.notes.Called.{Called}
+use Rattle.mdhtml_document.specs.Notes.{call_id, classed, note_id, place_of_first}
+use Rattle.mdhtml_document.proofs.NoteIds.{call-id}
 use Rattle.mdhtml_document.specs.HtmlLaws.{AreSafeOptions, HtmlIsFlow, are_apart, has_links, has_links_by, is_linked}
 use Rattle.mdhtml_document.specs.Names.{block_of, inline_of}
 use Rattle.mdhtml_document.specs.Spans.{Nothing, Span, Spans, events_of, spans_of}
-use Rattle.mdhtml_document.specs.Values.{alt_of, autolink_address, behind_first_line, cell_text, code_lines, code_text, html_flow, html_text, is_email, said}
+use Rattle.mdhtml_document.specs.Values.{alt_of, autolink_address, cell_text, code_text, html_flow, html_text, is_email, said}
 use Rattle.mdhtml_document.proofs.Safe.{email-is, href-is, language-is, moved, src-is}
 use Rattle.mdhtml_markup.specs.declared.addresses.Place.TheVariants as place
 use Rattle.mdhtml_markup.specs.declared.elements.Alignment.{Alignment}
 use Rattle.mdhtml_markup.specs.declared.elements.AttributeName.{AttributeName}
 use Rattle.mdhtml_markup.specs.declared.elements.Element.{Element}
-use Rattle.mdhtml_markup.specs.declared.elements.Element.TheVariants.{Anchor, BlockQuote, Break, Checkbox, Code, DataCell, Deleted, Emphasis, HeaderCell, Heading1, Heading2, Heading3, Heading4, Heading5, Heading6, Image, ListItem, OrderedList, Paragraph, Preformatted, Strong, Table, TableBody, TableHead, TableRow, ThematicBreak, UnorderedList}
+use Rattle.mdhtml_markup.specs.declared.elements.Element.TheVariants.{Anchor, BlockQuote, Break, Checkbox, Code, Deleted, Emphasis, Image, ListItem, OrderedList, Paragraph, Preformatted, Strong, Superscript, Table, TableBody, TableHead, TableRow, ThematicBreak, UnorderedList}
 use Rattle.mdhtml_markup.specs.Escapes.{escaped}
 use Rattle.mdhtml_markup.specs.Flow as flow
 use Rattle.mdhtml_markup.specs.Flow.{AreGiven, BeforeCode, BehindCode, Blocks, Cells, IsContent, Items, Model, Parts, Phrases, Rows, Words, after, inside, may_be_missing, may_end, may_say, may_stand}
-use Rattle.mdhtml_markup.specs.Pieces.{Aligned, Alt, Attribute, Checked, Close, Disabled, Feed, Fresh, Href, InputType, Kept, Language, Open, Piece, Src, Start, Text, Title, Void, attribute, html_from, is_fresh, written}
-use Rattle.mdhtml_markup.specs.SafeHtml.{attributes_of, is_allowed, is_text, is_text_byte, is_void, open_tag, void_tag}
+use Rattle.mdhtml_markup.specs.Pieces.{Aligned, Alt, Attribute, Checked, Classed, Close, Disabled, Feed, FootnoteCall, Fresh, Href, Id, InputType, Kept, Language, Open, Piece, Src, Start, Text, Title, Void, attribute, html_from, is_fresh}
+use Rattle.mdhtml_markup.specs.SafeHtml.{attributes_of, is_allowed, is_text, is_text_byte, is_void, open_tag}
 use Rattle.mdhtml_markup.specs.SafePieces.{IsAllowed, name_of_attribute}
 use Rattle.mdhtml_markup.proofs.FlowSafe.{text-more}
 use Rattle.mdhtml_markup.proofs.Orders.{written-in-order}
@@ -43,11 +47,11 @@ use Rattle.mddocument_link_targets.specs.Strings.{decoded}
 -- ---- content, by pieces
 
 -- pieces, whether a line has just begun or not
-abbrev IsOf : Model → List Piece → Type 0
+abbrev pub IsOf : Model → List Piece → Type 0
 IsOf m ps = (fresh : Bool) → IsContent m (html_from fresh ps)
 
 -- where any text may stand
-abbrev Speaks : Model → Type 0
+abbrev pub Speaks : Model → Type 0
 Speaks m = (b : ℕ) → may_say m b ≡ true
 
 text-first : (m : Model) (w h : List ℕ) → Speaks m → is_text w ≡ true → IsContent m h → IsContent m (w ++ h)
@@ -55,25 +59,25 @@ text-first m [] h s t c = c
 text-first m (b ∷ bs) h s t c =
     flow.IsContent.text m b (bs ++ h) refl (s b) (text-more b bs h ((and_parts (is_text_byte b bs) (is_text bs) t).0)) (text-first m bs h s ((and_parts (is_text_byte b bs) (is_text bs) t).1) c)
 
-text-of : (m : Model) (t : List ℕ) (k : List Piece) → Speaks m → IsOf m k → IsOf m (Text t ∷ k)
+pub text-of : (m : Model) (t : List ℕ) (k : List Piece) → Speaks m → IsOf m k → IsOf m (Text t ∷ k)
 text-of m t k s rest fresh = text-first m (escaped t) _ s (escaped-text t) (rest _)
 
 -- line feeds may stand wherever text may, and in lists
-abbrev Breaks : Model → Type 0
+abbrev pub Breaks : Model → Type 0
 Breaks m = may_say m 10 ≡ true
 
-feed-of : (m : Model) (k : List Piece) → Breaks m → IsOf m k → IsOf m (Feed ∷ k)
+pub feed-of : (m : Model) (k : List Piece) → Breaks m → IsOf m k → IsOf m (Feed ∷ k)
 feed-of m k s rest fresh = flow.IsContent.text m 10 _ refl s refl (rest _)
 
 fresh-by : (m : Model) (fresh : Bool) (h : List ℕ) → Breaks m → IsContent m h → IsContent m (cond fresh [] (10 ∷ []) ++ h)
 fresh-by m true h s c = c
 fresh-by m false h s c = flow.IsContent.text m 10 h refl s refl c
 
-fresh-of : (m : Model) (k : List Piece) → Breaks m → IsOf m k → IsOf m (Fresh ∷ k)
+pub fresh-of : (m : Model) (k : List Piece) → Breaks m → IsOf m k → IsOf m (Fresh ∷ k)
 fresh-of m k s rest fresh = fresh-by m fresh _ s (rest _)
 
 -- an element with its content
-element-of : (m : Model) (e : Element) (attributes : List Attribute) (inner k : List Piece) → is_void e ≡ false → may_stand m e ≡ true
+pub element-of : (m : Model) (e : Element) (attributes : List Attribute) (inner k : List Piece) → is_void e ≡ false → may_stand m e ≡ true
     → AreGiven (attributes_of e) (flat_map attribute attributes) → IsOf (inside m e) inner → IsOf (after m) k → IsOf m (Open e attributes ∷ (inner ++ (Close e ∷ k)))
 element-of m e attributes inner k kind stands its content rest fresh =
     let w = flat_map attribute attributes in
@@ -89,19 +93,23 @@ void-of m e attributes k kind stands its rest fresh = flow.IsContent.void m e (f
 all-missing : (a : AttributeName) (names : List AttributeName) → may_be_missing a ≡ true → AreGiven names [] → AreGiven (a ∷ names) []
 all-missing a names m h = flow.AreGiven.missing a names m h
 
-first-given : (a : Attribute) (names : List AttributeName) (more : List ℕ) → IsAllowed a → AreGiven names more → AreGiven (name_of_attribute a ∷ names) (attribute a ++ more)
+pub first-given : (a : Attribute) (names : List AttributeName) (more : List ℕ) → IsAllowed a → AreGiven names more → AreGiven (name_of_attribute a ∷ names) (attribute a ++ more)
 first-given a names more allowed rest =
     flow.AreGiven.given (name_of_attribute a) names (value_of a) more (ap (λ (x : List ℕ). x ++ more) (attribute-quoted a)) (value-is a allowed) rest
 
-titles-given : (title : Option (List ℕ)) → AreGiven (name_of_attribute (Title []) ∷ []) (flat_map attribute (titled title))
-titles-given None = flow.AreGiven.missing _ [] refl flow.AreGiven.none
-titles-given (Some t) = first-given (Title t) [] [] tt flow.AreGiven.none
+titles-given : (title : Option (List ℕ)) (names : List AttributeName) → AreGiven names [] → AreGiven (name_of_attribute (Title []) ∷ names) (flat_map attribute (titled title))
+titles-given None names h = flow.AreGiven.missing _ names refl h
+titles-given (Some t) names h = first-given (Title t) names [] tt h
 
 link-given : (url : List ℕ) (title : Option (List ℕ)) → is_allowed place.Href url ≡ true → AreGiven (attributes_of Anchor) (flat_map attribute (Href url ∷ titled title))
-link-given url title h = first-given (Href url) _ _ h (titles-given title)
+link-given url title h =
+    first-given (Href url) _ _ h
+    (titles-given title _
+    (flow.AreGiven.missing _ _ refl
+    (flow.AreGiven.missing _ _ refl (flow.AreGiven.missing _ _ refl (flow.AreGiven.missing _ _ refl (flow.AreGiven.missing _ [] refl flow.AreGiven.none))))))
 
 image-given : (url alt : List ℕ) (title : Option (List ℕ)) → is_allowed place.Src url ≡ true → AreGiven (attributes_of Image) (flat_map attribute (Src url ∷ (Alt alt ∷ titled title)))
-image-given url alt title h = first-given (Src url) _ _ h (first-given (Alt alt) _ _ tt (titles-given title))
+image-given url alt title h = first-given (Src url) _ _ h (first-given (Alt alt) _ _ tt (titles-given title [] flow.AreGiven.none))
 
 language-given : (bytes : List ℕ) (info : Option (List Event)) → AreGiven (attributes_of Code) (flat_map attribute (language bytes info))
 language-given bytes None = flow.AreGiven.missing _ [] refl flow.AreGiven.none
@@ -118,30 +126,30 @@ ordered-given (Some n) = start-given (n == 1) n
 -- ---- shapes
 
 -- pieces in front of content
-record Flows (m : Model) (ps : List Piece) : Type 0 where
-  front : (k : List Piece) → IsOf m k → IsOf m (ps ++ k)
+pub record Flows (m : Model) (ps : List Piece) : Type 0 where
+  pub front : (k : List Piece) → IsOf m k → IsOf m (ps ++ k)
 
-ended : (m : Model) → may_end m ≡ true → IsOf m []
+pub ended : (m : Model) → may_end m ≡ true → IsOf m []
 ended m e fresh = flow.IsContent.end m e
 
-whole-of : (m : Model) (ps : List Piece) → may_end m ≡ true → Flows m ps → IsOf m ps
+pub whole-of : (m : Model) (ps : List Piece) → may_end m ≡ true → Flows m ps → IsOf m ps
 whole-of m ps e kept = subst (IsOf m) (append-nil ps) (kept.front [] (ended m e))
 
 -- text stands among blocks and among text
-abbrev IsText : Model → Type 0
+abbrev pub IsText : Model → Type 0
 IsText Blocks = ⊤
 IsText (Phrases in_link) = ⊤
 IsText m = ⊥
 
 -- and in no link
-abbrev IsFree : Model → Type 0
+abbrev pub IsFree : Model → Type 0
 IsFree Blocks = ⊤
 IsFree (Phrases true) = ⊥
 IsFree (Phrases false) = ⊤
 IsFree m = ⊥
 
 -- where spans of a mode stand
-abbrev Suits : Mode → Model → Type 0
+abbrev pub Suits : Mode → Model → Type 0
 Suits mode.Flow m = m ≡ Blocks
 Suits mode.Tight m = m ≡ Blocks
 Suits mode.LooseItems m = m ≡ Items
@@ -154,12 +162,12 @@ Suits mode.Paragraph m = IsFree m
 Suits mode.Text m = IsText m
 Suits mode.Nothing m = ⊤
 
-abbrev in_link : Model → Bool
+abbrev pub in_link : Model → Bool
 in_link (Phrases linked) = linked
 in_link m = false
 
 -- there is no link among spans that are written in a link
-abbrev IsApart : Mode → Model → (linked : Bool) → Type 0
+abbrev pub IsApart : Mode → Model → (linked : Bool) → Type 0
 IsApart mode.Flow m linked = in_link m ≡ true → linked ≡ false
 IsApart mode.Tight m linked = in_link m ≡ true → linked ≡ false
 IsApart mode.LooseItems m linked = in_link m ≡ true → linked ≡ false
@@ -514,14 +522,14 @@ code-flows m t s =
           (text-of Words t [] (λ b. refl) (ended Words refl));
     }
 
-module _ (options : CompileOptions) (bytes : List ℕ) (lookup : (label : List ℕ) → Option TargetParts) (tab : ℕ) (safe : AreSafeOptions options) where
+module _ (options : CompileOptions) (bytes : List ℕ) (known : Known) (tab : ℕ) (safe : AreSafeOptions options) where
   raw-flows : (m : Model) (h : List ℕ) → IsText m → Flows m (raw options h ∷ [])
   raw-flows m h s = subst (λ x. Flows m (cond x (Kept h) (Text h) ∷ [])) (sym safe.html) (text-flows m h s)
 
   link-around : (m : Model) (p : Option TargetParts) (linked : Bool) → IsText m → (in_link m ≡ true → true ≡ false) → linked ≡ false → Around m (link_to options p) linked
   link-around m None linked t h apart = through-around m mode.Text linked t (λ e. apart)
   link-around m (Some parts) linked t h apart =
-      within-around m Anchor (Href (address_at options place.Href parts.destination) ∷ titled parts.title) linked true t refl (link-stands m t h) (link-given (address_at options place.Href parts.destination) parts.title (href-is options bytes lookup tab safe parts.destination)) refl
+      within-around m Anchor (Href (address_at options place.Href parts.destination) ∷ titled parts.title) linked true t refl (link-stands m t h) (link-given (address_at options place.Href parts.destination) parts.title (href-is options bytes known tab safe parts.destination)) refl
       (λ e. apart)
 
   image-around : (m : Model) (alt : List ℕ) (p : Option TargetParts) (linked : Bool) → IsText m → Around m (image_of options alt p) linked
@@ -529,7 +537,29 @@ module _ (options : CompileOptions) (bytes : List ℕ) (lookup : (label : List �
   image-around m alt (Some parts) linked t =
       alone-around m _ linked
       (void-front m Image (Src (address_at options place.Src parts.destination) ∷ (Alt alt ∷ titled parts.title)) t refl ((phrase-by Image refl (λ l. refl)).stands m t)
-      (image-given (address_at options place.Src parts.destination) alt parts.title (src-is options bytes lookup tab safe parts.destination)))
+      (image-given (address_at options place.Src parts.destination) alt parts.title (src-is options bytes known tab safe parts.destination)))
+
+  call-link : (c : Called) → AreGiven (attributes_of Anchor) (flat_map attribute (Href (codes "#" ++ note_id c.number) ∷ Id (call_id c.number c.repeat) ∷ FootnoteCall ∷ []))
+  call-link c =
+      first-given (Href (codes "#" ++ note_id c.number)) _ _ refl
+      (flow.AreGiven.missing _ _ refl
+      (first-given (Id (call_id c.number c.repeat)) _ _ (call-id c.number c.repeat)
+      (flow.AreGiven.missing _ _ refl (first-given FootnoteCall _ _ tt (flow.AreGiven.missing _ _ refl (flow.AreGiven.missing _ [] refl flow.AreGiven.none))))))
+
+  call-around : (m : Model) (o : Option Called) (linked : Bool) → IsText m → (in_link m ≡ true → true ≡ false) → Around m (call_shape o) linked
+  call-around m None linked t h = through-around m mode.Text linked t (λ e. absurd (false≢true (sym (h e))))
+  call-around m (Some c) linked t h =
+      let n = Phrases (in_link m) in
+      let attributes = Href (codes "#" ++ note_id c.number) ∷ Id (call_id c.number c.repeat) ∷ FootnoteCall ∷ [] in
+      let number : IsOf (Phrases true) (Text (decimal c.number) ∷ []) = text-of (Phrases true) (decimal c.number) [] (λ b. refl) (ended (Phrases true) refl) in
+      let inner : IsOf n (Open Anchor attributes ∷ Text (decimal c.number) ∷ Close Anchor ∷ []) =
+      phrase-front n Anchor attributes (Text (decimal c.number) ∷ []) tt refl (link-stands n tt h) (call-link c) number [] (ended n refl) in
+      alone-around m _ linked
+      (record {
+        front = phrase-front m Superscript (classed (codes "footnote-ref")) (Open Anchor attributes ∷ Text (decimal c.number) ∷ Close Anchor ∷ []) t refl
+            ((phrase-by Superscript refl (λ l. refl)).stands m t) (first-given (Classed (codes "footnote-ref")) [] [] refl flow.AreGiven.none)
+            (subst (λ x. IsOf x (Open Anchor attributes ∷ Text (decimal c.number) ∷ Close Anchor ∷ [])) (sym (phrases-hold m t)) inner);
+      })
 
   address-around : (m : Model) (url text : List ℕ) (linked : Bool) → IsText m → (in_link m ≡ true → true ≡ false) → is_allowed place.Href url ≡ true → Around m (address_link url text) linked
   address-around m url text linked t h allowed =
@@ -540,13 +570,13 @@ module _ (options : CompileOptions) (bytes : List ℕ) (lookup : (label : List �
       })
 
   autolink-around : (m : Model) (es : List Event) (linked : Bool) → IsText m → (in_link m ≡ true → true ≡ false) → Around m (autolink options bytes es) linked
-  autolink-around m es linked t h = let address = autolink_address bytes es in address-around m _ address linked t h (email-is options bytes lookup tab safe (is_email es) address)
+  autolink-around m es linked t h = let address = autolink_address bytes es in address-around m _ address linked t h (email-is options bytes known tab safe (is_email es) address)
 
   literal-around : (m : Model) (scheme text : List ℕ) (linked : Bool) → IsText m → (in_link m ≡ true → true ≡ false) → Around m (literal options scheme text) linked
-  literal-around m scheme text linked t h = address-around m _ text linked t h (href-is options bytes lookup tab safe (scheme ++ text))
+  literal-around m scheme text linked t h = address-around m _ text linked t h (href-is options bytes known tab safe (scheme ++ text))
 
   inline-around : (m : Model) (in_cell : Bool) (i : Inline) (es : List Event) (said alt : List ℕ) (linked : Bool) → IsText m → (in_link m ≡ true → has_links_by i linked ≡ false)
-      → is_linked i linked ≡ false → Around m (inline_shape options bytes lookup tab in_cell i es said alt) linked
+      → is_linked i linked ≡ false → Around m (inline_shape options bytes known tab in_cell i es said alt) linked
   inline-around m in_cell inline.Ending es said alt linked t h a = alone-around m _ linked (record { front = λ k rest. feed-of m k (speaks m t 10) rest })
   inline-around m in_cell inline.Break es said alt linked t h a = alone-around m _ linked (void-front m Break [] t refl ((phrase-by Break refl (λ l. refl)).stands m t) flow.AreGiven.none)
   inline-around m in_cell inline.Emphasis es said alt linked t h a =
@@ -561,9 +591,10 @@ module _ (options : CompileOptions) (bytes : List ℕ) (lookup : (label : List �
   inline-around m in_cell inline.Www es said alt linked t h a = literal-around m (codes "http://") said linked t h
   inline-around m in_cell inline.Email es said alt linked t h a = literal-around m (codes "mailto:") said linked t h
   inline-around m in_cell inline.Address es said alt linked t h a = literal-around m [] said linked t h
-  inline-around m in_cell inline.Link es said alt linked t h a = link-around m (parts_in_link bytes lookup es) linked t h a
-  inline-around m in_cell inline.Image es said alt linked t h a = image-around m alt (parts_in_link bytes lookup es) linked t
+  inline-around m in_cell inline.Link es said alt linked t h a = link-around m (parts_in_link bytes known.lookup es) linked t h a
+  inline-around m in_cell inline.Image es said alt linked t h a = image-around m alt (parts_in_link bytes known.lookup es) linked t
   inline-around m in_cell inline.Check es said alt linked t h a = nothing-around m linked
+  inline-around m in_cell inline.Call es said alt linked t h a = call-around m (known.called (place_of_first es)) linked t h
   inline-around m in_cell inline.Tail es said alt linked t h a = nothing-around m linked
   inline-around m in_cell inline.Other es said alt linked t h a =
       record { model = m; suits = t; apart = h; around = λ inner k fronted rest. text-of m said (inner ++ k) (speaks m t) (fronted.front k rest) }
@@ -607,9 +638,9 @@ module _ (options : CompileOptions) (bytes : List ℕ) (lookup : (label : List �
   around-by m false s t linked h k = k
 
   paragraph-around : (m : Model) (in_cell : Bool) (i : Inline) (es : List Event) (said alt : List ℕ) (linked : Bool) → IsFree m → (in_link m ≡ true → has_links_by i linked ≡ false)
-      → is_linked i linked ≡ false → Around m (paragraph_shape options bytes lookup tab in_cell i es said alt) linked
+      → is_linked i linked ≡ false → Around m (paragraph_shape options bytes known tab in_cell i es said alt) linked
   paragraph-around m in_cell i es said alt linked t h a =
-      around-by m (is_check i) (check (is_checked es)) (inline_shape options bytes lookup tab in_cell i es said alt) linked (check-around m (is_checked es) linked t)
+      around-by m (is_check i) (check (is_checked es)) (inline_shape options bytes known tab in_cell i es said alt) linked (check-around m (is_checked es) linked t)
       (inline-around m in_cell i es said alt linked (free-text m t) h a)
 
   blocks-suit : (tight : Bool) → Suits (blocks tight) Blocks
@@ -629,7 +660,7 @@ module _ (options : CompileOptions) (bytes : List ℕ) (lookup : (label : List �
   items-apart false linked = λ e. absurd (false≢true e)
 
   block-around : (tight : Bool) (b : Block) (es : List Event) (loose : Bool) (start : Option ℕ) (linked : Bool)
-      → Around Blocks (block_shape options bytes lookup tab tight b es loose start) linked
+      → Around Blocks (block_shape options bytes known tab tight b es loose start) linked
   block-around true block.Paragraph es loose start linked = through-around Blocks mode.Paragraph linked tt (λ e. absurd (false≢true e))
   block-around false block.Paragraph es loose start linked = line-around Paragraph mode.Paragraph (Phrases false) linked refl refl refl refl refl tt (λ e. absurd (false≢true e))
   block-around tight block.HeadingAtx es loose start linked = heading-around (length_of_first name.HeadingAtxSequence es) linked
@@ -665,7 +696,7 @@ module _ (options : CompileOptions) (bytes : List ℕ) (lookup : (label : List �
         suits = blocks-suit tight;
         apart = blocks-apart tight linked;
         around = λ inner k fronted rest.
-            fresh-of Items (Open ListItem [] ∷ (inner ++ (Close ListItem ∷ Feed ∷ k))) refl (element-of Items ListItem [] inner (Feed ∷ k) refl refl flow.AreGiven.none (whole-of Blocks inner refl fronted) (feed-of Items k refl rest));
+            fresh-of Items (Open ListItem [] ∷ (inner ++ (Close ListItem ∷ Feed ∷ k))) refl (element-of Items ListItem [] inner (Feed ∷ k) refl refl (flow.AreGiven.missing _ [] refl flow.AreGiven.none) (whole-of Blocks inner refl fronted) (feed-of Items k refl rest));
       }
 
   items-around : (tight : Bool) (b : Block) (linked : Bool) → Around Items (item_shape tight b) linked
@@ -710,9 +741,9 @@ module _ (options : CompileOptions) (bytes : List ℕ) (lookup : (label : List �
 
   -- what is written of spans is content, wherever they stand
   blocks-at : (tight : Bool) (m : Model) (n : Name) (es : List Event) (loose : Bool) (start : Option ℕ) (linked : Bool) → m ≡ Blocks
-      → Around m (block_shape options bytes lookup tab tight (block_of n) es loose start) linked
+      → Around m (block_shape options bytes known tab tight (block_of n) es loose start) linked
   blocks-at tight m n es loose start linked s =
-      subst (λ x. Around x (block_shape options bytes lookup tab tight (block_of n) es loose start) linked) (sym s) (block-around tight (block_of n) es loose start linked)
+      subst (λ x. Around x (block_shape options bytes known tab tight (block_of n) es loose start) linked) (sym s) (block-around tight (block_of n) es loose start linked)
 
   items-at : (tight : Bool) (m : Model) (n : Name) (linked : Bool) → m ≡ Items → Around m (item_shape tight (block_of n)) linked
   items-at tight m n linked s = subst (λ x. Around x (item_shape tight (block_of n)) linked) (sym s) (items-around tight (block_of n) linked)
@@ -727,7 +758,7 @@ module _ (options : CompileOptions) (bytes : List ℕ) (lookup : (label : List �
   cells-at head m columns b linked s = subst (λ x. Around x (cell_shape head columns b) linked) (sym s) (cells-around head columns b linked)
 
   shape-around : (w : Mode) (m : Model) (columns : List Event) (n : Name) (linked : Bool) (es : List Event) (loose : Bool) (start : Option ℕ) (said alt : List ℕ) → Suits w m
-      → IsApart w m (has_links_by (inline_of n) linked) → is_linked (inline_of n) linked ≡ false → Around m (shape_by options bytes lookup tab w columns n es loose start said alt) linked
+      → IsApart w m (has_links_by (inline_of n) linked) → is_linked (inline_of n) linked ≡ false → Around m (shape_by options bytes known tab w columns n es loose start said alt) linked
   shape-around mode.Flow m columns n linked es loose start said alt s a l = blocks-at false m n es loose start linked s
   shape-around mode.Tight m columns n linked es loose start said alt s a l = blocks-at true m n es loose start linked s
   shape-around mode.LooseItems m columns n linked es loose start said alt s a l = items-at false m n linked s
@@ -740,25 +771,25 @@ module _ (options : CompileOptions) (bytes : List ℕ) (lookup : (label : List �
   shape-around mode.Text m columns n linked es loose start said alt s a l = inline-around m (is_in_cell columns) (inline_of n) es said alt linked s a l
   shape-around mode.Nothing m columns n linked es loose start said alt s a l = nothing-around m linked
 
-  pieces-flow : (w : Mode) (m : Model) (columns : List Event) (s : Spans) → Suits w m → IsApart w m (has_links s) → are_apart s ≡ true
-      → Flows m (pieces options bytes lookup tab w columns s)
+  pub pieces-flow : (w : Mode) (m : Model) (columns : List Event) (s : Spans) → Suits w m → IsApart w m (has_links s) → are_apart s ≡ true
+      → Flows m (pieces options bytes known tab w columns s)
   pieces-flow w m columns Nothing suits apart h = left-flows w m columns suits
   pieces-flow w m columns (Span e f s behind) suits apart h =
       let i = inline_of e.name in
       let b = block_of e.name in
-      let here = shape options bytes lookup tab w columns e f s in
+      let here = shape options bytes known tab w columns e f s in
       let within = columns_in b columns (events_of s) in
-      let inner = pieces options bytes lookup tab here.inside within s in
-      let outer = pieces options bytes lookup tab w (columns_behind b columns) behind in
+      let inner = pieces options bytes known tab here.inside within s in
+      let outer = pieces options bytes known tab w (columns_behind b columns) behind in
       let unlinked = not-true (is_linked i (has_links s)) ((and_parts (not (is_linked i (has_links s))) (are_apart s && are_apart behind) h).0) in
       let both = (and_parts (not (is_linked i (has_links s))) (are_apart s && are_apart behind) h).1 in
       let es = events_of s in
       let it : Around m here (has_links s) = shape-around w m columns e.name (has_links s) es (is_loose es) (list_start bytes es) (said bytes e f s) (alt_of bytes s) suits (apart-first w m (has_links_by i (has_links s)) (has_links behind) apart) unlinked in
       let first = pieces-flow here.inside it.model within s it.suits it.apart ((and_parts (are_apart s) (are_apart behind) both).0) in
       let rest = pieces-flow w m (columns_behind b columns) behind suits (apart-rest w m (has_links_by i (has_links s)) (has_links behind) apart) ((and_parts (are_apart s) (are_apart behind) both).1) in
-      record { front = λ k more. subst (IsOf m) (sym (moved options bytes lookup tab safe here.opened inner here.closed outer k)) (it.around inner (outer ++ k) first (rest.front k more)) }
+      record { front = λ k more. subst (IsOf m) (sym (moved options bytes known tab safe here.opened inner here.closed outer k)) (it.around inner (outer ++ k) first (rest.front k more)) }
 
 pub html-flow : HtmlIsFlow
-html-flow options bytes lookup tab events safe apart =
-    let ps = pieces options bytes lookup tab mode.Flow [] (spans_of events) in
-    whole-of Blocks ps refl (pieces-flow options bytes lookup tab safe mode.Flow Blocks [] (spans_of events) refl (λ e. absurd (false≢true e)) apart) true
+html-flow options bytes known tab events safe apart =
+    let ps = pieces options bytes known tab mode.Flow [] (spans_of events) in
+    whole-of Blocks ps refl (pieces-flow options bytes known tab safe mode.Flow Blocks [] (spans_of events) refl (λ e. absurd (false≢true e)) apart) true

@@ -1,5 +1,5 @@
 -- Whether a line has just begun is told by the last byte.
-use Rattle.std.proofs.Common.{◌≡◌, ℕ, suc, ◌-◌, List, [], ◌∷◌, length, ap, sym, refl, ◌∙◌, Option, None, Some, arith}
+use Rattle.std.proofs.Common.{◌≡◌, ℕ, suc, ◌-◌, List, [], ◌∷◌, length, ap, sym, refl, ◌∙◌, Option, arith}
 use Rattle.std.specs.Option.{option_map_or}
 use Rattle.std.specs.Prelude.{◌==◌, Bool, true, slice_get}
 use Rattle.mdhtml_markup.specs.Pieces.{is_fresh}

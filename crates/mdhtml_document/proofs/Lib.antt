@@ -18,10 +18,24 @@ pub mod ListFacts
 pub mod Linear
 -- spans
 pub mod Named
+-- notes
+pub mod FlowNotes
+pub mod LastParagraphs
+pub mod NoteEnds
+pub mod NoteIds
+pub mod NoteSections
+pub mod Labels
+pub mod Lookups
+pub mod NoteWalks
+pub mod NotesWritten
+pub mod Numbering
+pub mod Numbers
+pub mod SafeNotes
 -- laws
 pub mod Rooms
 pub mod Safe
 pub mod Short
+pub mod ShortCalls
 pub mod ShortShapes
 -- spans
 pub mod SpanFacts

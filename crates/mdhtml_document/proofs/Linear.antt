@@ -5,10 +5,8 @@ use Rattle.std.proofs.lemmas.Bool.{and_parts}
 use Rattle.std.proofs.lemmas.Bool.Decides.{nat_tests}
 use Rattle.std.proofs.lemmas.List.{append-nil, drop_at, length-append, length-drop, length-take-le}
 use Rattle.std.specs.Option.{option_map_or}
-use Rattle.std.specs.Prelude.{zero, ⊤, ◌==◌, ◌&&◌, ◌||◌, max, nat_lt, not, Bool, true, false, cond, option_and_then, option_map, slice_get}
-use Rattle.std.specs.List.{slice_range}
+use Rattle.std.specs.Prelude.{zero, max, nat_lt, Bool, true, false, cond, option_and_then, option_map}
 use native.Mathlib.Nat.{suc-mul}
-use Rattle.markdown_base.specs.declared.configuration.CompileOptions.{CompileOptions}
 use Rattle.markdown_base.specs.declared.event.Event.{Event}
 use Rattle.markdown_base.specs.declared.event.Kind.{Kind}
 use Rattle.markdown_base.specs.declared.event.Kind.TheVariants.{Enter, Exit}
@@ -25,8 +23,9 @@ use Rattle.mddocument_link_targets.specs.Strings.{decoded, given_at, text}
 use Rattle.mddocument_link_targets.specs.Targets.{definition_of, definition_parts, parts_of, string_in, target_in}
 use Rattle.mdhtml_document.specs.declared.names.Inline.{Inline}
 use Rattle.mdhtml_document.specs.declared.names.Inline.TheVariants as inline
-use Rattle.mdhtml_document.specs.Html.{are_too_many, defined_in, extent, led_to, place_of_first, referred, references, size_of_label, size_of_target}
-use Rattle.mdhtml_document.specs.HtmlLaws.{GoForward, HtmlIsLinear, HasByte, ahead, length_of_parts, room}
+use Rattle.mdhtml_document.specs.Html.{are_too_many, defined_in, extent, known_in, referred, references, size_of_label, size_of_target}
+use Rattle.mdhtml_document.specs.Notes.{place_of_first}
+use Rattle.mdhtml_document.specs.HtmlLaws.{GoForward, HtmlIsLinear, length_of_parts, room}
 use Rattle.mdhtml_document.specs.Names.{inline_of}
 use Rattle.mdhtml_document.specs.Spans.{Nothing, Span, Spans, events_of, spans_of}
 use Rattle.mddocument_link_targets.proofs.SpanEnds.{at_end}
@@ -287,6 +286,7 @@ module _ (bytes : List ℕ) (size more : (label : List ℕ) → ℕ) (less : (la
   referred-less inline.Email es a b h = h
   referred-less inline.Address es a b h = h
   referred-less inline.Check es a b h = h
+  referred-less inline.Call es a b h = h
   referred-less inline.Link es a b h = let t = target-less (target_in bytes es) in omega (arith, t, h)
   referred-less inline.Image es a b h = target-less (target_in bytes es)
   referred-less inline.Tail es a b h = h
@@ -318,6 +318,7 @@ module _ (bytes : List ℕ) where
   referred-none inline.Email es a h = h
   referred-none inline.Address es a h = h
   referred-none inline.Check es a h = h
+  referred-none inline.Call es a h = h
   referred-none inline.Link es a h = let t = target-none (target_in bytes es) in omega (arith, t, h)
   referred-none inline.Image es a h = target-none (target_in bytes es)
   referred-none inline.Tail es a h = h
@@ -341,8 +342,8 @@ left-by false bytes tab events balanced go h =
     omega (arith, less, few)
 
 pub html-linear : HtmlIsLinear
-html-linear options bytes tab events balanced go free =
-    let short = html-short options bytes (led_to bytes events) tab events balanced free in
+html-linear options bytes tab digits events balanced go brief free =
+    let short = html-short options bytes (known_in bytes events) tab digits events balanced brief free in
     let rooms = room-forward tab (length bytes) events go in
     let left = left-by (are_too_many bytes events) bytes tab events balanced go refl in
     omega (arith, short, rooms, left)

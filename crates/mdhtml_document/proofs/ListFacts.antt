@@ -1,13 +1,13 @@
 -- What is said of a list by the events behind its enter is what is said of it by the events in it.
 use Rattle.std.proofs.Common.{◌≡◌, ℕ, suc, List, [], ◌∷◌, ◌++◌, ap, sym, refl, ◌∙◌, append-nil, Option, None, Some}
 use Rattle.std.specs.List.{list_any}
-use Rattle.std.specs.Prelude.{zero, ◌&&◌, ◌||◌, Bool, true, false, cond, filter, find, map, option_and_then}
+use Rattle.std.specs.Prelude.{◌&&◌, ◌||◌, Bool, true, false, cond, filter, find, map, option_and_then}
 use Rattle.markdown_base.specs.declared.event.Event.{Event}
 use Rattle.markdown_base.specs.declared.event.Kind.TheVariants.{Enter, Exit}
 use Rattle.markdown_base.specs.declared.event.Name.{Name}
 use Rattle.markdown_base.specs.declared.event.Name.TheVariants.{ListItem, ListItemPrefix, ListItemValue}
 use Rattle.markdown_base.specs.Events.{is_enter, same_name}
-use Rattle.mdblock_containers.specs.Lists.{Met, block_names, digits_at, directly_by, directly_from, directly_in, first_in, in_first_prefix, is_apart, is_loose, is_spread, item_names, items_in, list_start, number_of}
+use Rattle.mdblock_containers.specs.Lists.{Met, block_names, digits_at, directly_by, directly_from, directly_in, first_in, is_apart, is_loose, is_spread, item_names, list_start, number_of}
 use Rattle.mdhtml_document.specs.Spans.{Nothing, Span, Spans, events_of}
 use Rattle.mdhtml_document.proofs.SpanFacts.{AreKinded, span-append}
 

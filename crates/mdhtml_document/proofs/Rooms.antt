@@ -1,13 +1,13 @@
 -- How long texts are that spans say: no longer than their events have room for.
-use Rattle.std.proofs.Common.{◌≡◌, ℕ, suc, ◌+◌, ◌-◌, ◌*◌, ◌/◌, ◌%◌, ◌<◌, ◌≤◌, List, [], ◌∷◌, ◌++◌, length, take, drop, ap, sym, refl, subst, ◌∙◌, arith, Option, None, Some}
+use Rattle.std.proofs.Common.{◌≡◌, ℕ, suc, ◌+◌, ◌-◌, ◌*◌, ◌%◌, ◌<◌, ◌≤◌, List, [], ◌∷◌, ◌++◌, length, take, drop, ap, refl, arith, Option, None, Some}
 use Rattle.std.proofs.lemmas.Bool.{and_parts}
 use Rattle.std.proofs.lemmas.Bool.Decides.{nat_tests}
 use Rattle.std.proofs.lemmas.List.{length-append, length-drop}
 use Rattle.std.proofs.lemmas.Option.{none-some}
 use Rattle.std.proofs.lemmas.Slice.Eq.{bytes_eq-Decides}
 use Rattle.std.proofs.lemmas.Str.{len_utf8_bounds, length-encode}
-use Rattle.std.specs.Char.{digit_value, encode_utf8}
-use Rattle.std.specs.List.{flat_map, list_all, list_any, repeat, slice_range}
+use Rattle.std.specs.Char.{encode_utf8}
+use Rattle.std.specs.List.{flat_map, list_all, repeat, slice_range}
 use Rattle.std.specs.Option.{option_map_or}
 use Rattle.std.specs.Prelude.{zero, ◌==◌, ◌&&◌, ◌||◌, not, Bool, true, false, cond, bytes_eq, nat_le, nat_lt, option_map, slice_get, slice_index}
 use Rattle.std.specs.Str.Parse.{digits_value}
@@ -26,7 +26,7 @@ use Rattle.mdhtml_document.specs.declared.names.Inline.TheVariants as inline
 use Rattle.mdhtml_document.specs.HtmlLaws.{ahead, room}
 use Rattle.mdhtml_document.specs.Names.{inline_of}
 use Rattle.mdhtml_document.specs.Spans.{Nothing, Span, Spans, events_of}
-use Rattle.mdhtml_document.specs.Values.{alt_by, alt_of, autolink_address, behind_first_line, block_lines, bytes_at, code_lines, code_text, cut, cut_at, has_last_line, html_text, is_address, lines_from, reading_of, said, stripped}
+use Rattle.mdhtml_document.specs.Values.{alt_by, alt_of, autolink_address, behind_first_line, block_lines, bytes_at, code_lines, code_text, cut, cut_at, has_last_line, is_address, lines_from, reading_of, said, stripped}
 use Rattle.mdinline_characters.specs.CharacterReferences.{Reference, character_references}
 use Rattle.mdinline_characters.specs.References.{characters_in, characters_of}
 
@@ -330,6 +330,7 @@ module _ (bytes : List ℕ) (tab : ℕ) where
   alt-by-le inline.Email es own alt u o p a = let l = length-append own alt in omega (arith, o, a, l)
   alt-by-le inline.Address es own alt u o p a = let l = length-append own alt in omega (arith, o, a, l)
   alt-by-le inline.Check es own alt u o p a = let l = length-append own alt in omega (arith, o, a, l)
+  alt-by-le inline.Call es own alt u o p a = let l = length-append own alt in omega (arith, o, a, l)
   alt-by-le inline.Link es own alt u o p a = let l = length-append own alt in omega (arith, o, a, l)
   alt-by-le inline.Image es own alt u o p a = let l = length-append own alt in omega (arith, o, a, l)
   alt-by-le inline.Other es own alt u o p a = let l = length-append own alt in omega (arith, o, a, l)

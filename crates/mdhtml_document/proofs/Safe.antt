@@ -1,10 +1,8 @@
 -- The HTML of a document is safe: each shape opens and closes its tags in order, and lets nothing through.
 use Rattle.std.proofs.Common.{◌≡◌, ℕ, ◌+◌, List, [], ◌∷◌, ◌++◌, ap, sym, refl, subst, ◌∙◌, Option, None, Some, append_assoc, append-nil, take}
-use Rattle.std.proofs.lemmas.Bool.{false≢true}
 use Rattle.std.proofs.Math.Numerals.{one-add}
 use Rattle.std.specs.Char.{is_ascii_whitespace}
 use Rattle.std.specs.List.{list_all, list_any, prefix_len, take_while}
-use Rattle.std.specs.Option.{option_map_or}
 use Rattle.std.specs.Prelude.{zero, suc, ◌&&◌, ◌||◌, ◌==◌, ⊤, Bool, true, false, cond, codes, not}
 use Rattle.markdown_base.specs.declared.configuration.CompileOptions.{CompileOptions}
 use Rattle.markdown_base.specs.declared.event.Event.{Event}
@@ -16,20 +14,23 @@ use Rattle.mdhtml_document.specs.declared.names.Inline.{Inline}
 use Rattle.mdhtml_document.specs.declared.names.Inline.TheVariants as inline
 use Rattle.mdhtml_document.specs.declared.shapes.Mode.{Mode}
 use Rattle.mdhtml_document.specs.declared.shapes.Mode.TheVariants as mode
-use Rattle.mdhtml_document.specs.Html.{Shape, address_at, address_link, aligned, alignment_of, autolink, behind_column, block_shape, blocks, cell, cell_element, cell_shape, check, code, columns_behind, columns_in, container, empty_cell, empty_cells, heading, heading_shape, image_of, inline_shape, is_check, is_checked, is_in_cell, item_shape, items, language, lacking, length_of_first, line, link_to, literal, ordered, parts_in_link, pieces, raw, row_shape, setext_rank, shape, shape_by, table_shape, through, titled, told, alone, within_line}
+use Rattle.mdhtml_document.specs.Html.{Known, Shape, address_at, address_link, aligned, alignment_of, autolink, behind_column, block_shape, blocks, call_shape, cell, cell_element, cell_shape, check, code, columns_behind, columns_in, container, empty_cell, empty_cells, heading, heading_shape, image_of, inline_shape, is_check, is_checked, is_in_cell, item_shape, items, language, lacking, length_of_first, line, link_to, literal, ordered, parts_in_link, pieces, raw, row_shape, setext_rank, shape, shape_by, table_shape, through, titled, told, alone, within_line}
+use Rattle.mdhtml_document.specs.declared.notes.Called.{Called}
+use Rattle.mdhtml_document.specs.Notes.{place_of_first}
+use Rattle.mdhtml_document.proofs.NoteIds.{call-id}
 use Rattle.mdhtml_document.specs.HtmlLaws.{AreSafeOptions, HtmlIsSafe, HtmlKeepsText}
 use Rattle.mdhtml_document.specs.Names.{block_of, inline_of}
 use Rattle.mdhtml_document.specs.Spans.{Nothing, Span, Spans, events_of, spans_of}
-use Rattle.mdhtml_document.specs.Values.{autolink_address, behind_first_line, cell_text, code_lines, code_text, html_flow, html_text, is_email}
+use Rattle.mdhtml_document.specs.Values.{autolink_address, behind_first_line, cell_text, code_lines, html_flow, html_text, is_email}
 use Rattle.mdhtml_markup.proofs.FlowSafe.{blocks-text}
 use Rattle.mdhtml_markup.specs.Addresses.{allowed}
 use Rattle.mdhtml_markup.specs.declared.addresses.Place.{Place}
 use Rattle.mdhtml_markup.specs.declared.addresses.Place.TheVariants as place
 use Rattle.mdhtml_markup.specs.declared.elements.Alignment.{Alignment}
 use Rattle.mdhtml_markup.specs.declared.elements.Element.{Element}
-use Rattle.mdhtml_markup.specs.declared.elements.Element.TheVariants.{Anchor, BlockQuote, Break, Code, DataCell, Deleted, Emphasis, HeaderCell, Image, ListItem, OrderedList, Paragraph, Preformatted, Strong, Table, TableBody, TableHead, TableRow, ThematicBreak, UnorderedList}
-use Rattle.mdhtml_markup.specs.Pieces.{Alt, Attribute, Close, Feed, Fresh, Href, Kept, Language, Open, Piece, Src, Start, Text, Title, Void}
-use Rattle.mdhtml_markup.specs.SafeHtml.{IsSafeHtml, holds_blocks, holds_cells, holds_items, holds_parts, holds_rows, holds_text, is_allowed, is_void, stands_in}
+use Rattle.mdhtml_markup.specs.declared.elements.Element.TheVariants.{Anchor, BlockQuote, Code, Deleted, Emphasis, Image, ListItem, OrderedList, Paragraph, Strong, Table, TableBody, TableHead, TableRow, UnorderedList}
+use Rattle.mdhtml_markup.specs.Pieces.{Alt, Attribute, Close, Feed, Fresh, Href, Kept, Piece, Src, Start, Text}
+use Rattle.mdhtml_markup.specs.SafeHtml.{holds_blocks, holds_cells, holds_items, holds_parts, holds_rows, holds_text, is_allowed, is_void, stands_in}
 use Rattle.mdhtml_markup.specs.SafePieces.{AreAllowed, AreSafe, IsTag}
 use Rattle.mdhtml_markup.proofs.SafeLemmas.{pieces-safe}
 use Rattle.mdhtml_markup.proofs.ShownText.{text-kept}
@@ -38,7 +39,7 @@ use Rattle.mddocument_link_targets.specs.Spans.{enters, first_in}
 use Rattle.mddocument_link_targets.specs.Strings.{decoded}
 
 -- where spans may stand: items in a list, blocks in blocks, parts of tables in these, and text in all that are no tables
-abbrev Stands : Mode → (tags : List Element) → Type 0
+abbrev pub Stands : Mode → (tags : List Element) → Type 0
 Stands mode.Flow tags = holds_blocks tags ≡ true
 Stands mode.Tight tags = holds_blocks tags ≡ true
 Stands mode.LooseItems tags = holds_items tags ≡ true
@@ -52,8 +53,8 @@ Stands mode.Text tags = holds_text tags ≡ true
 Stands mode.Nothing tags = ⊤
 
 -- pieces of spans that are safe in front of safe ones
-record Keep (m : Mode) (ps : List Piece) : Type 0 where
-  keep : (tags : List Element) (k : List Piece) → Stands m tags → AreSafe tags k → AreSafe tags (ps ++ k)
+pub record Keep (m : Mode) (ps : List Piece) : Type 0 where
+  pub keep : (tags : List Element) (k : List Piece) → Stands m tags → AreSafe tags k → AreSafe tags (ps ++ k)
 
 -- and a shape, around such pieces
 record KeepsShape (m : Mode) (s : Shape) : Type 0 where
@@ -191,7 +192,7 @@ link-is : (url : List ℕ) (title : Option (List ℕ)) → is_allowed place.Href
 link-is url None h = (h, tt)
 link-is url (Some t) h = (h, (tt, tt))
 
-module _ (options : CompileOptions) (bytes : List ℕ) (lookup : (label : List ℕ) → Option Parts) (tab : ℕ) (safe : AreSafeOptions options) where
+module _ (options : CompileOptions) (bytes : List ℕ) (known : Known) (tab : ℕ) (safe : AreSafeOptions options) where
   pub href-is : (url : List ℕ) → is_allowed place.Href (address_at options place.Href url) ≡ true
   href-is url = ap (λ b. is_allowed place.Href (cond b url (allowed place.Href url))) safe.protocol ∙ allowed-is place.Href url
 
@@ -229,6 +230,17 @@ module _ (options : CompileOptions) (bytes : List ℕ) (lookup : (label : List �
   email-is true a = refl
   email-is false a = href-is a
 
+  call-keeps : (m : Mode) (o : Option Called) → Texts m → KeepsShape m (call_shape o)
+  call-keeps m None t = through-keeps m mode.Text t
+  call-keeps m (Some c) t =
+      alone-keeps m _
+      (record {
+        keep = λ tags k s h. (
+          record { kind = refl; stands = t tags s; allowed = (refl, tt) },
+          (record { kind = refl; stands = refl; allowed = (refl, (call-id c.number c.repeat, (tt, tt))) }, (refl, (refl, (refl, h)))),
+        );
+      })
+
   address-keeps : (m : Mode) (url text : List ℕ) → Texts m → is_allowed place.Href url ≡ true → KeepsShape m (address_link url text)
   address-keeps m url text t h = alone-keeps m _ (record { keep = λ tags k s r. (record { kind = refl; stands = t tags s; allowed = (h, tt) }, (refl, (refl, r))) })
 
@@ -239,7 +251,7 @@ module _ (options : CompileOptions) (bytes : List ℕ) (lookup : (label : List �
   literal-keeps m scheme text t = address-keeps m _ text t (href-is (scheme ++ text))
 
   block-keeps : (m : Mode) (tight : Bool) (b : Block) (es : List Event) (loose : Bool) (start : Option ℕ) → ((tags : List Element) → Stands m tags → holds_blocks tags ≡ true)
-      → KeepsShape m (block_shape options bytes lookup tab tight b es loose start)
+      → KeepsShape m (block_shape options bytes known tab tight b es loose start)
   block-keeps m true block.Paragraph es loose start stands = through-keeps m mode.Paragraph (λ tags s. blocks-text tags (stands tags s))
   block-keeps m false block.Paragraph es loose start stands =
       line-keeps m Paragraph mode.Paragraph (λ tags s. block-tag Paragraph [] tags (record { kind = refl; stands = λ tags. refl }) tt (stands tags s)) (λ tags. refl)
@@ -417,7 +429,7 @@ module _ (options : CompileOptions) (bytes : List ℕ) (lookup : (label : List �
   left-keeps mode.Text columns = record { keep = λ tags k s h. h }
   left-keeps mode.Nothing columns = record { keep = λ tags k s h. h }
 
-  inline-keeps : (m : Mode) (in_cell : Bool) (i : Inline) (es : List Event) (said alt : List ℕ) → Texts m → KeepsShape m (inline_shape options bytes lookup tab in_cell i es said alt)
+  inline-keeps : (m : Mode) (in_cell : Bool) (i : Inline) (es : List Event) (said alt : List ℕ) → Texts m → KeepsShape m (inline_shape options bytes known tab in_cell i es said alt)
   inline-keeps m in_cell inline.Ending es said alt t = alone-keeps m _ (record { keep = λ tags k s h. h })
   inline-keeps m in_cell inline.Break es said alt t = alone-keeps m _ (record { keep = λ tags k s h. (record { kind = refl; stands = t tags s; allowed = tt }, h) })
   inline-keeps m in_cell inline.Emphasis es said alt t = within-keeps m Emphasis [] t (record { kind = refl; stands = λ tags. refl; holds = λ tags. refl }) tt
@@ -429,9 +441,10 @@ module _ (options : CompileOptions) (bytes : List ℕ) (lookup : (label : List �
   inline-keeps m in_cell inline.Www es said alt t = literal-keeps m (codes "http://") said t
   inline-keeps m in_cell inline.Email es said alt t = literal-keeps m (codes "mailto:") said t
   inline-keeps m in_cell inline.Address es said alt t = literal-keeps m [] said t
-  inline-keeps m in_cell inline.Link es said alt t = link-keeps m (parts_in_link bytes lookup es) t
-  inline-keeps m in_cell inline.Image es said alt t = image-keeps m alt (parts_in_link bytes lookup es) t
+  inline-keeps m in_cell inline.Link es said alt t = link-keeps m (parts_in_link bytes known.lookup es) t
+  inline-keeps m in_cell inline.Image es said alt t = image-keeps m alt (parts_in_link bytes known.lookup es) t
   inline-keeps m in_cell inline.Check es said alt t = nothing-keeps m
+  inline-keeps m in_cell inline.Call es said alt t = call-keeps m (known.called (place_of_first es)) t
   inline-keeps m in_cell inline.Tail es said alt t = nothing-keeps m
   inline-keeps m in_cell inline.Other es said alt t = told-keeps m said t
 
@@ -444,7 +457,7 @@ module _ (options : CompileOptions) (bytes : List ℕ) (lookup : (label : List �
   keeps-by m false s t h k = k
 
   shape-keeps : (m : Mode) (columns : List Event) (n : Name) (es : List Event) (loose : Bool) (start : Option ℕ) (said alt : List ℕ)
-      → KeepsShape m (shape_by options bytes lookup tab m columns n es loose start said alt)
+      → KeepsShape m (shape_by options bytes known tab m columns n es loose start said alt)
   shape-keeps mode.Flow columns n es loose start said alt = block-keeps mode.Flow false (block_of n) es loose start (λ tags s. s)
   shape-keeps mode.Tight columns n es loose start said alt = block-keeps mode.Tight true (block_of n) es loose start (λ tags s. s)
   shape-keeps mode.LooseItems columns n es loose start said alt = item-keeps mode.LooseItems false (block_of n) (λ tags s. s)
@@ -456,7 +469,7 @@ module _ (options : CompileOptions) (bytes : List ℕ) (lookup : (label : List �
   shape-keeps mode.Paragraph columns n es loose start said alt =
       let i = inline_of n in
       let c = is_in_cell columns in
-      keeps-by mode.Paragraph (is_check i) (check (is_checked es)) (inline_shape options bytes lookup tab c i es said alt) (check-keeps mode.Paragraph (is_checked es) (λ tags s. s))
+      keeps-by mode.Paragraph (is_check i) (check (is_checked es)) (inline_shape options bytes known tab c i es said alt) (check-keeps mode.Paragraph (is_checked es) (λ tags s. s))
       (inline-keeps mode.Paragraph c i es said alt (λ tags s. s))
   shape-keeps mode.Text columns n es loose start said alt = inline-keeps mode.Text (is_in_cell columns) (inline_of n) es said alt (λ tags s. s)
   shape-keeps mode.Nothing columns n es loose start said alt = nothing-keeps mode.Nothing
@@ -465,13 +478,13 @@ module _ (options : CompileOptions) (bytes : List ℕ) (lookup : (label : List �
   pub moved : (a b c d k : List Piece) → (a ++ (b ++ (c ++ d))) ++ k ≡ a ++ (b ++ (c ++ (d ++ k)))
   moved a b c d k = append_assoc a (b ++ (c ++ d)) k ∙ ap (λ (x : List Piece). a ++ x) (append_assoc b (c ++ d) k ∙ ap (λ (x : List Piece). b ++ x) (append_assoc c d k))
 
-  pieces-keep : (m : Mode) (columns : List Event) (s : Spans) → Keep m (pieces options bytes lookup tab m columns s)
+  pub pieces-keep : (m : Mode) (columns : List Event) (s : Spans) → Keep m (pieces options bytes known tab m columns s)
   pieces-keep m columns Nothing = left-keeps m columns
   pieces-keep m columns (Span e f s behind) =
       let b = block_of e.name in
-      let here = shape options bytes lookup tab m columns e f s in
-      let inner = pieces options bytes lookup tab here.inside (columns_in b columns (events_of s)) s in
-      let rest = pieces options bytes lookup tab m (columns_behind b columns) behind in
+      let here = shape options bytes known tab m columns e f s in
+      let inner = pieces options bytes known tab here.inside (columns_in b columns (events_of s)) s in
+      let rest = pieces options bytes known tab m (columns_behind b columns) behind in
       record {
         keep = λ tags k stands h. subst (AreSafe tags) (sym (moved here.opened inner here.closed rest k))
             ((shape-keeps m columns e.name _ _ _ _ _).around inner (pieces-keep here.inside (columns_in b columns (events_of s)) s) tags (rest ++ k) stands
@@ -479,15 +492,15 @@ module _ (options : CompileOptions) (bytes : List ℕ) (lookup : (label : List �
       }
 
 -- pieces behind which nothing comes
-ends : (ps : List Piece) → Keep mode.Flow ps → AreSafe [] ps
+pub ends : (ps : List Piece) → Keep mode.Flow ps → AreSafe [] ps
 ends ps kept = subst (AreSafe []) (append-nil ps) (kept.keep [] [] refl refl)
 
 pub html-safe : HtmlIsSafe
-html-safe options bytes lookup tab events safe =
-    let ps = pieces options bytes lookup tab mode.Flow [] (spans_of events) in
-    pieces-safe true [] ps (ends ps (pieces-keep options bytes lookup tab safe mode.Flow [] (spans_of events)))
+html-safe options bytes known tab events safe =
+    let ps = pieces options bytes known tab mode.Flow [] (spans_of events) in
+    pieces-safe true [] ps (ends ps (pieces-keep options bytes known tab safe mode.Flow [] (spans_of events)))
 
 pub html-text : HtmlKeepsText
-html-text options bytes lookup tab events safe =
-    let ps = pieces options bytes lookup tab mode.Flow [] (spans_of events) in
-    text-kept true [] ps (ends ps (pieces-keep options bytes lookup tab safe mode.Flow [] (spans_of events)))
+html-text options bytes known tab events safe =
+    let ps = pieces options bytes known tab mode.Flow [] (spans_of events) in
+    text-kept true [] ps (ends ps (pieces-keep options bytes known tab safe mode.Flow [] (spans_of events)))

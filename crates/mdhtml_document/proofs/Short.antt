@@ -1,5 +1,5 @@
 -- HTML is not long: each shape adds few bytes to the texts that it writes, and no text is written twice but for links, titles and descriptions.
-use Rattle.std.proofs.Common.{◌≡◌, ℕ, suc, ◌+◌, ◌-◌, ◌*◌, ◌/◌, ◌≤◌, List, [], ◌∷◌, ◌++◌, length, drop, ap, sym, refl, subst, ◌∙◌, arith, Option, None, Some}
+use Rattle.std.proofs.Common.{◌≡◌, ℕ, suc, ◌+◌, ◌*◌, ◌≤◌, List, [], ◌∷◌, ◌++◌, length, drop, ap, sym, refl, subst, ◌∙◌, arith, Option, None, Some}
 use Rattle.std.proofs.lemmas.Bool.{and_parts, false≢true, not-true, or_parts}
 use Rattle.std.proofs.lemmas.List.{length-append}
 use Rattle.std.specs.Char.{is_ascii_whitespace}
@@ -23,8 +23,12 @@ use Rattle.mdhtml_document.specs.declared.names.Inline.{Inline}
 use Rattle.mdhtml_document.specs.declared.names.Inline.TheVariants as inline
 use Rattle.mdhtml_document.specs.declared.shapes.Mode.{Mode}
 use Rattle.mdhtml_document.specs.declared.shapes.Mode.TheVariants as mode
-use Rattle.mdhtml_document.specs.Html.{Shape, alignment_of, alone, block_shape, blocks, cell, cell_shape, check, columns_behind, columns_in, container, heading_shape, image_of, inline_shape, is_check, is_checked, is_in_cell, item_shape, items, language, length_of_first, line, link_to, ordered, parts_in_link, pieces, references, referred, row_shape, setext_rank, shape, shape_by, size_of_target, table_shape, through}
-use Rattle.mdhtml_document.specs.HtmlLaws.{HtmlIsShort, ahead, are_apart, has_links, has_links_by, is_linked, length_of_parts, room, rows}
+use Rattle.mdhtml_document.specs.Html.{Known, Shape, alignment_of, alone, block_shape, blocks, call_shape, cell, cell_shape, check, columns_behind, columns_in, container, heading_shape, image_of, inline_shape, is_check, is_checked, is_in_cell, item_shape, items, language, length_of_first, line, link_to, ordered, parts_in_link, pieces, references, referred, row_shape, setext_rank, shape, shape_by, size_of_target, table_shape, through}
+use Rattle.mdhtml_document.specs.declared.notes.Called.{Called}
+use Rattle.mdhtml_document.specs.Notes.{place_of_first}
+use Rattle.mdhtml_document.proofs.ShortCalls.{call-short}
+use Rattle.std.proofs.Math.Nat.{mul-add}
+use Rattle.mdhtml_document.specs.HtmlLaws.{AreBrief, HtmlIsShort, calls, is_call, ahead, are_apart, has_links, has_links_by, is_linked, length_of_parts, room, rows}
 use Rattle.mdhtml_document.specs.Names.{block_of, inline_of}
 use Rattle.mdhtml_document.specs.Spans.{Nothing, Span, Spans, events_of, spans_of}
 use Rattle.mdhtml_document.specs.Values.{alt_of, behind_first_line, cell_text, code_lines, code_text, html_flow, html_text, is_escape, said, unescaped}
@@ -33,14 +37,21 @@ use Rattle.mdhtml_document.proofs.Both.{keep-events}
 use Rattle.mdhtml_document.proofs.Rooms.{address-le, alt-le, block-le, code-le, code-lines-le, lines-le, room-append, room-behind, room-first, room-line, room_in, said-le, string-le, take-le, text-le, titles-le}
 use Rattle.mdhtml_document.proofs.ShortShapes.{autolink-short, cell-short, code-short, container-short, cost_of, each-block, first-short, heading-short, html-longs, http-long, image-inside, image-short, IsShort, item-short, led, left-short, line-short, link-inside, link-short, literal-short, longs, longs-append, mailto-long, nothing-short, part-short, quoted-short, raw-short, row-short, row_room, spare, start-short, tag-long, thin, title-of-heading, unlinked, whole}
 use Rattle.mdhtml_markup.specs.declared.elements.AttributeName.TheVariants as attr
-use Rattle.mdhtml_markup.specs.declared.elements.Element.TheVariants.{BlockQuote, Break, Code, Emphasis, Image, OrderedList, Paragraph, Strong, Table, TableBody, TableHead, TableRow, UnorderedList}
+use Rattle.mdhtml_markup.specs.declared.elements.Element.TheVariants.{BlockQuote, OrderedList, Paragraph, Table, TableBody, UnorderedList}
 use Rattle.mdhtml_markup.specs.Escapes.{escaped}
-use Rattle.mdhtml_markup.specs.Pieces.{Language, Piece, Text, attribute, html_from}
+use Rattle.mdhtml_markup.specs.Pieces.{Language, Piece, attribute, html_from}
 use Rattle.mdhtml_markup.proofs.Texts.{escaped-short}
 
-module _ (options : CompileOptions) (bytes : List ℕ) (lookup : (label : List ℕ) → Option Parts) (tab : ℕ) where
+module _ (options : CompileOptions) (bytes : List ℕ) (known : Known) (tab digits : ℕ) (brief : AreBrief digits known) where
   abbrev size : (label : List ℕ) → ℕ
-  size label = length_of_parts (lookup label)
+  size label = length_of_parts (known.lookup label)
+
+  -- the room of a call, by what a span is
+  abbrev call_room : Inline → ℕ
+  call_room i = cond (is_call i) (digits + 8) 0
+
+  abbrev own_at : Inline → List Event → ℕ
+  own_at i es = referred bytes size i es 0 + call_room i
 
   -- ---- what links refer to
 
@@ -57,6 +68,7 @@ module _ (options : CompileOptions) (bytes : List ℕ) (lookup : (label : List �
   referred-inner inline.Email es inner left = omega arith
   referred-inner inline.Address es inner left = omega arith
   referred-inner inline.Check es inner left = omega arith
+  referred-inner inline.Call es inner left = omega arith
   referred-inner inline.Link es inner left = omega arith
   referred-inner inline.Image es inner left = absurd (false≢true (sym left))
   referred-inner inline.Tail es inner left = omega arith
@@ -75,6 +87,7 @@ module _ (options : CompileOptions) (bytes : List ℕ) (lookup : (label : List �
   referred-own inline.Email es inner = omega arith
   referred-own inline.Address es inner = omega arith
   referred-own inline.Check es inner = omega arith
+  referred-own inline.Call es inner = omega arith
   referred-own inline.Link es inner = omega arith
   referred-own inline.Image es inner = omega arith
   referred-own inline.Tail es inner = omega arith
@@ -91,16 +104,16 @@ module _ (options : CompileOptions) (bytes : List ℕ) (lookup : (label : List �
   target_by o label = elim o as (λ (_ : Option (List Event)). Target) [ None ↦ target.Label label | Some resource ↦ target.Parts (resource_parts bytes resource) ]
 
   abbrev parts_by : Target → Option Parts
-  parts_by t = elim t as (λ (_ : Target). Option Parts) [ target.Parts parts ↦ Some parts | target.Label label ↦ lookup label ]
+  parts_by t = elim t as (λ (_ : Target). Option Parts) [ target.Parts parts ↦ Some parts | target.Label label ↦ known.lookup label ]
 
   leads-by : (o : Option (List Event)) (label : List ℕ) → cost_of (parts_by (target_by o label)) ≤ 15 * room_in tab o + 9 * size_of_target size (target_by o label)
-  leads-by None label = let h = cost-parts (lookup label) in omega (arith, h)
+  leads-by None label = let h = cost-parts (known.lookup label) in omega (arith, h)
   leads-by (Some es) label =
       let d = string-le bytes tab name.ResourceDestinationString es in
       let t = titles-le bytes tab name.ResourceTitle name.ResourceTitleString es in
       omega (arith, d, t)
 
-  leads : (es : List Event) → cost_of (parts_in_link bytes lookup es) ≤ 15 * room tab es + 9 * size_of_target size (target_in bytes es)
+  leads : (es : List Event) → cost_of (parts_in_link bytes known.lookup es) ≤ 15 * room tab es + 9 * size_of_target size (target_in bytes es)
   leads es =
       let rest = drop 1 es in
       let tail = behind rest in
@@ -132,7 +145,7 @@ module _ (options : CompileOptions) (bytes : List ℕ) (lookup : (label : List �
       omega (arith, by, first)
 
   block-short : (i : Inline) (tight : Bool) (b : Block) (es : List Event) (loose : Bool) (start : Option ℕ) (few all own : ℕ) → is_left i ≡ false
-      → length (flat_map attribute (ordered start)) ≤ 18 → room tab es + 1 ≤ all → IsShort i (block_shape options bytes lookup tab tight b es loose start) few all own
+      → length (flat_map attribute (ordered start)) ≤ 18 → room tab es + 1 ≤ all → IsShort i (block_shape options bytes known tab tight b es loose start) few all own
   block-short i true block.Paragraph es loose start few all own left s r = thin left (omega arith)
   block-short i false block.Paragraph es loose start few all own left s r = let h = line-short Paragraph mode.Paragraph (omega arith) (omega arith) in thin left (omega (arith, h))
   block-short i tight block.HeadingAtx es loose start few all own left s r = let h = heading-short (length_of_first name.HeadingAtxSequence es) mode.Heading in thin left (omega (arith, h))
@@ -181,7 +194,7 @@ module _ (options : CompileOptions) (bytes : List ℕ) (lookup : (label : List �
   cell-le false t = omega arith
 
   inline-short : (in_cell : Bool) (i : Inline) (es : List Event) (said alt : List ℕ) (few all : ℕ) → length said ≤ few → few ≤ all → room tab es + 1 ≤ all → length alt ≤ all
-      → IsShort i (inline_shape options bytes lookup tab in_cell i es said alt) few all (referred bytes size i es 0)
+      → IsShort i (inline_shape options bytes known tab in_cell i es said alt) few all (own_at i es)
   inline-short in_cell inline.Ending es said alt few all t f r a = whole refl (omega arith)
   inline-short in_cell inline.Break es said alt few all t f r a = whole refl (omega arith)
   inline-short in_cell inline.Emphasis es said alt few all t f r a = thin refl (omega arith)
@@ -213,16 +226,19 @@ module _ (options : CompileOptions) (bytes : List ℕ) (lookup : (label : List �
       let h = literal-short options [] said (omega arith) in
       whole refl (omega (arith, h, t, f))
   inline-short in_cell inline.Link es said alt few all t f r a =
-      let p = parts_in_link bytes lookup es in
+      let p = parts_in_link bytes known.lookup es in
       let h = link-short options p in
       let most = leads es in
       led (link-inside options p) refl (omega (arith, h, most, r))
   inline-short in_cell inline.Image es said alt few all t f r a =
-      let p = parts_in_link bytes lookup es in
+      let p = parts_in_link bytes known.lookup es in
       let h = image-short options alt p in
       let most = leads es in
       whole (image-inside options alt p) (omega (arith, h, most, r, a))
   inline-short in_cell inline.Check es said alt few all t f r a = whole refl (omega arith)
+  inline-short in_cell inline.Call es said alt few all t f r a =
+      let place = place_of_first es in
+      call-short digits (known.called place) few all (0 + (digits + 8)) (λ c is. brief place c is) (omega arith)
   inline-short in_cell inline.Tail es said alt few all t f r a = whole refl (omega arith)
   inline-short in_cell inline.Other es said alt few all t f r a = let short = escaped-short said in thin refl (omega (arith, short, t))
 
@@ -236,44 +252,44 @@ module _ (options : CompileOptions) (bytes : List ℕ) (lookup : (label : List �
   paragraph-by false checked i s few all own r h = h
 
   by-name-short : (m : Mode) (columns : List Event) (n : Name) (es : List Event) (loose : Bool) (start : Option ℕ) (said alt : List ℕ) (few all : ℕ) → length (flat_map attribute (ordered start)) ≤ 18 → length said ≤ few → few ≤ all
-      → room tab es + 1 ≤ all → length alt ≤ all → IsShort (inline_of n) (shape_by options bytes lookup tab m columns n es loose start said alt) few all (referred bytes size (inline_of n) es 0)
+      → room tab es + 1 ≤ all → length alt ≤ all → IsShort (inline_of n) (shape_by options bytes known tab m columns n es loose start said alt) few all (own_at (inline_of n) es)
   by-name-short mode.Flow columns n es loose start said alt few all s t f r a =
       let i = inline_of n in
-      let own = referred bytes size i es 0 in
-      each-block (λ b. IsShort i (block_shape options bytes lookup tab false b es loose start) few all own) n (λ b left. block-short i false b es loose start few all own left s r) (nothing-short i few all own)
+      let own = own_at i es in
+      each-block (λ b. IsShort i (block_shape options bytes known tab false b es loose start) few all own) n (λ b left. block-short i false b es loose start few all own left s r) (nothing-short i few all own)
   by-name-short mode.Tight columns n es loose start said alt few all s t f r a =
       let i = inline_of n in
-      let own = referred bytes size i es 0 in
-      each-block (λ b. IsShort i (block_shape options bytes lookup tab true b es loose start) few all own) n (λ b left. block-short i true b es loose start few all own left s r) (nothing-short i few all own)
+      let own = own_at i es in
+      each-block (λ b. IsShort i (block_shape options bytes known tab true b es loose start) few all own) n (λ b left. block-short i true b es loose start few all own left s r) (nothing-short i few all own)
   by-name-short mode.LooseItems columns n es loose start said alt few all s t f r a =
       let i = inline_of n in
-      let own = referred bytes size i es 0 in
+      let own = own_at i es in
       each-block (λ b. IsShort i (item_shape false b) few all own) n (λ b left. item-short i false b few all own left) (nothing-short i few all own)
   by-name-short mode.TightItems columns n es loose start said alt few all s t f r a =
       let i = inline_of n in
-      let own = referred bytes size i es 0 in
+      let own = own_at i es in
       each-block (λ b. IsShort i (item_shape true b) few all own) n (λ b left. item-short i true b few all own left) (nothing-short i few all own)
   by-name-short mode.Heading columns n es loose start said alt few all s t f r a =
       let i = inline_of n in
-      let own = referred bytes size i es 0 in
+      let own = own_at i es in
       each-block (λ b. IsShort i (heading_shape b) few all own) n (λ b left. title-of-heading i b few all own left) (nothing-short i few all own)
   by-name-short mode.Table columns n es loose start said alt few all s t f r a =
       let i = inline_of n in
-      let own = referred bytes size i es 0 in
+      let own = own_at i es in
       each-block (λ b. IsShort i (table_shape b es) few all own) n (λ b left. part-short i b es few all own left) (nothing-short i few all own)
   by-name-short (mode.Rows head) columns n es loose start said alt few all s t f r a =
       let i = inline_of n in
-      let own = referred bytes size i es 0 in
+      let own = own_at i es in
       each-block (λ b. IsShort i (row_shape head b) few all own) n (λ b left. row-short i head b few all own left) (nothing-short i few all own)
   by-name-short (mode.Cells head) columns n es loose start said alt few all s t f r a =
       let i = inline_of n in
-      let own = referred bytes size i es 0 in
+      let own = own_at i es in
       each-block (λ b. IsShort i (cell_shape head columns b) few all own) n (λ b left. cell-short i head columns b few all own left) (nothing-short i few all own)
   by-name-short mode.Paragraph columns n es loose start said alt few all s t f r a =
       let i = inline_of n in
-      paragraph-by (is_check i) (is_checked es) i (inline_shape options bytes lookup tab (is_in_cell columns) i es said alt) few all (referred bytes size i es 0) (omega (arith, r)) (inline-short (is_in_cell columns) i es said alt few all t f r a)
+      paragraph-by (is_check i) (is_checked es) i (inline_shape options bytes known tab (is_in_cell columns) i es said alt) few all (own_at i es) (omega (arith, r)) (inline-short (is_in_cell columns) i es said alt few all t f r a)
   by-name-short mode.Text columns n es loose start said alt few all s t f r a = inline-short (is_in_cell columns) (inline_of n) es said alt few all t f r a
-  by-name-short mode.Nothing columns n es loose start said alt few all s t f r a = nothing-short (inline_of n) few all (referred bytes size (inline_of n) es 0)
+  by-name-short mode.Nothing columns n es loose start said alt few all s t f r a = nothing-short (inline_of n) few all (own_at (inline_of n) es)
 
   -- ---- what is in a shape has room for the cells that a row lacks, if it is a row
 
@@ -289,7 +305,7 @@ module _ (options : CompileOptions) (bytes : List ℕ) (lookup : (label : List �
   shape-room true x y n h k = h
   shape-room false x y n h k = k
 
-  block-room : (tight : Bool) (b : Block) (es : List Event) (loose : Bool) (start : Option ℕ) → spare (block_shape options bytes lookup tab tight b es loose start).inside ≤ row_room b
+  block-room : (tight : Bool) (b : Block) (es : List Event) (loose : Bool) (start : Option ℕ) → spare (block_shape options bytes known tab tight b es loose start).inside ≤ row_room b
   block-room tight block.Paragraph es loose start = shape-room tight (through mode.Paragraph) (line Paragraph mode.Paragraph) 0 (omega arith) (omega arith)
   block-room tight block.Bullets es loose start = let h = items-room loose in omega (arith, h)
   block-room tight block.Numbers es loose start = let h = items-room loose in omega (arith, h)
@@ -421,9 +437,13 @@ module _ (options : CompileOptions) (bytes : List ℕ) (lookup : (label : List �
   link-room None = refl
   link-room (Some q) = refl
 
-  inline-room : (in_cell : Bool) (i : Inline) (es : List Event) (said alt : List ℕ) → spare (inline_shape options bytes lookup tab in_cell i es said alt).inside ≡ 0
-  inline-room in_cell inline.Link es said alt = link-room (parts_in_link bytes lookup es)
-  inline-room in_cell inline.Image es said alt = image-room alt (parts_in_link bytes lookup es)
+  called-room : (o : Option Called) → spare (call_shape o).inside ≡ 0
+  called-room None = refl
+  called-room (Some c) = refl
+
+  inline-room : (in_cell : Bool) (i : Inline) (es : List Event) (said alt : List ℕ) → spare (inline_shape options bytes known tab in_cell i es said alt).inside ≡ 0
+  inline-room in_cell inline.Link es said alt = link-room (parts_in_link bytes known.lookup es)
+  inline-room in_cell inline.Image es said alt = image-room alt (parts_in_link bytes known.lookup es)
   inline-room in_cell inline.Ending es said alt = refl
   inline-room in_cell inline.Break es said alt = refl
   inline-room in_cell inline.Emphasis es said alt = refl
@@ -436,6 +456,7 @@ module _ (options : CompileOptions) (bytes : List ℕ) (lookup : (label : List �
   inline-room in_cell inline.Email es said alt = refl
   inline-room in_cell inline.Address es said alt = refl
   inline-room in_cell inline.Check es said alt = refl
+  inline-room in_cell inline.Call es said alt = called-room (known.called (place_of_first es))
   inline-room in_cell inline.Tail es said alt = refl
   inline-room in_cell inline.Other es said alt = refl
 
@@ -444,7 +465,7 @@ module _ (options : CompileOptions) (bytes : List ℕ) (lookup : (label : List �
   paragraph-room false x y h k = k
 
   by-name-room : (m : Mode) (columns : List Event) (n : Name) (es : List Event) (loose : Bool) (start : Option ℕ) (said alt : List ℕ)
-      → spare (shape_by options bytes lookup tab m columns n es loose start said alt).inside ≤ row_room (block_of n)
+      → spare (shape_by options bytes known tab m columns n es loose start said alt).inside ≤ row_room (block_of n)
   by-name-room mode.Flow columns n es loose start said alt = block-room false (block_of n) es loose start
   by-name-room mode.Tight columns n es loose start said alt = block-room true (block_of n) es loose start
   by-name-room mode.LooseItems columns n es loose start said alt = item-room false (block_of n)
@@ -456,7 +477,7 @@ module _ (options : CompileOptions) (bytes : List ℕ) (lookup : (label : List �
   by-name-room mode.Paragraph columns n es loose start said alt =
       let c = is_in_cell columns in
       let i = inline_of n in
-      let h = paragraph-room (is_check i) (check (is_checked es)) (inline_shape options bytes lookup tab c i es said alt) refl (inline-room c i es said alt) in
+      let h = paragraph-room (is_check i) (check (is_checked es)) (inline_shape options bytes known tab c i es said alt) refl (inline-room c i es said alt) in
       omega (arith, h)
   by-name-room mode.Text columns n es loose start said alt = let h = inline-room (is_in_cell columns) (inline_of n) es said alt in omega (arith, h)
   by-name-room mode.Nothing columns n es loose start said alt = omega arith
@@ -464,10 +485,10 @@ module _ (options : CompileOptions) (bytes : List ℕ) (lookup : (label : List �
   -- ---- spans
 
   abbrev all_of : Mode → (columns : List Event) → Spans → List Piece
-  all_of m columns s = pieces options bytes lookup tab m columns s
+  all_of m columns s = pieces options bytes known tab m columns s
 
   abbrev here_of : Mode → (columns : List Event) → (e f : Event) → Spans → Shape
-  here_of m columns e f s = shape options bytes lookup tab m columns e f s
+  here_of m columns e f s = shape options bytes known tab m columns e f s
 
   abbrev within_of : (columns : List Event) → Event → Spans → List Event
   within_of columns e s = columns_in (block_of e.name) columns (events_of s)
@@ -485,11 +506,18 @@ module _ (options : CompileOptions) (bytes : List ℕ) (lookup : (label : List �
   abbrev count_of : Spans → ℕ
   count_of s = length (events_of s)
 
+  abbrev references_of : Spans → ℕ
+  references_of s = references bytes size s
+
+  abbrev pub calls_room : Spans → ℕ
+  calls_room Nothing = 0
+  calls_room (Span e f s behind) = call_room (inline_of e.name) + (calls_room s + calls_room behind)
+
   abbrev left_of : Spans → ℕ
-  left_of s = references bytes size s
+  left_of s = references_of s + calls_room s
 
   abbrev own_of : Event → Spans → ℕ
-  own_of e s = referred bytes size (inline_of e.name) (events_of s) 0
+  own_of e s = own_at (inline_of e.name) (events_of s)
 
   shape-short : (m : Mode) (columns : List Event) (e f : Event) (s behind : Spans)
       → IsShort (inline_of e.name) (here_of m columns e f s) (first_of e f s behind) (first_of e f s behind + room_of s) (own_of e s)
@@ -543,7 +571,7 @@ module _ (options : CompileOptions) (bytes : List ℕ) (lookup : (label : List �
       let all = longs-span (here_of m columns e f s) (inner_of m columns e f s) (all_of m (behind_of columns e) behind) in
       let rooms = span-room e f s behind in
       let count = span-count e f s behind in
-      let more = referred-inner i (events_of s) (left_of s) left in
+      let more = referred-inner i (events_of s) (references_of s) left in
       omega (arith, bound, within, spares, rest, all, rooms, count, more)
   linkless-by m columns e f s behind (whole is bound) none inner rest =
       let i = inline_of e.name in
@@ -551,7 +579,7 @@ module _ (options : CompileOptions) (bytes : List ℕ) (lookup : (label : List �
       let all = longs-span (here_of m columns e f s) (inner_of m columns e f s) (all_of m (behind_of columns e) behind) in
       let rooms = span-room e f s behind in
       let count = span-count e f s behind in
-      let more = referred-own i (events_of s) (left_of s) in
+      let more = referred-own i (events_of s) (references_of s) in
       omega (arith, bound, within, rest, all, rooms, count, more)
   linkless-by m columns e f s behind (led is link bound) none inner rest = absurd (false≢true (sym none ∙ ap (λ i. has_links_by i (has_links s)) link))
 
@@ -573,7 +601,7 @@ module _ (options : CompileOptions) (bytes : List ℕ) (lookup : (label : List �
       let all = longs-span (here_of m columns e f s) (inner_of m columns e f s) (all_of m (behind_of columns e) behind) in
       let rooms = span-room e f s behind in
       let count = span-count e f s behind in
-      let more = referred-inner i (events_of s) (left_of s) left in
+      let more = referred-inner i (events_of s) (references_of s) left in
       omega (arith, bound, inner, spares, rest, all, rooms, count, more)
   apart-by m columns e f s behind (whole is bound) none inner rest =
       let i = inline_of e.name in
@@ -581,7 +609,7 @@ module _ (options : CompileOptions) (bytes : List ℕ) (lookup : (label : List �
       let all = longs-span (here_of m columns e f s) (inner_of m columns e f s) (all_of m (behind_of columns e) behind) in
       let rooms = span-room e f s behind in
       let count = span-count e f s behind in
-      let more = referred-own i (events_of s) (left_of s) in
+      let more = referred-own i (events_of s) (references_of s) in
       omega (arith, bound, within, rest, all, rooms, count, more)
   apart-by m columns e f s behind (led is link bound) none inner rest =
       let i = inline_of e.name in
@@ -591,10 +619,10 @@ module _ (options : CompileOptions) (bytes : List ℕ) (lookup : (label : List �
       let all = longs-span (here_of m columns e f s) (inner_of m columns e f s) (all_of m (behind_of columns e) behind) in
       let rooms = span-room e f s behind in
       let count = span-count e f s behind in
-      let more = referred-link i (events_of s) (left_of s) link in
+      let more = referred-link i (events_of s) (references_of s) link in
       omega (arith, bound, within, spares, rest, all, rooms, count, more)
 
-  apart : (m : Mode) (columns : List Event) (s : Spans) → are_apart s ≡ true → IsBelow (36 * room_of s) m columns s
+  pub apart : (m : Mode) (columns : List Event) (s : Spans) → are_apart s ≡ true → IsBelow (36 * room_of s) m columns s
   apart m columns Nothing h = let few = left-short m columns in omega (arith, few)
   apart m columns (Span e f s behind) h =
       let i = inline_of e.name in
@@ -603,11 +631,32 @@ module _ (options : CompileOptions) (bytes : List ℕ) (lookup : (label : List �
       apart-by m columns e f s behind (shape-short m columns e f s behind) (not-true (is_linked i (has_links s)) first.0)
       (apart (here_of m columns e f s).inside (within_of columns e s) s both.0) (apart m (behind_of columns e) behind both.1)
 
+  -- the room of calls is that of their number
+  count-by : (i : Inline) → call_room i ≡ (digits + 8) * cond (is_call i) 1 0
+  count-by i = by (is_call i)
+    where
+      by : (c : Bool) → cond c (digits + 8) 0 ≡ (digits + 8) * cond c 1 0
+      by true = omega arith
+      by false = omega arith
+
+  pub calls-count : (s : Spans) → calls_room s ≡ (digits + 8) * calls s
+  calls-count Nothing = omega arith
+  calls-count (Span e f s behind) =
+      let i = inline_of e.name in
+      let one = count-by i in
+      let inner = calls-count s in
+      let rest = calls-count behind in
+      let first = mul-add (digits + 8) (cond (is_call i) 1 0) (calls s + calls behind) in
+      let second = mul-add (digits + 8) (calls s) (calls behind) in
+      omega (arith, one, inner, rest, first, second)
+
 pub html-short : HtmlIsShort
-html-short options bytes lookup tab events balanced free =
+html-short options bytes known tab digits events balanced brief free =
     let s = spans_of events in
-    let ps = pieces options bytes lookup tab mode.Flow [] s in
-    let left = references bytes (λ label. length_of_parts (lookup label)) s in
+    let ps = pieces options bytes known tab mode.Flow [] s in
+    let left = references bytes (λ label. length_of_parts (known.lookup label)) s in
     let bytes-of = html-longs true ps in
-    let most = apart options bytes lookup tab mode.Flow [] s free in
-    subst (λ (es : List Event). length (html_from true ps) ≤ ((36 * room tab es + 24 * length es) + 9 * left) + 2500 * rows s) (keep-events events balanced) (omega (arith, bytes-of, most))
+    let most = apart options bytes known tab digits brief mode.Flow [] s free in
+    let count = calls-count options bytes known tab digits brief s in
+    subst (λ (es : List Event). length (html_from true ps) ≤ (((36 * room tab es + 24 * length es) + 9 * left) + 9 * ((digits + 8) * calls s)) + 2500 * rows s) (keep-events events balanced)
+    (omega (arith, bytes-of, most, count))

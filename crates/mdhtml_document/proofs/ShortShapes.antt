@@ -17,7 +17,7 @@ use Rattle.markdown_base.specs.declared.event.Name.TheVariants as name
 use Rattle.markdown_base.specs.Events.{same_name}
 use Rattle.mdblock_containers.specs.Lists.{Met, digits_at, in_first_prefix, is_digit, list_start, number_from, number_of}
 use Rattle.mddocument_link_targets.specs.declared.targets.Parts.{Parts}
-use Rattle.mddocument_link_targets.specs.Spans.{enters, first_in, inside}
+use Rattle.mddocument_link_targets.specs.Spans.{enters, first_in}
 use Rattle.mdhtml_document.specs.declared.names.Block.{Block}
 use Rattle.mdhtml_document.specs.declared.names.Block.TheVariants as block
 use Rattle.mdhtml_document.specs.declared.names.Inline.{Inline}
@@ -27,7 +27,6 @@ use Rattle.mdhtml_document.specs.declared.shapes.Mode.TheVariants as mode
 use Rattle.mdhtml_document.specs.Html.{Shape, address_at, address_link, aligned, alignment_of, alone, autolink, behind_column, blocks, cell, cell_element, cell_shape, code, container, empty_cell, empty_cells, heading, heading_shape, image_of, item_shape, lacking, line, link_to, literal, ordered, raw, row_shape, table_shape, titled}
 use Rattle.mdhtml_document.specs.HtmlLaws.{has_links_by, is_row}
 use Rattle.mdhtml_document.specs.Names.{block_of, blocks_by_name, inline_of}
-use Rattle.mdhtml_document.specs.Spans.{Nothing}
 use Rattle.mdhtml_document.specs.Values.{autolink_address, is_email}
 use Rattle.mdhtml_document.specs.Walks.{is_left}
 use Rattle.mdhtml_document.proofs.Entered.{named-each}
@@ -41,7 +40,7 @@ use Rattle.mdhtml_markup.specs.declared.elements.Alignment.TheVariants as alignm
 use Rattle.mdhtml_markup.specs.declared.elements.AttributeName.{AttributeName}
 use Rattle.mdhtml_markup.specs.declared.elements.AttributeName.TheVariants as attr
 use Rattle.mdhtml_markup.specs.declared.elements.Element.{Element}
-use Rattle.mdhtml_markup.specs.declared.elements.Element.TheVariants.{Anchor, BlockQuote, Break, Code, DataCell, Emphasis, HeaderCell, Image, ListItem, Paragraph, Strong, Table, TableBody, TableHead, TableRow, ThematicBreak}
+use Rattle.mdhtml_markup.specs.declared.elements.Element.TheVariants.{Anchor, Code, DataCell, HeaderCell, Image, ListItem, TableBody, TableHead, TableRow}
 use Rattle.mdhtml_markup.specs.Escapes.{escaped, kept, kept_byte, replacement}
 use Rattle.mdhtml_markup.specs.Pieces.{Alt, Attribute, Close, Feed, Fresh, Href, Kept, Open, Piece, Src, Start, Text, Title, Void, attribute, html_from, is_fresh, written}
 use Rattle.mdhtml_markup.specs.SafeHtml.{close_tag, is_allowed, name_of, open_tag, quoted, void_tag}
@@ -109,6 +108,10 @@ at-short options place.Src url =
 abbrev IsBrief : AttributeName → Type 0
 IsBrief attr.Checked = ⊥
 IsBrief attr.Disabled = ⊥
+IsBrief attr.FootnoteBack = ⊥
+IsBrief attr.FootnoteCall = ⊥
+IsBrief attr.Footnotes = ⊥
+IsBrief attr.Label = ⊥
 IsBrief a = ⊤
 
 pub quoted-short : (a : AttributeName) (value : List ℕ) → IsBrief a → length (quoted a value) ≤ length value + 9
@@ -117,6 +120,12 @@ quoted-short attr.Alt value brief = let l = length-append value (codes "\"") in 
 quoted-short attr.Checked value brief = absurd brief
 quoted-short attr.Class value brief = let l = length-append value (codes "\"") in omega (arith, l)
 quoted-short attr.Disabled value brief = absurd brief
+quoted-short attr.FootnoteBack value brief = absurd brief
+quoted-short attr.FootnoteCall value brief = absurd brief
+quoted-short attr.FootnoteClass value brief = let l = length-append value (codes "\"") in omega (arith, l)
+quoted-short attr.Footnotes value brief = absurd brief
+quoted-short attr.Id value brief = let l = length-append value (codes "\"") in omega (arith, l)
+quoted-short attr.Label value brief = absurd brief
 quoted-short attr.Href value brief = let l = length-append value (codes "\"") in omega (arith, l)
 quoted-short attr.InputType value brief = let l = length-append value (codes "\"") in omega (arith, l)
 quoted-short attr.Src value brief = let l = length-append value (codes "\"") in omega (arith, l)
@@ -586,6 +595,7 @@ unlinked inline.Email inner left h = absurd (false≢true (sym h))
 unlinked inline.Address inner left h = absurd (false≢true (sym h))
 unlinked inline.Link inner left h = absurd (false≢true (sym h))
 unlinked inline.Check inner left h = h
+unlinked inline.Call inner left h = absurd (false≢true (sym h))
 unlinked inline.Image inner left h = absurd (false≢true (sym left))
 unlinked inline.Tail inner left h = h
 unlinked inline.Other inner left h = h

@@ -12,17 +12,13 @@ use Rattle.markdown_base.specs.contracts.event.Name.{the_type}
 use Rattle.markdown_base.specs.declared.event.Name.{Name}
 use Rattle.markdown_base.specs.declared.event.Name.TheVariants.{CharacterEscapeValue, Data}
 use Rattle.markdown_base.specs.Events.{is_enter, same_name}
+pub use Rattle.mdhtml_document.specs.Spans.{AreKinded}
 use Rattle.mdhtml_document.specs.Spans.{Nothing, Opened, Outer, Span, Spans, entered, events_of, opened, opened_by}
 use Rattle.mdhtml_document.specs.Names.{inline_of}
 use Rattle.mdhtml_document.specs.Values.{reading_of, said}
 use Rattle.mdhtml_document.specs.Walks.{inner_bytes, said_at, says_bytes}
 use Rattle.mddocument_link_targets.specs.Spans.{inside, size_from}
 use Rattle.mddocument_link_targets.specs.Strings.{given}
-
--- each span begins with an enter and ends with an exit
-abbrev pub AreKinded : Spans → Type 0
-AreKinded Nothing = ⊤
-AreKinded (Span e f s behind) = (e.kind ≡ Enter) × (f.kind ≡ Exit) × AreKinded s × AreKinded behind
 
 abbrev pub AreOuter : List Outer → Type 0
 AreOuter [] = ⊤

@@ -46,6 +46,7 @@ module _ (bytes : List ℕ) (size : (label : List ℕ) → ℕ) (none : (label :
   of-span inline.Email es = refl
   of-span inline.Address es = refl
   of-span inline.Check es = refl
+  of-span inline.Call es = refl
   of-span inline.Link es =
       let own = of-target (target_in bytes es) in
       omega (arith, own)

@@ -26,7 +26,7 @@ module _ (bytes : List ℕ) (size : (label : List ℕ) → ℕ) where
       → (referred bytes size (inline_of n) (inside es) 0 ≡ 0) × (left (inline_of n) es ≡ 0)
   by-name n es link image =
       named-each (λ i. (referred bytes size i (inside es) 0 ≡ 0) × (left i es ≡ 0)) inlines_by_name inline.Other n
-      (λ _. (refl, refl), (λ _. (refl, refl), (λ _. (refl, refl), (λ _. (refl, refl), (λ _. (refl, refl), (λ _. (refl, refl), (λ _. (refl, refl), (λ _. (refl, refl), (λ _. (refl, refl), (λ _. (refl, refl), (λ _. (refl, refl), (λ _. (refl, refl), (λ _. (refl, refl), (λ _. (refl, refl), (λ h. no (same_name n name.Link) link h, (λ h. no (same_name n name.Image) image h, (λ _. (refl, refl), (λ _. (refl, refl), (λ _. (refl, refl), tt)))))))))))))))))))
+      (λ _. (refl, refl), (λ _. (refl, refl), (λ _. (refl, refl), (λ _. (refl, refl), (λ _. (refl, refl), (λ _. (refl, refl), (λ _. (refl, refl), (λ _. (refl, refl), (λ _. (refl, refl), (λ _. (refl, refl), (λ _. (refl, refl), (λ _. (refl, refl), (λ _. (refl, refl), (λ _. (refl, refl), (λ h. no (same_name n name.Link) link h, (λ h. no (same_name n name.Image) image h, (λ _. (refl, refl), (λ _. (refl, refl), (λ _. (refl, refl), (λ _. (refl, refl), tt))))))))))))))))))))
       (refl, refl)
 
   by-kind : (k : Kind) (e : Event) (es : List Event) → e.kind ≡ k → enters_link e ≡ false → references_from bytes size 0 (e ∷ es) ≡ references_from bytes size 0 es

@@ -1,7 +1,11 @@
 -- What the code knows of open spans, and what of a document.
 use Rattle.std.specs.List.{list_any}
-use Rattle.std.specs.Option.{option_map_or}
-use Rattle.std.specs.Prelude.{◌≡◌, ℕ, zero, suc, ◌&&◌, Bool, true, false, cond, List, [], ◌∷◌, ◌++◌, drop, map, not, reverse, Option, None, Some, option_and_then}
+use Rattle.std.specs.BTreeMap.{BTreeMap, get}
+use Rattle.std.specs.Global.{Global}
+use Rattle.std.specs.Map.{lookup}
+use Rattle.std.specs.Option.{option_map_or, unwrap_or}
+use Rattle.std.specs.Ordering.{nat_cmp}
+use Rattle.std.specs.Prelude.{◌≡◌, ℕ, zero, suc, ◌&&◌, Bool, true, false, bytes_eq, cond, List, [], ◌∷◌, ◌++◌, drop, map, not, reverse, Option, None, Some, option_and_then, option_map, Vec}
 use Rattle.markdown_base.specs.declared.event.Event.{Event}
 use Rattle.markdown_base.specs.declared.event.Kind.{Kind}
 use Rattle.markdown_base.specs.declared.event.Kind.TheVariants.{Enter, Exit}
@@ -18,7 +22,15 @@ use Rattle.mdhtml_document.specs.declared.shapes.Level.{Level}
 use Rattle.mdhtml_document.specs.declared.shapes.Mode.{Mode}
 use Rattle.mdhtml_document.specs.declared.shapes.Mode.TheVariants as mode
 use Rattle.mdhtml_document.specs.declared.links.Whole.{Whole}
-use Rattle.mdhtml_document.specs.Html.{Shape, columns_behind, extent}
+use Rattle.mdhtml_document.specs.Html.{Known, Shape, columns_behind, extent}
+use Rattle.mdhtml_document.specs.Notes.{called_at, labels_of, last_call, note_of, notes_of}
+use Rattle.mdhtml_document.specs.Spans.{AreKinded, Spans, events_of}
+use Rattle.mdhtml_document.specs.declared.note_section.Note.{Note}
+use Rattle.mdhtml_document.specs.declared.note_section.Notes.{Notes}
+use Rattle.mdhtml_document.specs.declared.notes.Call.{Call}
+use Rattle.mdhtml_document.specs.declared.notes.Called.{Called}
+use Rattle.mdhtml_document.specs.declared.notes.Calls.{Calls}
+use Rattle.mdhtml_document.specs.declared.notes.Numbered.{Numbered}
 use Rattle.mdhtml_document.specs.Written.{after}
 use Rattle.mdhtml_markup.specs.Pieces.{Close, Feed, Fresh, Piece}
 use Rattle.mddocument_link_targets.specs.declared.definitions.Definitions.{Definitions}
@@ -129,6 +141,45 @@ led_by bytes events definitions too_many label = cond too_many None (option_and_
 
 abbrev pub lookup_of : Whole → (label : List ℕ) → Option Parts
 lookup_of w label = led_by w.bytes.now w.events.now w.definitions.now w.are_too_many label
+
+-- calls as they stand in a document
+abbrev pub as_call : Call → ℕ × List ℕ
+as_call c = (c.place, c.label.items)
+
+abbrev pub calls_of : List Call → List (ℕ × List ℕ)
+calls_of calls = map as_call calls
+
+-- what is known of calls: the last one of a label, and the one at a place
+abbrev pub last_known : BTreeMap (Vec ℕ Global) Called → (label : List ℕ) → Option Called
+last_known last label = lookup (λ known. bytes_eq label known.items) last.entries
+
+abbrev pub call_at : Calls → (place : ℕ) → Option Called
+call_at calls place = get nat_cmp calls.places place
+
+-- These are the notes that some calls call, of which the last one is the first here
+pub record IsNumbered (n : Numbered) (before : List (ℕ × List ℕ)) : Type 0 where
+  pub last : (label : List ℕ) → last_known n.last label ≡ last_call label (labels_of before)
+  pub labels : map (λ l. l.items) n.labels.items ≡ notes_of (labels_of before)
+  pub calls : (place : ℕ) → call_at n.calls place ≡ called_at before place
+
+abbrev pub known_of : Whole → Known
+known_of w = record { lookup = lookup_of w; called = call_at w.calls.now }
+
+-- footnote definitions that are open, the innermost first
+abbrev pub as_note : Note → List ℕ × List Event
+as_note n = (n.label.items, n.events.items)
+
+abbrev pub open_notes : List Note → List (List ℕ × List Event)
+open_notes notes = map as_note (reverse notes)
+
+-- the events that are known of the definition of a label
+abbrev pub known_note : BTreeMap (Vec ℕ Global) (Vec Event Global) → (label : List ℕ) → Option (List Event)
+known_note found label = option_map (λ events. events.items) (lookup (λ known. bytes_eq label known.items) found.entries)
+
+-- These are known of definitions
+pub record AreNotes (notes : Notes) (definitions : List (List ℕ × Spans)) : Type 0 where
+  pub events : (label : List ℕ) → unwrap_or (known_note notes.found label) [] ≡ events_of (note_of label definitions)
+  pub kinded : (label : List ℕ) → AreKinded (note_of label definitions)
 
 -- ---- what is behind a span, by the events behind its enter; the depth is how many spans in it are open
 

@@ -2,12 +2,13 @@
 use Rattle.std.specs.List.{list_any, take_while}
 use Rattle.std.specs.Char.{is_ascii_whitespace}
 use Rattle.std.specs.Option.{option_map_or}
-use Rattle.std.specs.Prelude.{ℕ, zero, suc, ◌+◌, ◌-◌, ◌==◌, ◌||◌, max, nat_lt, not, Bool, true, false, cond, List, [], ◌∷◌, ◌++◌, codes, drop, length, slice_get, Option, None, Some, option_and_then}
+use Rattle.std.specs.Prelude.{ℕ, zero, suc, ◌+◌, ◌-◌, ◌==◌, ◌&&◌, ◌||◌, max, nat_lt, not, Bool, true, false, cond, List, [], ◌∷◌, ◌++◌, codes, drop, length, reverse, slice_get, Option, None, Some, option_and_then}
 use Rattle.markdown_base.specs.declared.configuration.CompileOptions.{CompileOptions}
 use Rattle.markdown_base.specs.declared.event.Event.{Event}
 use Rattle.markdown_base.specs.declared.event.Name.{Name}
 use Rattle.markdown_base.specs.declared.event.Name.TheVariants as name
 use Rattle.mdblock_containers.specs.Lists.{is_loose, list_start}
+use Rattle.mdhtml_document.specs.declared.notes.Called.{Called}
 use Rattle.mdhtml_document.specs.declared.names.Block.{Block}
 use Rattle.mdhtml_document.specs.declared.names.Block.TheVariants as block
 use Rattle.mdhtml_document.specs.declared.names.Inline.{Inline}
@@ -15,6 +16,7 @@ use Rattle.mdhtml_document.specs.declared.names.Inline.TheVariants as inline
 use Rattle.mdhtml_document.specs.declared.shapes.Mode.{Mode}
 use Rattle.mdhtml_document.specs.declared.shapes.Mode.TheVariants as mode
 use Rattle.mdhtml_document.specs.Names.{block_of, inline_of}
+use Rattle.mdhtml_document.specs.Notes.{back_links, call_pieces, called_at, calls_in, classed, labels_of, last_call, note_id, note_of, notes_in, notes_of, place_of_first}
 use Rattle.mdhtml_document.specs.Spans.{Nothing, Span, Spans, events_of, spans_of}
 use Rattle.mdhtml_document.specs.Values.{alt_of, autolink_address, behind_first_line, cell_text, code_lines, code_text, html_flow, html_text, is_email, said}
 use Rattle.mdhtml_markup.specs.Addresses.{allowed}
@@ -23,8 +25,8 @@ use Rattle.mdhtml_markup.specs.declared.addresses.Place.TheVariants as place
 use Rattle.mdhtml_markup.specs.declared.elements.Alignment.{Alignment}
 use Rattle.mdhtml_markup.specs.declared.elements.Alignment.TheVariants as alignment
 use Rattle.mdhtml_markup.specs.declared.elements.Element.{Element}
-use Rattle.mdhtml_markup.specs.declared.elements.Element.TheVariants.{Anchor, BlockQuote, Break, Checkbox, Code, DataCell, Deleted, Emphasis, HeaderCell, Heading1, Heading2, Heading3, Heading4, Heading5, Heading6, Image, ListItem, OrderedList, Paragraph, Preformatted, Strong, Table, TableBody, TableHead, TableRow, ThematicBreak, UnorderedList}
-use Rattle.mdhtml_markup.specs.Pieces.{Aligned, Alt, Attribute, Checked, Close, Disabled, Feed, Fresh, Href, InputType, Kept, Language, Open, Piece, Src, Start, Text, Title, Void, html}
+use Rattle.mdhtml_markup.specs.declared.elements.Element.TheVariants.{Anchor, BlockQuote, Break, Checkbox, Code, DataCell, Deleted, Emphasis, HeaderCell, Heading1, Heading2, Heading3, Heading4, Heading5, Heading6, Image, ListItem, OrderedList, Paragraph, Preformatted, Section, Strong, Table, TableBody, TableHead, TableRow, ThematicBreak, UnorderedList}
+use Rattle.mdhtml_markup.specs.Pieces.{Aligned, Alt, Attribute, Checked, Close, Disabled, Feed, Footnotes, Fresh, Href, Id, InputType, Kept, Language, Open, Piece, Src, Start, Text, Title, Void, html}
 use Rattle.mddocument_link_targets.specs.declared.targets.Parts.{Parts}
 use Rattle.mddocument_link_targets.specs.declared.targets.Target.{Target}
 use Rattle.mddocument_link_targets.specs.declared.targets.Target.TheVariants as target
@@ -268,8 +270,35 @@ abbrev pub heading_shape : Block → Shape
 heading_shape block.HeadingText = through mode.Text
 heading_shape _ = alone []
 
--- options, a document, what its labels are defined as, and the distance of its tab stops
-module _ (options : CompileOptions) (bytes : List ℕ) (lookup : (label : List ℕ) → Option Parts) (tab : ℕ) where
+abbrev pub is_paragraph : Block → Bool
+is_paragraph block.Paragraph = true
+is_paragraph _ = false
+
+-- something is written of some of these spans among blocks
+abbrev pub is_written : Block → Bool
+is_written block.Other = false
+is_written _ = true
+
+abbrev pub has_block : Spans → Bool
+has_block Nothing = false
+has_block (Span e f s behind) = is_written (block_of e.name) || has_block behind
+
+-- the call of a footnote; its text, if its note has no number
+abbrev pub call_shape : Option Called → Shape
+call_shape None = through mode.Text
+call_shape (Some c) = alone (call_pieces c)
+
+-- What is known of a document: what its labels are defined as, and its calls of footnotes
+pub record Known : Type 0 where
+  pub lookup : (label : List ℕ) → Option Parts
+  pub called : (place : ℕ) → Option Called
+
+-- what is known where nothing calls a footnote
+abbrev pub uncalled : (lookup : (label : List ℕ) → Option Parts) → Known
+uncalled lookup = record { lookup = lookup; called = λ place. None }
+
+-- options, a document, what is known of it, and the distance of its tab stops
+module _ (options : CompileOptions) (bytes : List ℕ) (known : Known) (tab : ℕ) where
   -- A span among blocks, by what it is, the events in it, and what is said of it if it is a list. The blocks of an item of a tight list are tight:
   -- paragraphs are text alone. An item has tags in a list alone, and a heading's text is written in a heading alone
   abbrev pub block_shape : (tight : Bool) → Block → List Event → (is_loose : Bool) → (start : Option ℕ) → Shape
@@ -305,8 +334,9 @@ module _ (options : CompileOptions) (bytes : List ℕ) (lookup : (label : List �
   inline_shape in_cell inline.Www es said alt = literal options (codes "http://") said
   inline_shape in_cell inline.Email es said alt = literal options (codes "mailto:") said
   inline_shape in_cell inline.Address es said alt = literal options [] said
-  inline_shape in_cell inline.Link es said alt = link_to options (parts_in_link bytes lookup es)
-  inline_shape in_cell inline.Image es said alt = image_of options alt (parts_in_link bytes lookup es)
+  inline_shape in_cell inline.Link es said alt = link_to options (parts_in_link bytes known.lookup es)
+  inline_shape in_cell inline.Image es said alt = image_of options alt (parts_in_link bytes known.lookup es)
+  inline_shape in_cell inline.Call es said alt = call_shape (known.called (place_of_first es))
   inline_shape in_cell inline.Check es said alt = alone []
   inline_shape in_cell inline.Tail es said alt = alone []
   inline_shape in_cell inline.Other es said alt = told said
@@ -339,21 +369,47 @@ module _ (options : CompileOptions) (bytes : List ℕ) (lookup : (label : List �
       let here = shape m columns e f s in
       here.opened ++ (pieces here.inside (columns_in b columns (events_of s)) s ++ (here.closed ++ pieces m (columns_behind b columns) behind))
 
+  -- ---- footnotes
+
+  -- The blocks of a note, and links back: in its last paragraph, if that is its last block. Footnote definitions in it are no blocks
+  abbrev pub note_blocks : (backs : List Piece) → Spans → List Piece
+  note_blocks backs Nothing = Fresh ∷ (backs ++ Feed ∷ [])
+  note_blocks backs (Span e f s behind) =
+      let last = Fresh ∷ Open Paragraph [] ∷ (pieces mode.Paragraph [] s ++ Text (codes " ") ∷ (backs ++ Close Paragraph ∷ Feed ∷ [])) in
+      cond (is_paragraph (block_of e.name) && not (has_block behind)) last (pieces mode.Flow [] (Span e f s Nothing) ++ note_blocks backs behind)
+
+  -- A note of a number, by its label, all footnote definitions and the labels of all calls, of which the last one is the first here
+  abbrev pub note_pieces : (definitions : List (List ℕ × Spans)) → (called : List (List ℕ)) → (number : ℕ) → (label : List ℕ) → List Piece
+  note_pieces definitions called number label =
+      Open ListItem (Id (note_id number) ∷ []) ∷ Feed
+      ∷ (note_blocks (back_links number (option_map_or (λ c. c.repeat) (last_call label called) 0)) (note_of label definitions) ++ Close ListItem ∷ Feed ∷ [])
+
+  -- notes with these labels, of which the first has this number
+  abbrev pub notes_from : (definitions : List (List ℕ × Spans)) → (called : List (List ℕ)) → (number : ℕ) → (labels : List (List ℕ)) → List Piece
+  notes_from definitions called number [] = []
+  notes_from definitions called number (l ∷ ls) = note_pieces definitions called number l ++ notes_from definitions called (suc number) ls
+
+  -- the section of notes at the end of a document, if it has calls
+  abbrev pub section_by : (definitions : List (List ℕ × Spans)) → (called : List (List ℕ)) → List Piece
+  section_by definitions [] = []
+  section_by definitions (l ∷ ls) =
+      Fresh ∷ Open Section (classed (codes "footnotes") ++ Footnotes ∷ []) ∷ Feed ∷ Open OrderedList [] ∷ Feed
+      ∷ (notes_from definitions (l ∷ ls) 1 (notes_of (l ∷ ls)) ++ (Close OrderedList ∷ Feed ∷ Close Section ∷ Feed ∷ []))
+
+  abbrev pub section : List Event → List Piece
+  section events = section_by (notes_in bytes (spans_of events)) (labels_of (reverse (calls_in bytes events)))
+
 -- ---- HTML
 
--- HTML of events, by what labels are defined as
-abbrev pub html_by : CompileOptions → (bytes : List ℕ) → (lookup : (label : List ℕ) → Option Parts) → (tab : ℕ) → List Event → List ℕ
-html_by options bytes lookup tab events = html (pieces options bytes lookup tab mode.Flow [] (spans_of events))
+-- HTML of events, by what is known of their document, without a section of notes
+abbrev pub html_by : CompileOptions → (bytes : List ℕ) → Known → (tab : ℕ) → List Event → List ℕ
+html_by options bytes known tab events = html (pieces options bytes known tab mode.Flow [] (spans_of events))
 
 -- what labels are defined as by the events of a document: the first definition of a label counts
 abbrev pub defined_in : (bytes : List ℕ) → List Event → (label : List ℕ) → Option Parts
 defined_in bytes events label = option_and_then (λ at. parts_of bytes events at) (definition_of bytes events label)
 
 -- how many bytes of a document the first of these events enters a span over
-abbrev pub place_of_first : List Event → ℕ
-place_of_first [] = 0
-place_of_first (e ∷ es) = e.point.index
-
 abbrev pub extent : List Event → ℕ
 extent [] = 0
 extent (e ∷ es) = place_of_first (drop (length (inside es)) es) - e.point.index
@@ -384,6 +440,15 @@ are_too_many bytes events = nat_lt (max 100000 (length bytes)) (references bytes
 abbrev pub led_to : (bytes : List ℕ) → List Event → (label : List ℕ) → Option Parts
 led_to bytes events label = cond (are_too_many bytes events) None (defined_in bytes events label)
 
+-- what is known of a document by its events
+abbrev pub known_in : (bytes : List ℕ) → List Event → Known
+known_in bytes events = record { lookup = led_to bytes events; called = called_at (reverse (calls_in bytes events)) }
+
+-- HTML of events, by what is known of their document, with the section of their footnotes
+abbrev pub html_with_notes : CompileOptions → (bytes : List ℕ) → Known → (tab : ℕ) → List Event → List ℕ
+html_with_notes options bytes known tab events =
+    html (pieces options bytes known tab mode.Flow [] (spans_of events) ++ section options bytes known tab events)
+
 -- HTML of the events of a document
 abbrev pub html_of_events : CompileOptions → (bytes : List ℕ) → (tab : ℕ) → List Event → List ℕ
-html_of_events options bytes tab events = html_by options bytes (led_to bytes events) tab events
+html_of_events options bytes tab events = html_with_notes options bytes (known_in bytes events) tab events

@@ -1,6 +1,7 @@
 -- Laws of the HTML of documents.
+use Rattle.std.specs.Fmt.{decimal}
 use Rattle.std.specs.Option.{option_map_or}
-use Rattle.std.specs.Prelude.{◌≡◌, ◌++◌, ◌∷◌, ℕ, ◌+◌, ◌-◌, ◌*◌, ◌<◌, ◌≤◌, max, ⊤, ◌&&◌, ◌||◌, not, Bool, true, false, cond, List, [], Option, length}
+use Rattle.std.specs.Prelude.{◌≡◌, ◌++◌, ◌∷◌, ℕ, ◌+◌, ◌-◌, ◌*◌, ◌<◌, ◌≤◌, max, ⊤, ◌&&◌, ◌||◌, not, Bool, true, false, cond, List, [], Option, Some, length}
 use Rattle.markdown_base.specs.declared.configuration.CompileOptions.{CompileOptions}
 use Rattle.markdown_base.specs.declared.event.Event.{Event}
 use Rattle.markdown_base.specs.declared.event.Name.TheVariants as name
@@ -9,8 +10,9 @@ use Rattle.mdhtml_document.specs.declared.names.Block.{Block}
 use Rattle.mdhtml_document.specs.declared.names.Block.TheVariants as block
 use Rattle.mdhtml_document.specs.declared.names.Inline.{Inline}
 use Rattle.mdhtml_document.specs.declared.names.Inline.TheVariants as inline
+use Rattle.mdhtml_document.specs.declared.notes.Called.{Called}
 use Rattle.mdhtml_document.specs.declared.shapes.Mode.TheVariants as mode
-use Rattle.mdhtml_document.specs.Html.{html_by, html_of_events, pieces, references}
+use Rattle.mdhtml_document.specs.Html.{Known, html_by, html_with_notes, known_in, pieces, references, section}
 use Rattle.mdhtml_document.specs.Names.{block_of, inline_of}
 use Rattle.mdhtml_document.specs.Spans.{Nothing, Span, Spans, spans_of}
 use Rattle.mdhtml_markup.specs.Flow.{IsFlow}
@@ -29,16 +31,28 @@ pub record AreSafeOptions (options : CompileOptions) : Type 0 where
 -- Whatever the document is, whatever its labels are defined as, and whatever its events are, its HTML is safe
 abbrev pub HtmlIsSafe : Type 0
 HtmlIsSafe =
-    (options : CompileOptions) (bytes : List ℕ) (lookup : (label : List ℕ) → Option Parts) (tab : ℕ) (events : List Event) → AreSafeOptions options
-    → IsSafeHtml [] (html_by options bytes lookup tab events)
+    (options : CompileOptions) (bytes : List ℕ) (known : Known) (tab : ℕ) (events : List Event) → AreSafeOptions options
+    → IsSafeHtml [] (html_by options bytes known tab events)
 
 -- The text between its tags, with its entities undone, is all texts of the document's pieces, and their line feeds: nothing that is written as text is lost
 abbrev pub HtmlKeepsText : Type 0
 HtmlKeepsText =
-    (options : CompileOptions) (bytes : List ℕ) (lookup : (label : List ℕ) → Option Parts) (tab : ℕ) (events : List Event) → AreSafeOptions options
-    → text_of (html_by options bytes lookup tab events) ≡ said_from true (pieces options bytes lookup tab mode.Flow [] (spans_of events))
+    (options : CompileOptions) (bytes : List ℕ) (known : Known) (tab : ℕ) (events : List Event) → AreSafeOptions options
+    → text_of (html_by options bytes known tab events) ≡ said_from true (pieces options bytes known tab mode.Flow [] (spans_of events))
 
--- There is a link in a span of inline text, by what that is and whether there is one among the spans in it. Autolinks and literals are links. An image's
+-- And both hold with the section of footnotes
+abbrev pub HtmlWithNotesIsSafe : Type 0
+HtmlWithNotesIsSafe =
+    (options : CompileOptions) (bytes : List ℕ) (known : Known) (tab : ℕ) (events : List Event) → AreSafeOptions options
+    → IsSafeHtml [] (html_with_notes options bytes known tab events)
+
+abbrev pub HtmlWithNotesKeepsText : Type 0
+HtmlWithNotesKeepsText =
+    (options : CompileOptions) (bytes : List ℕ) (known : Known) (tab : ℕ) (events : List Event) → AreSafeOptions options
+    → text_of (html_with_notes options bytes known tab events)
+    ≡ said_from true (pieces options bytes known tab mode.Flow [] (spans_of events) ++ section options bytes known tab events)
+
+-- There is a link in a span of inline text, by what that is and whether there is one among the spans in it. Autolinks, literals and calls of footnotes are links. An image's
 -- links are told as text
 abbrev pub has_links_by : Inline → (inner : Bool) → Bool
 has_links_by inline.Link inner = true
@@ -46,6 +60,7 @@ has_links_by inline.Autolink inner = true
 has_links_by inline.Www inner = true
 has_links_by inline.Email inner = true
 has_links_by inline.Address inner = true
+has_links_by inline.Call inner = true
 has_links_by inline.Image inner = false
 has_links_by _ inner = inner
 
@@ -66,8 +81,14 @@ are_apart (Span e f s behind) = not (is_linked (inline_of e.name) (has_links s))
 -- Where no link is in a link, a browser reads the HTML as the tree that it is written as: each tag stands where its element may
 abbrev pub HtmlIsFlow : Type 0
 HtmlIsFlow =
-    (options : CompileOptions) (bytes : List ℕ) (lookup : (label : List ℕ) → Option Parts) (tab : ℕ) (events : List Event) → AreSafeOptions options
-    → are_apart (spans_of events) ≡ true → IsFlow (html_by options bytes lookup tab events)
+    (options : CompileOptions) (bytes : List ℕ) (known : Known) (tab : ℕ) (events : List Event) → AreSafeOptions options
+    → are_apart (spans_of events) ≡ true → IsFlow (html_by options bytes known tab events)
+
+-- also with the section of footnotes
+abbrev pub HtmlWithNotesIsFlow : Type 0
+HtmlWithNotesIsFlow =
+    (options : CompileOptions) (bytes : List ℕ) (known : Known) (tab : ℕ) (events : List Event) → AreSafeOptions options
+    → are_apart (spans_of events) ≡ true → IsFlow (html_with_notes options bytes known tab events)
 
 -- behind a whole line, and where nothing was written yet, HTML begins as at the start
 abbrev pub EndsLine : List ℕ → Type 0
@@ -76,9 +97,9 @@ EndsLine h = is_fresh true h ≡ true
 -- HTML of two parts of a document, read apart and by the same labels, is the HTML of the one and then of the other
 abbrev pub HtmlOfBoth : Type 0
 HtmlOfBoth =
-    (options : CompileOptions) (bytes : List ℕ) (lookup : (label : List ℕ) → Option Parts) (tab : ℕ) (es fs : List Event) → IsBalanced es → IsBalanced fs
-    → EndsLine (html_by options bytes lookup tab es)
-    → html_by options bytes lookup tab (es ++ fs) ≡ html_by options bytes lookup tab es ++ html_by options bytes lookup tab fs
+    (options : CompileOptions) (bytes : List ℕ) (known : Known) (tab : ℕ) (es fs : List Event) → IsBalanced es → IsBalanced fs
+    → EndsLine (html_by options bytes known tab es)
+    → html_by options bytes known tab (es ++ fs) ≡ html_by options bytes known tab es ++ html_by options bytes known tab fs
 
 -- ---- how long HTML is
 
@@ -106,15 +127,35 @@ abbrev pub rows : Spans → ℕ
 rows Nothing = 0
 rows (Span e f s behind) = cond (is_row (block_of e.name)) 1 0 + (rows s + rows behind)
 
+-- how many calls of footnotes there are among spans
+abbrev pub is_call : Inline → Bool
+is_call inline.Call = true
+is_call i = false
+
+abbrev pub calls : Spans → ℕ
+calls Nothing = 0
+calls (Span e f s behind) = cond (is_call (inline_of e.name)) 1 0 + (calls s + calls behind)
+
+-- the numbers of a call have no more than so many digits
+pub record IsBrief (digits : ℕ) (c : Called) : Type 0 where
+  pub number : length (decimal c.number) ≤ digits
+  pub repeat : length (decimal c.repeat) ≤ digits
+
+abbrev pub AreBrief : (digits : ℕ) → Known → Type 0
+AreBrief digits known = (place : ℕ) (c : Called) → known.called place ≡ Some c → IsBrief digits c
+
 -- Where no link is in a link, HTML is no longer than this: the text of each event is in it once, six times as long if it is all quotation marks, or
 -- nine times if it is all NUL in an address; and again in the title and the description of an image, and in the link around that. Tags are 48 bytes a
--- span at most, and the cells that a row lacks 2,500. What labels are defined as is in it as often as links and images refer to it
+-- span at most, and the cells that a row lacks 2,500. What labels are defined as is in it as often as links and images refer to it.
+-- A call is 9 bytes more for each digit, and 72
 abbrev pub HtmlIsShort : Type 0
 HtmlIsShort =
-    (options : CompileOptions) (bytes : List ℕ) (lookup : (label : List ℕ) → Option Parts) (tab : ℕ) (events : List Event) → IsBalanced events
+    (options : CompileOptions) (bytes : List ℕ) (known : Known) (tab digits : ℕ) (events : List Event) → IsBalanced events → AreBrief digits known
     → are_apart (spans_of events) ≡ true
-    → length (html_by options bytes lookup tab events)
-    ≤ ((36 * room tab events + 24 * length events) + 9 * references bytes (λ label. length_of_parts (lookup label)) (spans_of events)) + 2500 * rows (spans_of events)
+    → length (html_by options bytes known tab events)
+    ≤ (((36 * room tab events + 24 * length events) + 9 * references bytes (λ label. length_of_parts (known.lookup label)) (spans_of events))
+    + 9 * ((digits + 8) * calls (spans_of events)))
+    + 2500 * rows (spans_of events)
 
 -- a line ending has a byte, by the events behind its enter
 abbrev pub HasByte : Event → List Event → Type 0
@@ -127,9 +168,12 @@ GoForward tab most from [] = ⊤
 GoForward tab most from (e ∷ es) =
     (from ≤ e.point.index) × (e.point.index ≤ most) × (e.point.vs ≤ tab) × HasByte e es × GoForward tab most e.point.index es
 
--- The HTML of a document is in proportion to its length, or to 100,000 bytes, to its events, and to its rows of tables: whatever it refers to
+-- The HTML of a document but for its section of footnotes is in proportion to its length, or to 100,000 bytes, to its events, and to its rows of tables and
+-- calls of footnotes: whatever it refers to
 abbrev pub HtmlIsLinear : Type 0
 HtmlIsLinear =
-    (options : CompileOptions) (bytes : List ℕ) (tab : ℕ) (events : List Event) → IsBalanced events → GoForward tab (length bytes) 0 events
-    → are_apart (spans_of events) ≡ true
-    → length (html_of_events options bytes tab events) ≤ ((144 * length bytes + 72 * max 100000 (length bytes)) + length events * (180 * tab + 60)) + 2500 * rows (spans_of events)
+    (options : CompileOptions) (bytes : List ℕ) (tab digits : ℕ) (events : List Event) → IsBalanced events → GoForward tab (length bytes) 0 events
+    → AreBrief digits (known_in bytes events) → are_apart (spans_of events) ≡ true
+    → length (html_by options bytes (known_in bytes events) tab events)
+    ≤ (((144 * length bytes + 72 * max 100000 (length bytes)) + length events * (180 * tab + 60)) + 9 * ((digits + 8) * calls (spans_of events)))
+    + 2500 * rows (spans_of events)

@@ -7,6 +7,7 @@ pub mod HtmlExamples
 pub mod HtmlLaws
 -- spans
 pub mod Names
+pub mod Notes
 pub mod Spans
 -- inline text
 pub mod Values

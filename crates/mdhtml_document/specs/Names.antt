@@ -1,5 +1,5 @@
 -- What spans are written as, by their names.
-use Rattle.std.specs.Prelude.{Bool, cond, List, [], ◌∷◌}
+use Rattle.std.specs.Prelude.{cond, List, [], ◌∷◌}
 use Rattle.markdown_base.specs.declared.event.Name.{Name}
 use Rattle.markdown_base.specs.declared.event.Name.TheVariants as name
 use Rattle.markdown_base.specs.Events.{same_name}
@@ -60,6 +60,7 @@ inlines_by_name =
     ∷ (name.Link, inline.Link)
     ∷ (name.Image, inline.Image)
     ∷ (name.GfmTaskListItemCheck, inline.Check)
+    ∷ (name.GfmFootnoteCall, inline.Call)
     ∷ (name.Resource, inline.Tail)
     ∷ (name.Reference, inline.Tail)
     ∷ []

@@ -1,7 +1,7 @@
 -- What spans say that are written at once: code (CommonMark 0.31, 4.4, 4.5, 6.1), raw HTML (4.6, 6.6), autolinks (6.5), literals (GFM 0.29, 6.9), and
 -- what images are described by (6.4). By the events in the span, or the spans in it.
 use Rattle.std.specs.List.{list_all, list_any, repeat, slice_range}
-use Rattle.std.specs.Prelude.{ℕ, ◌+◌, ◌-◌, ◌%◌, ◌==◌, ◌&&◌, ◌||◌, not, nat_lt, Bool, true, false, cond, List, [], ◌∷◌, ◌++◌, drop, length, slice_index}
+use Rattle.std.specs.Prelude.{ℕ, ◌-◌, ◌%◌, ◌==◌, ◌&&◌, ◌||◌, not, nat_lt, Bool, false, cond, List, [], ◌∷◌, ◌++◌, drop, length, slice_index}
 use Rattle.markdown_base.specs.declared.event.Event.{Event}
 use Rattle.markdown_base.specs.declared.event.Name.{Name}
 use Rattle.markdown_base.specs.declared.event.Name.TheVariants as name

@@ -1,6 +1,6 @@
 -- The definitions of HTML as walks over events, an event at a time: what the code does.
 use Rattle.std.specs.List.{slice_range}
-use Rattle.std.specs.Prelude.{◌≡◌, ℕ, zero, suc, ◌+◌, ◌&&◌, ◌||◌, not, Bool, true, false, cond, List, [], ◌∷◌, ◌++◌, drop, length, Option}
+use Rattle.std.specs.Prelude.{◌≡◌, ℕ, zero, suc, ◌+◌, ◌&&◌, ◌||◌, not, Bool, true, false, cond, List, [], ◌∷◌, ◌++◌, bytes_eq, drop, length, take, Option, None, Some}
 use Rattle.markdown_base.specs.declared.configuration.CompileOptions.{CompileOptions}
 use Rattle.markdown_base.specs.declared.event.Event.{Event}
 use Rattle.markdown_base.specs.declared.event.Name.{Name}
@@ -8,18 +8,21 @@ use Rattle.markdown_base.specs.declared.event.Name.TheVariants.{CharacterEscapeV
 use Rattle.markdown_base.specs.Events.{is_enter, same_name}
 use Rattle.mdblock_containers.specs.declared.list_shapes.ListShape.{ListShape}
 use Rattle.mdblock_containers.specs.Lists.{is_loose, list_start}
+use Rattle.mdhtml_document.specs.declared.names.Block.{Block}
+use Rattle.mdhtml_document.specs.declared.names.Block.TheVariants as block
 use Rattle.mdhtml_document.specs.declared.names.Inline.{Inline}
 use Rattle.mdhtml_document.specs.declared.names.Inline.TheVariants as inline
 use Rattle.mdhtml_document.specs.declared.shapes.Mode.{Mode}
 use Rattle.mdhtml_document.specs.declared.shapes.Mode.TheVariants as mode
 use Rattle.mdhtml_document.specs.declared.links.Whole.{Whole}
-use Rattle.mdhtml_document.specs.Frames.{Open, closed_of, columns_at, ends, lookup_of, loose_of, mode_of, moved, start_of}
+use Rattle.mdhtml_document.specs.declared.note_section.Notes.{Notes}
+use Rattle.mdhtml_document.specs.Frames.{Open, closed_of, columns_at, ends, known_note, known_of, loose_of, mode_of, moved, start_of}
 use Rattle.mdhtml_document.specs.Written.{after}
-use Rattle.mdhtml_document.specs.Html.{Shape, columns_in, lacking, referred, shape_by}
+use Rattle.mdhtml_document.specs.Html.{Known, Shape, columns_in, lacking, referred, shape_by}
 use Rattle.mdhtml_document.specs.Names.{block_of, inline_of}
+use Rattle.mdhtml_document.specs.Notes.{is_container, is_note, label_in}
 use Rattle.mdhtml_document.specs.Values.{alt_by, reading_of}
 use Rattle.mdhtml_markup.specs.Pieces.{Piece}
-use Rattle.mddocument_link_targets.specs.declared.targets.Parts.{Parts}
 use Rattle.mddocument_link_targets.specs.Spans.{inside}
 use Rattle.mddocument_link_targets.specs.Strings.{given_at}
 
@@ -83,10 +86,10 @@ references_from bytes size (suc n) (e ∷ es) = references_from bytes size n es
 
 -- ---- pieces
 
-module _ (options : CompileOptions) (bytes : List ℕ) (lookup : (label : List ℕ) → Option Parts) (tab : ℕ) where
+module _ (options : CompileOptions) (bytes : List ℕ) (known : Known) (tab : ℕ) where
   -- the shape of the span that an event enters, by the events behind that
   abbrev pub shape_at : Mode → (columns : List Event) → Event → List Event → Shape
-  shape_at m columns e es = shape_by options bytes lookup tab m columns e.name (inside es) (is_loose es) (list_start bytes es) (said_at bytes e es) (alt_from bytes 0 (inside es))
+  shape_at m columns e es = shape_by options bytes known tab m columns e.name (inside es) (is_loose es) (list_start bytes es) (said_at bytes e es) (alt_from bytes 0 (inside es))
 
   -- the pieces of events behind spans that are open, the innermost first
   abbrev pub entered : List Open → Event → (inner : List Event) → Shape → (rest : List Open → List Piece) → List Piece
@@ -108,7 +111,51 @@ pub record Entered (s : Shape) (e : Event) (inner : List Event) (old new : List 
 
 abbrev pub shape_in : Whole → Mode → (columns : List Event) → (list : Option ListShape) → Event → List Event → Shape
 shape_in w m columns list e es =
-    shape_by w.options.now w.bytes.now (lookup_of w) w.tab m columns e.name (inside es) (loose_of list) (start_of list) (said_at w.bytes.now e es) (alt_from w.bytes.now 0 (inside es))
+    shape_by w.options.now w.bytes.now (known_of w) w.tab m columns e.name (inside es) (loose_of list) (start_of list) (said_at w.bytes.now e es) (alt_from w.bytes.now 0 (inside es))
 
 abbrev pub walked_in : Whole → List Open → List Event → List Piece
-walked_in w os es = walked w.options.now w.bytes.now (lookup_of w) w.tab os es
+walked_in w os es = walked w.options.now w.bytes.now (known_of w) w.tab os es
+
+-- ---- footnote definitions
+
+-- definitions that are open, the innermost first, with one event more in that
+abbrev pub with_event : Event → List (List ℕ × List Event) → List (List ℕ × List Event)
+with_event e [] = []
+with_event e (n ∷ ns) = (n.0, n.1 ++ e ∷ []) ∷ ns
+
+-- how many events behind an event are passed: those of a span in which no definition stands
+abbrev pub skipped : Event → (behind : List Event) → ℕ
+skipped e es = cond (is_enter e.kind && not (is_container e.name)) (suc (length (inside es))) 0
+
+-- the definitions that end among events, by how many of these are passed first, and those that are around
+abbrev pub noted : (bytes : List ℕ) → (skip : ℕ) → (around : List (List ℕ × List Event)) → List Event → List (List ℕ × List Event)
+noted bytes skip around [] = []
+noted bytes (suc n) around (e ∷ es) = noted bytes n (with_event e around) es
+noted bytes zero around (e ∷ es) =
+    cond (is_note e.name)
+    (cond (is_enter e.kind) (noted bytes 0 ((label_in bytes (inside es), []) ∷ around) es) (take 1 around ++ noted bytes 0 (drop 1 around) es))
+    (noted bytes (skipped e es) (with_event e around) es)
+
+-- the events in the first definition of a label
+abbrev pub first_note : (label : List ℕ) → List (List ℕ × List Event) → Option (List Event)
+first_note label [] = None
+first_note label (n ∷ ns) = cond (bytes_eq label n.0) (Some n.1) (first_note label ns)
+
+abbrev pub first_of : {A : Type 0} → (first second : Option A) → Option A
+first_of None second = second
+first_of (Some a) second = Some a
+
+-- what is found of a label: what is known, or else the first one of these
+abbrev pub found_by : Notes → (label : List ℕ) → List (List ℕ × List Event) → Option (List Event)
+found_by notes label ns = first_of (known_note notes.found label) (first_note label ns)
+
+-- where the last block begins that something is written of, if that is a paragraph, by where the last one did, and how many events are passed first
+abbrev pub last_by : Block → (at : ℕ) → (last : Option ℕ) → Option ℕ
+last_by block.Paragraph at last = Some at
+last_by block.Other at last = last
+last_by _ at last = None
+
+abbrev pub last_from : (at skip : ℕ) → (last : Option ℕ) → List Event → Option ℕ
+last_from at skip last [] = last
+last_from at (suc n) last (e ∷ es) = last_from (suc at) n last es
+last_from at zero last (e ∷ es) = last_from (suc at) (suc (length (inside es))) (last_by (block_of e.name) at last) es

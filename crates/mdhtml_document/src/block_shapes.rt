@@ -5,7 +5,7 @@ ghost use Rattle.std.specs.List.{flat_map, prefix_len, take_while};
 ghost use Rattle.std.specs.Option.{option_map_or};
 ghost use Rattle.std.specs.Prelude.{◌≡◌, ◌==◌, ◌++◌, ◌∷◌, ◌≤◌, [], IfOk, MatchOption, None, OnOk, Some, codes, cond, false, length, not, slice_get};
 ghost use Rattle.markdown_base.specs.declared.event.Name.TheVariants as name;
-ghost use Rattle.mdhtml_document.specs.Frames.{Opens, closed_by, lookup_of, loose_of, start_of};
+ghost use Rattle.mdhtml_document.specs.Frames.{Opens, closed_by, known_of, loose_of, start_of};
 ghost use Rattle.mdhtml_document.specs.Written.{after};
 ghost use Rattle.mdhtml_document.specs.Html.{block_shape, blocks, byte_of_first, code, container, heading, heading_shape, item_shape, items, language, length_of_first, line, ordered, raw, setext_rank, through, alone};
 ghost use Rattle.mddocument_link_targets.specs.Spans.{first_in, inside};
@@ -347,7 +347,7 @@ pub(crate) fn open_block(
     list: Option<ListShape>,
     behind: &[Event],
 ) -> Result<Frame, AllocError>
-    ensures { IfOk result (λ frame. Opens (block_shape whole.now.options.now whole.now.bytes.now (lookup_of whole.now) whole.now.tab is_tight block (inside behind.now) (loose_of list) (start_of list)) out.old.items out.new.items frame) }
+    ensures { IfOk result (λ frame. Opens (block_shape whole.now.options.now whole.now.bytes.now (known_of whole.now) whole.now.tab is_tight block (inside behind.now) (loose_of list) (start_of list)) out.old.items out.new.items frame) }
 {
     match block {
         Block::Paragraph => paragraph(out, is_tight),

@@ -12,6 +12,8 @@ ghost use Rattle.mdhtml_document.specs.Html.{html_of_events};
 ghost use Rattle.mdhtml_document.specs.Walks.{references_from};
 
 use crate::links::Whole;
+use crate::note_section::push_section;
+use crate::notes::number_notes;
 use crate::references::are_too_many;
 use crate::writer::{from_list, write};
 use markdown_base::configuration::{CompileOptions, TabSize};
@@ -58,14 +60,17 @@ pub fn html_of_events(
 {
     let lists = lists_of(alloc, bytes, from_list(events))?;
     let known = definitions_in(alloc, bytes, events)?;
+    let notes = number_notes(alloc, bytes, events)?;
     let whole = Whole {
         bytes,
         events,
         definitions: &known.0,
         are_too_many: known.1,
+        calls: &notes.calls,
         options,
         tab,
     };
-    let html = write(alloc, &whole, lists.as_slice())?;
+    let mut html = write(alloc, &whole, lists.as_slice())?;
+    push_section(alloc, &mut html, &whole, &notes)?;
     Ok(html)
 }

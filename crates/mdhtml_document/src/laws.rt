@@ -2,7 +2,7 @@
 
 ghost use Rattle.std.specs.Prelude.{◌≡◌, map};
 ghost use Rattle.mdhtml_document.specs.HtmlExamples.{html_examples, html_of};
-ghost use Rattle.mdhtml_document.specs.HtmlLaws.{HtmlIsFlow, HtmlIsLinear, HtmlIsSafe, HtmlIsShort, HtmlKeepsText, HtmlOfBoth};
+ghost use Rattle.mdhtml_document.specs.HtmlLaws.{HtmlIsFlow, HtmlIsLinear, HtmlIsSafe, HtmlIsShort, HtmlKeepsText, HtmlOfBoth, HtmlWithNotesIsFlow, HtmlWithNotesIsSafe, HtmlWithNotesKeepsText};
 ghost use Rattle.mdhtml_document.specs.Spans.{SpansKeepEvents};
 
 /// Whatever the document is, its HTML is safe, if no option lets something through.
@@ -20,7 +20,22 @@ pub fn html_is_flow()
     ensures { HtmlIsFlow }
 {}
 
-/// The HTML of a document whose events go forward is in proportion to the document and its events, where no link is in a link.
+/// With the section of its footnotes it is safe as well.
+pub fn html_with_notes_is_safe()
+    ensures { HtmlWithNotesIsSafe }
+{}
+
+/// So is the text between its tags what its pieces say.
+pub fn html_with_notes_keeps_text()
+    ensures { HtmlWithNotesKeepsText }
+{}
+
+/// And a browser reads it as it is written.
+pub fn html_with_notes_is_flow()
+    ensures { HtmlWithNotesIsFlow }
+{}
+
+/// The HTML of a document whose events go forward, but for its section of footnotes, is in proportion to the document and its events, where no link is in a link.
 pub fn html_is_linear()
     ensures { HtmlIsLinear }
 {}

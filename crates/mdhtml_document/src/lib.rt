@@ -14,6 +14,9 @@ pub mod laws;
 mod lines;
 // links: what they lead to, and how much of a document they refer to
 mod links;
+// notes: calls of footnotes and their numbers, and the section at the end
+mod note_section;
+mod notes;
 // spans: names as what HTML makes of them, shapes, events in a span
 pub mod names;
 // links

@@ -10,6 +10,7 @@ ghost use Rattle.mdhtml_markup.specs.declared.addresses.Place.TheVariants as pla
 ghost use Rattle.mdhtml_markup.specs.Pieces.{attribute};
 
 use crate::descriptions::{alt_of, autolink_address, is_email};
+use crate::notes::Calls;
 use crate::shapes::{DONE, End, Frame, Mode, through};
 use markdown_base::configuration::{CompileOptions, TabSize};
 use markdown_base::event::Event;
@@ -28,6 +29,7 @@ pub(crate) struct Whole<'a> {
     pub(crate) events: &'a [Event],
     pub(crate) definitions: &'a Definitions,
     pub(crate) are_too_many: bool,
+    pub(crate) calls: &'a Calls,
     pub(crate) options: &'a CompileOptions,
     pub(crate) tab: TabSize,
 }

@@ -79,6 +79,8 @@ pub enum Inline {
     Image,
     /// A check of a task.
     Check,
+    /// The call of a footnote.
+    Call,
     /// What is behind the label of a link or an image.
     Tail,
     /// Anything else: what it says itself, and what is in it.
@@ -134,6 +136,7 @@ pub(crate) fn inline_of(name: Name) -> Inline
         Name::Link => Inline::Link,
         Name::Image => Inline::Image,
         Name::GfmTaskListItemCheck => Inline::Check,
+        Name::GfmFootnoteCall => Inline::Call,
         Name::Resource | Name::Reference => Inline::Tail,
         _ => Inline::Other,
     }

@@ -1,6 +1,6 @@
 //! Spans among events, by the events behind their enters.
 
-ghost use Rattle.std.specs.Prelude.{◌≡◌, ◌++◌, ◌≤◌, MatchOption, None, OnOk, Some, drop, length};
+ghost use Rattle.std.specs.Prelude.{◌≡◌, ◌++◌, ◌≤◌, MatchOption, None, OnOk, Some, drop, length, take};
 ghost use Rattle.mddocument_link_targets.specs.Spans.{inside, size_from};
 ghost use Rattle.mdhtml_document.specs.Values.{bytes_at};
 ghost use Rattle.mdhtml_document.specs.Walks.{said_at};
@@ -55,6 +55,17 @@ pub(crate) fn behind_first(events: &[Event], count: usize) -> &[Event]
     ensures { result.now ≡ drop count events.now }
 {
     events.get(count..).unwrap_or(&[])
+}
+
+/// The first events; all, if they are not so many.
+pub(crate) fn first_events(events: &[Event], count: usize) -> &[Event]
+    ensures { result.now ≡ take count events.now }
+{
+    if count < events.len() {
+        &events[..count]
+    } else {
+        events
+    }
 }
 
 /// Adds what the span of inline text that an event enters says, if it is an innermost one, by the events behind that.

@@ -2,7 +2,7 @@
 
 ghost use Rattle.std.specs.Prelude.{◌≡◌, ◌++◌, ◌∷◌, [], IfOk, OnOk, true};
 ghost use Rattle.mddocument_link_targets.specs.Spans.{inside};
-ghost use Rattle.mdhtml_document.specs.Frames.{Opens, lookup_of};
+ghost use Rattle.mdhtml_document.specs.Frames.{Opens, known_of};
 ghost use Rattle.mdhtml_document.specs.Html.{alone, task_box, check, inline_shape, is_check, is_checked, literal, paragraph_shape, raw, told};
 ghost use Rattle.mdhtml_document.specs.Values.{cell_text, code_text, html_text};
 ghost use Rattle.mdhtml_document.specs.Walks.{alt_from, inner_bytes, said_at, says_bytes};
@@ -14,6 +14,7 @@ use crate::block_shapes::push_raw;
 use crate::lines::{cell_text, code_in, code_text, html_text};
 use crate::links::{Whole, autolink, image, literal, open_link};
 use crate::names::Inline;
+use crate::notes::open_call;
 use crate::shapes::{DONE, Frame, Mode, open_within_line, through};
 use crate::spans::{inside, push_said};
 use markdown_base::event::{Event, Kind, Name};
@@ -150,7 +151,7 @@ pub(crate) fn open_inline(
     event: &Event,
     behind: &[Event],
 ) -> Result<Frame, AllocError>
-    ensures { IfOk result (λ frame. Opens (inline_shape whole.now.options.now whole.now.bytes.now (lookup_of whole.now) whole.now.tab is_in_cell inline (inside behind.now) (said_at whole.now.bytes.now event.now behind.now) (alt_from whole.now.bytes.now 0 (inside behind.now))) out.old.items out.new.items frame) }
+    ensures { IfOk result (λ frame. Opens (inline_shape whole.now.options.now whole.now.bytes.now (known_of whole.now) whole.now.tab is_in_cell inline (inside behind.now) (said_at whole.now.bytes.now event.now behind.now) (alt_from whole.now.bytes.now 0 (inside behind.now))) out.old.items out.new.items frame) }
 {
     match inline {
         Inline::Ending => {
@@ -172,6 +173,7 @@ pub(crate) fn open_inline(
         Inline::Address => open_literal(alloc, out, whole, b"", event, behind),
         Inline::Link => open_link(alloc, out, whole, inside(behind)),
         Inline::Image => image(alloc, out, whole, inside(behind)),
+        Inline::Call => open_call(alloc, out, whole.calls, inside(behind)),
         Inline::Check | Inline::Tail => Ok(DONE),
         Inline::Other => told(alloc, out, whole.bytes, event, behind),
     }
@@ -222,7 +224,7 @@ pub(crate) fn open_in_paragraph(
     event: &Event,
     behind: &[Event],
 ) -> Result<Frame, AllocError>
-    ensures { IfOk result (λ frame. Opens (paragraph_shape whole.now.options.now whole.now.bytes.now (lookup_of whole.now) whole.now.tab is_in_cell inline (inside behind.now) (said_at whole.now.bytes.now event.now behind.now) (alt_from whole.now.bytes.now 0 (inside behind.now))) out.old.items out.new.items frame) }
+    ensures { IfOk result (λ frame. Opens (paragraph_shape whole.now.options.now whole.now.bytes.now (known_of whole.now) whole.now.tab is_in_cell inline (inside behind.now) (said_at whole.now.bytes.now event.now behind.now) (alt_from whole.now.bytes.now 0 (inside behind.now))) out.old.items out.new.items frame) }
 {
     if is_check(inline) {
         check(out, is_checked(inside(behind)))

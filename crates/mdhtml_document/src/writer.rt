@@ -18,7 +18,7 @@ use crate::tables::{
 };
 use crate::text_shapes::{inner_bytes, open_in_paragraph, open_inline, says_bytes};
 use markdown_base::event::{Event, Kind, Name};
-use mdblock_containers::list_shapes::ListShape;
+use mdblock_containers::list_shapes::{ListShape, lists_of};
 use mdhtml_markup::escape::push_escaped;
 use std::alloc::{AllocError, Global};
 
@@ -324,6 +324,33 @@ fn write_event<'a, 'b>(
             Ok((lists, behind))
         }
     }
+}
+
+/// Writes spans of a document among others that something is written of, by their events.
+pub(crate) fn write_in(
+    alloc: Global,
+    out: &mut Vec<u8>,
+    whole: &Whole<'_>,
+    mode: Mode,
+    events: &[Event],
+) -> Result<(), AllocError>
+    ensures { OnOk result (out.new.items ≡ after out.old.items (walked_in whole.now (record { mode = mode; columns = []; closed = [] } ∷ []) events.now)) }
+{
+    let all = lists_of(alloc, whole.bytes, from_list(events))?;
+    let mut levels: Vec<Level<'_>> = Vec::new(alloc);
+    levels.push(Level {
+        mode,
+        columns: &[],
+        end: End::Nothing,
+    })?;
+    let mut lists = all.as_slice();
+    let mut rest = events;
+    'events: while let [event, behind @ ..] = rest {
+        let left = write_event(alloc, out, &mut levels, whole, lists, event, behind)?;
+        lists = left.0;
+        rest = left.1;
+    }
+    Ok(())
 }
 
 /// Writes all spans of a document.

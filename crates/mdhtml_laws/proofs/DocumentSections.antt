@@ -15,7 +15,7 @@ use Rattle.mddocument_parts.proofs.DocumentParts.{behind-document, front-documen
 use Rattle.mddocument_parts.specs.BothDocuments.{events_by}
 use Rattle.mddocument_parts.specs.Moved.{begins_line, line_endings, moved_link}
 use Rattle.mdgfm_literals.specs.Laws.{end_line}
-use Rattle.mdhtml_document.specs.Html.{html_by}
+use Rattle.mdhtml_document.specs.Html.{html_by, uncalled}
 use Rattle.mdhtml_laws.proofs.FurtherHtml.{html-of-sections}
 use Rattle.mdhtml_laws.specs.DocumentSections.{HtmlOfDocumentSections}
 
@@ -38,6 +38,6 @@ html-of-document-sections options defined lookup a b is rest stand marked =
     let parse = options.parse in
     let xs = events_by parse defined a in
     let ys = events_by parse defined b in
-    ap (html_by options.compile (a ++ b) lookup parse.tab_size) (document-events-of-both defined parse a b is rest)
+    ap (html_by options.compile (a ++ b) (uncalled lookup) parse.tab_size) (document-events-of-both defined parse a b is rest)
     ∙ html-of-sections options.compile lookup parse.tab_size (line_endings a) a b (moved_link (length xs)) xs ys (begins-ends b a (rest-begins parse a b rest))
     (events-balanced parse defined a (front-document parse a b is)) (events-balanced parse defined b (behind-document parse a b is)) stand marked

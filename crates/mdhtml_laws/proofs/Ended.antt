@@ -5,13 +5,12 @@ use Rattle.markdown_base.specs.declared.configuration.CompileOptions.{CompileOpt
 use Rattle.markdown_base.specs.declared.event.Event.{Event}
 use Rattle.markdown_base.specs.Events.{IsBalanced, empty}
 use Rattle.markdown_base.proofs.Balanced.{IsBalanced-append}
-use Rattle.mddocument_link_targets.specs.declared.targets.Parts.{Parts}
 use Rattle.mdhtml_laws.specs.Parts.{HtmlEndsLines, HtmlOfParts}
 use Rattle.mdhtml_document.specs.declared.names.Block.{Block}
 use Rattle.mdhtml_document.specs.declared.names.Block.TheVariants as block
 use Rattle.mdhtml_document.specs.declared.shapes.Mode.{Mode}
 use Rattle.mdhtml_document.specs.declared.shapes.Mode.TheVariants as mode
-use Rattle.mdhtml_document.specs.Html.{Shape, block_shape, columns_behind, columns_in, html_by, pieces, raw, shape}
+use Rattle.mdhtml_document.specs.Html.{Known, Shape, block_shape, columns_behind, columns_in, html_by, pieces, raw, shape}
 use Rattle.mdhtml_document.specs.Names.{block_of}
 use Rattle.mdhtml_document.specs.Spans.{Nothing, Span, Spans, events_of, spans_of}
 use Rattle.mdhtml_document.specs.Values.{html_flow}
@@ -38,9 +37,9 @@ fresh-end : (fresh : Bool) → is_fresh fresh (cond fresh [] (10 ∷ [])) ≡ tr
 fresh-end true = refl
 fresh-end false = refl
 
-module _ (options : CompileOptions) (bytes : List ℕ) (lookup : (label : List ℕ) → Option Parts) (tab : ℕ) where
+module _ (options : CompileOptions) (bytes : List ℕ) (known : Known) (tab : ℕ) where
   abbrev the : Mode → (columns : List Event) → Spans → List Piece
-  the m columns s = pieces options bytes lookup tab m columns s
+  the m columns s = pieces options bytes known tab m columns s
 
   -- where nothing is written
   nothing : (columns : List Event) (s : Spans) → the mode.Nothing columns s ≡ []
@@ -55,8 +54,8 @@ module _ (options : CompileOptions) (bytes : List ℕ) (lookup : (label : List �
 
   -- behind a block a line has just begun
   block-ends : (columns : List Event) (s : Spans) → after true (the mode.Flow columns s) ≡ true → (b : Block) (es : List Event) (loose : Bool) (start : Option ℕ)
-      → after (after (after true (block_shape options bytes lookup tab false b es loose start).opened) (the (block_shape options bytes lookup tab false b es loose start).inside columns s))
-      (block_shape options bytes lookup tab false b es loose start).closed ≡ true
+      → after (after (after true (block_shape options bytes known tab false b es loose start).opened) (the (block_shape options bytes known tab false b es loose start).inside columns s))
+      (block_shape options bytes known tab false b es loose start).closed ≡ true
   block-ends columns s h block.Paragraph es loose start = refl
   block-ends columns s h block.HeadingAtx es loose start = refl
   block-ends columns s h block.HeadingSetext es loose start = refl
@@ -90,20 +89,20 @@ module _ (options : CompileOptions) (bytes : List ℕ) (lookup : (label : List �
       let b = block_of e.name in
       let deeper = columns_in b columns (events_of s) in
       let others = columns_behind b columns in
-      let here = shape options bytes lookup tab mode.Flow columns e f s in
+      let here = shape options bytes known tab mode.Flow columns e f s in
       around here (the here.inside deeper s) (the mode.Flow others t) (block-ends deeper s (flow-ends deeper s) b _ _ _) (flow-ends others t)
 
 pub html-ends : HtmlEndsLines
-html-ends options bytes lookup tab events =
+html-ends options bytes known tab events =
     let s = spans_of events in
-    fresh-after true (pieces options bytes lookup tab mode.Flow [] s) ∙ flow-ends options bytes lookup tab [] s
+    fresh-after true (pieces options bytes known tab mode.Flow [] s) ∙ flow-ends options bytes known tab [] s
 
 balanced-all : (parts : List (List Event)) → AllByRecursion IsBalanced parts → IsBalanced (flat_map (λ (es : List Event). es) parts)
 balanced-all [] h = empty
 balanced-all (p ∷ ps) h = IsBalanced-append p (flat_map (λ (es : List Event). es) ps) h.0 (balanced-all ps h.1)
 
 pub html-of-parts : HtmlOfParts
-html-of-parts options bytes lookup tab [] h = refl
-html-of-parts options bytes lookup tab (p ∷ ps) h =
-    html-both options bytes lookup tab p (flat_map (λ (es : List Event). es) ps) h.0 (balanced-all ps h.1) (html-ends options bytes lookup tab p)
-    ∙ ap (λ (x : List ℕ). html_by options bytes lookup tab p ++ x) (html-of-parts options bytes lookup tab ps h.1)
+html-of-parts options bytes known tab [] h = refl
+html-of-parts options bytes known tab (p ∷ ps) h =
+    html-both options bytes known tab p (flat_map (λ (es : List Event). es) ps) h.0 (balanced-all ps h.1) (html-ends options bytes known tab p)
+    ∙ ap (λ (x : List ℕ). html_by options bytes known tab p ++ x) (html-of-parts options bytes known tab ps h.1)

@@ -23,7 +23,7 @@ use Rattle.mdhtml_document.specs.declared.names.Inline.{Inline}
 use Rattle.mdhtml_document.specs.declared.names.Inline.TheVariants as inline
 use Rattle.mdhtml_document.specs.declared.shapes.Mode.{Mode}
 use Rattle.mdhtml_document.specs.declared.shapes.Mode.TheVariants as mode
-use Rattle.mdhtml_document.specs.Html.{Shape, address_at, address_link, alignment_of, alone, block_shape, cell, cell_shape, check, code, columns_behind, columns_in, empty_cell, empty_cells, behind_column, heading, html_by, image_of, inline_shape, is_check, is_in_cell, lacking, language, line, link_to, pieces, raw, shape, shape_by, table_shape, container}
+use Rattle.mdhtml_document.specs.Html.{Shape, address_at, address_link, alignment_of, alone, block_shape, cell, cell_shape, check, code, columns_behind, columns_in, empty_cell, empty_cells, behind_column, heading, html_by, image_of, inline_shape, is_check, is_in_cell, lacking, language, line, link_to, pieces, raw, shape, shape_by, table_shape, container, uncalled}
 use Rattle.mdhtml_document.specs.Names.{block_of, inline_of}
 use Rattle.mdhtml_document.specs.Spans.{Nothing, Span, Spans, events_of, spans_of}
 use Rattle.mdhtml_document.specs.Values.{alt_of, behind_first_line, cell_text, code_lines, said}
@@ -97,7 +97,7 @@ module _ (links : Option Link → Option Link) (lines n : ℕ) (new old : List �
   fine-lines (e ∷ es) h = fine-either (enters name.LineEnding e) (drop 1 es) (behind_first_line es) (fine-rest es h.1) (fine-lines es h.1)
 
   block-on : (tight : Bool) (b : Block) (es : List Event) (loose : Bool) (start : Option ℕ) → Fine es
-      → block_shape options new lookup tab tight b (more es) loose start ≡ block_shape options old lookup tab tight b es loose start
+      → block_shape options new (uncalled lookup) tab tight b (more es) loose start ≡ block_shape options old (uncalled lookup) tab tight b es loose start
   block-on tight block.Paragraph es loose start h = refl
   block-on tight block.HeadingAtx es loose start h = ap (λ k. line (heading k) mode.Heading) (length-of-first-on links lines n new old Fits Reads same name.HeadingAtxSequence es)
   block-on tight block.HeadingSetext es loose start h = ap (λ k. line (heading k) mode.Heading) (setext-on links lines n new old Fits Reads same es h)
@@ -120,7 +120,7 @@ module _ (links : Option Link → Option Link) (lines n : ℕ) (new old : List �
   block-on tight block.TableCell es loose start h = refl
   block-on tight block.Other es loose start h = refl
 
-  inline-on : (in_cell : Bool) (i : Inline) (es : List Event) (said alt : List ℕ) → Fine es → inline_shape options new lookup tab in_cell i (more es) said alt ≡ inline_shape options old lookup tab in_cell i es said alt
+  inline-on : (in_cell : Bool) (i : Inline) (es : List Event) (said alt : List ℕ) → Fine es → inline_shape options new (uncalled lookup) tab in_cell i (more es) said alt ≡ inline_shape options old (uncalled lookup) tab in_cell i es said alt
   inline-on in_cell inline.Ending es said alt h = refl
   inline-on in_cell inline.Break es said alt h = refl
   inline-on in_cell inline.Emphasis es said alt h = refl
@@ -137,6 +137,7 @@ module _ (links : Option Link → Option Link) (lines n : ℕ) (new old : List �
   inline-on in_cell inline.Email es said alt h = refl
   inline-on in_cell inline.Address es said alt h = refl
   inline-on in_cell inline.Check es said alt h = refl
+  inline-on in_cell inline.Call es said alt h = refl
   inline-on in_cell inline.Link es said alt h = ap (link_to options) (link-on links lines n new old Fits Reads same lookup es h)
   inline-on in_cell inline.Image es said alt h = ap (image_of options alt) (link-on links lines n new old Fits Reads same lookup es h)
   inline-on in_cell inline.Tail es said alt h = refl
@@ -190,12 +191,12 @@ module _ (links : Option Link → Option Link) (lines n : ℕ) (new old : List �
   cell-on head columns block.Other = refl
 
   text-on : (columns : List Event) (m : Name) (es : List Event) (said alt : List ℕ) → Fine es
-      → inline_shape options new lookup tab (is_in_cell (more columns)) (inline_of m) (more es) said alt ≡ inline_shape options old lookup tab (is_in_cell columns) (inline_of m) es said alt
+      → inline_shape options new (uncalled lookup) tab (is_in_cell (more columns)) (inline_of m) (more es) said alt ≡ inline_shape options old (uncalled lookup) tab (is_in_cell columns) (inline_of m) es said alt
   text-on columns m es said alt h =
-      ap (λ c. inline_shape options new lookup tab c (inline_of m) (more es) said alt) (in-cell-on columns) ∙ inline-on (is_in_cell columns) (inline_of m) es said alt h
+      ap (λ c. inline_shape options new (uncalled lookup) tab c (inline_of m) (more es) said alt) (in-cell-on columns) ∙ inline-on (is_in_cell columns) (inline_of m) es said alt h
 
   by-name-on : (m : Mode) (columns : List Event) (a : Name) (es : List Event) (loose : Bool) (start : Option ℕ) (said alt : List ℕ) → Fine es
-      → shape_by options new lookup tab m (more columns) a (more es) loose start said alt ≡ shape_by options old lookup tab m columns a es loose start said alt
+      → shape_by options new (uncalled lookup) tab m (more columns) a (more es) loose start said alt ≡ shape_by options old (uncalled lookup) tab m columns a es loose start said alt
   by-name-on mode.Flow columns a es loose start said alt h = block-on false (block_of a) es loose start h
   by-name-on mode.Tight columns a es loose start said alt h = block-on true (block_of a) es loose start h
   by-name-on mode.LooseItems columns a es loose start said alt h = refl
@@ -215,7 +216,7 @@ module _ (links : Option Link → Option Link) (lines n : ℕ) (new old : List �
   Tree s = IsFineTree links lines n new old Fits Reads same s
 
   shape-on : (m : Mode) (columns : List Event) (e f : Event) (s : Spans) → is_enter e.kind ≡ true → IsFine Fits Reads e → IsFine Fits Reads f → Fine (events_of s) → Tree s
-      → shape options new lookup tab m (more columns) (the e) (the f) (spans_on links lines n s) ≡ shape options old lookup tab m columns e f s
+      → shape options new (uncalled lookup) tab m (more columns) (the e) (the f) (spans_on links lines n s) ≡ shape options old (uncalled lookup) tab m columns e f s
   shape-on m columns e f s enter h k fine tree =
       let es = events_of s in
       let all = events-of-on links lines n s in
@@ -223,28 +224,28 @@ module _ (links : Option Link → Option Link) (lines n : ℕ) (new old : List �
       let start = start-on links lines n new old Fits Reads same es fine in
       let own = said-on links lines n new old Fits Reads same e f s h k enter in
       let alt = alt-on links lines n new old Fits Reads same s tree in
-      (λ i. shape_by options new lookup tab m (more columns) e.name (all i) (is_loose (all i)) (list_start new (all i)) (said new (the e) (the f) (spans_on links lines n s)) (alt_of new (spans_on links lines n s)))
-      ∙ (λ i. shape_by options new lookup tab m (more columns) e.name (more es) (loose i) (start i) (own i) (alt i))
+      (λ i. shape_by options new (uncalled lookup) tab m (more columns) e.name (all i) (is_loose (all i)) (list_start new (all i)) (said new (the e) (the f) (spans_on links lines n s)) (alt_of new (spans_on links lines n s)))
+      ∙ (λ i. shape_by options new (uncalled lookup) tab m (more columns) e.name (more es) (loose i) (start i) (own i) (alt i))
       ∙ by-name-on m columns e.name es (is_loose es) (list_start old es) (said old e f s) (alt_of old s) fine
 
   abbrev around : (inside : Mode → List Piece) → (behind : List Piece) → Shape → List Piece
   around inside behind here = here.opened ++ (inside here.inside ++ (here.closed ++ behind))
 
-  pieces-on : (m : Mode) (columns : List Event) (s : Spans) → Tree s → pieces options new lookup tab m (more columns) (spans_on links lines n s) ≡ pieces options old lookup tab m columns s
+  pieces-on : (m : Mode) (columns : List Event) (s : Spans) → Tree s → pieces options new (uncalled lookup) tab m (more columns) (spans_on links lines n s) ≡ pieces options old (uncalled lookup) tab m columns s
   pieces-on m columns Nothing h = lacking-on m columns
   pieces-on m columns (Span e f s behind) h =
       let b = block_of e.name in
       let within = columns_in b columns (events_of s) in
       let next = columns_behind b columns in
-      let there = shape options old lookup tab m columns e f s in
-      let inner = λ (i : Mode). pieces options new lookup tab i (columns_in b (more columns) (events_of (spans_on links lines n s))) (spans_on links lines n s) in
+      let there = shape options old (uncalled lookup) tab m columns e f s in
+      let inner = λ (i : Mode). pieces options new (uncalled lookup) tab i (columns_in b (more columns) (events_of (spans_on links lines n s))) (spans_on links lines n s) in
       let columns-in : columns_in b (more columns) (events_of (spans_on links lines n s)) ≡ more within =
       ap (columns_in b (more columns)) (events-of-on links lines n s) ∙ columns-in-on links lines n b columns (events_of s)
       in
-      ap (around inner (pieces options new lookup tab m (columns_behind b (more columns)) (spans_on links lines n behind))) (shape-on m columns e f s h.0 h.1 h.2 h.3 h.4)
+      ap (around inner (pieces options new (uncalled lookup) tab m (columns_behind b (more columns)) (spans_on links lines n behind))) (shape-on m columns e f s h.0 h.1 h.2 h.3 h.4)
       ∙ (λ i. there.opened
-      ++ (pieces options new lookup tab there.inside (columns-in i) (spans_on links lines n s)
-      ++ (there.closed ++ pieces options new lookup tab m (columns-behind-on links lines n b columns i) (spans_on links lines n behind))))
+      ++ (pieces options new (uncalled lookup) tab there.inside (columns-in i) (spans_on links lines n s)
+      ++ (there.closed ++ pieces options new (uncalled lookup) tab m (columns-behind-on links lines n b columns i) (spans_on links lines n behind))))
       ∙ (λ i. there.opened ++ (pieces-on there.inside within s h.4 i ++ (there.closed ++ pieces-on m next behind h.5 i)))
 
   fine-tree : (s : Spans) → AreKinded s → Fine (events_of s) → Tree s
@@ -254,11 +255,11 @@ module _ (links : Option Link → Option Link) (lines n : ℕ) (new old : List �
       let rest = every-back (IsFine Fits Reads) (events_of s) (f ∷ events_of behind) h.1 in
       (ap is_enter k.0, h.0, rest.0, inner, fine-tree s k.2 inner, fine-tree behind k.3 rest.1)
 
-  html-on : (events : List Event) → IsBalanced events → Fine events → html_by options new lookup tab (more events) ≡ html_by options old lookup tab events
+  html-on : (events : List Event) → IsBalanced events → Fine events → html_by options new (uncalled lookup) tab (more events) ≡ html_by options old (uncalled lookup) tab events
   html-on events balanced fine =
       let s = spans_of events in
       let tree = fine-tree s (opened-kinded events).0 (subst Fine (sym (keep-events events balanced)) fine) in
-      ap (λ (t : Spans). html (pieces options new lookup tab mode.Flow [] t)) (spans-of-on links lines n events) ∙ ap html (pieces-on mode.Flow [] s tree)
+      ap (λ (t : Spans). html (pieces options new (uncalled lookup) tab mode.Flow [] t)) (spans-of-on links lines n events) ∙ ap html (pieces-on mode.Flow [] s tree)
 
 -- ---- behind other bytes
 
@@ -329,7 +330,7 @@ behind-nothing options lookup tab bytes behind events ends balanced stand =
     let Fits : ℕ → Type 0 = λ i. i ≤ length bytes in
     let Reads : ℕ → Type 0 = λ i. i < length bytes in
     let fine = every-map (StandsIn bytes) (IsFine Fits Reads) (λ e h. record { fits = h.within; reads = h.reads; marked = h.marked }) events stand in
-    ap (html_by options (bytes ++ behind) lookup tab) (sym (events-stay events))
+    ap (html_by options (bytes ++ behind) (uncalled lookup) tab) (sym (events-stay events))
     ∙ html-on (λ l. l) 0 0 (bytes ++ behind) bytes Fits Reads (before-same bytes behind ends) options lookup tab events balanced fine
 
 -- ---- sections
@@ -343,5 +344,5 @@ balanced-on links lines n (span e f xs ys is en ex same b c) =
 pub html-of-sections : HtmlOfSections
 html-of-sections options lookup tab lines first second links xs ys ends bx by stand marked =
     let moved = map (further_event links lines (length first)) ys in
-    html-both options (first ++ second) lookup tab xs moved bx (balanced-on links lines (length first) by) (html-ends options (first ++ second) lookup tab xs)
+    html-both options (first ++ second) (uncalled lookup) tab xs moved bx (balanced-on links lines (length first) by) (html-ends options (first ++ second) (uncalled lookup) tab xs)
     ∙ (λ i. behind-nothing options lookup tab first second xs ends bx stand i ++ html-moves options lookup tab lines first second links ys by marked i)

@@ -216,6 +216,7 @@ module _ (links : Option Link → Option Link) (lines n : ℕ) (new old : List �
   alt-by-on inline.Email es a b c d h x y = λ j. x j ++ y j
   alt-by-on inline.Address es a b c d h x y = λ j. x j ++ y j
   alt-by-on inline.Check es a b c d h x y = λ j. x j ++ y j
+  alt-by-on inline.Call es a b c d h x y = λ j. x j ++ y j
   alt-by-on inline.Link es a b c d h x y = λ j. x j ++ y j
   alt-by-on inline.Image es a b c d h x y = λ j. x j ++ y j
   alt-by-on inline.Other es a b c d h x y = λ j. x j ++ y j

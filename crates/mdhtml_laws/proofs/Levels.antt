@@ -18,10 +18,12 @@ use Rattle.mdhtml_document.specs.declared.names.Block.{Block}
 use Rattle.mdhtml_document.specs.declared.names.Block.TheVariants as block
 use Rattle.mdhtml_document.specs.declared.names.Inline.{Inline}
 use Rattle.mdhtml_document.specs.declared.names.Inline.TheVariants as inline
+use Rattle.mdhtml_document.specs.declared.notes.Called.{Called}
 use Rattle.mdhtml_document.specs.declared.shapes.Mode.{Mode}
 use Rattle.mdhtml_document.specs.declared.shapes.Mode.TheVariants as mode
-use Rattle.mdhtml_document.specs.Html.{Shape, alignment_of, alone, behind_column, block_shape, blocks, cell, cell_shape, check, columns_behind, columns_in, container, empty_cell, empty_cells, heading_shape, image_of, inline_shape, is_check, is_checked, is_in_cell, item_shape, items, lacking, line, link_to, parts_in_link, pieces, row_shape, shape, shape_by, table_shape, through, within_line}
+use Rattle.mdhtml_document.specs.Html.{Known, Shape, alignment_of, alone, behind_column, block_shape, blocks, call_shape, cell, cell_shape, check, columns_behind, columns_in, container, empty_cell, empty_cells, heading_shape, image_of, inline_shape, is_check, is_checked, is_in_cell, item_shape, items, lacking, line, link_to, parts_in_link, pieces, row_shape, shape, shape_by, table_shape, through, within_line}
 use Rattle.mdhtml_document.specs.Names.{block_of, blocks_by_name, inline_of, inlines_by_name, named}
+use Rattle.mdhtml_document.specs.Notes.{place_of_first}
 use Rattle.mdhtml_document.specs.Spans.{Nothing, Span, Spans, events_of}
 use Rattle.mdhtml_markup.specs.declared.elements.Alignment.{Alignment}
 use Rattle.mdhtml_markup.specs.declared.elements.Element.{Element}
@@ -46,7 +48,7 @@ pub record Goes (from to most : ℕ) (ps : List Piece) : Type 0 where
   pub ends : behind from ps ≡ to
   pub deep : deepest from ps ≤ most
 
-both : (o i j most : ℕ) (xs ys : List Piece) → Goes o i most xs → Goes i j most ys → Goes o j most (xs ++ ys)
+pub both : (o i j most : ℕ) (xs ys : List Piece) → Goes o i most xs → Goes i j most ys → Goes o j most (xs ++ ys)
 both o i j most [] ys h k = subst (λ n. Goes n j most ys) (sym h.ends) k
 both o i j most (Open e attributes ∷ xs) ys h k =
     let d = h.deep in
@@ -108,37 +110,37 @@ block-nests : (n : Name) → grows_block (block_of n) ≡ true → nests n ≡ t
 block-nests = table grows_block blocks_by_name block.Other (refl, (refl, (refl, (refl, (refl, (refl, (refl, (refl, (refl, (refl, (refl, (refl, (refl, (refl, (refl, (refl, (refl, (refl, (refl, tt))))))))))))))))))) refl
 
 inline-nests : (n : Name) → grows_inline (inline_of n) ≡ true → nests n ≡ true
-inline-nests = table grows_inline inlines_by_name inline.Other (refl, (refl, (refl, (refl, (refl, (refl, (refl, (refl, (refl, (refl, (refl, (refl, (refl, (refl, (refl, (refl, (refl, (refl, (refl, tt))))))))))))))))))) refl
+inline-nests = table grows_inline inlines_by_name inline.Other (refl, (refl, (refl, (refl, (refl, (refl, (refl, (refl, (refl, (refl, (refl, (refl, (refl, (refl, (refl, (refl, (refl, (refl, (refl, (refl, tt)))))))))))))))))))) refl
 
 -- how many spans that nest are in one another
 abbrev pub nest : Spans → ℕ
 nest Nothing = 0
 nest (Span e f s t) = max (cond (nests e.name) (suc (nest s)) (nest s)) (nest t)
 
-record IsUpTo (nested : Bool) (here others most : ℕ) : Type 0 where
-  all : here ≤ most
-  less : nested ≡ true → here < most
-  rest : others ≤ most
+pub record IsUpTo (nested : Bool) (here others most : ℕ) : Type 0 where
+  pub all : here ≤ most
+  pub less : nested ≡ true → here < most
+  pub rest : others ≤ most
 
-up-to : (nested : Bool) (here others most : ℕ) → max (cond nested (suc here) here) others ≤ most → IsUpTo nested here others most
+pub up-to : (nested : Bool) (here others most : ℕ) → max (cond nested (suc here) here) others ≤ most → IsUpTo nested here others most
 up-to true here others most h = record { all = omega (arith, h); less = λ e. omega (arith, h); rest = omega (arith, h) }
 up-to false here others most h = record { all = omega (arith, h); less = λ e. absurd (false≢true e); rest = omega (arith, h) }
 
 -- ---- shapes
 
--- how many elements more may be open in spans, by how they are written and how many of them nest
-abbrev room : Mode → ℕ → ℕ
-room mode.Flow k = 2 * k + 5
-room mode.Tight k = 2 * k + 5
-room mode.LooseItems k = 2 * k + 6
-room mode.TightItems k = 2 * k + 6
-room mode.Heading k = 2 * k + 1
-room mode.Table k = 2 * k + 4
-room (mode.Rows head) k = 2 * k + 3
-room (mode.Cells head) k = 2 * k + 2
-room mode.Paragraph k = 2 * k + 1
-room mode.Text k = 2 * k + 1
-room mode.Nothing k = 0
+-- how many elements more may be open in spans, by how many more a call may be, how they are written and how many of them nest
+abbrev room : (more : ℕ) → Mode → ℕ → ℕ
+room more mode.Flow k = 2 * k + (5 + more)
+room more mode.Tight k = 2 * k + (5 + more)
+room more mode.LooseItems k = 2 * k + (6 + more)
+room more mode.TightItems k = 2 * k + (6 + more)
+room more mode.Heading k = 2 * k + (1 + more)
+room more mode.Table k = 2 * k + (4 + more)
+room more (mode.Rows head) k = 2 * k + (3 + more)
+room more (mode.Cells head) k = 2 * k + (2 + more)
+room more mode.Paragraph k = 2 * k + (1 + more)
+room more mode.Text k = 2 * k + (1 + more)
+room more mode.Nothing k = 0
 
 record Fits (o i most : ℕ) (here : Shape) : Type 0 where
   first : Goes o i most here.opened
@@ -170,18 +172,18 @@ empty-goes zero head columns i most h = record { ends = refl; deep = omega (arit
 empty-goes (suc n) head columns i most h =
     empty-by head (first_in name.GfmTableDelimiterCell columns) (empty_cells n head (behind_column columns)) i most h (empty-goes n head (behind_column columns) i most h)
 
-left-goes : (m : Mode) (columns : List Event) (k i most : ℕ) → i + room m k ≤ most → Goes i i most (lacking m columns)
-left-goes (mode.Cells head) columns k i most h = empty-goes 100 head columns i most (omega (arith, h))
-left-goes mode.Flow columns k i most h = record { ends = refl; deep = omega (arith, h) }
-left-goes mode.Tight columns k i most h = record { ends = refl; deep = omega (arith, h) }
-left-goes mode.LooseItems columns k i most h = record { ends = refl; deep = omega (arith, h) }
-left-goes mode.TightItems columns k i most h = record { ends = refl; deep = omega (arith, h) }
-left-goes mode.Heading columns k i most h = record { ends = refl; deep = omega (arith, h) }
-left-goes mode.Table columns k i most h = record { ends = refl; deep = omega (arith, h) }
-left-goes (mode.Rows head) columns k i most h = record { ends = refl; deep = omega (arith, h) }
-left-goes mode.Paragraph columns k i most h = record { ends = refl; deep = omega (arith, h) }
-left-goes mode.Text columns k i most h = record { ends = refl; deep = omega (arith, h) }
-left-goes mode.Nothing columns k i most h = record { ends = refl; deep = omega (arith, h) }
+left-goes : (more : ℕ) (m : Mode) (columns : List Event) (k i most : ℕ) → i + room more m k ≤ most → Goes i i most (lacking m columns)
+left-goes more (mode.Cells head) columns k i most h = empty-goes 100 head columns i most (omega (arith, h))
+left-goes more mode.Flow columns k i most h = record { ends = refl; deep = omega (arith, h) }
+left-goes more mode.Tight columns k i most h = record { ends = refl; deep = omega (arith, h) }
+left-goes more mode.LooseItems columns k i most h = record { ends = refl; deep = omega (arith, h) }
+left-goes more mode.TightItems columns k i most h = record { ends = refl; deep = omega (arith, h) }
+left-goes more mode.Heading columns k i most h = record { ends = refl; deep = omega (arith, h) }
+left-goes more mode.Table columns k i most h = record { ends = refl; deep = omega (arith, h) }
+left-goes more (mode.Rows head) columns k i most h = record { ends = refl; deep = omega (arith, h) }
+left-goes more mode.Paragraph columns k i most h = record { ends = refl; deep = omega (arith, h) }
+left-goes more mode.Text columns k i most h = record { ends = refl; deep = omega (arith, h) }
+left-goes more mode.Nothing columns k i most h = record { ends = refl; deep = omega (arith, h) }
 
 -- HTML of the document opens no element
 raw-goes : (allowed : Bool) (h : List ℕ) (o most : ℕ) (ps : List Piece) → Goes o o most ps → Goes o o most (cond allowed (Kept h) (Text h) ∷ ps)
@@ -191,9 +193,9 @@ raw-goes false h o most ps g = record { ends = g.ends; deep = g.deep }
 fresh-goes : (o most : ℕ) (ps : List Piece) → Goes o o most ps → Goes o o most (Fresh ∷ ps)
 fresh-goes o most ps g = record { ends = g.ends; deep = g.deep }
 
-module _ (options : CompileOptions) (bytes : List ℕ) (lookup : (label : List ℕ) → Option Parts) (tab : ℕ) where
+module _ (options : CompileOptions) (bytes : List ℕ) (known : Known) (tab more : ℕ) (twice : (place : ℕ) (c : Called) → known.called place ≡ Some c → 1 ≤ more) where
   abbrev the : Mode → (columns : List Event) → Spans → List Piece
-  the m columns s = pieces options bytes lookup tab m columns s
+  the m columns s = pieces options bytes known tab m columns s
 
   -- a shape of spans, with what is in it, in these columns
   record Shaped (columns : List Event) (o most : ℕ) (here : Shape) (s : Spans) : Type 0 where
@@ -202,7 +204,7 @@ module _ (options : CompileOptions) (bytes : List ℕ) (lookup : (label : List �
     inside : Goes inner inner most (the here.inside columns s)
 
   -- spans whose pieces go so
-  module _ (columns : List Event) (s : Spans) (go : (m : Mode) (k i most : ℕ) → nest s ≤ k → i + room m k ≤ most → Goes i i most (the m columns s)) (o most : ℕ) where
+  module _ (columns : List Event) (s : Spans) (go : (m : Mode) (k i most : ℕ) → nest s ≤ k → i + room more m k ≤ most → Goes i i most (the m columns s)) (o most : ℕ) where
     just : (ps : List Piece) → Goes o o most ps → Shaped columns o most (alone ps) s
     just ps g =
         let below : o ≤ most = let d = g.deep in above o ps most d in
@@ -211,35 +213,35 @@ module _ (options : CompileOptions) (bytes : List ℕ) (lookup : (label : List �
     none : o ≤ most → Shaped columns o most (alone []) s
     none h = just [] (record { ends = refl; deep = h })
 
-    over : (m : Mode) (k : ℕ) → nest s ≤ k → o + room m k ≤ most → Shaped columns o most (through m) s
+    over : (m : Mode) (k : ℕ) → nest s ≤ k → o + room more m k ≤ most → Shaped columns o most (through m) s
     over m k n h = record { inner = o; fits = through-fits o most m (omega (arith, h)); inside = go m k o most n h }
 
-    in-line : (e : Element) (attributes : List Attribute) (k : ℕ) → nest s ≤ k → suc o + (2 * k + 1) ≤ most → Shaped columns o most (within_line e attributes) s
+    in-line : (e : Element) (attributes : List Attribute) (k : ℕ) → nest s ≤ k → suc o + (2 * k + (1 + more)) ≤ most → Shaped columns o most (within_line e attributes) s
     in-line e attributes k n h = record { inner = suc o; fits = within-fits o most e attributes (omega (arith, h)); inside = go mode.Text k (suc o) most n h }
 
-    in-container : (e : Element) (attributes : List Attribute) (m : Mode) (k : ℕ) → nest s ≤ k → suc o + room m k ≤ most → Shaped columns o most (container e attributes m) s
+    in-container : (e : Element) (attributes : List Attribute) (m : Mode) (k : ℕ) → nest s ≤ k → suc o + room more m k ≤ most → Shaped columns o most (container e attributes m) s
     in-container e attributes m k n h = record { inner = suc o; fits = container-fits o most e attributes m (omega (arith, h)); inside = go m k (suc o) most n h }
 
-    a-line : (e : Element) (m : Mode) (k : ℕ) → nest s ≤ k → suc o + room m k ≤ most → Shaped columns o most (line e m) s
+    a-line : (e : Element) (m : Mode) (k : ℕ) → nest s ≤ k → suc o + room more m k ≤ most → Shaped columns o most (line e m) s
     a-line e m k n h = record { inner = suc o; fits = line-fits o most e m (omega (arith, h)); inside = go m k (suc o) most n h }
 
-    a-list : (loose : Bool) (e : Element) (attributes : List Attribute) (k : ℕ) → nest s < k → o + (2 * k + 5) ≤ most → Shaped columns o most (container e attributes (items loose)) s
+    a-list : (loose : Bool) (e : Element) (attributes : List Attribute) (k : ℕ) → nest s < k → o + (2 * k + (5 + more)) ≤ most → Shaped columns o most (container e attributes (items loose)) s
     a-list true e attributes k n h = in-container e attributes mode.LooseItems (k - 1) (omega (arith, n)) (omega (arith, n, h))
     a-list false e attributes k n h = in-container e attributes mode.TightItems (k - 1) (omega (arith, n)) (omega (arith, n, h))
 
-    an-item : (tight : Bool) (k : ℕ) → nest s ≤ k → o + (2 * k + 6) ≤ most → Shaped columns o most (line ListItem (blocks tight)) s
+    an-item : (tight : Bool) (k : ℕ) → nest s ≤ k → o + (2 * k + (6 + more)) ≤ most → Shaped columns o most (line ListItem (blocks tight)) s
     an-item true k n h = a-line ListItem mode.Tight k n (omega (arith, h))
     an-item false k n h = a-line ListItem mode.Flow k n (omega (arith, h))
 
-    stray-item : (tight : Bool) (k : ℕ) → nest s ≤ k → o + (2 * k + 5) ≤ most → Shaped columns o most (through (blocks tight)) s
+    stray-item : (tight : Bool) (k : ℕ) → nest s ≤ k → o + (2 * k + (5 + more)) ≤ most → Shaped columns o most (through (blocks tight)) s
     stray-item true k n h = over mode.Tight k n h
     stray-item false k n h = over mode.Flow k n h
 
-    a-paragraph : (tight : Bool) (k : ℕ) → nest s ≤ k → o + (2 * k + 5) ≤ most → Shaped columns o most (cond tight (through mode.Paragraph) (line Paragraph mode.Paragraph)) s
+    a-paragraph : (tight : Bool) (k : ℕ) → nest s ≤ k → o + (2 * k + (5 + more)) ≤ most → Shaped columns o most (cond tight (through mode.Paragraph) (line Paragraph mode.Paragraph)) s
     a-paragraph true k n h = over mode.Paragraph k n (omega (arith, h))
     a-paragraph false k n h = a-line Paragraph mode.Paragraph k n (omega (arith, h))
 
-    a-link : (parts : Option Parts) (k : ℕ) → nest s < k → o + (2 * k + 1) ≤ most → Shaped columns o most (link_to options parts) s
+    a-link : (parts : Option Parts) (k : ℕ) → nest s < k → o + (2 * k + (1 + more)) ≤ most → Shaped columns o most (link_to options parts) s
     a-link None k n h = over mode.Text k (omega (arith, n)) h
     a-link (Some parts) k n h = in-line _ _ (k - 1) (omega (arith, n)) (omega (arith, n, h))
 
@@ -247,14 +249,18 @@ module _ (options : CompileOptions) (bytes : List ℕ) (lookup : (label : List �
     an-image alt None h = just (Text alt ∷ []) (record { ends = refl; deep = omega (arith, h) })
     an-image alt (Some parts) h = just _ (record { ends = refl; deep = omega (arith, h) })
 
+    a-call : (c : Option Called) → ((d : Called) → c ≡ Some d → 1 ≤ more) → (k : ℕ) → nest s ≤ k → o + (2 * k + (1 + more)) ≤ most → Shaped columns o most (call_shape c) s
+    a-call None some k n h = over mode.Text k n h
+    a-call (Some c) some k n h = let one = some c refl in just _ (record { ends = omega arith; deep = omega (arith, h, one) })
+
     -- a box of a task, or what else is written
     boxed : (b checked : Bool) (other : Shape) → suc o ≤ most → Shaped columns o most other s → Shaped columns o most (cond b (check checked) other) s
     boxed true checked other h x = just _ (record { ends = refl; deep = omega (arith, h) })
     boxed false checked other h x = x
 
     module _ (k : ℕ) (all : nest s ≤ k) where
-      a-block : (tight : Bool) (b : Block) (es : List Event) (loose : Bool) (start : Option ℕ) → (grows_block b ≡ true → nest s < k) → o + (2 * k + 5) ≤ most
-          → Shaped columns o most (block_shape options bytes lookup tab tight b es loose start) s
+      a-block : (tight : Bool) (b : Block) (es : List Event) (loose : Bool) (start : Option ℕ) → (grows_block b ≡ true → nest s < k) → o + (2 * k + (5 + more)) ≤ most
+          → Shaped columns o most (block_shape options bytes known tab tight b es loose start) s
       a-block tight block.Paragraph es loose start n h = a-paragraph tight k all h
       a-block tight block.HeadingAtx es loose start n h = a-line _ mode.Heading k all (omega (arith, h))
       a-block tight block.HeadingSetext es loose start n h = a-line _ mode.Heading k all (omega (arith, h))
@@ -274,7 +280,7 @@ module _ (options : CompileOptions) (bytes : List ℕ) (lookup : (label : List �
       a-block tight block.TableCell es loose start n h = none (omega (arith, h))
       a-block tight block.Other es loose start n h = none (omega (arith, h))
 
-      in-list : (tight : Bool) (b : Block) → o + (2 * k + 6) ≤ most → Shaped columns o most (item_shape tight b) s
+      in-list : (tight : Bool) (b : Block) → o + (2 * k + (6 + more)) ≤ most → Shaped columns o most (item_shape tight b) s
       in-list tight block.Paragraph h = none (omega (arith, h))
       in-list tight block.HeadingAtx h = none (omega (arith, h))
       in-list tight block.HeadingSetext h = none (omega (arith, h))
@@ -294,7 +300,7 @@ module _ (options : CompileOptions) (bytes : List ℕ) (lookup : (label : List �
       in-list tight block.TableCell h = none (omega (arith, h))
       in-list tight block.Other h = none (omega (arith, h))
 
-      in-heading : (b : Block) → o + (2 * k + 1) ≤ most → Shaped columns o most (heading_shape b) s
+      in-heading : (b : Block) → o + (2 * k + (1 + more)) ≤ most → Shaped columns o most (heading_shape b) s
       in-heading block.Paragraph h = none (omega (arith, h))
       in-heading block.HeadingAtx h = none (omega (arith, h))
       in-heading block.HeadingSetext h = none (omega (arith, h))
@@ -316,11 +322,11 @@ module _ (options : CompileOptions) (bytes : List ℕ) (lookup : (label : List �
 
       -- ---- tables
 
-      a-body : (some : Bool) → o + (2 * k + 4) ≤ most → Shaped columns o most (cond some (container TableBody [] (mode.Rows false)) (alone [])) s
+      a-body : (some : Bool) → o + (2 * k + (4 + more)) ≤ most → Shaped columns o most (cond some (container TableBody [] (mode.Rows false)) (alone [])) s
       a-body true h = in-container TableBody [] (mode.Rows false) k all (omega (arith, h))
       a-body false h = none (omega (arith, h))
 
-      in-table : (b : Block) (es : List Event) → o + (2 * k + 4) ≤ most → Shaped columns o most (table_shape b es) s
+      in-table : (b : Block) (es : List Event) → o + (2 * k + (4 + more)) ≤ most → Shaped columns o most (table_shape b es) s
       in-table block.TableHead es h = in-container TableHead [] (mode.Rows true) k all (omega (arith, h))
       in-table block.TableBody es h = a-body (list_any (enters name.GfmTableRow) es) h
       in-table block.Paragraph es h = none (omega (arith, h))
@@ -340,7 +346,7 @@ module _ (options : CompileOptions) (bytes : List ℕ) (lookup : (label : List �
       in-table block.TableCell es h = none (omega (arith, h))
       in-table block.Other es h = none (omega (arith, h))
 
-      in-rows : (head : Bool) (b : Block) → o + (2 * k + 3) ≤ most → Shaped columns o most (row_shape head b) s
+      in-rows : (head : Bool) (b : Block) → o + (2 * k + (3 + more)) ≤ most → Shaped columns o most (row_shape head b) s
       in-rows head block.TableRow h = in-container TableRow [] (mode.Cells head) k all (omega (arith, h))
       in-rows head block.Paragraph h = none (omega (arith, h))
       in-rows head block.HeadingAtx h = none (omega (arith, h))
@@ -360,13 +366,13 @@ module _ (options : CompileOptions) (bytes : List ℕ) (lookup : (label : List �
       in-rows head block.TableCell h = none (omega (arith, h))
       in-rows head block.Other h = none (omega (arith, h))
 
-      a-cell : (head : Bool) (c : Option (List Event)) → o + (2 * k + 2) ≤ most
+      a-cell : (head : Bool) (c : Option (List Event)) → o + (2 * k + (2 + more)) ≤ most
           → Shaped columns o most (elim c as (λ (_ : Option (List Event)). Shape) [ None ↦ alone [] | Some column ↦ cell head (alignment_of column) ]) s
       a-cell head None h = none (omega (arith, h))
       a-cell head (Some column) h =
           record { inner = suc o; fits = cell-fits o most head (alignment_of column) (omega (arith, h)); inside = go mode.Heading k (suc o) most all (omega (arith, h)) }
 
-      in-cells : (head : Bool) (around : List Event) (b : Block) → o + (2 * k + 2) ≤ most → Shaped columns o most (cell_shape head around b) s
+      in-cells : (head : Bool) (around : List Event) (b : Block) → o + (2 * k + (2 + more)) ≤ most → Shaped columns o most (cell_shape head around b) s
       in-cells head around block.TableCell h = a-cell head (first_in name.GfmTableDelimiterCell around) h
       in-cells head around block.Paragraph h = none (omega (arith, h))
       in-cells head around block.HeadingAtx h = none (omega (arith, h))
@@ -388,8 +394,8 @@ module _ (options : CompileOptions) (bytes : List ℕ) (lookup : (label : List �
 
       -- ---- text
 
-      an-inline : (in_cell : Bool) (i : Inline) (es : List Event) (said alt : List ℕ) → (grows_inline i ≡ true → nest s < k) → o + (2 * k + 1) ≤ most
-          → Shaped columns o most (inline_shape options bytes lookup tab in_cell i es said alt) s
+      an-inline : (in_cell : Bool) (i : Inline) (es : List Event) (said alt : List ℕ) → (grows_inline i ≡ true → nest s < k) → o + (2 * k + (1 + more)) ≤ most
+          → Shaped columns o most (inline_shape options bytes known tab in_cell i es said alt) s
       an-inline in_cell inline.Ending es said alt n h = just _ (record { ends = refl; deep = omega (arith, h) })
       an-inline in_cell inline.Break es said alt n h = just _ (record { ends = refl; deep = omega (arith, h) })
       an-inline in_cell inline.Emphasis es said alt n h = let less = n refl in in-line _ _ (k - 1) (omega (arith, less)) (omega (arith, less, h))
@@ -401,16 +407,17 @@ module _ (options : CompileOptions) (bytes : List ℕ) (lookup : (label : List �
       an-inline in_cell inline.Www es said alt n h = just _ (record { ends = omega arith; deep = omega (arith, h) })
       an-inline in_cell inline.Email es said alt n h = just _ (record { ends = omega arith; deep = omega (arith, h) })
       an-inline in_cell inline.Address es said alt n h = just _ (record { ends = omega arith; deep = omega (arith, h) })
-      an-inline in_cell inline.Link es said alt n h = a-link (parts_in_link bytes lookup es) k (n refl) h
-      an-inline in_cell inline.Image es said alt n h = an-image alt (parts_in_link bytes lookup es) (omega (arith, h))
+      an-inline in_cell inline.Link es said alt n h = a-link (parts_in_link bytes known.lookup es) k (n refl) h
+      an-inline in_cell inline.Image es said alt n h = an-image alt (parts_in_link bytes known.lookup es) (omega (arith, h))
       an-inline in_cell inline.Check es said alt n h = none (omega (arith, h))
+      an-inline in_cell inline.Call es said alt n h = a-call (known.called (place_of_first es)) (twice (place_of_first es)) k all h
       an-inline in_cell inline.Tail es said alt n h = none (omega (arith, h))
       an-inline in_cell inline.Other es said alt n h =
           let below : o ≤ most = omega (arith, h) in
           record { inner = o; fits = record { first = record { ends = refl; deep = below }; last = record { ends = refl; deep = below } }; inside = go mode.Text k o most all h }
 
-      shaped : (m : Mode) (around : List Event) (n : Name) (es : List Event) (loose : Bool) (start : Option ℕ) (said alt : List ℕ) → (nests n ≡ true → nest s < k) → o + room m k ≤ most
-          → Shaped columns o most (shape_by options bytes lookup tab m around n es loose start said alt) s
+      shaped : (m : Mode) (around : List Event) (n : Name) (es : List Event) (loose : Bool) (start : Option ℕ) (said alt : List ℕ) → (nests n ≡ true → nest s < k) → o + room more m k ≤ most
+          → Shaped columns o most (shape_by options bytes known tab m around n es loose start said alt) s
       shaped mode.Flow around n es loose start said alt less h = a-block false (block_of n) es loose start (λ g. less (block-nests n g)) h
       shaped mode.Tight around n es loose start said alt less h = a-block true (block_of n) es loose start (λ g. less (block-nests n g)) h
       shaped mode.LooseItems around n es loose start said alt less h = in-list false (block_of n) h
@@ -426,19 +433,19 @@ module _ (options : CompileOptions) (bytes : List ℕ) (lookup : (label : List �
 
   -- ---- spans
 
-  shaped-span : (m : Mode) (around columns : List Event) (e f : Event) (s : Spans) → ((n : Mode) (k i most : ℕ) → nest s ≤ k → i + room n k ≤ most → Goes i i most (the n columns s)) → (k o most : ℕ)
-      → nest s ≤ k → (nests e.name ≡ true → nest s < k) → o + room m k ≤ most → Shaped columns o most (shape options bytes lookup tab m around e f s) s
+  shaped-span : (m : Mode) (around columns : List Event) (e f : Event) (s : Spans) → ((n : Mode) (k i most : ℕ) → nest s ≤ k → i + room more n k ≤ most → Goes i i most (the n columns s)) → (k o most : ℕ)
+      → nest s ≤ k → (nests e.name ≡ true → nest s < k) → o + room more m k ≤ most → Shaped columns o most (shape options bytes known tab m around e f s) s
   shaped-span m around columns e f s go k o most all less h = shaped columns s go o most k all m around e.name _ _ _ _ _ less h
 
   -- in front of the pieces of spans and behind them as many elements are open, and in them no more than there is room for
-  pub stays : (m : Mode) (columns : List Event) (s : Spans) (k o most : ℕ) → nest s ≤ k → o + room m k ≤ most → Goes o o most (the m columns s)
-  stays m columns Nothing k o most h r = left-goes m columns k o most r
+  pub stays : (m : Mode) (columns : List Event) (s : Spans) (k o most : ℕ) → nest s ≤ k → o + room more m k ≤ most → Goes o o most (the m columns s)
+  stays m columns Nothing k o most h r = left-goes more m columns k o most r
   stays m columns (Span e f s t) k o most h r =
       let up = up-to (nests e.name) (nest s) (nest t) k h in
       let b = block_of e.name in
       let deeper = columns_in b columns (events_of s) in
       let others = columns_behind b columns in
-      let here = shape options bytes lookup tab m columns e f s in
+      let here = shape options bytes known tab m columns e f s in
       let x = shaped-span m columns deeper e f s (λ n j i limit. stays n deeper s j i limit) k o most up.all up.less r in
       let inner = x.inner in
       both o inner o most here.opened _ x.fits.first

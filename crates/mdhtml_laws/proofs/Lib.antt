@@ -7,3 +7,4 @@ pub mod FurtherSpans
 pub mod FurtherText
 pub mod Levels
 pub mod Nested
+pub mod NoteLevels

@@ -1,41 +1,22 @@
 -- Within a limit of depth no more spans that nest are in one another than it says, and elements are as deep.
-use Rattle.std.proofs.Common.{◌≡◌, ℕ, suc, ◌+◌, ◌*◌, ◌<◌, ◌≤◌, ◌++◌, Bool, true, false, cond, List, [], ◌∷◌, length, drop, refl, sym, ap, subst, ◌∙◌, arith}
+use Rattle.std.proofs.Common.{◌≡◌, ℕ, suc, ◌+◌, ◌*◌, ◌≤◌, ◌++◌, Bool, true, false, cond, List, [], ◌∷◌, sym, subst, ◌∙◌, arith}
 use Rattle.std.proofs.lemmas.Bool.{and_parts, leb-false, not-true}
-use Rattle.std.proofs.lemmas.List.{append-nil, drop_at}
-use Rattle.std.specs.Prelude.{⊤, ◌&&◌, max, nat_le, not}
+use Rattle.std.proofs.lemmas.List.{append-nil}
+use Rattle.std.proofs.lemmas.Option.{none-some}
+use Rattle.std.specs.Prelude.{◌&&◌, max, nat_le, not, reverse}
 use Rattle.markdown_base.specs.declared.event.Event.{Event}
-use Rattle.markdown_base.specs.Events.{IsBalanced, empty, span}
-use Rattle.mddocument_link_targets.proofs.SpanEnds.{spans-end}
-use Rattle.mddocument_link_targets.specs.Spans.{inside}
-use Rattle.mdhtml_laws.specs.Depth.{HtmlIsShallow}
-use Rattle.mdhtml_laws.proofs.Levels.{nest, stays}
+use Rattle.markdown_base.specs.Events.{IsBalanced}
+use Rattle.mdhtml_laws.specs.Depth.{HtmlIsShallow, HtmlWithNotesIsShallow, HtmlWithoutCallsIsShallow}
+use Rattle.mdhtml_laws.proofs.Levels.{both, nest, stays}
+use Rattle.mdhtml_laws.proofs.NoteLevels.{notes-up-to, section-goes}
 use Rattle.mdhtml_depth.proofs.Kept.{balance-kept, behind-enter, deep-enter, depth-kept, span-back}
 use Rattle.mdhtml_depth.specs.Depth.{behind, has_depth, is_deep, nests, within}
-use Rattle.mdhtml_document.proofs.Linear.{none-there, same-first}
 use Rattle.mdhtml_document.specs.declared.shapes.Mode.TheVariants as mode
+use Rattle.mdhtml_document.specs.Html.{pieces, section, uncalled}
+use Rattle.mdhtml_document.specs.Notes.{calls_in, labels_of, notes_in}
 use Rattle.mdhtml_document.specs.Spans.{Nothing, Span, Spans, events_of, spans_of}
-use Rattle.mdhtml_document.proofs.Both.{keep-events}
-use Rattle.mdhtml_document.proofs.SpanFacts.{AreKinded, inside-of, opened-kinded, span-append}
-
--- each exit has the name of its enter
-abbrev AreNamed : Spans → Type 0
-AreNamed Nothing = ⊤
-AreNamed (Span e f s t) = (f.name ≡ e.name) × AreNamed s × AreNamed t
-
-named : (s : Spans) (l : List Event) → AreKinded s → IsBalanced l → l ≡ events_of s → AreNamed s
-named Nothing l h b is = tt
-named (Span e f s t) l h empty is = absurd (none-there e (events_of s ++ f ∷ events_of t) is)
-named (Span e f s t) l h (span d g xs ys whole enters exits same bx by) is =
-    let all : d ∷ (xs ++ g ∷ ys) ≡ e ∷ (events_of s ++ f ∷ events_of t) = sym whole ∙ is in
-    let rest : xs ++ g ∷ ys ≡ events_of s ++ f ∷ events_of t = ap (drop 1) all in
-    let inner : xs ≡ events_of s = sym (spans-end xs ys g bx exits).0 ∙ ap inside rest ∙ inside-of s f (events_of t) h.2 h.1 in
-    let outer : g ∷ ys ≡ f ∷ events_of t = sym (drop_at xs (g ∷ ys) (length xs) refl) ∙ ap (drop (length xs)) rest ∙ drop_at (events_of s) (f ∷ events_of t) (length xs) (sym (ap length inner)) in
-    let first : d ≡ e = same-first d e _ _ all in
-    let last : g ≡ f = same-first g f _ _ outer in (
-      sym (ap (λ (x : Event). x.name) last) ∙ same ∙ ap (λ (x : Event). x.name) first,
-      named s xs h.2 bx inner,
-      named t ys h.3 by (ap (drop 1) outer),
-    )
+use Rattle.mdhtml_document.proofs.Both.{AreNamed, balanced-named, keep-events}
+use Rattle.mdhtml_document.proofs.SpanFacts.{AreKinded, opened-kinded, span-append}
 
 -- ---- depth
 
@@ -69,13 +50,32 @@ within-limit limit o (Span e f s t) zs h n d k =
     let outer = within-limit limit o t zs h.3 n.2 back k in
     record { few = span-few b limit o (nest s) (nest t) (subst (λ i. i + nest s ≤ limit) i-is inner.few) outer.few; rest = outer.rest }
 
-pub html-shallow : HtmlIsShallow
-html-shallow limit options bytes lookup tab events balanced =
+-- what is left of events nests no deeper than the limit
+nest-left : (limit : ℕ) (events : List Event) → IsBalanced events → nest (spans_of (within limit 0 events)) ≤ limit
+nest-left limit events balanced =
     let left = within limit 0 events in
     let s = spans_of left in
     let kept = balance-kept limit 0 events balanced in
     let are : left ≡ events_of s = sym (keep-events left kept) in
     let kinded = (opened-kinded left).0 in
     let depth : has_depth limit 0 (events_of s ++ []) ≡ true = subst (λ l. has_depth limit 0 l ≡ true) (are ∙ sym (append-nil (events_of s))) (depth-kept limit events balanced) in
-    let few = (within-limit limit 0 s [] kinded (named s left kinded kept are) depth (omega arith)).few in
-    (stays options bytes lookup tab mode.Flow [] s limit 0 (2 * limit + 5) (omega (arith, few)) (omega arith)).deep
+    let few = (within-limit limit 0 s [] kinded (balanced-named left kept) depth (omega arith)).few in
+    omega (arith, few)
+
+pub html-shallow : HtmlIsShallow
+html-shallow limit options bytes known tab events balanced =
+    let few = nest-left limit events balanced in
+    (stays options bytes known tab 1 (λ place c is. omega arith) mode.Flow [] (spans_of (within limit 0 events)) limit 0 (2 * limit + 6) few (omega arith)).deep
+
+pub uncalled-shallow : HtmlWithoutCallsIsShallow
+uncalled-shallow limit options bytes lookup tab events balanced =
+    let few = nest-left limit events balanced in
+    (stays options bytes (uncalled lookup) tab 0 (λ place c is. absurd (none-some c is)) mode.Flow [] (spans_of (within limit 0 events)) limit 0 (2 * limit + 5) few (omega arith)).deep
+
+pub notes-shallow : HtmlWithNotesIsShallow
+notes-shallow limit options bytes known tab events balanced =
+    let left = within limit 0 events in
+    let s = spans_of left in
+    let few = nest-left limit events balanced in
+    (both 0 0 0 (2 * limit + 9) (pieces options bytes known tab mode.Flow [] s) (section options bytes known tab left) (stays options bytes known tab 1 (λ place c is. omega arith) mode.Flow [] s limit 0 (2 * limit + 9) few (omega arith))
+    (section-goes options bytes known tab limit 0 (2 * limit + 9) (omega arith) (notes_in bytes s) (notes-up-to bytes limit s few) (labels_of (reverse (calls_in bytes left))))).deep

@@ -10,7 +10,7 @@ use Rattle.markdown_base.specs.Events.{IsBalanced, same_name}
 use Rattle.mddocument_link_targets.specs.declared.targets.Parts.{Parts}
 use Rattle.mddocument_link_targets.specs.Spans.{enters}
 use Rattle.mdgfm_literals.specs.Laws.{end_line, further_event}
-use Rattle.mdhtml_document.specs.Html.{html_by}
+use Rattle.mdhtml_document.specs.Html.{html_by, uncalled}
 
 -- the value of a character reference has a byte before it: `&`, `#`, `x` or `X`
 abbrev pub IsMarked : Event → Type 0
@@ -31,14 +31,14 @@ abbrev pub HtmlMoves : Type 0
 HtmlMoves =
     (options : CompileOptions) (lookup : (label : List ℕ) → Option Parts) (tab lines : ℕ) (before bytes : List ℕ) (links : Option Link → Option Link) (events : List Event)
     → IsBalanced events → AllByRecursion IsMarked events
-    → html_by options (before ++ bytes) lookup tab (map (further_event links lines (length before)) events) ≡ html_by options bytes lookup tab events
+    → html_by options (before ++ bytes) (uncalled lookup) tab (map (further_event links lines (length before)) events) ≡ html_by options bytes (uncalled lookup) tab events
 
 -- Bytes behind the lines of events do nothing
 abbrev pub BytesBehindDoNothing : Type 0
 BytesBehindDoNothing =
     (options : CompileOptions) (lookup : (label : List ℕ) → Option Parts) (tab : ℕ) (bytes behind : List ℕ) (events : List Event)
     → end_line bytes ≡ true → IsBalanced events → AllByRecursion (StandsIn bytes) events
-    → html_by options (bytes ++ behind) lookup tab events ≡ html_by options bytes lookup tab events
+    → html_by options (bytes ++ behind) (uncalled lookup) tab events ≡ html_by options bytes (uncalled lookup) tab events
 
 -- So the HTML of a document is that of its sections: of events in its first lines, and of those of the lines behind, each read alone, by what labels are
 -- defined as in all
@@ -46,5 +46,5 @@ abbrev pub HtmlOfSections : Type 0
 HtmlOfSections =
     (options : CompileOptions) (lookup : (label : List ℕ) → Option Parts) (tab lines : ℕ) (first second : List ℕ) (links : Option Link → Option Link) (xs ys : List Event)
     → end_line first ≡ true → IsBalanced xs → IsBalanced ys → AllByRecursion (StandsIn first) xs → AllByRecursion IsMarked ys
-    → html_by options (first ++ second) lookup tab (xs ++ map (further_event links lines (length first)) ys)
-    ≡ html_by options first lookup tab xs ++ html_by options second lookup tab ys
+    → html_by options (first ++ second) (uncalled lookup) tab (xs ++ map (further_event links lines (length first)) ys)
+    ≡ html_by options first (uncalled lookup) tab xs ++ html_by options second (uncalled lookup) tab ys

@@ -1,13 +1,16 @@
 //! Laws of the HTML of events. Each is a function that does nothing; its contract is the law.
 
-ghost use Rattle.mdhtml_laws.specs.Depth.{HtmlIsShallow};
+ghost use Rattle.mdhtml_laws.specs.Depth.{HtmlIsShallow, HtmlWithNotesIsShallow, HtmlWithoutCallsIsShallow};
 ghost use Rattle.mdhtml_laws.specs.DocumentSections.{HtmlOfDocumentSections};
 ghost use Rattle.mdhtml_laws.specs.Moved.{BytesBehindDoNothing, HtmlMoves, HtmlOfSections};
 ghost use Rattle.mdhtml_laws.specs.Parts.{HtmlEndsLines, HtmlOfParts};
 
-/// How deep the elements of HTML are within a limit: at most twice as deep, and five more.
+/// How deep the elements of HTML are within a limit: at most twice as deep, and six more; five more where nothing calls a footnote,
+/// and nine more with the section of footnotes.
 pub fn html_is_shallow()
-    ensures { HtmlIsShallow }
+    ensures blocks { HtmlIsShallow }
+    ensures uncalled { HtmlWithoutCallsIsShallow }
+    ensures notes { HtmlWithNotesIsShallow }
 {}
 
 /// HTML of events ends a line, or is nothing. So the HTML of parts of a document that are read apart, by the same labels, is that of each, one behind

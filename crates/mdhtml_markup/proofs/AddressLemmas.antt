@@ -1,5 +1,5 @@
 -- What is written of addresses.
-use Rattle.std.proofs.Common.{◌≡◌, ℕ, ◌+◌, ◌*◌, ◌≤◌, List, [], ◌∷◌, ◌++◌, map, ap, sym, refl, ◌∙◌, arith, Option, None, Some, ⊎_elim}
+use Rattle.std.proofs.Common.{◌≡◌, ℕ, ◌+◌, ◌≤◌, List, [], ◌∷◌, ◌++◌, map, ap, sym, refl, ◌∙◌, arith, Option, None, Some, ⊎_elim}
 use Rattle.std.specs.Char.{is_ascii_alphanumeric, is_ascii_lowercase, to_ascii_lowercase}
 use Rattle.std.specs.List.{flat_map, list_all, list_any}
 use Rattle.std.specs.Prelude.{zero, suc, ◌==◌, ◌||◌, ◌&&◌, not, nat_lt, Bool, true, false, bytes_eq, cond, codes, option_map, slice_index_or, ◌/◌, ◌%◌, is_some, length}
@@ -139,7 +139,7 @@ scheme-written (b ∷ bs) = byte-written b bs (has b) refl (scheme-written bs)
 
 -- ---- schemes that are known
 
-alnum-has : (b : ℕ) → is_ascii_alphanumeric b ≡ true → has b ≡ true
+pub alnum-has : (b : ℕ) → is_ascii_alphanumeric b ≡ true → has b ≡ true
 alnum-has b h =
     let plain : is_plain b ≡ true = ap (λ x. list_any (λ c. c == b) (codes "-_.+!*(),%#@?=;:/$~") || x) h ∙ or_right (list_any (λ c. c == b) (codes "-_.+!*(),%#@?=;:/$~")) true refl in
     ap (λ x. x || ((b == 38) || (b == 39))) plain

@@ -14,10 +14,10 @@ use Rattle.mdhtml_markup.specs.declared.addresses.Place.TheVariants as place
 use Rattle.mdhtml_markup.specs.declared.elements.AttributeName.{AttributeName}
 use Rattle.mdhtml_markup.specs.declared.elements.AttributeName.TheVariants as name
 use Rattle.mdhtml_markup.specs.declared.elements.Element.{Element}
-use Rattle.mdhtml_markup.specs.declared.elements.Element.TheVariants.{Anchor, BlockQuote, Break, Checkbox, Code, DataCell, Deleted, Emphasis, HeaderCell, Heading1, Heading2, Heading3, Heading4, Heading5, Heading6, Image, ListItem, OrderedList, Paragraph, Preformatted, Strong, Table, TableBody, TableHead, TableRow, ThematicBreak, UnorderedList}
+use Rattle.mdhtml_markup.specs.declared.elements.Element.TheVariants.{Anchor, BlockQuote, Break, Checkbox, Code, DataCell, Deleted, Emphasis, HeaderCell, Heading1, Heading2, Heading3, Heading4, Heading5, Heading6, Image, ListItem, OrderedList, Paragraph, Preformatted, Strong, Table, TableBody, TableHead, TableRow, ThematicBreak, UnorderedList, Section, Superscript}
 use Rattle.mdhtml_markup.specs.SafeChecks.{behind_attribute, behind_attributes, behind_name, behind_value, elements, front_of, named, tag_end}
 use Rattle.mdhtml_markup.specs.SafeHtml as safe
-use Rattle.mdhtml_markup.specs.SafeHtml.{AreAttributes, alignments, attribute_name, attributes_of, behind, entity_at, is_address_byte, is_allowed, is_language, is_mark, is_safe_address, is_text, is_text_byte, is_value, is_void, must_be_given, name_of, quoted, undone}
+use Rattle.mdhtml_markup.specs.SafeHtml.{AreAttributes, alignments, attribute_name, attributes_of, behind, entity_at, is_address_byte, is_allowed, is_mark, is_safe_address, is_text, is_text_byte, is_value, is_void, must_be_given, name_of, quoted, undone, footnote_classes, id_prefix, is_id_byte}
 use Rattle.mdhtml_markup.proofs.Bools.{Then, is-other, other-by}
 
 -- ---- fronts
@@ -100,11 +100,27 @@ pub words-are : (P : List ℕ → Type 0) (ws : List (List ℕ)) (v : List ℕ) 
 words-are P [] v h each = absurd (false≢true h)
 words-are P (w ∷ ws) v h each = word-by (bytes_eq v w) P v w (list_any (λ x. bytes_eq v x) ws) refl h each.0 (λ k. words-are P ws v k each.1)
 
+ids-others : (t : List ℕ) → list_all is_id_byte t ≡ true → list_all other t ≡ true
+ids-others [] h = refl
+ids-others (b ∷ bs) h =
+    and_from (other b) (list_all other bs) (ap not (is-other is_id_byte b 34 refl (and_parts (is_id_byte b) (list_all is_id_byte bs) h).0))
+    (ids-others bs (and_parts (is_id_byte b) (list_all is_id_byte bs) h).1)
+
+id-others : (v : List ℕ) (o : Option (List ℕ)) → behind id_prefix v ≡ o → elim o as (λ _. Bool) [ None ↦ false | Some rest ↦ list_all is_id_byte rest ] ≡ true → list_all other v ≡ true
+id-others v None e h = absurd (false≢true h)
+id-others v (Some rest) e h = ap (list_all other) (behind-is id_prefix v rest e) ∙ ids-others rest h
+
 value-others : (a : AttributeName) (v : List ℕ) → is_value a v ≡ true → list_all other v ≡ true
 value-others name.Align v h = words-are (λ w. list_all other w ≡ true) alignments v h (refl, (refl, (refl, tt)))
 value-others name.Alt v h = text-others v h
 value-others name.Checked v h = constant-others v [] h refl
 value-others name.Class v h = language-others v (behind (codes "language-") v) refl h
+value-others name.FootnoteBack v h = constant-others v [] h refl
+value-others name.FootnoteCall v h = constant-others v [] h refl
+value-others name.FootnoteClass v h = words-are (λ w. list_all other w ≡ true) footnote_classes v h (refl, (refl, (refl, tt)))
+value-others name.Footnotes v h = constant-others v [] h refl
+value-others name.Id v h = id-others v (behind id_prefix v) refl h
+value-others name.Label v h = text-others v h
 value-others name.Disabled v h = constant-others v [] h refl
 value-others name.Href v h = address-others place.Href v h
 value-others name.InputType v h = constant-others v (codes "checkbox") h refl
@@ -223,13 +239,16 @@ Distinct [] = ⊤
 Distinct (a ∷ names) = Each names (Apart a) × Distinct names
 
 distinct : (e : Element) → Distinct (attributes_of e)
-distinct Anchor = (((λ x. refl), tt), (tt, tt))
+distinct Anchor = (((λ x. refl), ((λ x. refl), ((λ x. refl), ((λ x. refl), ((λ x. refl), ((λ x. refl), tt)))))), (((λ x. refl), ((λ x. refl), ((λ x. refl), ((λ x. refl), ((λ x. refl), tt))))), (((λ x. refl), ((λ x. refl), ((λ x. refl), ((λ x. refl), tt)))), (((λ x. refl), ((λ x. refl), ((λ x. refl), tt))), (((λ x. refl), ((λ x. refl), tt)), (((λ x. refl), tt), (tt, tt)))))))
 distinct Checkbox = (((λ x. refl), ((λ x. refl), tt)), (((λ x. refl), tt), (tt, tt)))
 distinct Code = (tt, tt)
 distinct DataCell = (tt, tt)
 distinct HeaderCell = (tt, tt)
 distinct Image = (((λ x. refl), ((λ x. refl), tt)), (((λ x. refl), tt), (tt, tt)))
 distinct OrderedList = (tt, tt)
+distinct ListItem = (tt, tt)
+distinct Section = (((λ x. refl), tt), (tt, tt))
+distinct Superscript = (tt, tt)
 distinct e = tt
 
 end-apart : (v : Bool) (a : AttributeName) (h : List ℕ) → Apart a (cond v (codes " />") (codes ">") ++ h)
@@ -239,6 +258,12 @@ end-apart true name.Alt h = refl
 end-apart true name.Checked h = refl
 end-apart true name.Class h = refl
 end-apart true name.Disabled h = refl
+end-apart true name.FootnoteBack h = refl
+end-apart true name.FootnoteCall h = refl
+end-apart true name.FootnoteClass h = refl
+end-apart true name.Footnotes h = refl
+end-apart true name.Id h = refl
+end-apart true name.Label h = refl
 end-apart true name.Href h = refl
 end-apart true name.InputType h = refl
 end-apart true name.Src h = refl
@@ -349,6 +374,8 @@ named-read ListItem = refl
 named-read OrderedList = refl
 named-read Paragraph = refl
 named-read Preformatted = refl
+named-read Section = refl
+named-read Superscript = refl
 named-read Strong = refl
 named-read Table = refl
 named-read TableBody = refl
@@ -378,6 +405,8 @@ name-letters ListItem = refl
 name-letters OrderedList = refl
 name-letters Paragraph = refl
 name-letters Preformatted = refl
+name-letters Section = refl
+name-letters Superscript = refl
 name-letters Strong = refl
 name-letters Table = refl
 name-letters TableBody = refl

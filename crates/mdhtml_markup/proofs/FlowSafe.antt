@@ -5,7 +5,7 @@ use Rattle.std.proofs.lemmas.Bool.{false≢true, or_right}
 use Rattle.mdhtml_markup.specs.declared.elements.AttributeName.{AttributeName}
 use Rattle.mdhtml_markup.specs.declared.elements.AttributeName.TheVariants as name
 use Rattle.mdhtml_markup.specs.declared.elements.Element.{Element}
-use Rattle.mdhtml_markup.specs.declared.elements.Element.TheVariants.{Anchor, BlockQuote, Break, Checkbox, Code, DataCell, Deleted, Emphasis, HeaderCell, Heading1, Heading2, Heading3, Heading4, Heading5, Heading6, Image, ListItem, OrderedList, Paragraph, Preformatted, Strong, Table, TableBody, TableHead, TableRow, ThematicBreak, UnorderedList}
+use Rattle.mdhtml_markup.specs.declared.elements.Element.TheVariants.{Anchor, BlockQuote, Break, Checkbox, Code, DataCell, Deleted, Emphasis, HeaderCell, Heading1, Heading2, Heading3, Heading4, Heading5, Heading6, Image, ListItem, OrderedList, Paragraph, Preformatted, Strong, Table, TableBody, TableHead, TableRow, ThematicBreak, UnorderedList, Section, Superscript}
 use Rattle.mdhtml_markup.specs.Flow as flow
 use Rattle.mdhtml_markup.specs.Flow.{AreGiven, BeforeCode, BehindCode, Blocks, Cells, IsContent, Items, Model, Parts, Phrases, Rows, Words, after, inside, may_be_missing, may_say, may_stand, phrases_in}
 use Rattle.mdhtml_markup.specs.Laws.{FlowIsSafe}
@@ -174,6 +174,8 @@ stands m ListItem tags h f = item-stands m tags h f
 stands m OrderedList tags h f = block-stands m OrderedList tags refl refl (refl, refl, refl, refl) refl h f
 stands m Paragraph tags h f = block-stands m Paragraph tags refl refl (refl, refl, refl, refl) refl h f
 stands m Preformatted tags h f = block-stands m Preformatted tags refl refl (refl, refl, refl, refl) refl h f
+stands m Section tags h f = block-stands m Section tags refl refl (refl, refl, refl, refl) refl h f
+stands m Superscript tags h f = phrase-stands m Superscript tags (refl, refl, refl, refl) h f
 stands m Strong tags h f = phrase-stands m Strong tags (refl, refl, refl, refl) h f
 stands m Table tags h f = block-stands m Table tags refl refl (refl, refl, refl, refl) refl h f
 stands m TableBody tags h f = part-stands m TableBody tags refl refl refl refl refl refl refl h f
@@ -214,6 +216,8 @@ inside-fits m ListItem tags = refl
 inside-fits m OrderedList tags = refl
 inside-fits m Paragraph tags = refl
 inside-fits m Preformatted tags = refl
+inside-fits m Section tags = refl
+inside-fits m Superscript tags = phrases-fit m (Superscript ∷ tags) refl
 inside-fits m Strong tags = phrases-fit m (Strong ∷ tags) refl
 inside-fits m Table tags = refl
 inside-fits m TableBody tags = refl
@@ -239,6 +243,12 @@ free-missing name.Alt h = refl
 free-missing name.Checked h = refl
 free-missing name.Class h = refl
 free-missing name.Disabled h = absurd (false≢true h)
+free-missing name.FootnoteBack h = refl
+free-missing name.FootnoteCall h = refl
+free-missing name.FootnoteClass h = refl
+free-missing name.Footnotes h = refl
+free-missing name.Id h = refl
+free-missing name.Label h = refl
 free-missing name.Href h = refl
 free-missing name.InputType h = absurd (false≢true h)
 free-missing name.Src h = refl

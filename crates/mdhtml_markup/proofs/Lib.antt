@@ -8,6 +8,8 @@ pub mod Bools
 pub mod CheckSteps
 -- content models
 pub mod FlowSafe
+-- ids: ids of footnotes and addresses of these are what safe HTML may have
+pub mod Ids
 -- safe HTML
 pub mod Orders
 -- text

@@ -16,10 +16,10 @@ use Rattle.mdhtml_markup.specs.declared.elements.AttributeName.TheVariants as na
 use Rattle.mdhtml_markup.specs.declared.elements.Element.{Element}
 use Rattle.mdhtml_markup.specs.Escapes.{escaped}
 use Rattle.mdhtml_markup.specs.Laws.{SafePiecesAreSafeHtml}
-use Rattle.mdhtml_markup.specs.Pieces.{Aligned, Alt, Attribute, Checked, Close, Disabled, Feed, Fresh, Href, InputType, Kept, Language, Open, Piece, Src, Start, Text, Title, Void, attribute, html_from, written}
+use Rattle.mdhtml_markup.specs.Pieces.{Aligned, Alt, Attribute, Checked, Close, Disabled, Feed, Fresh, Href, InputType, Kept, Language, Open, Piece, Src, Start, Text, Title, Void, attribute, html_from, written, Classed, FootnoteBack, FootnoteCall, Footnotes, Id, Label}
 use Rattle.mdhtml_markup.specs.SafeHtml as safe
-use Rattle.mdhtml_markup.specs.SafeHtml.{AreAttributes, IsSafeHtml, attribute_name, attributes_of, holds_text, is_alignment, is_language, is_text, is_value, must_be_given, quoted, word_of}
-use Rattle.mdhtml_markup.specs.SafePieces.{AreAllowedBy, AreFree, AreSafe, Closes, IsAllowed, later, name_of_attribute}
+use Rattle.mdhtml_markup.specs.SafeHtml.{AreAttributes, IsSafeHtml, attributes_of, holds_text, is_alignment, is_text, is_value, must_be_given, quoted, word_of}
+use Rattle.mdhtml_markup.specs.SafePieces.{AreAllowedBy, AreFree, AreSafe, Closes, IsAllowed, later, name_of_attribute, word_for}
 use Rattle.mdhtml_markup.proofs.AddressLemmas.{addresses-safe}
 use Rattle.mdhtml_markup.proofs.Bools.{Then}
 use Rattle.mdhtml_markup.proofs.Texts.{decimal-digits, escaped-first, escaped-solid, escaped-text}
@@ -30,6 +30,12 @@ value_of (Aligned a) = word_of a
 value_of (Alt t) = escaped t
 value_of Checked = []
 value_of Disabled = []
+value_of (Classed word) = word
+value_of FootnoteBack = []
+value_of FootnoteCall = []
+value_of Footnotes = []
+value_of (Id i) = i
+value_of (Label t) = escaped t
 value_of (Href url) = written_address url
 value_of InputType = codes "checkbox"
 value_of (Language t) = codes "language-" ++ escaped t
@@ -42,6 +48,12 @@ attribute-quoted (Aligned a) = refl
 attribute-quoted (Alt t) = refl
 attribute-quoted Checked = refl
 attribute-quoted Disabled = refl
+attribute-quoted (Classed word) = refl
+attribute-quoted FootnoteBack = refl
+attribute-quoted FootnoteCall = refl
+attribute-quoted Footnotes = refl
+attribute-quoted (Id i) = refl
+attribute-quoted (Label t) = refl
 attribute-quoted (Href url) = refl
 attribute-quoted InputType = refl
 attribute-quoted (Language t) = refl
@@ -59,6 +71,12 @@ value-is (Aligned a) h = aligned a
 value-is (Alt t) h = escaped-text t
 value-is Checked h = refl
 value-is Disabled h = refl
+value-is (Classed word) h = h
+value-is FootnoteBack h = refl
+value-is FootnoteCall h = refl
+value-is Footnotes h = refl
+value-is (Id i) h = h
+value-is (Label t) h = escaped-text t
 value-is (Href url) h = addresses-safe place.Href url h
 value-is InputType h = refl
 value-is (Language t) h = and_from (is_text (escaped t)) (list_all (λ b. not (is_ascii_whitespace b)) (escaped t)) (escaped-text t) (escaped-solid t h)
@@ -69,17 +87,23 @@ value-is (Title t) h = escaped-text t
 -- the name that is written so
 abbrev among : List AttributeName → List ℕ → Option AttributeName
 among [] w = None
-among (n ∷ names) w = cond (bytes_eq w (attribute_name n)) (Some n) (among names w)
+among (n ∷ names) w = cond (bytes_eq w (word_for n)) (Some n) (among names w)
 
 abbrev all-names : List AttributeName
-all-names = name.Align ∷ name.Alt ∷ name.Checked ∷ name.Class ∷ name.Disabled ∷ name.Href ∷ name.InputType ∷ name.Src ∷ name.Start ∷ name.Title ∷ []
+all-names = name.Align ∷ name.Alt ∷ name.Checked ∷ name.Class ∷ name.Disabled ∷ name.FootnoteBack ∷ name.FootnoteCall ∷ name.FootnoteClass ∷ name.Footnotes ∷ name.Href ∷ name.Id ∷ name.InputType ∷ name.Label ∷ name.Src ∷ name.Start ∷ name.Title ∷ []
 
-name-read : (n : AttributeName) → among all-names (attribute_name n) ≡ Some n
+name-read : (n : AttributeName) → among all-names (word_for n) ≡ Some n
 name-read name.Align = refl
 name-read name.Alt = refl
 name-read name.Checked = refl
 name-read name.Class = refl
 name-read name.Disabled = refl
+name-read name.FootnoteBack = refl
+name-read name.FootnoteCall = refl
+name-read name.FootnoteClass = refl
+name-read name.Footnotes = refl
+name-read name.Id = refl
+name-read name.Label = refl
 name-read name.Href = refl
 name-read name.InputType = refl
 name-read name.Src = refl
@@ -89,9 +113,9 @@ name-read name.Title = refl
 some-name : (n m : AttributeName) → Some n ≡ Some m → n ≡ m
 some-name n m h = ap (λ o. elim o as (λ (_ : Option AttributeName). AttributeName) [ None ↦ n | Some x ↦ x ]) h
 
--- names that are written the same are the same
-pub same-name : (n m : AttributeName) → bytes_eq (attribute_name n) (attribute_name m) ≡ true → n ≡ m
-same-name n m h = some-name n m (sym (name-read n) ∙ ap (among all-names) ((bytes_eq-Decides (attribute_name n) (attribute_name m)).0 h) ∙ name-read m)
+-- names that are told by the same are the same
+pub same-name : (n m : AttributeName) → bytes_eq (word_for n) (word_for m) ≡ true → n ≡ m
+same-name n m h = some-name n m (sym (name-read n) ∙ ap (among all-names) ((bytes_eq-Decides (word_for n) (word_for m)).0 h) ∙ name-read m)
 
 free-by : (need : Bool) (n : AttributeName) (names : List AttributeName) → must_be_given n ≡ need → elim need as (λ _. Type 0) [ true ↦ ⊥ | false ↦ AreFree names ]
     → (AreFree names → AreAttributes names []) → AreAttributes (n ∷ names) []
@@ -103,7 +127,7 @@ all-missing [] h = safe.AreAttributes.none
 all-missing (n ∷ names) h = free-by (must_be_given n) n names refl h (all-missing names)
 
 -- an attribute of a name that is one of these, and attributes of later names
-first-by : (n m : AttributeName) (names : List AttributeName) (value more : List ℕ) (same need : Bool) → is_value n value ≡ true → bytes_eq (attribute_name n) (attribute_name m) ≡ same
+first-by : (n m : AttributeName) (names : List AttributeName) (value more : List ℕ) (same need : Bool) → is_value n value ≡ true → bytes_eq (word_for n) (word_for m) ≡ same
     → must_be_given m ≡ need → Then (cond same (Some names) (cond need None (later n names))) (λ o. AreAttributes o more) → (Then (later n names) (λ o. AreAttributes o more) → AreAttributes names (quoted n value ++ more))
     → AreAttributes (m ∷ names) (quoted n value ++ more)
 first-by n m names value more true need v e k h rest =
@@ -115,7 +139,7 @@ first-by n m names value more false false v e k h rest = safe.AreAttributes.miss
 first-given : (n : AttributeName) (names : List AttributeName) (value more : List ℕ) → is_value n value ≡ true → Then (later n names) (λ o. AreAttributes o more)
     → AreAttributes names (quoted n value ++ more)
 first-given n [] value more v h = absurd h
-first-given n (m ∷ names) value more v h = first-by n m names value more (bytes_eq (attribute_name n) (attribute_name m)) (must_be_given m) v refl refl h (first-given n names value more v)
+first-given n (m ∷ names) value more v h = first-by n m names value more (bytes_eq (word_for n) (word_for m)) (must_be_given m) v refl refl h (first-given n names value more v)
 
 -- what is allowed of an attribute and of those behind it
 allowed-by : (o : Option (List AttributeName)) (a : Attribute) (attributes : List Attribute)

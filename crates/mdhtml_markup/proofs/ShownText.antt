@@ -5,7 +5,6 @@ use Rattle.std.proofs.lemmas.Bool.Decides.{Decides-eqb}
 use Rattle.std.specs.Char.{is_ascii_alphanumeric, is_ascii_digit, is_ascii_whitespace}
 use Rattle.std.specs.List.{flat_map, list_all}
 use Rattle.std.specs.Prelude.{◌==◌, ◌&&◌, not, Bool, true, false, bytes_eq, cond, codes}
-use Rattle.std.proofs.lemmas.List.Folds.{list_all-append}
 use Rattle.std.proofs.lemmas.Slice.Eq.{bytes_eq-Decides}
 use Rattle.mdhtml_markup.specs.declared.addresses.Place.{Place}
 use Rattle.mdhtml_markup.specs.declared.addresses.Place.TheVariants as place
@@ -14,11 +13,11 @@ use Rattle.mdhtml_markup.specs.declared.elements.AttributeName.TheVariants as na
 use Rattle.mdhtml_markup.specs.declared.elements.Element.{Element}
 use Rattle.mdhtml_markup.specs.Escapes.{escaped, escaped_byte, kept, kept_byte, replacement}
 use Rattle.mdhtml_markup.specs.Laws.{TextIsKept}
-use Rattle.mdhtml_markup.specs.Pieces.{Attribute, Close, Feed, Fresh, Kept, Open, Piece, Text, Void, attribute, html_from, is_fresh, written}
+use Rattle.mdhtml_markup.specs.Pieces.{Close, Feed, Fresh, Kept, Open, Piece, Text, Void, attribute, html_from, is_fresh}
 use Rattle.mdhtml_markup.specs.SafeHtml as safe
-use Rattle.mdhtml_markup.specs.SafeHtml.{AreAttributes, alignments, attribute_name, attributes_of, behind, close_tag, entity_at, is_address_byte, is_allowed, is_safe_address, is_text, is_text_byte, is_value, name_of, open_tag, quoted, undone, undone_from, void_tag}
+use Rattle.mdhtml_markup.specs.SafeHtml.{AreAttributes, alignments, attribute_name, attributes_of, behind, close_tag, entity_at, is_address_byte, is_allowed, is_safe_address, is_text, is_text_byte, is_value, name_of, open_tag, quoted, undone, undone_from, void_tag, footnote_classes, id_prefix, is_id_byte}
 use Rattle.mdhtml_markup.specs.SafePieces.{AreSafe, Closes}
-use Rattle.mdhtml_markup.specs.ShownText.{said, said_from, text_of, untagged}
+use Rattle.mdhtml_markup.specs.ShownText.{said_from, text_of, untagged}
 use Rattle.mdhtml_markup.proofs.AddressLemmas.{undone-other}
 use Rattle.mdhtml_markup.proofs.Behind.{behind-is, name-letters, words-are}
 use Rattle.mdhtml_markup.proofs.Bools.{is-other, other-by}
@@ -63,11 +62,21 @@ address-ends at v h = text-all ends text-ends v ((and_parts (is_text v) (list_al
 constant-ends : (v w : List ℕ) → bytes_eq v w ≡ true → list_all ends w ≡ true → list_all ends v ≡ true
 constant-ends v w h e = ap (list_all ends) ((bytes_eq-Decides v w).0 h) ∙ e
 
+id-ends : (v : List ℕ) (o : Option (List ℕ)) → behind id_prefix v ≡ o → elim o as (λ _. Bool) [ None ↦ false | Some rest ↦ list_all is_id_byte rest ] ≡ true → list_all ends v ≡ true
+id-ends v None e h = absurd (false≢true h)
+id-ends v (Some rest) e h = ap (list_all ends) (behind-is id_prefix v rest e) ∙ class-ends is_id_byte refl rest h
+
 value-ends : (a : AttributeName) (v : List ℕ) → is_value a v ≡ true → list_all ends v ≡ true
 value-ends name.Align v h = words-are (λ w. list_all ends w ≡ true) alignments v h (refl, (refl, (refl, tt)))
 value-ends name.Alt v h = text-all ends text-ends v h
 value-ends name.Checked v h = constant-ends v [] h refl
 value-ends name.Class v h = language-ends v (behind (codes "language-") v) refl h
+value-ends name.FootnoteBack v h = constant-ends v [] h refl
+value-ends name.FootnoteCall v h = constant-ends v [] h refl
+value-ends name.FootnoteClass v h = words-are (λ w. list_all ends w ≡ true) footnote_classes v h (refl, (refl, (refl, tt)))
+value-ends name.Footnotes v h = constant-ends v [] h refl
+value-ends name.Id v h = id-ends v (behind id_prefix v) refl h
+value-ends name.Label v h = text-all ends text-ends v h
 value-ends name.Disabled v h = constant-ends v [] h refl
 value-ends name.Href v h = address-ends place.Href v h
 value-ends name.InputType v h = constant-ends v (codes "checkbox") h refl
@@ -81,6 +90,12 @@ name-ends name.Alt = refl
 name-ends name.Checked = refl
 name-ends name.Class = refl
 name-ends name.Disabled = refl
+name-ends name.FootnoteBack = refl
+name-ends name.FootnoteCall = refl
+name-ends name.FootnoteClass = refl
+name-ends name.Footnotes = refl
+name-ends name.Id = refl
+name-ends name.Label = refl
 name-ends name.Href = refl
 name-ends name.InputType = refl
 name-ends name.Src = refl

@@ -7,7 +7,7 @@ use Rattle.std.proofs.lemmas.Bool.{and_from, and_parts, false≢true}
 use Rattle.std.proofs.lemmas.Bool.Decides.{Decides-eqb, same_from_decides}
 use Rattle.std.proofs.lemmas.List.{length-append, take-append-drop}
 use Rattle.mdhtml_markup.specs.declared.elements.Element.{Element}
-use Rattle.mdhtml_markup.specs.declared.elements.Element.TheVariants.{Anchor, BlockQuote, Break, Checkbox, Code, DataCell, Deleted, Emphasis, HeaderCell, Heading1, Heading2, Heading3, Heading4, Heading5, Heading6, Image, ListItem, OrderedList, Paragraph, Preformatted, Strong, Table, TableBody, TableHead, TableRow, ThematicBreak, UnorderedList}
+use Rattle.mdhtml_markup.specs.declared.elements.Element.TheVariants.{Anchor, BlockQuote, Break, Checkbox, Code, DataCell, Deleted, Emphasis, HeaderCell, Heading1, Heading2, Heading3, Heading4, Heading5, Heading6, Image, ListItem, OrderedList, Paragraph, Preformatted, Strong, Table, TableBody, TableHead, TableRow, ThematicBreak, UnorderedList, Section, Superscript}
 use Rattle.mdhtml_markup.specs.Laws.{SafeHtmlIsTested}
 use Rattle.mdhtml_markup.specs.SafeChecks.{is_safe_behind, Rest, behind_close, behind_element, behind_mark, behind_name, elements, is_safe_below, named, tag_end}
 use Rattle.mdhtml_markup.specs.SafeHtml as safe
@@ -149,6 +149,8 @@ name-no-close ListItem r = refl
 name-no-close OrderedList r = refl
 name-no-close Paragraph r = refl
 name-no-close Preformatted r = refl
+name-no-close Section r = refl
+name-no-close Superscript r = refl
 name-no-close Strong r = refl
 name-no-close Table r = refl
 name-no-close TableBody r = refl

@@ -52,6 +52,12 @@ refused_tags =
     ∷ codes "<table><tbody><tr><em></em></tr></tbody></table>"
     ∷ codes "<p><table></table></p>"
     ∷ codes "<table />"
+    -- a section in text, and one that is not closed
+    ∷ codes "<p><section></section></p>"
+    ∷ codes "<sup><section></section></sup>"
+    ∷ codes "<section><li></li></section>"
+    ∷ codes "<section />"
+    ∷ codes "<sup />"
     -- tags that are not closed, or not in order
     ∷ codes "<p>"
     ∷ codes "</p>"
@@ -129,6 +135,20 @@ refused_attributes =
     ∷ codes "<code class=\"language-x fixed\"></code>"
     ∷ codes "<code class=\"language-x\tfixed\"></code>"
     ∷ codes "<code class=\"language-x\nfixed\"></code>"
+    ∷ codes "<code class=\"footnotes\"></code>"
+    ∷ codes "<a class=\"footnote-ref fixed\"></a>"
+    ∷ codes "<sup class=\"language-x\"></sup>"
+    ∷ codes "<section class=\"x\"></section>"
+    ∷ codes "<section data-footnotes=\"x\"></section>"
+    ∷ codes "<li class=\"footnotes\"></li>"
+    -- ids
+    ∷ codes "<a id=\"x\"></a>"
+    ∷ codes "<a id=\"user-content\"></a>"
+    ∷ codes "<a id=\"user-content-a b\"></a>"
+    ∷ codes "<a id=\"user-content-a&quot;\"></a>"
+    ∷ codes "<p id=\"user-content-a\"></p>"
+    ∷ codes "<section id=\"user-content-a\"></section>"
+    ∷ codes "<a aria-label=\"a\"b\"></a>"
     ∷ []
 
 abbrev pub refused_addresses : List (List ℕ)
@@ -201,6 +221,8 @@ passed =
     ∷ codes "<a href=\"a'b\">c</a>"
     ∷ codes "<a href=\"a/javascript:b\">c</a>"
     ∷ codes "<a title=\"onclick=x\">b</a>"
+    ∷ codes "<p>a<sup class=\"footnote-ref\"><a href=\"#user-content-fn-1\" id=\"user-content-fnref-1\" data-footnote-ref=\"\">1</a></sup></p>\n"
+    ∷ codes "<section class=\"footnotes\" data-footnotes=\"\">\n<ol>\n<li id=\"user-content-fn-1\">\n<p>b <a href=\"#user-content-fnref-1\" class=\"footnote-backref\" data-footnote-backref=\"\" aria-label=\"Back to content\">c</a></p>\n</li>\n</ol>\n</section>\n"
     ∷ codes "<img src=\"a.png\" alt=\"b\" title=\"c\" />"
     ∷ codes "<img src=\"https://a/b.png\" alt=\"\" />"
     ∷ codes "javascript:alert(1)"

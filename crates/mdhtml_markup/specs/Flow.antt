@@ -4,7 +4,7 @@ use Rattle.std.specs.Prelude.{◌≡◌, ℕ, ◌==◌, Bool, true, false, List,
 use Rattle.mdhtml_markup.specs.declared.elements.AttributeName.{AttributeName}
 use Rattle.mdhtml_markup.specs.declared.elements.AttributeName.TheVariants as name
 use Rattle.mdhtml_markup.specs.declared.elements.Element.{Element}
-use Rattle.mdhtml_markup.specs.declared.elements.Element.TheVariants.{Anchor, BlockQuote, Break, Checkbox, Code, DataCell, Deleted, Emphasis, HeaderCell, Image, ListItem, OrderedList, Preformatted, Strong, Table, TableBody, TableHead, TableRow, UnorderedList}
+use Rattle.mdhtml_markup.specs.declared.elements.Element.TheVariants.{Anchor, BlockQuote, Break, Checkbox, Code, DataCell, Deleted, Emphasis, HeaderCell, Image, ListItem, OrderedList, Preformatted, Section, Strong, Superscript, Table, TableBody, TableHead, TableRow, UnorderedList}
 use Rattle.mdhtml_markup.specs.SafeHtml.{attributes_of, close_tag, is_text_byte, is_value, is_void, open_tag, quoted, void_tag}
 
 -- Where one stands: among blocks (and the text of tight items), among text (in a link or not), among the items of a list, the parts of a
@@ -25,6 +25,7 @@ is_phrase in_link Deleted = true
 is_phrase in_link Emphasis = true
 is_phrase in_link Image = true
 is_phrase in_link Strong = true
+is_phrase in_link Superscript = true
 is_phrase true Anchor = false
 is_phrase false Anchor = true
 is_phrase true Checkbox = false
@@ -69,6 +70,7 @@ inside m Code = Words
 inside m ListItem = Blocks
 inside m OrderedList = Items
 inside m Preformatted = BeforeCode
+inside m Section = Blocks
 inside m Table = Parts
 inside m TableBody = Rows
 inside m TableHead = Rows
@@ -77,6 +79,7 @@ inside m UnorderedList = Items
 inside m Deleted = phrases_in m
 inside m Emphasis = phrases_in m
 inside m Strong = phrases_in m
+inside m Superscript = phrases_in m
 inside m e = Phrases false
 
 -- where one stands behind an element that stood here: a `pre` holds its code and nothing else
@@ -103,6 +106,11 @@ abbrev pub may_be_missing : AttributeName → Bool
 may_be_missing name.Align = true
 may_be_missing name.Checked = true
 may_be_missing name.Class = true
+may_be_missing name.FootnoteBack = true
+may_be_missing name.FootnoteCall = true
+may_be_missing name.FootnoteClass = true
+may_be_missing name.Id = true
+may_be_missing name.Label = true
 may_be_missing name.Start = true
 may_be_missing name.Title = true
 may_be_missing a = false

@@ -14,9 +14,15 @@ pub data Attribute : Type 0 where
   Aligned : Alignment → Attribute
   Alt : List ℕ → Attribute
   Checked : Attribute
+  Classed : List ℕ → Attribute
   Disabled : Attribute
+  FootnoteBack : Attribute
+  FootnoteCall : Attribute
+  Footnotes : Attribute
   Href : List ℕ → Attribute
+  Id : List ℕ → Attribute
   InputType : Attribute
+  Label : List ℕ → Attribute
   Language : List ℕ → Attribute
   Src : List ℕ → Attribute
   Start : ℕ → Attribute
@@ -26,9 +32,15 @@ abbrev pub attribute : Attribute → List ℕ
 attribute (Aligned a) = quoted name.Align (word_of a)
 attribute (Alt t) = quoted name.Alt (escaped t)
 attribute Checked = quoted name.Checked []
+attribute (Classed word) = quoted name.FootnoteClass word
 attribute Disabled = quoted name.Disabled []
+attribute FootnoteBack = quoted name.FootnoteBack []
+attribute FootnoteCall = quoted name.FootnoteCall []
+attribute Footnotes = quoted name.Footnotes []
 attribute (Href url) = quoted name.Href (written_address url)
+attribute (Id i) = quoted name.Id i
 attribute InputType = quoted name.InputType (codes "checkbox")
+attribute (Label t) = quoted name.Label (escaped t)
 attribute (Language t) = quoted name.Class (codes "language-" ++ escaped t)
 attribute (Src url) = quoted name.Src (written_address url)
 attribute (Start n) = quoted name.Start (decimal n)

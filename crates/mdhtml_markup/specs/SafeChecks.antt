@@ -4,14 +4,14 @@ use Rattle.std.specs.List.{prefix_len, take_while}
 use Rattle.std.specs.Prelude.{ℕ, zero, suc, ◌==◌, ◌&&◌, not, Bool, true, false, cond, List, [], ◌∷◌, ◌++◌, drop, length, Option, None, Some, option_and_then, option_map, bytes_eq, codes}
 use Rattle.mdhtml_markup.specs.declared.elements.AttributeName.{AttributeName}
 use Rattle.mdhtml_markup.specs.declared.elements.Element.{Element}
-use Rattle.mdhtml_markup.specs.declared.elements.Element.TheVariants.{Anchor, BlockQuote, Break, Checkbox, Code, DataCell, Deleted, Emphasis, HeaderCell, Heading1, Heading2, Heading3, Heading4, Heading5, Heading6, Image, ListItem, OrderedList, Paragraph, Preformatted, Strong, Table, TableBody, TableHead, TableRow, ThematicBreak, UnorderedList}
+use Rattle.mdhtml_markup.specs.declared.elements.Element.TheVariants.{Anchor, BlockQuote, Break, Checkbox, Code, DataCell, Deleted, Emphasis, HeaderCell, Heading1, Heading2, Heading3, Heading4, Heading5, Heading6, Image, ListItem, OrderedList, Paragraph, Preformatted, Section, Strong, Superscript, Table, TableBody, TableHead, TableRow, ThematicBreak, UnorderedList}
 use Rattle.mdhtml_markup.specs.SafeHtml.{attribute_name, attributes_of, behind, is_said, is_text_byte, is_value, is_void, must_be_given, name_of, stands_in}
 
 -- the element of a name
 abbrev pub elements : List Element
 elements =
     Anchor ∷ BlockQuote ∷ Break ∷ Checkbox ∷ Code ∷ DataCell ∷ Deleted ∷ Emphasis ∷ HeaderCell ∷ Heading1 ∷ Heading2 ∷ Heading3 ∷ Heading4 ∷ Heading5 ∷ Heading6 ∷ Image ∷ ListItem
-    ∷ OrderedList ∷ Paragraph ∷ Preformatted ∷ Strong ∷ Table ∷ TableBody ∷ TableHead ∷ TableRow ∷ ThematicBreak ∷ UnorderedList ∷ []
+    ∷ OrderedList ∷ Paragraph ∷ Preformatted ∷ Section ∷ Strong ∷ Superscript ∷ Table ∷ TableBody ∷ TableHead ∷ TableRow ∷ ThematicBreak ∷ UnorderedList ∷ []
 
 abbrev pub named : List Element → List ℕ → Option Element
 named [] name = None

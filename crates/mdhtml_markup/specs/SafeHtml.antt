@@ -20,7 +20,7 @@ use Rattle.mdhtml_markup.specs.declared.elements.Alignment.TheVariants as alignm
 use Rattle.mdhtml_markup.specs.declared.elements.AttributeName.{AttributeName}
 use Rattle.mdhtml_markup.specs.declared.elements.AttributeName.TheVariants as name
 use Rattle.mdhtml_markup.specs.declared.elements.Element.{Element}
-use Rattle.mdhtml_markup.specs.declared.elements.Element.TheVariants.{Anchor, BlockQuote, Break, Checkbox, Code, DataCell, Deleted, Emphasis, HeaderCell, Heading1, Heading2, Heading3, Heading4, Heading5, Heading6, Image, ListItem, OrderedList, Paragraph, Preformatted, Strong, Table, TableBody, TableHead, TableRow, ThematicBreak, UnorderedList}
+use Rattle.mdhtml_markup.specs.declared.elements.Element.TheVariants.{Anchor, BlockQuote, Break, Checkbox, Code, DataCell, Deleted, Emphasis, HeaderCell, Heading1, Heading2, Heading3, Heading4, Heading5, Heading6, Image, ListItem, OrderedList, Paragraph, Preformatted, Section, Strong, Superscript, Table, TableBody, TableHead, TableRow, ThematicBreak, UnorderedList}
 
 -- ---- elements
 
@@ -46,7 +46,9 @@ name_of ListItem = codes "li"
 name_of OrderedList = codes "ol"
 name_of Paragraph = codes "p"
 name_of Preformatted = codes "pre"
+name_of Section = codes "section"
 name_of Strong = codes "strong"
+name_of Superscript = codes "sup"
 name_of Table = codes "table"
 name_of TableBody = codes "tbody"
 name_of TableHead = codes "thead"
@@ -74,6 +76,7 @@ abbrev pub holds_blocks : (tags : List Element) → Bool
 holds_blocks [] = true
 holds_blocks (BlockQuote ∷ tags) = true
 holds_blocks (ListItem ∷ tags) = true
+holds_blocks (Section ∷ tags) = true
 holds_blocks tags = false
 
 -- Parts of tables stand directly in what they are parts of, and nothing else does: elsewhere a browser leaves such a tag out, or closes a cell of the page by
@@ -110,6 +113,7 @@ stands_in Deleted tags = holds_text tags
 stands_in Emphasis tags = holds_text tags
 stands_in Image tags = holds_text tags
 stands_in Strong tags = holds_text tags
+stands_in Superscript tags = holds_text tags
 stands_in e tags = holds_blocks tags
 
 -- ---- attributes
@@ -120,21 +124,30 @@ attribute_name name.Alt = codes "alt"
 attribute_name name.Checked = codes "checked"
 attribute_name name.Class = codes "class"
 attribute_name name.Disabled = codes "disabled"
+attribute_name name.FootnoteBack = codes "data-footnote-backref"
+attribute_name name.FootnoteCall = codes "data-footnote-ref"
+attribute_name name.FootnoteClass = codes "class"
+attribute_name name.Footnotes = codes "data-footnotes"
 attribute_name name.Href = codes "href"
+attribute_name name.Id = codes "id"
 attribute_name name.InputType = codes "type"
+attribute_name name.Label = codes "aria-label"
 attribute_name name.Src = codes "src"
 attribute_name name.Start = codes "start"
 attribute_name name.Title = codes "title"
 
 -- the attributes that an element may have, in this order
 abbrev pub attributes_of : Element → List AttributeName
-attributes_of Anchor = name.Href ∷ name.Title ∷ []
+attributes_of Anchor = name.Href ∷ name.Title ∷ name.Id ∷ name.FootnoteClass ∷ name.FootnoteCall ∷ name.FootnoteBack ∷ name.Label ∷ []
 attributes_of Checkbox = name.InputType ∷ name.Checked ∷ name.Disabled ∷ []
 attributes_of Code = name.Class ∷ []
 attributes_of DataCell = name.Align ∷ []
 attributes_of HeaderCell = name.Align ∷ []
 attributes_of Image = name.Src ∷ name.Alt ∷ name.Title ∷ []
+attributes_of ListItem = name.Id ∷ []
 attributes_of OrderedList = name.Start ∷ []
+attributes_of Section = name.FootnoteClass ∷ name.Footnotes ∷ []
+attributes_of Superscript = name.FootnoteClass ∷ []
 attributes_of e = []
 
 -- The attributes that an element must have of these: an `input` of another type sends what is typed, or fetches an image, and one that is not disabled is a
@@ -234,6 +247,24 @@ is_safe_address at value = is_text value && (list_all is_address_byte (undone va
 abbrev pub is_language : List ℕ → Bool
 is_language value = elim (behind (codes "language-") value) [ None ↦ false | Some word ↦ is_text word && list_all (λ b. not (is_ascii_whitespace b)) word ]
 
+-- The classes of footnotes: of their section, of calls and of links back
+abbrev pub footnote_classes : List (List ℕ)
+footnote_classes = codes "footnotes" ∷ codes "footnote-ref" ∷ codes "footnote-backref" ∷ []
+
+abbrev pub is_footnote_class : List ℕ → Bool
+is_footnote_class value = list_any (λ word. bytes_eq value word) footnote_classes
+
+-- An id: behind a prefix that is not empty, letters, digits and hyphens. An id is a name in `window` and `document` of the page: without a prefix a document
+-- could give names that scripts of the page read
+abbrev pub id_prefix : List ℕ
+id_prefix = codes "user-content-"
+
+abbrev pub is_id_byte : ℕ → Bool
+is_id_byte b = is_ascii_alphanumeric b || (b == 45)
+
+abbrev pub is_id : List ℕ → Bool
+is_id value = elim (behind id_prefix value) [ None ↦ false | Some rest ↦ list_all is_id_byte rest ]
+
 -- where the text of a cell stands, in words
 abbrev pub word_of : Alignment → List ℕ
 word_of alignment.Left = codes "left"
@@ -252,8 +283,14 @@ is_value name.Alt value = is_text value
 is_value name.Checked value = bytes_eq value []
 is_value name.Class value = is_language value
 is_value name.Disabled value = bytes_eq value []
+is_value name.FootnoteBack value = bytes_eq value []
+is_value name.FootnoteCall value = bytes_eq value []
+is_value name.FootnoteClass value = is_footnote_class value
+is_value name.Footnotes value = bytes_eq value []
 is_value name.Href value = is_safe_address place.Href value
+is_value name.Id value = is_id value
 is_value name.InputType value = bytes_eq value (codes "checkbox")
+is_value name.Label value = is_text value
 is_value name.Src value = is_safe_address place.Src value
 is_value name.Start value = list_all is_ascii_digit value
 is_value name.Title value = is_text value

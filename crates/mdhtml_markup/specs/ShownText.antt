@@ -1,6 +1,5 @@
 -- What a reader reads of HTML: the text between its tags.
 use Rattle.std.specs.Prelude.{ℕ, ◌==◌, not, Bool, true, false, cond, List, [], ◌∷◌, ◌++◌}
-use Rattle.mdhtml_markup.specs.declared.elements.Element.{Element}
 use Rattle.mdhtml_markup.specs.Escapes.{kept}
 use Rattle.mdhtml_markup.specs.Pieces.{Close, Feed, Fresh, Kept, Open, Piece, Text, Void, is_fresh, written}
 use Rattle.mdhtml_markup.specs.SafeHtml.{undone}

@@ -4,7 +4,7 @@ ghost use Rattle.std.specs.Char.{is_ascii_alphanumeric, is_ascii_digit, is_ascii
 ghost use Rattle.std.specs.List.{list_all, prefix_len};
 ghost use Rattle.std.specs.Prelude.{◌≡◌, ◌↔◌, ◌∷◌, ◌+◌, ◌<◌, ◌≤◌, ◌==◌, [], IfOk, MatchOption, None, Some, drop, is_some, length, not, option_map, reverse, slice_index, true};
 ghost use Rattle.mdhtml_markup.specs.SafeChecks.{behind_attribute, behind_attributes, behind_close, behind_element, behind_mark, behind_name, behind_value, elements, front_of, is_safe_html, named, tag_end};
-ghost use Rattle.mdhtml_markup.specs.SafeHtml.{IsSafeHtml, attributes_of, behind, entity_at, holds_blocks, holds_cells, holds_items, holds_parts, holds_rows, holds_text, is_address_byte, is_alignment, is_language, is_mark, is_safe_address, is_said, is_text, is_text_byte, is_value, must_be_given, stands_in, undone};
+ghost use Rattle.mdhtml_markup.specs.SafeHtml.{IsSafeHtml, attributes_of, behind, entity_at, holds_blocks, holds_cells, holds_items, holds_parts, holds_rows, holds_text, is_address_byte, is_alignment, is_footnote_class, is_id, is_id_byte, is_language, is_mark, is_safe_address, is_said, is_text, is_text_byte, is_value, must_be_given, stands_in, undone};
 
 use crate::addresses::{Place, is_allowed, is_plain};
 use crate::elements::{Alignment, AttributeName, Element};
@@ -177,6 +177,39 @@ fn is_language(value: &[u8]) -> bool
     }
 }
 
+/// Whether a value is the class of a part of footnotes.
+fn is_footnote_class(value: &[u8]) -> bool
+    ensures { result ≡ is_footnote_class value.now }
+{
+    value == b"footnotes".as_slice()
+        || value == b"footnote-ref".as_slice()
+        || value == b"footnote-backref".as_slice()
+}
+
+/// Whether all bytes may stand in an id behind its prefix.
+fn are_id_bytes(bytes: &[u8]) -> bool
+    ensures { result ≡ list_all is_id_byte bytes.now }
+{
+    let mut at = 0;
+    while at < bytes.len() {
+        if !(bytes[at].is_ascii_alphanumeric() || bytes[at] == b'-') {
+            return false;
+        }
+        at += 1;
+    }
+    true
+}
+
+/// Whether a value is an id.
+fn is_id(value: &[u8]) -> bool
+    ensures { result ≡ is_id value.now }
+{
+    match behind(value, b"user-content-") {
+        None => false,
+        Some(rest) => are_id_bytes(rest),
+    }
+}
+
 /// Whether an element must have an attribute that is one of its names.
 fn must_be_given(name: AttributeName) -> bool
     ensures { result ≡ must_be_given name }
@@ -200,10 +233,17 @@ fn is_value(alloc: Global, name: AttributeName, value: &[u8]) -> Result<bool, Al
     match name {
         AttributeName::Align => Ok(is_alignment(value)),
         AttributeName::Alt => Ok(is_text(value)),
-        AttributeName::Checked | AttributeName::Disabled => Ok(value == b"".as_slice()),
+        AttributeName::Checked
+        | AttributeName::Disabled
+        | AttributeName::FootnoteBack
+        | AttributeName::FootnoteCall
+        | AttributeName::Footnotes => Ok(value == b"".as_slice()),
         AttributeName::Class => Ok(is_language(value)),
+        AttributeName::FootnoteClass => Ok(is_footnote_class(value)),
         AttributeName::Href => is_safe_address(alloc, Place::Href, value),
+        AttributeName::Id => Ok(is_id(value)),
         AttributeName::InputType => Ok(value == b"checkbox".as_slice()),
+        AttributeName::Label => Ok(is_text(value)),
         AttributeName::Src => is_safe_address(alloc, Place::Src, value),
         AttributeName::Start => Ok(are_digits(value)),
         AttributeName::Title => Ok(is_text(value)),
@@ -248,8 +288,14 @@ fn front_of(name: AttributeName) -> &'static [u8]
         AttributeName::Checked => b" checked=\"",
         AttributeName::Class => b" class=\"",
         AttributeName::Disabled => b" disabled=\"",
+        AttributeName::FootnoteBack => b" data-footnote-backref=\"",
+        AttributeName::FootnoteCall => b" data-footnote-ref=\"",
+        AttributeName::FootnoteClass => b" class=\"",
+        AttributeName::Footnotes => b" data-footnotes=\"",
         AttributeName::Href => b" href=\"",
+        AttributeName::Id => b" id=\"",
         AttributeName::InputType => b" type=\"",
+        AttributeName::Label => b" aria-label=\"",
         AttributeName::Src => b" src=\"",
         AttributeName::Start => b" start=\"",
         AttributeName::Title => b" title=\"",
@@ -276,48 +322,54 @@ fn behind_attribute<'a>(
     }
 }
 
-/// What is behind two attributes.
-fn behind_two<'a>(
-    alloc: Global,
-    first: AttributeName,
-    second: AttributeName,
-    bytes: &'a [u8],
-) -> Result<Option<&'a [u8]>, AllocError>
-    ensures { IfOk result (λ next. MatchOption next (behind_attributes (first ∷ second ∷ []) bytes.now ≡ None) (λ rest. behind_attributes (first ∷ second ∷ []) bytes.now ≡ Some rest.now)) }
+/// The attributes that an element may have, in order.
+fn attributes_of(element: Element) -> &'static [AttributeName]
+    ensures { result.now ≡ attributes_of element }
 {
-    match behind_attribute(alloc, first, bytes)? {
-        None => Ok(None),
-        Some(rest) => behind_attribute(alloc, second, rest),
+    match element {
+        Element::Anchor => &[
+            AttributeName::Href,
+            AttributeName::Title,
+            AttributeName::Id,
+            AttributeName::FootnoteClass,
+            AttributeName::FootnoteCall,
+            AttributeName::FootnoteBack,
+            AttributeName::Label,
+        ],
+        Element::Checkbox => &[
+            AttributeName::InputType,
+            AttributeName::Checked,
+            AttributeName::Disabled,
+        ],
+        Element::Code => &[AttributeName::Class],
+        Element::DataCell | Element::HeaderCell => &[AttributeName::Align],
+        Element::Image => &[AttributeName::Src, AttributeName::Alt, AttributeName::Title],
+        Element::ListItem => &[AttributeName::Id],
+        Element::OrderedList => &[AttributeName::Start],
+        Element::Section => &[AttributeName::FootnoteClass, AttributeName::Footnotes],
+        Element::Superscript => &[AttributeName::FootnoteClass],
+        _ => &[],
     }
 }
 
-/// What is behind the attributes of an element.
+/// What is behind attributes of these names, in this order.
 fn behind_attributes<'a>(
     alloc: Global,
-    element: Element,
+    names: &[AttributeName],
     bytes: &'a [u8],
 ) -> Result<Option<&'a [u8]>, AllocError>
-    ensures { IfOk result (λ next. MatchOption next (behind_attributes (attributes_of element) bytes.now ≡ None) (λ rest. behind_attributes (attributes_of element) bytes.now ≡ Some rest.now)) }
+    ensures { IfOk result (λ next. MatchOption next (behind_attributes names.now bytes.now ≡ None) (λ rest. behind_attributes names.now bytes.now ≡ Some rest.now)) }
 {
-    match element {
-        Element::Anchor => behind_two(alloc, AttributeName::Href, AttributeName::Title, bytes),
-        Element::Checkbox => match behind_attribute(alloc, AttributeName::InputType, bytes)? {
-            None => Ok(None),
-            Some(rest) => behind_two(alloc, AttributeName::Checked, AttributeName::Disabled, rest),
-        },
-        Element::Code => behind_attribute(alloc, AttributeName::Class, bytes),
-        Element::DataCell | Element::HeaderCell => behind_attribute(
-            alloc,
-            AttributeName::Align,
-            bytes,
-        ),
-        Element::Image => match behind_attribute(alloc, AttributeName::Src, bytes)? {
-            None => Ok(None),
-            Some(rest) => behind_two(alloc, AttributeName::Alt, AttributeName::Title, rest),
-        },
-        Element::OrderedList => behind_attribute(alloc, AttributeName::Start, bytes),
-        _ => Ok(Some(bytes)),
+    let mut left = names;
+    let mut rest = bytes;
+    'names: while let [name, others @ ..] = left {
+        match behind_attribute(alloc, *name, rest)? {
+            None => return Ok(None),
+            Some(next) => rest = next,
+        }
+        left = others;
     }
+    Ok(Some(rest))
 }
 
 /// How a tag of an element ends.
@@ -335,7 +387,7 @@ fn behind_name<'a>(
 ) -> Result<Option<&'a [u8]>, AllocError>
     ensures { IfOk result (λ next. MatchOption next (behind_name element bytes.now ≡ None) (λ rest. behind_name element bytes.now ≡ Some rest.now)) }
 {
-    match behind_attributes(alloc, element, bytes)? {
+    match behind_attributes(alloc, attributes_of(element), bytes)? {
         None => Ok(None),
         Some(rest) => Ok(behind(rest, tag_end(element))),
     }
@@ -423,6 +475,12 @@ fn element_of(name: &[u8]) -> Option<Element>
     if name == b"hr".as_slice() {
         return Some(Element::ThematicBreak);
     }
+    if name == b"section".as_slice() {
+        return Some(Element::Section);
+    }
+    if name == b"sup".as_slice() {
+        return Some(Element::Superscript);
+    }
     if name == b"ul".as_slice() {
         return Some(Element::UnorderedList);
     }
@@ -439,13 +497,13 @@ fn holds_items(tags: &Vec<Element>) -> bool
     )
 }
 
-/// Whether blocks may stand behind these open tags: behind none, or directly in a quotation or an item.
+/// Whether blocks may stand behind these open tags: behind none, or directly in a quotation, an item or the section of footnotes.
 fn holds_blocks(tags: &Vec<Element>) -> bool
     ensures { result ≡ holds_blocks (reverse tags.now.items) }
 {
     matches!(
         tags.last(),
-        None | Some(Element::BlockQuote | Element::ListItem)
+        None | Some(Element::BlockQuote | Element::ListItem | Element::Section)
     )
 }
 
@@ -500,7 +558,8 @@ fn stands_in(element: Element, tags: &Vec<Element>) -> bool
         | Element::Deleted
         | Element::Emphasis
         | Element::Image
-        | Element::Strong => holds_text(tags),
+        | Element::Strong
+        | Element::Superscript => holds_text(tags),
         _ => holds_blocks(tags),
     }
 }

@@ -46,8 +46,12 @@ pub enum Element {
     Paragraph,
     /// Text whose lines and spaces stay: `pre`.
     Preformatted,
+    /// The footnotes of a document: `section`.
+    Section,
     /// Strong emphasis: `strong`.
     Strong,
+    /// The call of a footnote: `sup`.
+    Superscript,
     /// A table: `table`.
     Table,
     /// The rows of a table: `tbody`.
@@ -88,7 +92,9 @@ impl Element {
             Element::OrderedList => b"ol",
             Element::Paragraph => b"p",
             Element::Preformatted => b"pre",
+            Element::Section => b"section",
             Element::Strong => b"strong",
+            Element::Superscript => b"sup",
             Element::Table => b"table",
             Element::TableBody => b"tbody",
             Element::TableHead => b"thead",
@@ -122,10 +128,22 @@ pub enum AttributeName {
     Class,
     /// That nobody can change a box: `disabled`.
     Disabled,
+    /// That a link leads back from a footnote to its call: `data-footnote-backref`.
+    FootnoteBack,
+    /// That a link is the call of a footnote: `data-footnote-ref`.
+    FootnoteCall,
+    /// What a part of footnotes is: `class`.
+    FootnoteClass,
+    /// That a section has footnotes: `data-footnotes`.
+    Footnotes,
     /// Where a link leads: `href`.
     Href,
+    /// What links can lead to: `id`.
+    Id,
     /// What an `input` is: `type`.
     InputType,
+    /// What is said in place of a link's text: `aria-label`.
+    Label,
     /// Where an image is: `src`.
     Src,
     /// The number of the first item: `start`.

@@ -60,7 +60,7 @@ tab_of choice = unwrap_or choice.tab 4
 -- The constructs of a choice: CommonMark's, and those of GFM that HTML has, if the choice has them
 abbrev pub constructs_of : Choice → Constructs
 constructs_of choice =
-    record default_constructs { gfm_autolink_literal = choice.is_gfm; gfm_strikethrough = choice.is_gfm; gfm_table = choice.is_gfm; gfm_task_list_item = choice.is_gfm }
+    record default_constructs { gfm_autolink_literal = choice.is_gfm; gfm_footnote_definition = choice.is_gfm; gfm_label_start_footnote = choice.is_gfm; gfm_strikethrough = choice.is_gfm; gfm_table = choice.is_gfm; gfm_task_list_item = choice.is_gfm }
 
 -- The options of a choice: these constructs, and this tab size; and as cmark's `--unsafe` raw HTML and addresses with any scheme, if the choice is unsafe
 abbrev pub options_of : Choice → Options

@@ -14,7 +14,7 @@ pub const USAGE: &str = "usage: mdhtml [--unsafe] [--gfm] [--tab n] [--depth n]"
 pub struct Choice {
     /// Raw HTML and addresses with any scheme are written as they stand.
     pub is_unsafe: bool,
-    /// Strikethrough, tables, autolink literals and checks of tasks, as GFM has them, are read.
+    /// Strikethrough, tables, footnotes, autolink literals and checks of tasks, as GFM has them, are read.
     pub is_gfm: bool,
     /// The tab size, if it is not 4.
     pub tab: Option<TabSize>,
@@ -147,6 +147,8 @@ pub fn options_of(choice: &Choice) -> Options
     let mut options = Options::default();
     options.parse.tab_size = tab_of(choice);
     options.parse.constructs.gfm_autolink_literal = choice.is_gfm;
+    options.parse.constructs.gfm_footnote_definition = choice.is_gfm;
+    options.parse.constructs.gfm_label_start_footnote = choice.is_gfm;
     options.parse.constructs.gfm_strikethrough = choice.is_gfm;
     options.parse.constructs.gfm_table = choice.is_gfm;
     options.parse.constructs.gfm_task_list_item = choice.is_gfm;

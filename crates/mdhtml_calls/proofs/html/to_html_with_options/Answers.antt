@@ -6,8 +6,8 @@ use Rattle.markdown_base.specs.Events.{IsBalanced}
 use Rattle.mdgfm_documents.specs.Documents.{gfm_events}
 use Rattle.mdhtml_calls.proofs.html.to_html_with_options.Goals as goal
 use Rattle.mdhtml_calls.specs.Document.{html_of_document}
-use Rattle.mdhtml_document.proofs.Safe.{html-safe}
-use Rattle.mdhtml_document.specs.Html.{html_of_events, led_to}
+use Rattle.mdhtml_document.proofs.SafeNotes.{notes-safe}
+use Rattle.mdhtml_document.specs.Html.{html_of_events, known_in}
 use Rattle.mdhtml_document.specs.HtmlLaws.{AreSafeOptions}
 use Rattle.mdhtml_markup.specs.SafeHtml.{IsSafeHtml}
 
@@ -20,7 +20,7 @@ module _ (options : Options) (bytes html : List ℕ) where
   is-safe : html ≡ html_of_document options bytes → AreSafeOptions options.compile → IsSafeHtml [] html
   is-safe is safe =
       let events = gfm_events options.parse bytes in
-      subst (IsSafeHtml []) (sym is) (html-safe options.compile bytes (led_to bytes events) options.parse.tab_size events safe)
+      subst (IsSafeHtml []) (sym is) (notes-safe options.compile bytes (known_in bytes events) options.parse.tab_size events safe)
 
 module _ (c : goal.After-drop-events) where
   are : c.as_slice.result.now ≡ gfm_events c.args.options.now.parse c.args.bytes.now

@@ -8,8 +8,8 @@ use Rattle.mdhtml_calls.proofs.html.to_html_within.Goals as goal
 use Rattle.mdhtml_calls.specs.Document.{html_within}
 use Rattle.mdhtml_depth.proofs.Kept.{balance-kept}
 use Rattle.mdhtml_depth.specs.Depth.{within}
-use Rattle.mdhtml_document.proofs.Safe.{html-safe}
-use Rattle.mdhtml_document.specs.Html.{html_of_events, led_to}
+use Rattle.mdhtml_document.proofs.SafeNotes.{notes-safe}
+use Rattle.mdhtml_document.specs.Html.{html_of_events, known_in}
 use Rattle.mdhtml_document.specs.HtmlLaws.{AreSafeOptions}
 use Rattle.mdhtml_markup.specs.SafeHtml.{IsSafeHtml}
 
@@ -22,7 +22,7 @@ module _ (limit : ℕ) (options : Options) (bytes html : List ℕ) where
   is-safe : html ≡ html_within limit options bytes → AreSafeOptions options.compile → IsSafeHtml [] html
   is-safe is safe =
       let events = within limit 0 (gfm_events options.parse bytes) in
-      subst (IsSafeHtml []) (sym is) (html-safe options.compile bytes (led_to bytes events) options.parse.tab_size events safe)
+      subst (IsSafeHtml []) (sym is) (notes-safe options.compile bytes (known_in bytes events) options.parse.tab_size events safe)
 
 module _ (c : goal.After-drop-shallow) where
   are : c.as_slice.result.now ≡ within c.args.limit 0 (gfm_events c.args.options.now.parse c.args.bytes.now)

@@ -1,4 +1,4 @@
-use Rattle.std.proofs.Common.{◌++◌, [], ℕ, List, ap, refl, ◌∙◌}
+use Rattle.std.proofs.Common.{◌++◌, ℕ, List, ap, refl, ◌∙◌}
 use Rattle.std.specs.List.{flat_map}
 use Rattle.std.specs.Prelude.{codes, true}
 use Rattle.markdown_base.specs.declared.event.Event.{Event}

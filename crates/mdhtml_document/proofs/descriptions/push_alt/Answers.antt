@@ -1,4 +1,4 @@
-use Rattle.std.proofs.Common.{◌++◌, ◌+◌, ℕ, List, ap, sym, ◌∙◌, drop, length, arith}
+use Rattle.std.proofs.Common.{◌++◌, ℕ, List, ap, sym, ◌∙◌, length, arith}
 use Rattle.std.proofs.lemmas.List.{length-drop}
 use Rattle.markdown_base.specs.declared.event.Event.{Event}
 use Rattle.mdhtml_document.specs.Walks.{alt_from}

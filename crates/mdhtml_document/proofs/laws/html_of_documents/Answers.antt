@@ -1,8 +1,5 @@
 -- The definitions compute what is told.
 use Rattle.std.proofs.Common.{refl}
-use Rattle.mdhtml_document.proofs.Finished.{html-walked}
-use Rattle.mdhtml_document.proofs.Entered.{enter-step, exit-step}
-use Rattle.mdhtml_document.proofs.Fresh.{fresh-by}
 use Rattle.mdhtml_document.proofs.laws.html_of_documents.Goals as goal
 
 pub returns : goal.returns
