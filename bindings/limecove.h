@@ -91,7 +91,9 @@ enum limecove_construct {
     LIMECOVE_GFM_AUTOLINK_LITERAL = 2097152, /* autolink literals */
     LIMECOVE_GFM_TASK_LIST_ITEM = 4194304,   /* checks of task list items */
     LIMECOVE_GFM_TABLE = 8388608,            /* tables */
-    LIMECOVE_HTML_CONSTRUCTS = 16777215      /* all of these and those before */
+    LIMECOVE_GFM_FOOTNOTE_DEFINITION = 16777216,  /* definitions of footnotes */
+    LIMECOVE_GFM_LABEL_START_FOOTNOTE = 33554432, /* calls of footnotes */
+    LIMECOVE_HTML_CONSTRUCTS = 67108863           /* all of these and those before */
 };
 
 /* What HTML may let through, as bits. If none is set, the HTML is safe, whatever the document is. */

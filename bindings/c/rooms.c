@@ -208,7 +208,8 @@ static int has(const char *document, uint64_t constructs, uint32_t name) {
 }
 
 /* Each construct has its bit: without it there is none, and with all there is one. So there is with that of a quote, a list, a definition,
- * strikethrough or a literal alone, for a label with those of its start and its end, and for a check with that of a list. */
+ * strikethrough or a literal alone, for a label with those of its start and its end, for a check with that of a list, and for a call
+ * of a footnote with that of its definition. */
 static void constructs_have_bits(void) {
     static const struct {
         const char *document;
@@ -239,6 +240,8 @@ static void constructs_have_bits(void) {
         {"www.a.b", LIMECOVE_GFM_AUTOLINK_LITERAL, LIMECOVE_NAME_GFM_AUTOLINK_LITERAL_WWW},
         {"- [x] a", LIMECOVE_GFM_TASK_LIST_ITEM, LIMECOVE_NAME_GFM_TASK_LIST_ITEM_CHECK},
         {"a\n:-", LIMECOVE_GFM_TABLE, LIMECOVE_NAME_GFM_TABLE},
+        {"[^a]: b", LIMECOVE_GFM_FOOTNOTE_DEFINITION, LIMECOVE_NAME_GFM_FOOTNOTE_DEFINITION},
+        {"[^a]\n\n[^a]: b", LIMECOVE_GFM_LABEL_START_FOOTNOTE, LIMECOVE_NAME_GFM_FOOTNOTE_CALL},
     };
     uint64_t bits = 0;
     for (size_t i = 0; i < sizeof each / sizeof *each; i++) {
@@ -251,6 +254,8 @@ static void constructs_have_bits(void) {
             alone += LIMECOVE_LABEL_START_LINK;
         else if (alone == LIMECOVE_GFM_TASK_LIST_ITEM)
             alone += LIMECOVE_LIST_ITEM;
+        else if (alone == LIMECOVE_GFM_LABEL_START_FOOTNOTE)
+            alone += LIMECOVE_GFM_FOOTNOTE_DEFINITION;
         CHECK(each[i].bit < LIMECOVE_BLOCK_QUOTE || has(each[i].document, alone, each[i].name));
         bits += each[i].bit;
     }
@@ -259,6 +264,7 @@ static void constructs_have_bits(void) {
     CHECK(!has("www.a.b", LIMECOVE_ALL_CONSTRUCTS, LIMECOVE_NAME_GFM_AUTOLINK_LITERAL_WWW));
     CHECK(!has("- [x] a", LIMECOVE_ALL_CONSTRUCTS, LIMECOVE_NAME_GFM_TASK_LIST_ITEM_CHECK));
     CHECK(!has("a\n:-", LIMECOVE_ALL_CONSTRUCTS, LIMECOVE_NAME_GFM_TABLE));
+    CHECK(!has("[^a]: b", LIMECOVE_ALL_CONSTRUCTS, LIMECOVE_NAME_GFM_FOOTNOTE_DEFINITION));
 }
 
 /* Without quotes, lists and definitions, a document without links is read as its leaf blocks are. */

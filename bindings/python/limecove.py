@@ -166,7 +166,7 @@ NAMES = (
 )
 # written by names.py: end
 
-# Bits of constructs: those of CommonMark, which are on by default, and four of GFM. The other bits are in limecove.h.
+# Bits of constructs: those of CommonMark, which are on by default, and six of GFM. The other bits are in limecove.h.
 COMMONMARK = 1048575
 GFM_STRIKETHROUGH = 1048576
 # these two rewrite the events of a document
@@ -174,6 +174,9 @@ GFM_AUTOLINK_LITERAL = 2097152
 GFM_TASK_LIST_ITEM = 4194304
 # tables
 GFM_TABLE = 8388608
+# definitions of footnotes, and their calls
+GFM_FOOTNOTE_DEFINITION = 16777216
+GFM_LABEL_START_FOOTNOTE = 33554432
 
 # Bits of what HTML may let through. If none is set, the HTML is safe, whatever the document is.
 ALLOW_DANGEROUS_HTML = 1

@@ -1,4 +1,4 @@
--- Options with tables, literals or checks choose whole documents.
+-- Options with tables, literals, checks or footnotes choose whole documents.
 use Rattle.std.proofs.Common.{◌≡◌, ℕ, Bool, true, false, cond, Option, Some, None, refl, sym, ap, subst, arith, eqb-true, ltb-true}
 use Rattle.std.proofs.lemmas.Bool.{false≢true}
 use Rattle.std.proofs.lemmas.Bool.Decides.{nat_tests}

@@ -40,9 +40,9 @@ are_constructs bits = nat_lt bits 2097152
 
 -- the same of those that HTML has
 abbrev pub are_html_constructs : ℕ → Bool
-are_html_constructs bits = nat_lt bits 16777216
+are_html_constructs bits = nat_lt bits 67108864
 
--- tables, literals or checks are on: a sum of bits is greater than that of all constructs that events have by each machine
+-- tables, literals, checks or footnotes are on: a sum of bits is greater than that of all constructs that events have by each machine
 abbrev pub has_rewritten : ℕ → Bool
 has_rewritten bits = nat_lt 2097151 bits
 
@@ -122,6 +122,8 @@ constructs_of bits = record default_constructs {
   code_text = has_bit bits 1;
   definition = has_bit bits 524288;
   gfm_autolink_literal = has_bit bits 2097152;
+  gfm_footnote_definition = has_bit bits 16777216;
+  gfm_label_start_footnote = has_bit bits 33554432;
   gfm_strikethrough = has_bit bits 1048576;
   gfm_table = has_bit bits 8388608;
   gfm_task_list_item = has_bit bits 4194304;
@@ -138,12 +140,12 @@ constructs_of bits = record default_constructs {
   thematic_break = has_bit bits 8192;
 }
 
--- the constructs that have a bit: CommonMark's, and GFM's strikethrough; in HTML and whole documents its tables, literals and checks too
+-- the constructs that have a bit: CommonMark's, and GFM's strikethrough; in HTML and whole documents its tables, literals, checks and footnotes too
 abbrev pub constructs_with_bits : Constructs
 constructs_with_bits = record default_constructs { gfm_strikethrough = true }
 
 abbrev pub constructs_of_html : Constructs
-constructs_of_html = record constructs_with_bits { gfm_autolink_literal = true; gfm_table = true; gfm_task_list_item = true }
+constructs_of_html = record constructs_with_bits { gfm_autolink_literal = true; gfm_footnote_definition = true; gfm_label_start_footnote = true; gfm_table = true; gfm_task_list_item = true }
 
 -- a document that is read as text with these constructs and this tab size
 abbrev pub text_document : (bits tab : ℕ) → List ℕ → Given

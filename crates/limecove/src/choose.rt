@@ -63,8 +63,12 @@ pub const GFM_AUTOLINK_LITERAL: u64 = 2097152;
 pub const GFM_TASK_LIST_ITEM: u64 = 4194304;
 /// The bit of tables, which are GFM's: in HTML, and in whole documents with their texts.
 pub const GFM_TABLE: u64 = 8388608;
+/// The bit of definitions of footnotes, as GitHub reads them: in HTML, and in whole documents with their texts.
+pub const GFM_FOOTNOTE_DEFINITION: u64 = 16777216;
+/// The bit of calls of footnotes, as GitHub reads them: in HTML, and in whole documents with their texts.
+pub const GFM_LABEL_START_FOOTNOTE: u64 = 33554432;
 /// The bits of all constructs that HTML has, and whole documents with their texts.
-pub const HTML_CONSTRUCTS: u64 = 16777215;
+pub const HTML_CONSTRUCTS: u64 = 67108863;
 
 /// The bit of HTML in the document, which is kept as HTML. Without it, it is shown as text.
 pub const ALLOW_DANGEROUS_HTML: u64 = 1;
@@ -175,7 +179,7 @@ fn have_constructs(options: &Options) -> bool
         || (is_of_document && options.constructs <= HTML_CONSTRUCTS)
 }
 
-/// Whether tables, literals or checks are on, by a sum of bits.
+/// Whether tables, literals, checks or footnotes are on, by a sum of bits.
 pub(crate) fn has_rewritten(bits: u64) -> bool
     ensures { result ≡ has_rewritten bits }
 {
@@ -234,6 +238,8 @@ pub(crate) fn constructs_of(bits: u64) -> Constructs
         code_text: bits & CODE_TEXT != 0,
         definition: bits & DEFINITION != 0,
         gfm_autolink_literal: bits & GFM_AUTOLINK_LITERAL != 0,
+        gfm_footnote_definition: bits & GFM_FOOTNOTE_DEFINITION != 0,
+        gfm_label_start_footnote: bits & GFM_LABEL_START_FOOTNOTE != 0,
         gfm_strikethrough: bits & GFM_STRIKETHROUGH != 0,
         gfm_table: bits & GFM_TABLE != 0,
         gfm_task_list_item: bits & GFM_TASK_LIST_ITEM != 0,

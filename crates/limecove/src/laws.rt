@@ -8,11 +8,11 @@ ghost use Rattle.limecove.specs.Records.{RewrittenAreDocuments};
 use crate::choose::{
     ALL_CONSTRUCTS, ALLOW_ALL, ALLOW_ANY_IMG_SRC, ALLOW_DANGEROUS_HTML, ALLOW_DANGEROUS_PROTOCOL,
     ATTENTION, AUTOLINK, BLOCK_QUOTE, CHARACTER_ESCAPE, CHARACTER_REFERENCE, CODE_FENCED,
-    CODE_INDENTED, CODE_TEXT, COMMONMARK, DEFINITION, GFM_AUTOLINK_LITERAL, GFM_STRIKETHROUGH,
-    GFM_TABLE, GFM_TASK_LIST_ITEM, HARD_BREAK_ESCAPE, HARD_BREAK_TRAILING, HEADING_ATX,
-    HEADING_SETEXT, HTML_CONSTRUCTS, HTML_FLOW, HTML_OPTIONS_SIZE, HTML_TEXT, LABEL_END,
-    LABEL_START_IMAGE, LABEL_START_LINK, LIST_ITEM, OPTIONS_SIZE, TEXT_OPTIONS_SIZE,
-    THEMATIC_BREAK,
+    CODE_INDENTED, CODE_TEXT, COMMONMARK, DEFINITION, GFM_AUTOLINK_LITERAL,
+    GFM_FOOTNOTE_DEFINITION, GFM_LABEL_START_FOOTNOTE, GFM_STRIKETHROUGH, GFM_TABLE,
+    GFM_TASK_LIST_ITEM, HARD_BREAK_ESCAPE, HARD_BREAK_TRAILING, HEADING_ATX, HEADING_SETEXT,
+    HTML_CONSTRUCTS, HTML_FLOW, HTML_OPTIONS_SIZE, HTML_TEXT, LABEL_END, LABEL_START_IMAGE,
+    LABEL_START_LINK, LIST_ITEM, OPTIONS_SIZE, TEXT_OPTIONS_SIZE, THEMATIC_BREAK,
 };
 use crate::code::{
     LINKS_NO_TEXT, NO_SUCH_BYTES, NO_SUCH_CONSTRUCT, NO_SUCH_MACHINE, NO_SUCH_PERMISSION,
@@ -20,7 +20,7 @@ use crate::code::{
 };
 
 /// The value of each number; the bits of CommonMark's constructs have these on and no other, and all bits have
-/// strikethrough on too, in HTML also tables, literals and checks.
+/// strikethrough on too, in HTML also tables, literals, checks and footnotes.
 pub fn numbers_are_stated()
     ensures version { VERSION ≡ 5 }
     ensures read { READ ≡ 0 }
@@ -40,15 +40,16 @@ pub fn numbers_are_stated()
     ensures container_constructs { (BLOCK_QUOTE ≡ 16384) × (LIST_ITEM ≡ 32768) }
     ensures label_constructs { (LABEL_START_LINK ≡ 65536) × (LABEL_START_IMAGE ≡ 131072) × (LABEL_END ≡ 262144) × (DEFINITION ≡ 524288) }
     ensures gfm_constructs { (GFM_STRIKETHROUGH ≡ 1048576) × (GFM_AUTOLINK_LITERAL ≡ 2097152) × (GFM_TASK_LIST_ITEM ≡ 4194304) × (GFM_TABLE ≡ 8388608) }
+    ensures footnote_constructs { (GFM_FOOTNOTE_DEFINITION ≡ 16777216) × (GFM_LABEL_START_FOOTNOTE ≡ 33554432) }
     ensures permissions { (ALLOW_DANGEROUS_HTML ≡ 1) × (ALLOW_DANGEROUS_PROTOCOL ≡ 2) × (ALLOW_ANY_IMG_SRC ≡ 4) × (ALLOW_ALL ≡ 7) }
-    ensures sums { (COMMONMARK ≡ 1048575) × (ALL_CONSTRUCTS ≡ 2097151) × (HTML_CONSTRUCTS ≡ 16777215) }
+    ensures sums { (COMMONMARK ≡ 1048575) × (ALL_CONSTRUCTS ≡ 2097151) × (HTML_CONSTRUCTS ≡ 67108863) }
     ensures commonmark { constructs_of COMMONMARK ≡ default_constructs }
     ensures all_constructs { constructs_of ALL_CONSTRUCTS ≡ constructs_with_bits }
     ensures html_constructs { constructs_of HTML_CONSTRUCTS ≡ constructs_of_html }
     ensures sizes { (TEXT_OPTIONS_SIZE ≡ 24) × (OPTIONS_SIZE ≡ 40) × (HTML_OPTIONS_SIZE ≡ 32) }
 {}
 
-/// Tables, literals and checks are accepted only for whole documents with their texts.
+/// Tables, literals, checks and footnotes are accepted only for whole documents with their texts.
 pub fn literals_are_of_documents()
     ensures { RewrittenAreDocuments }
 {}

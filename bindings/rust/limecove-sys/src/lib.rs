@@ -93,8 +93,12 @@ pub const GFM_AUTOLINK_LITERAL: u64 = 2097152;
 pub const GFM_TASK_LIST_ITEM: u64 = 4194304;
 /// The bit of tables of GFM: in HTML, and in whole documents with their texts.
 pub const GFM_TABLE: u64 = 8388608;
+/// The bit of definitions of footnotes, as GitHub reads them: in HTML, and in whole documents with their texts.
+pub const GFM_FOOTNOTE_DEFINITION: u64 = 16777216;
+/// The bit of calls of footnotes, as GitHub reads them: in HTML, and in whole documents with their texts.
+pub const GFM_LABEL_START_FOOTNOTE: u64 = 33554432;
 /// The bits of all constructs that HTML has, and whole documents with their texts.
-pub const HTML_CONSTRUCTS: u64 = 16777215;
+pub const HTML_CONSTRUCTS: u64 = 67108863;
 
 /// The bit of HTML in the document, which is kept as HTML. Without it, it is shown as text.
 pub const ALLOW_DANGEROUS_HTML: u64 = 1;

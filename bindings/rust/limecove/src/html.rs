@@ -79,6 +79,30 @@ impl HtmlOptions {
         self
     }
 
+    /// The same, with or without definitions of footnotes, as GitHub reads them. The default is without. A footnote that is called stands at the end, in a
+    /// section of its own; one that is not called is not written.
+    ///
+    /// ```
+    /// use limecove::{to_html_with_options, HtmlOptions};
+    ///
+    /// let options = HtmlOptions::default().gfm_footnote_definition(true).gfm_label_start_footnote(true);
+    /// let html = to_html_with_options("a[^b]\n\n[^b]: c", &options)?;
+    /// assert!(html.starts_with("<p>a<sup class=\"footnote-ref\"><a href=\"#user-content-fn-1\""));
+    /// # Ok::<(), limecove::Error>(())
+    /// ```
+    #[must_use]
+    pub const fn gfm_footnote_definition(mut self, is_on: bool) -> HtmlOptions {
+        self.parse = self.parse.gfm_footnote_definition(is_on);
+        self
+    }
+
+    /// The same, with or without calls of footnotes. The default is without.
+    #[must_use]
+    pub const fn gfm_label_start_footnote(mut self, is_on: bool) -> HtmlOptions {
+        self.parse = self.parse.gfm_label_start_footnote(is_on);
+        self
+    }
+
     /// The same, with HTML in the document kept as HTML, or shown as text.
     #[must_use]
     pub const fn allow_dangerous_html(self, is_on: bool) -> HtmlOptions {

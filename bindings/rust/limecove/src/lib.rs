@@ -407,6 +407,29 @@ impl Options {
         self.extended(limecove_sys::GFM_TABLE, is_on)
     }
 
+    /// The same, with or without definitions of footnotes, `[^label]: ..`, as GitHub reads them. The default is without. It makes a difference
+    /// where [`gfm_autolink_literal`](Options::gfm_autolink_literal) does.
+    ///
+    /// ```
+    /// use limecove::{Name, Options, Tree};
+    ///
+    /// let tree = Tree::read("[^a]: b\n\n    c", &Options::default().gfm_footnote_definition(true))?;
+    /// let note = tree.children().next().unwrap();
+    /// assert_eq!(note.name(), Name::GfmFootnoteDefinition);
+    /// # Ok::<(), limecove::Error>(())
+    /// ```
+    #[must_use]
+    pub const fn gfm_footnote_definition(self, is_on: bool) -> Options {
+        self.extended(limecove_sys::GFM_FOOTNOTE_DEFINITION, is_on)
+    }
+
+    /// The same, with or without calls of footnotes, `[^label]`: a call is one only if a footnote of its label is defined. The default is
+    /// without. It makes a difference where [`gfm_autolink_literal`](Options::gfm_autolink_literal) does.
+    #[must_use]
+    pub const fn gfm_label_start_footnote(self, is_on: bool) -> Options {
+        self.extended(limecove_sys::GFM_LABEL_START_FOOTNOTE, is_on)
+    }
+
     /// The bits of its constructs, as its machine takes them.
     const fn constructs(&self) -> u64 {
         let extensions = match self.machine {

@@ -1,5 +1,5 @@
-//! Autolink literals, task list items and tables of GFM among the events: what they are, where they lead, and where there are none. Expectations are
-//! typed by GFM's sections 4.10, 5.3 and 6.9.
+//! Autolink literals, task list items, tables and footnotes of GFM among the events: what they are, where they lead, and where there are none. Expectations are
+//! typed by GFM's sections 4.10, 5.3 and 6.9; those of footnotes by what GitHub reads.
 
 use limecove::{
     tokenize, Alignment, Document, Event, HtmlOptions, Machine, Name, Options, TextOptions, Tree,
@@ -340,4 +340,51 @@ fn html_has_them_too() {
         let html = limecove::to_html_with_options("a@b.c", &options);
         assert_eq!(html.as_deref(), Ok(want), "{:?}", options);
     }
+}
+
+/// Footnotes of a document: the bytes of their definitions, and those of their calls.
+fn notes(document: &str) -> (Vec<String>, Vec<String>) {
+    let options = Options::default()
+        .gfm_footnote_definition(true)
+        .gfm_label_start_footnote(true);
+    let tree = Tree::read(document, &options).expect("it is read");
+    let all = |name: Name| {
+        let found = tree.nodes().filter(|node| node.name() == name);
+        found
+            .map(|node| String::from_utf8(node.text().to_vec()).expect("it is UTF-8"))
+            .collect()
+    };
+    (
+        all(Name::GfmFootnoteDefinition),
+        all(Name::GfmFootnoteCall),
+    )
+}
+
+/// A document, its definitions of footnotes, and its calls.
+type Notes = (&'static str, &'static [&'static str], &'static [&'static str]);
+
+const NOTES: &[Notes] = &[
+    ("a[^b]\n\n[^b]: c", &["[^b]: c"], &["[^b]"]),
+    // the label of a call is compared as that of a link
+    ("[^B][^c]\n\n[^b]: d", &["[^b]: d"], &["[^B]"]),
+    // a definition interrupts a paragraph, and holds blocks that are indented by four columns, or lazy lines
+    ("a\n[^b]: c\nd\n\n    e\n\nf", &["[^b]: c\nd\n\n    e"], &[]),
+    // a label has no white space, is not empty, and has no bracket that closes
+    ("[^b c]: d", &[], &[]),
+    ("[^]: d", &[], &[]),
+    // in a quote and in an item
+    ("> [^a]: b\n\n- [^a]", &["[^a]: b"], &["[^a]"]),
+    // no call in code, in a link or behind an escape
+    ("`[^a]` [b [^a]](c) \\[^a]\n\n[^a]: d", &["[^a]: d"], &[]),
+];
+
+#[test]
+fn footnotes_are_called() {
+    for (document, definitions, calls) in NOTES {
+        let found = notes(document);
+        assert_eq!(found.0, *definitions, "{}", document);
+        assert_eq!(found.1, *calls, "{}", document);
+    }
+    let off = Tree::read("a[^b]\n\n[^b]: c", &Options::default()).expect("it is read");
+    assert!(off.nodes().all(|node| node.name() != Name::GfmFootnoteDefinition));
 }
