@@ -6,8 +6,8 @@ A document that differs is explained as tools/random_documents.py explains it: i
 the cause. The status is 1 if a document differs by a cause that has no name, or an example that is not one of the two whose comments
 CommonMark reads otherwise since 0.31 (625 and 626 of 0.30).
 
-With --gfm it is `mdhtml --gfm --unsafe` beside `cmark-gfm --unsafe` with the extensions table, strikethrough, autolink and tasklist, and the random
-documents are lines of tables and of other blocks.
+With --gfm it is `mdhtml --gfm --unsafe` beside `cmark-gfm --unsafe` with the extensions table, strikethrough, autolink, tasklist and footnotes, but
+for the ids of footnotes, and the random documents are lines of tables and of other blocks.
 
 usage: tools/html_beside_cmark.py PROGRAM [--gfm] [--spec SPEC] [--real DIR] [--random COUNT] [--seed S] [--pieces N] [--cmark CMARK] [--differing] [--jobs J]
   PROGRAM         mdhtml
@@ -48,7 +48,7 @@ MARKS += ["<a@b.c>", "* * *", "%", "%20", "{", "~", "|", ":", "/", "\0", "\x1b",
 LINES = ["| a | b |", "a | b", "|a|b|c|", "| - | - |", "-|-", "|:-|-:|", ":-: | -", ":-", "|-|", "| a |", "a", "x y", "", "  ", "# h", "---", "===", "***", "```", "<div>"]
 LINES += ["<b> | c", "    | a |", "| `a \\| b` | c |", "| a \\| b | *c* |", "|", "||", "| |", "|*a|b*|", "[d]: /u", "[d] | e", "| é | ` |", "|\ta\t|\tb\t|", " | a | b |"]
 LINES += ["  | - | - |", "1. x", "- x", "> q", "2. y | z", "- | a |", "> | - |", "  | - |"]
-EXTENSIONS = ["-e", "table", "-e", "strikethrough", "-e", "autolink", "-e", "tasklist"]
+EXTENSIONS = ["-e", "table", "-e", "strikethrough", "-e", "autolink", "-e", "tasklist", "-e", "footnotes"]
 KINDS = {"wide": {}, "links": {"links": True}, "definitions": {"definitions": True}, "references": {"references": True}}
 
 # causes that events have not, in front of those that they have
@@ -73,6 +73,12 @@ def written(program, document, words=()):
     return ran.stdout.decode("utf-8", "replace") if ran.returncode == 0 else f"(status {ran.returncode}: {ran.stderr.decode('utf-8', 'replace').strip()})\n"
 
 
+def without_ids(html):
+    """HTML without what is always otherwise in footnotes (docs/DIFFERENCES.md): their ids and the addresses of these, and empty values of attributes."""
+    html = re.sub(r' (id|href)="#?(user-content-)?fn(ref)?-[^"]*"', "", html)
+    return re.sub(r' (data-footnotes|data-footnote-ref|data-footnote-backref)(="")?', r" \1", html)
+
+
 class Beside(random_documents.Beside):
     """The program that writes HTML beside cmark."""
 
@@ -92,7 +98,7 @@ class BesideGfm(Beside):
     def both(self, document):
         """The HTML of both."""
         made = subprocess.run([self.cmark, "--unsafe", *EXTENSIONS], input=document, capture_output=True, check=True).stdout
-        return written(self.program, document, ["--gfm"]), made.decode("utf-8", "replace")
+        return without_ids(written(self.program, document, ["--gfm"])), without_ids(made.decode("utf-8", "replace"))
 
     def cause(self, smallest):
         """The cause of a smallest document, if it has a name."""

@@ -77,15 +77,15 @@ def rooms(crate):
 
 
 def disagreements():
-    """Returns which modules and files have no room, and which rooms are not said once."""
+    """Returns which modules and files have no room, and which rooms are not said."""
     failed = []
     for crate in sorted(os.path.basename(path) for path in glob.glob(f"{TOP}/crates/*")):
         found = rooms(crate)
         for name, (said, of) in found.items():
             if name is None:
                 failed += [f"crates/{crate}/{folder}: no room above `mod {module}`" for folder, some in of.items() for module in some]
-            elif len(said) != 1:
-                failed.append(f"crates/{crate}: what is in the room `{name}` is said {len(said)} times, and not once")
+            elif not said:
+                failed.append(f"crates/{crate}: what is in the room `{name}` is not said")
         known = {(folder, module) for _, of in found.values() for folder, some in of.items() for module in some}
         for folder in ("src", "specs", "proofs"):
             for path in sorted(glob.glob(f"{TOP}/crates/{crate}/{folder}/**/*.*t*", recursive=True)):
