@@ -2,7 +2,7 @@
 use Rattle.std.proofs.lemmas.List.{length-reverse}
 use Rattle.markdown_base.proofs.Orders.{InOrder}
 use Rattle.markdown_base.specs.Places.{stands_before}
-use Rattle.mdinline_emphasis.proofs.Prelude.{◌≡◌, ℕ, suc, ◌+◌, ◌-◌, ◌*◌, ◌<◌, ◌≤◌, true, false, cond, List, [], ◌∷◌, ◌++◌, Option, Some, None, map, take, drop, length, get_or, refl, sym, ap, ◌∙◌, arith, length-append, ◌==◌, ◌&&◌, reverse, slice_get, reverse-append, nat_tests, take-suc, take-append-drop, map-append, All-head, All-tail, Event, Point, Delimiters, as_run, Run, Pair, markers_of_all, styles, in_lists, in_pairs, all_in_pairs, Standing, standing, markers, HasRoom, ArePlacesInside, ends_at, ends_of_pairs, markers_left, is_sequence, index_of_event, depth_after, run_at, runs_from, runs_in, EndsTakeMarkers, RunsAreFew, Style}
+use Rattle.mdinline_emphasis.proofs.Prelude.{◌≡◌, ℕ, suc, ◌+◌, ◌-◌, ◌*◌, ◌<◌, ◌≤◌, Bool, true, false, cond, List, [], ◌∷◌, ◌++◌, Option, Some, None, map, take, drop, length, get_or, refl, sym, ap, ◌∙◌, arith, length-append, ◌==◌, ◌&&◌, reverse, slice_get, reverse-append, nat_tests, take-suc, take-append-drop, map-append, All-head, All-tail, Event, Point, Delimiters, as_run, Run, Pair, markers_of_all, styles, in_lists, in_pairs, all_in_pairs, Standing, standing, markers, HasRoom, ArePlacesInside, ends_at, ends_of_pairs, markers_left, is_sequence, index_of_event, depth_after, run_at, runs_from, runs_in, EndsTakeMarkers, RunsAreFew, Style}
 use Rattle.mdinline_emphasis.proofs.Markers.{takes-some}
 use Rattle.mdinline_emphasis.proofs.InTurn.{markers-more}
 use Rattle.mdinline_emphasis.proofs.PairsKeep.{pairs-keep}
@@ -73,46 +73,46 @@ ends-within ds n =
 
 -- ---- the runs of a text
 
-no-ends : (bytes : List ℕ) (i depth : ℕ) (before : Option ℕ) (es : List Event) → ends_of_pairs (runs_from bytes i depth before es) ≡ 0
-no-ends bytes i depth before [] = refl
-no-ends bytes i depth before (e ∷ []) = refl
-no-ends bytes i depth before (e ∷ f ∷ es) =
-    elim (depth == 0 && is_sequence e f) as (λ c. ends_of_pairs (cond c (run_at bytes i e f before (index_of_event (slice_get es 0)) ∷ runs_from bytes (i + 2) depth (Some f.point.index) es) (runs_from bytes (i + 1) (depth_after e.kind depth) (Some e.point.index) (f ∷ es))) ≡ 0) [
-      | true ↦ let more = no-ends bytes (i + 2) depth (Some f.point.index) es in omega (arith, more)
-      | false ↦ no-ends bytes (i + 1) (depth_after e.kind depth) (Some e.point.index) (f ∷ es)
+no-ends : (one : Bool) (bytes : List ℕ) (i depth : ℕ) (before : Option ℕ) (es : List Event) → ends_of_pairs (runs_from one bytes i depth before es) ≡ 0
+no-ends one bytes i depth before [] = refl
+no-ends one bytes i depth before (e ∷ []) = refl
+no-ends one bytes i depth before (e ∷ f ∷ es) =
+    elim (depth == 0 && is_sequence e f) as (λ c. ends_of_pairs (cond c (run_at one bytes i e f before (index_of_event (slice_get es 0)) ∷ runs_from one bytes (i + 2) depth (Some f.point.index) es) (runs_from one bytes (i + 1) (depth_after e.kind depth) (Some e.point.index) (f ∷ es))) ≡ 0) [
+      | true ↦ let more = no-ends one bytes (i + 2) depth (Some f.point.index) es in omega (arith, more)
+      | false ↦ no-ends one bytes (i + 1) (depth_after e.kind depth) (Some e.point.index) (f ∷ es)
     ]
 
-pub runs-no-ends : (bytes : List ℕ) (es : List Event) → ends_of_pairs (runs_in bytes es) ≡ 0
-runs-no-ends bytes es = no-ends bytes 0 0 None es
+pub runs-no-ends : (one : Bool) (bytes : List ℕ) (es : List Event) → ends_of_pairs (runs_in one bytes es) ≡ 0
+runs-no-ends one bytes es = no-ends one bytes 0 0 None es
 
-few-runs : (bytes : List ℕ) (i depth : ℕ) (before : Option ℕ) (es : List Event) → 2 * length (runs_from bytes i depth before es) ≤ length es
-few-runs bytes i depth before [] = omega arith
-few-runs bytes i depth before (e ∷ []) = omega arith
-few-runs bytes i depth before (e ∷ f ∷ es) =
-    elim (depth == 0 && is_sequence e f) as (λ c. 2 * length (cond c (run_at bytes i e f before (index_of_event (slice_get es 0)) ∷ runs_from bytes (i + 2) depth (Some f.point.index) es) (runs_from bytes (i + 1) (depth_after e.kind depth) (Some e.point.index) (f ∷ es))) ≤ length (e ∷ f ∷ es)) [
-      | true ↦ let more = few-runs bytes (i + 2) depth (Some f.point.index) es in omega (arith, more)
-      | false ↦ let more = few-runs bytes (i + 1) (depth_after e.kind depth) (Some e.point.index) (f ∷ es) in omega (arith, more)
+few-runs : (one : Bool) (bytes : List ℕ) (i depth : ℕ) (before : Option ℕ) (es : List Event) → 2 * length (runs_from one bytes i depth before es) ≤ length es
+few-runs one bytes i depth before [] = omega arith
+few-runs one bytes i depth before (e ∷ []) = omega arith
+few-runs one bytes i depth before (e ∷ f ∷ es) =
+    elim (depth == 0 && is_sequence e f) as (λ c. 2 * length (cond c (run_at one bytes i e f before (index_of_event (slice_get es 0)) ∷ runs_from one bytes (i + 2) depth (Some f.point.index) es) (runs_from one bytes (i + 1) (depth_after e.kind depth) (Some e.point.index) (f ∷ es))) ≤ length (e ∷ f ∷ es)) [
+      | true ↦ let more = few-runs one bytes (i + 2) depth (Some f.point.index) es in omega (arith, more)
+      | false ↦ let more = few-runs one bytes (i + 1) (depth_after e.kind depth) (Some e.point.index) (f ∷ es) in omega (arith, more)
     ]
 
 -- what does not stand before a place has no smaller index
 not-before : (p q : Point) → stands_before q p ≡ false → p.index ≤ q.index
 not-before p q h = grind (arith, nat_tests, h)
 
-few-markers : (bytes : List ℕ) (i depth : ℕ) (before : Option ℕ) (p : Point) (es : List Event) (q : Point) → ArePlacesInside bytes es → InOrder p es q
-    → markers_left (runs_from bytes i depth before es) ≤ length bytes - p.index
-few-markers bytes i depth before p [] q inside order = omega arith
-few-markers bytes i depth before p (e ∷ []) q inside order = omega arith
-few-markers bytes i depth before p (e ∷ f ∷ es) q inside order =
+few-markers : (one : Bool) (bytes : List ℕ) (i depth : ℕ) (before : Option ℕ) (p : Point) (es : List Event) (q : Point) → ArePlacesInside bytes es → InOrder p es q
+    → markers_left (runs_from one bytes i depth before es) ≤ length bytes - p.index
+few-markers one bytes i depth before p [] q inside order = omega arith
+few-markers one bytes i depth before p (e ∷ []) q inside order = omega arith
+few-markers one bytes i depth before p (e ∷ f ∷ es) q inside order =
     let Fit : Event → Type 0 = λ x. (x.point.index ≤ length bytes) × HasRoom (length bytes - x.point.index) x.point in
     let others = All-tail Fit e (f ∷ es) inside in
     let within = (All-head Fit f es others).0 in
     let first = not-before p e.point order.0 in
     let second = not-before e.point f.point order.1.0 in
-    elim (depth == 0 && is_sequence e f) as (λ c. markers_left (cond c (run_at bytes i e f before (index_of_event (slice_get es 0)) ∷ runs_from bytes (i + 2) depth (Some f.point.index) es) (runs_from bytes (i + 1) (depth_after e.kind depth) (Some e.point.index) (f ∷ es))) ≤ length bytes - p.index) [
-      | true ↦ let more = few-markers bytes (i + 2) depth (Some f.point.index) f.point es q (All-tail Fit f es others) order.1.1 in omega (arith, more, within, first, second)
-      | false ↦ let more = few-markers bytes (i + 1) (depth_after e.kind depth) (Some e.point.index) e.point (f ∷ es) q others order.1 in omega (arith, more, first)
+    elim (depth == 0 && is_sequence e f) as (λ c. markers_left (cond c (run_at one bytes i e f before (index_of_event (slice_get es 0)) ∷ runs_from one bytes (i + 2) depth (Some f.point.index) es) (runs_from one bytes (i + 1) (depth_after e.kind depth) (Some e.point.index) (f ∷ es))) ≤ length bytes - p.index) [
+      | true ↦ let more = few-markers one bytes (i + 2) depth (Some f.point.index) f.point es q (All-tail Fit f es others) order.1.1 in omega (arith, more, within, first, second)
+      | false ↦ let more = few-markers one bytes (i + 1) (depth_after e.kind depth) (Some e.point.index) e.point (f ∷ es) q others order.1 in omega (arith, more, first)
     ]
 
 pub runs-are-few : RunsAreFew
-runs-are-few bytes es =
-    (few-runs bytes 0 0 None es, runs-no-ends bytes es, λ p q inside order. let few = few-markers bytes 0 0 None p es q inside order in omega (arith, few))
+runs-are-few one bytes es =
+    (few-runs one bytes 0 0 None es, runs-no-ends one bytes es, λ p q inside order. let few = few-markers one bytes 0 0 None p es q inside order in omega (arith, few))

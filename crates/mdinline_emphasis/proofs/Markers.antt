@@ -1,5 +1,5 @@
 -- What is so of each marker, and of each style. One more marker, or one more style, adds its case here, and to no other proof of this crate.
-use Rattle.mdinline_emphasis.proofs.Prelude.{◌≡◌, ℕ, zero, suc, ◌<◌, ◌||◌, Bool, ◌≤◌, ◌==◌, true, false, cond, List, [], ◌∷◌, Some, refl, sym, ap, ◌∙◌, subst, arith, inl, inr, cases_Bool, eqb-true, Name, Point, Run, have_two, markers_of, closings, openings, inner_name, outer_name, same, marker_byte, marker_from, marker_number, names_after_all, Marker, Style, OfEmphasis, OfStrong, Struck, StruckTwice, is_tilde, style_of}
+use Rattle.mdinline_emphasis.proofs.Prelude.{◌≡◌, ℕ, zero, suc, ◌<◌, Bool, ◌≤◌, ◌==◌, true, false, cond, List, [], ◌∷◌, Some, refl, sym, ap, ◌∙◌, arith, inl, inr, cases_Bool, eqb-true, Name, Point, Run, have_two, markers_of, closings, openings, inner_name, outer_name, same, marker_byte, marker_from, marker_number, names_after_all, Marker, Style, OfEmphasis, OfStrong, Struck, StruckTwice, is_tilde, style_of}
 use Rattle.std.proofs.lemmas.Bool.Decides.{nat_tests}
 use Rattle.markdown_base.specs.Events.{is_void}
 use Rattle.mdinline_emphasis.specs.Runs.{is_marker}

@@ -80,11 +80,11 @@ no-links-runs texts (r ∷ rs) h =
     (no-links-runs texts rs h)
 
 pub emphasis-can-be-made : EmphasisCanBeMade
-emphasis-can-be-made bytes events balanced none =
-    let rs = runs_in bytes events in
+emphasis-can-be-made one bytes events balanced none =
+    let rs = runs_in one bytes events in
     let texts = text_before events rs in
     let rest = text_behind events rs in
-    let has = runs-and-texts bytes events balanced in
+    let has = runs-and-texts one bytes events balanced in
     let made = edits-make-emphasis texts rest rs events has.0 none has.1 has.2 in (
       made.0,
       made.1,

@@ -1,5 +1,5 @@
 -- The edits of runs, one by one, and that the runs of a list have room.
-use Rattle.mdinline_emphasis.proofs.Prelude.{◌≡◌, ℕ, zero, suc, ◌+◌, ◌-◌, ◌<◌, ◌≤◌, cond, List, [], ◌∷◌, ◌++◌, Option, Some, inl, inr, map, take, drop, drop-cons, length, get_or, refl, sym, ap, ◌∙◌, subst, arith, ◌==◌, ◌&&◌, slice_get, cases_Bool, nat_tests, map-append, All-head, All-tail, take-suc, AreDisjoint, Event, Edit, edit_at, put_after, removal_at, Delimiters, Run, HasRoom, markers, standing, AreApart, AllHaveRoom, ArePlacesInside, in_place, edits_of, index_of, index_of_event, is_sequence, depth_after, run_at, runs_from, as_run}
+use Rattle.mdinline_emphasis.proofs.Prelude.{◌≡◌, ℕ, zero, suc, ◌+◌, ◌-◌, ◌<◌, ◌≤◌, Bool, cond, List, [], ◌∷◌, ◌++◌, Option, Some, inl, inr, map, take, drop, drop-cons, length, get_or, refl, sym, ap, ◌∙◌, subst, arith, ◌==◌, ◌&&◌, slice_get, cases_Bool, nat_tests, map-append, All-head, All-tail, take-suc, AreDisjoint, Event, Edit, edit_at, put_after, removal_at, Delimiters, Run, HasRoom, markers, standing, AreApart, AllHaveRoom, ArePlacesInside, in_place, edits_of, index_of, index_of_event, is_sequence, depth_after, run_at, runs_from, as_run}
 use Rattle.mdinline_emphasis.proofs.RunEdits.{placed_from, placed-step, placed-within}
 use Rattle.mdinline_emphasis.proofs.RunTexts.{HasRuns}
 
@@ -76,19 +76,19 @@ apart i (r ∷ rs) xs h = (omega (arith, h.6), apart (r.index + 2) rs h.1 h.9)
 room : (bytes : List ℕ) (e f : Event) → (e.point.index ≤ length bytes) × HasRoom (length bytes - e.point.index) e.point → f.point.index ≤ length bytes → HasRoom (0 + (f.point.index - e.point.index + 0)) e.point
 room bytes e f h k = (omega (arith, h.1.0, k), omega (arith, h.1.1, k))
 
-pub all-room : (bytes : List ℕ) (ys : List Event) (i depth : ℕ) (before : Option ℕ) → ArePlacesInside bytes ys → AllHaveRoom (map standing (runs_from bytes i depth before ys))
-all-room bytes [] i depth before h = tt
-all-room bytes (e ∷ []) i depth before h = tt
-all-room bytes (e ∷ f ∷ es) i depth before h =
+pub all-room : (one : Bool) (bytes : List ℕ) (ys : List Event) (i depth : ℕ) (before : Option ℕ) → ArePlacesInside bytes ys → AllHaveRoom (map standing (runs_from one bytes i depth before ys))
+all-room one bytes [] i depth before h = tt
+all-room one bytes (e ∷ []) i depth before h = tt
+all-room one bytes (e ∷ f ∷ es) i depth before h =
     let Fit : Event → Type 0 = λ x. (x.point.index ≤ length bytes) × HasRoom (length bytes - x.point.index) x.point in
     let first = All-head Fit e (f ∷ es) h in
     let others = All-tail Fit e (f ∷ es) h in
     let second = All-head Fit f es others in
     elim (cases_Bool (depth == 0 && is_sequence e f)) [
       | inl b ↦
-          subst (λ c. AllHaveRoom (map standing (cond c (run_at bytes i e f before (index_of_event (slice_get es 0)) ∷ runs_from bytes (i + 2) depth (Some f.point.index) es) (runs_from bytes (i + 1) (depth_after e.kind depth) (Some e.point.index) (f ∷ es))))) (sym b)
-          (room bytes e f first second.0, all-room bytes es (i + 2) depth (Some f.point.index) (All-tail Fit f es others))
+          subst (λ c. AllHaveRoom (map standing (cond c (run_at one bytes i e f before (index_of_event (slice_get es 0)) ∷ runs_from one bytes (i + 2) depth (Some f.point.index) es) (runs_from one bytes (i + 1) (depth_after e.kind depth) (Some e.point.index) (f ∷ es))))) (sym b)
+          (room bytes e f first second.0, all-room one bytes es (i + 2) depth (Some f.point.index) (All-tail Fit f es others))
       | inr b ↦
-          subst (λ c. AllHaveRoom (map standing (cond c (run_at bytes i e f before (index_of_event (slice_get es 0)) ∷ runs_from bytes (i + 2) depth (Some f.point.index) es) (runs_from bytes (i + 1) (depth_after e.kind depth) (Some e.point.index) (f ∷ es))))) (sym b)
-          (all-room bytes (f ∷ es) (i + 1) (depth_after e.kind depth) (Some e.point.index) others)
+          subst (λ c. AllHaveRoom (map standing (cond c (run_at one bytes i e f before (index_of_event (slice_get es 0)) ∷ runs_from one bytes (i + 2) depth (Some f.point.index) es) (runs_from one bytes (i + 1) (depth_after e.kind depth) (Some e.point.index) (f ∷ es))))) (sym b)
+          (all-room one bytes (f ∷ es) (i + 1) (depth_after e.kind depth) (Some e.point.index) others)
     ]

@@ -47,9 +47,9 @@ pub goes-on : (o : Option (List Name)) (es : List Event) → names_after_all o e
 goes-on None es h = cc
 goes-on (Some st) es h = (st, refl)
 
-module _ (bytes : List ℕ) where
+module _ (one : Bool) (bytes : List ℕ) where
   pub has-runs : (ys : List Event) (i j depth : ℕ) (before : Option ℕ) (pre : List Event) (st : List Name) → names_after_all (Some []) pre ≡ Some st → depth ≡ length st
-      → names_after_all (Some st) ys ≡ Some [] → j ≡ i + length pre → HasRuns i (runs_from bytes j depth before ys) (pre ++ ys)
+      → names_after_all (Some st) ys ≡ Some [] → j ≡ i + length pre → HasRuns i (runs_from one bytes j depth before ys) (pre ++ ys)
   has-runs [] i j depth before pre st start deep end at = whole pre [] st start end
   has-runs (e ∷ []) i j depth before pre st start deep end at = whole pre (e ∷ []) st start end
   has-runs (e ∷ f ∷ es) i j depth before pre st start deep end at =
@@ -58,7 +58,7 @@ module _ (bytes : List ℕ) where
             let outside = none-open st (subst (λ n. (n == 0) ≡ true) deep (and-left (depth == 0) (is_sequence e f) h)) in
             let closed : names_after_all (Some []) pre ≡ Some [] = start ∙ ap Some outside in
             let rest : names_after_all (Some []) es ≡ Some [] = sym (sequence-leaves e f es [] (and-right (depth == 0) (is_sequence e f) h)) ∙ ap (λ s. names_after_all (Some s) (e ∷ f ∷ es)) (sym outside) ∙ end in
-            subst (λ b. HasRuns i (cond b (run_at bytes j e f before (index_of_event (slice_get es 0)) ∷ runs_from bytes (j + 2) depth (Some f.point.index) es) (runs_from bytes (j + 1) (depth_after e.kind depth) (Some e.point.index) (f ∷ es))) (pre ++ e ∷ f ∷ es)) (sym h) (
+            subst (λ b. HasRuns i (cond b (run_at one bytes j e f before (index_of_event (slice_get es 0)) ∷ runs_from one bytes (j + 2) depth (Some f.point.index) es) (runs_from one bytes (j + 1) (depth_after e.kind depth) (Some e.point.index) (f ∷ es))) (pre ++ e ∷ f ∷ es)) (sym h) (
               pre,
               es,
               e,
@@ -73,8 +73,8 @@ module _ (bytes : List ℕ) where
         | inr h ↦
             let next = goes-on (names_after e.kind e.name st) (f ∷ es) end in
             let longer : names_after_all (Some []) (pre ++ e ∷ []) ≡ Some next.0 = names_after_all-append (Some []) pre (e ∷ []) ∙ ap (λ o. names_after_all o (e ∷ [])) start ∙ names-none (names_after e.kind e.name st) ∙ next.1 in
-            subst (λ b. HasRuns i (cond b (run_at bytes j e f before (index_of_event (slice_get es 0)) ∷ runs_from bytes (j + 2) depth (Some f.point.index) es) (runs_from bytes (j + 1) (depth_after e.kind depth) (Some e.point.index) (f ∷ es))) (pre ++ e ∷ f ∷ es)) (sym h)
-            (subst (HasRuns i (runs_from bytes (j + 1) (depth_after e.kind depth) (Some e.point.index) (f ∷ es))) (append_assoc pre (e ∷ []) (f ∷ es))
+            subst (λ b. HasRuns i (cond b (run_at one bytes j e f before (index_of_event (slice_get es 0)) ∷ runs_from one bytes (j + 2) depth (Some f.point.index) es) (runs_from one bytes (j + 1) (depth_after e.kind depth) (Some e.point.index) (f ∷ es))) (pre ++ e ∷ f ∷ es)) (sym h)
+            (subst (HasRuns i (runs_from one bytes (j + 1) (depth_after e.kind depth) (Some e.point.index) (f ∷ es))) (append_assoc pre (e ∷ []) (f ∷ es))
             (has-runs (f ∷ es) i (j + 1) (depth_after e.kind depth) (Some e.point.index) (pre ++ e ∷ []) next.0 longer
             (ap (depth_after e.kind) deep ∙ deeper e.kind e.name st next.0 next.1)
             (sym (ap (λ o. names_after_all o (f ∷ es)) next.1) ∙ end)
@@ -117,13 +117,13 @@ module _ (events : List Event) (all : List Run) where
       )
 
 -- a balanced list has its runs
-pub all-runs : (bytes : List ℕ) (events : List Event) → IsBalanced events → HasRuns 0 (runs_in bytes events) events
-all-runs bytes events balanced = has-runs bytes events 0 0 0 None [] [] refl refl (names_after_balanced balanced []) refl
+pub all-runs : (one : Bool) (bytes : List ℕ) (events : List Event) → IsBalanced events → HasRuns 0 (runs_in one bytes events) events
+all-runs one bytes events balanced = has-runs one bytes events 0 0 0 None [] [] refl refl (names_after_balanced balanced []) refl
 
 -- a balanced list has its runs, with balanced texts between them
-pub runs-and-texts : (bytes : List ℕ) (events : List Event) → IsBalanced events
-    → let rs = runs_in bytes events in
+pub runs-and-texts : (one : Bool) (bytes : List ℕ) (events : List Event) → IsBalanced events
+    → let rs = runs_in one bytes events in
     HasRunsAt (text_before events rs) (text_behind events rs) 0 (map index_of rs) events × AreFresh (text_before events rs) rs × IsBalanced (text_behind events rs)
-runs-and-texts bytes events balanced =
-    to-texts events (runs_in bytes events) (runs_in bytes events) 0 events refl (omega arith) (λ k h. refl)
-    (all-runs bytes events balanced)
+runs-and-texts one bytes events balanced =
+    to-texts events (runs_in one bytes events) (runs_in one bytes events) 0 events refl (omega arith) (λ k h. refl)
+    (all-runs one bytes events balanced)

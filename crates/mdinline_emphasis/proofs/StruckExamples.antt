@@ -1,7 +1,6 @@
 -- Examples of strikethrough, computed from the definitions: on each side of each sentence.
-use Rattle.std.proofs.Common.{◌≡◌, ◌+◌, ℕ, List, [], ◌∷◌, ◌++◌, Bool, Some, true, false, map, refl}
+use Rattle.std.proofs.Common.{◌≡◌, ◌+◌, ℕ, List, [], ◌∷◌, Bool, Some, true, false, map, refl}
 use Rattle.std.specs.Prelude.{◌%◌, ◌&&◌}
-use Rattle.markdown_base.specs.declared.event.Event.{Event}
 use Rattle.markdown_base.specs.declared.event.Kind.TheVariants.{Enter, Exit}
 use Rattle.markdown_base.specs.declared.event.Name.TheVariants.{Data, GfmStrikethrough, GfmStrikethroughSequence, GfmStrikethroughText}
 use Rattle.markdown_base.specs.declared.event.Point.{Point}
@@ -18,18 +17,26 @@ abbrev at : ℕ → Point
 at i = record { line = 1; column = i + 1; index = i; vs = 0 }
 
 -- a run of so many markers at a place, by the classes of the characters beside it
-abbrev run : Marker → (place many : ℕ) → (before after : Kind) → Run
-run marker place many before after = record {
+abbrev run_by : (one_tilde : Bool) → Marker → (place many : ℕ) → (before after : Kind) → Run
+run_by one_tilde marker place many before after = record {
   index = place;
   start = at place;
   marker = marker;
   rest = many % 3;
-  opens = may_mark marker many && can_open marker before after;
-  closes = may_mark marker many && can_close marker before after;
+  opens = may_mark one_tilde marker many && can_open marker before after;
+  closes = may_mark one_tilde marker many && can_close marker before after;
   closed = [];
   left = many;
   opened = [];
 }
+
+-- one tilde counts
+abbrev run : Marker → (place many : ℕ) → (before after : Kind) → Run
+run = run_by true
+
+-- one does not
+abbrev strict : Marker → (place many : ℕ) → (before after : Kind) → Run
+strict = run_by false
 
 -- what the runs of a text close, have left, and open
 abbrev made : List Run → List (List Style × ℕ × List Style)
@@ -70,6 +77,18 @@ three = refl
 
 four : made (run Tilde 0 4 Whitespace Other ∷ run Tilde 5 4 Other Whitespace ∷ []) ≡ alone 4 ∷ alone 4 ∷ []
 four = refl
+
+-- if one does not count, two do, and three do not: `~a~ ~~b~~`, `~~~a~~~`
+not-one : made (strict Tilde 0 1 Whitespace Other ∷ strict Tilde 2 1 Other Whitespace ∷ strict Tilde 4 2 Whitespace Other ∷ strict Tilde 7 2 Other Whitespace ∷ [])
+    ≡ alone 1 ∷ alone 1 ∷ ([], 0, StruckTwice ∷ []) ∷ (StruckTwice ∷ [], 0, []) ∷ []
+not-one = refl
+
+nor-three : made (strict Tilde 0 3 Whitespace Other ∷ strict Tilde 4 3 Other Whitespace ∷ []) ≡ alone 3 ∷ alone 3 ∷ []
+nor-three = refl
+
+-- of another marker one counts all the same: `*a*`
+other : made (strict Asterisk 0 1 Whitespace Other ∷ strict Asterisk 2 1 Other Whitespace ∷ []) ≡ ([], 0, OfEmphasis ∷ []) ∷ (OfEmphasis ∷ [], 0, []) ∷ []
+other = refl
 
 -- runs in a word can close and open: `a~b~c~d`
 word : made (run Tilde 1 1 Other Other ∷ run Tilde 3 1 Other Other ∷ run Tilde 5 1 Other Other ∷ []) ≡ ([], 0, Struck ∷ []) ∷ (Struck ∷ [], 0, []) ∷ alone 1 ∷ []

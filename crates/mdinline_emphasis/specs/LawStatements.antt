@@ -1,5 +1,5 @@
 -- What is promised of emphasis.
-use Rattle.std.specs.Prelude.{◌≡◌, ◌+◌, ◌*◌, ◌≤◌, ℕ, List, [], ◌∷◌, length}
+use Rattle.std.specs.Prelude.{◌≡◌, ◌+◌, ◌*◌, ◌≤◌, ℕ, Bool, List, [], ◌∷◌, length}
 use Rattle.markdown_base.proofs.Orders.{InOrder}
 use Rattle.markdown_base.specs.declared.event.Event.{Event}
 use Rattle.markdown_base.specs.declared.event.Point.{Point}
@@ -24,6 +24,6 @@ EndsTakeMarkers = (rs : List Run) → ends_of_pairs (paired rs) + markers_left (
 
 -- A text has a run for two of its events at most, in no pair yet; and if its events stand in order inside the document, a marker for a byte
 abbrev pub RunsAreFew : Type 0
-RunsAreFew = (bytes : List ℕ) (events : List Event) → let rs = runs_in bytes events in
+RunsAreFew = (one_tilde : Bool) (bytes : List ℕ) (events : List Event) → let rs = runs_in one_tilde bytes events in
     (2 * length rs ≤ length events) × (ends_of_pairs rs ≡ 0)
     × ((p q : Point) → ArePlacesInside bytes events → InOrder p events q → markers_left rs ≤ length bytes)

@@ -1,5 +1,5 @@
 -- The edits that put emphasis among events: one for each run, in place of its enter and its exit.
-use Rattle.std.specs.Prelude.{◌≡◌, ℕ, ◌+◌, List, [], ◌∷◌, ◌++◌, map, length}
+use Rattle.std.specs.Prelude.{◌≡◌, ℕ, ◌+◌, Bool, List, [], ◌∷◌, ◌++◌, map, length}
 use Rattle.markdown_base.specs.declared.event.Event.{Event}
 use Rattle.markdown_base.specs.Events.{IsBalanced}
 use Rattle.markdown_edits.specs.Edits.{Edit, edit_at, AreDisjoint}
@@ -32,6 +32,6 @@ EditsMakeEmphasis = (texts : ℕ → List Event) (rest : List Event) (rs : List 
 
 -- So it is with the runs of any balanced list without links: emphasis takes their place, and the list stays balanced and without links
 abbrev pub EmphasisCanBeMade : Type 0
-EmphasisCanBeMade = (bytes : List ℕ) (events : List Event) → IsBalanced events → HaveNoLinks events
-    → let edits = edits_of (paired (runs_in bytes events)) in
-    AreDisjoint 0 edits (length events) × (edited edits events ≡ with_emphasis bytes events) × IsBalanced (with_emphasis bytes events) × HaveNoLinks (with_emphasis bytes events)
+EmphasisCanBeMade = (one_tilde : Bool) (bytes : List ℕ) (events : List Event) → IsBalanced events → HaveNoLinks events
+    → let edits = edits_of (paired (runs_in one_tilde bytes events)) in
+    AreDisjoint 0 edits (length events) × (edited edits events ≡ with_emphasis one_tilde bytes events) × IsBalanced (with_emphasis one_tilde bytes events) × HaveNoLinks (with_emphasis one_tilde bytes events)

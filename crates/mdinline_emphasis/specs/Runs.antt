@@ -44,9 +44,10 @@ can_open marker before after = is_left_flanking before after && (not (is_undersc
 abbrev pub can_close : (marker : Marker) → (before after : Kind) → Bool
 can_close marker before after = is_right_flanking before after && (not (is_underscore marker) || (not (is_left_flanking before after) || is_punctuation after))
 
--- A run of so many markers may be in a pair: "Three or more tildes do not create a strikethrough" (GFM 0.29, 6.5)
-abbrev pub may_mark : Marker → (length : ℕ) → Bool
-may_mark marker length = not (is_tilde marker) || nat_le length 2
+-- A run of so many markers may be in a pair: "Three or more tildes do not create a strikethrough", a pair is of "one or two tildes" (GFM 0.29, 6.5), and the
+-- option `gfm_strikethrough_single_tilde` says whether one counts
+abbrev pub may_mark : (one_tilde : Bool) → Marker → (length : ℕ) → Bool
+may_mark one_tilde marker length = not (is_tilde marker) || (nat_le length 2 && (one_tilde || nat_le 2 length))
 
 -- The class of the character at an end of a run: that of the document there, if the text goes on there; else white space. The text goes on if the
 -- event beside the run stands at the same index
@@ -74,8 +75,8 @@ marker_from None = Underscore
 marker_from (Some byte) = cond (byte == 42) Asterisk (cond (byte == 126) Tilde Underscore)
 
 -- the run of an attention sequence: the index of its enter in the list, its enter and its exit, and where the events beside it stand
-abbrev pub run_at : List ℕ → ℕ → (e f : Event) → (before behind : Option ℕ) → Run
-run_at bytes index e f before behind =
+abbrev pub run_at : (one_tilde : Bool) → List ℕ → ℕ → (e f : Event) → (before behind : Option ℕ) → Run
+run_at one_tilde bytes index e f before behind =
     let before_it = class_beside before e.point.index (class_before bytes e.point.index) in
     let after_it = class_beside behind f.point.index (class_after bytes f.point.index) in
     let marker = marker_from (slice_get bytes e.point.index) in
@@ -85,8 +86,8 @@ run_at bytes index e f before behind =
       start = e.point;
       marker = marker;
       rest = length % 3;
-      opens = may_mark marker length && can_open marker before_it after_it;
-      closes = may_mark marker length && can_close marker before_it after_it;
+      opens = may_mark one_tilde marker length && can_open marker before_it after_it;
+      closes = may_mark one_tilde marker length && can_close marker before_it after_it;
       closed = [];
       left = length;
       opened = [];
@@ -102,16 +103,16 @@ depth_after Enter depth = suc depth
 depth_after Exit depth = depth - 1
 
 -- the runs from an index of the list on, by how many spans are open there, and where the event before stands
-abbrev pub runs_from : List ℕ → (index depth : ℕ) → (before : Option ℕ) → List Event → List Run
-runs_from bytes i depth before [] = []
-runs_from bytes i depth before (e ∷ []) = []
-runs_from bytes i depth before (e ∷ f ∷ es) =
+abbrev pub runs_from : (one_tilde : Bool) → List ℕ → (index depth : ℕ) → (before : Option ℕ) → List Event → List Run
+runs_from one_tilde bytes i depth before [] = []
+runs_from one_tilde bytes i depth before (e ∷ []) = []
+runs_from one_tilde bytes i depth before (e ∷ f ∷ es) =
     cond (depth == 0 && is_sequence e f)
-    (run_at bytes i e f before (index_of_event (slice_get es 0)) ∷ runs_from bytes (i + 2) depth (Some f.point.index) es)
-    (runs_from bytes (i + 1) (depth_after e.kind depth) (Some e.point.index) (f ∷ es))
+    (run_at one_tilde bytes i e f before (index_of_event (slice_get es 0)) ∷ runs_from one_tilde bytes (i + 2) depth (Some f.point.index) es)
+    (runs_from one_tilde bytes (i + 1) (depth_after e.kind depth) (Some e.point.index) (f ∷ es))
 
-abbrev pub runs_in : List ℕ → List Event → List Run
-runs_in bytes events = runs_from bytes 0 0 None events
+abbrev pub runs_in : (one_tilde : Bool) → List ℕ → List Event → List Run
+runs_in one_tilde bytes events = runs_from one_tilde bytes 0 0 None events
 
 -- where the last run before an index ends; `from` if there is none
 abbrev pub end_before : (from : ℕ) → List Run → ℕ → ℕ
@@ -126,5 +127,5 @@ abbrev pub text_behind : List Event → List Run → List Event
 text_behind events rs = drop (end_before 0 rs (length events)) events
 
 -- the events of a text with emphasis in place of its runs
-abbrev pub with_emphasis : List ℕ → List Event → List Event
-with_emphasis bytes events = let rs = runs_in bytes events in emphasised (text_before events rs) rs (text_behind events rs)
+abbrev pub with_emphasis : (one_tilde : Bool) → List ℕ → List Event → List Event
+with_emphasis one_tilde bytes events = let rs = runs_in one_tilde bytes events in emphasised (text_before events rs) rs (text_behind events rs)

@@ -290,6 +290,7 @@ pub fn put_edits(alloc: Global, runs: &[Delimiters], edits: &mut EditMap) -> Res
 pub fn emphasize_counted<L: Ledger>(
     alloc: Global,
     bytes: &[u8],
+    one_tilde: bool,
     events: &[Event],
     edits: &mut EditMap,
     turns: &mut Turns<L>,
@@ -297,10 +298,10 @@ pub fn emphasize_counted<L: Ledger>(
     requires none { edits.old ≡ [] }
     requires balanced { IsBalanced events.now }
     requires room { ArePlacesInside bytes.now events.now }
-    ensures edits { OnOk result (edits.new ≡ edits_of (paired (runs_in bytes.now events.now))) }
-    ensures linear { turns.new ≤ turns.old + (emphasis_a_run * length (runs_in bytes.now events.now) + 3 * markers_left (runs_in bytes.now events.now)) + length events.now }
+    ensures edits { OnOk result (edits.new ≡ edits_of (paired (runs_in one_tilde bytes.now events.now))) }
+    ensures linear { turns.new ≤ turns.old + (emphasis_a_run * length (runs_in one_tilde bytes.now events.now) + 3 * markers_left (runs_in one_tilde bytes.now events.now)) + length events.now }
 {
-    let mut runs = runs_of_counted(alloc, bytes, events, turns)?;
+    let mut runs = runs_of_counted(alloc, bytes, one_tilde, events, turns)?;
     pair_counted(alloc, runs.as_mut_slice(), turns)?;
     put_edits_counted(alloc, runs.as_slice(), edits, turns)
 }
@@ -309,6 +310,7 @@ pub fn emphasize_counted<L: Ledger>(
 fn emphasize_uncounted<L: Ledger>(
     alloc: Global,
     bytes: &[u8],
+    one_tilde: bool,
     events: &[Event],
     edits: &mut EditMap,
     blank: Blank,
@@ -319,10 +321,10 @@ fn emphasize_uncounted<L: Ledger>(
     requires none { edits.old ≡ [] }
     requires balanced { IsBalanced events.now }
     requires room { ArePlacesInside bytes.now events.now }
-    ensures { OnOk result (edits.new ≡ edits_of (paired (runs_in bytes.now events.now))) }
+    ensures { OnOk result (edits.new ≡ edits_of (paired (runs_in one_tilde bytes.now events.now))) }
 {
     let mut turns = Turns::<L>::new(blank);
-    emphasize_counted(alloc, bytes, events, edits, &mut turns)
+    emphasize_counted(alloc, bytes, one_tilde, events, edits, &mut turns)
 }
 
 /// Puts emphasis in place of the delimiter runs of a list of events, as `emphasize_counted` does.
@@ -332,15 +334,16 @@ fn emphasize_uncounted<L: Ledger>(
 pub fn emphasize(
     alloc: Global,
     bytes: &[u8],
+    one_tilde: bool,
     events: &[Event],
     edits: &mut EditMap,
 ) -> Result<(), AllocError>
     requires none { edits.old ≡ [] }
     requires balanced { IsBalanced events.now }
     requires room { ArePlacesInside bytes.now events.now }
-    ensures { OnOk result (edits.new ≡ edits_of (paired (runs_in bytes.now events.now))) }
+    ensures { OnOk result (edits.new ≡ edits_of (paired (runs_in one_tilde bytes.now events.now))) }
 {
-    emphasize_uncounted::<Brand>(alloc, bytes, events, edits, Blank::new(1))
+    emphasize_uncounted::<Brand>(alloc, bytes, one_tilde, events, edits, Blank::new(1))
 }
 
 /// A list of events with what takes the place of runs in their place.
@@ -377,16 +380,17 @@ fn placed_counted<L: Ledger>(
 pub fn emphasized_counted<L: Ledger>(
     alloc: Global,
     bytes: &[u8],
+    one_tilde: bool,
     events: &[Event],
     turns: &mut Turns<L>,
 ) -> Result<Vec<Event>, AllocError>
     requires balanced { IsBalanced events.now }
     requires unlinked { HaveNoLinks events.now }
     requires room { ArePlacesInside bytes.now events.now }
-    ensures emphasis { IfOk result (λ out. out.items ≡ edited (edits_of (paired (runs_in bytes.now events.now))) events.now) }
-    ensures linear { turns.new ≤ turns.old + (emphasis_a_run * length (runs_in bytes.now events.now) + 3 * markers_left (runs_in bytes.now events.now)) + length events.now }
+    ensures emphasis { IfOk result (λ out. out.items ≡ edited (edits_of (paired (runs_in one_tilde bytes.now events.now))) events.now) }
+    ensures linear { turns.new ≤ turns.old + (emphasis_a_run * length (runs_in one_tilde bytes.now events.now) + 3 * markers_left (runs_in one_tilde bytes.now events.now)) + length events.now }
 {
-    let mut delimiters = runs_of_counted(alloc, bytes, events, turns)?;
+    let mut delimiters = runs_of_counted(alloc, bytes, one_tilde, events, turns)?;
     pair_counted(alloc, delimiters.as_mut_slice(), turns)?;
     placed_counted(alloc, events, delimiters.as_slice(), turns)
 }

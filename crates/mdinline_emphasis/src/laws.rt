@@ -17,8 +17,8 @@ pub fn neighbours_of_pairs()
     ensures { PairsBeside }
 {}
 
-/// A run of tildes is in no pair, or the whole of it is an end of one strikethrough, by one tilde or by two. So three or more tildes make none, and no
-/// tilde of a pair is left.
+/// A run of tildes is in no pair, or the whole of it is an end of one strikethrough, by two tildes or, if one counts, by one. So three or more tildes make
+/// none, no tilde of a pair is left, and with `gfm_strikethrough_single_tilde` off each run that is in a pair has two.
 pub fn tildes_are_whole()
     ensures { TildesAreWhole }
 {}

@@ -72,11 +72,11 @@ fn marker_at(bytes: &[u8], index: usize) -> Marker
     }
 }
 
-/// Whether a run of so many markers may be in a pair: one of tildes has two at most.
-fn may_mark(marker: Marker, length: usize) -> bool
-    ensures { result ≡ may_mark marker length }
+/// Whether a run of so many markers may be in a pair: one of tildes has two at most, and two at least if one does not count.
+fn may_mark(one_tilde: bool, marker: Marker, length: usize) -> bool
+    ensures { result ≡ may_mark one_tilde marker length }
 {
-    !is_tilde(marker) || length <= 2
+    !is_tilde(marker) || length <= 2 && (one_tilde || 2 <= length)
 }
 
 /// The class of the character at an end of a run: that of the document there, if the event beside the run stands at the same index.
@@ -124,13 +124,14 @@ fn depth_after(kind: Kind, depth: usize) -> usize
 fn run_at(
     alloc: Global,
     bytes: &[u8],
+    one_tilde: bool,
     index: usize,
     enter: &Event,
     exit: &Event,
     before: Option<usize>,
     behind: Option<usize>,
 ) -> Delimiters
-    ensures { as_run result ≡ run_at bytes.now index enter.now exit.now before behind }
+    ensures { as_run result ≡ run_at one_tilde bytes.now index enter.now exit.now before behind }
 {
     let start = enter.point.index;
     let end = exit.point.index;
@@ -138,7 +139,7 @@ fn run_at(
     let after_it = class_beside(behind, end, class_after(bytes, end));
     let marker = marker_at(bytes, start);
     let left = end.saturating_sub(start);
-    let marks = may_mark(marker, left);
+    let marks = may_mark(one_tilde, marker, left);
     Delimiters {
         index,
         start: enter.point,
@@ -158,10 +159,11 @@ fn run_at(
 pub fn runs_of_counted<L: Ledger>(
     alloc: Global,
     bytes: &[u8],
+    one_tilde: bool,
     events: &[Event],
     turns: &mut Turns<L>,
 ) -> Result<Vec<Delimiters>, AllocError>
-    ensures runs { IfOk result (λ runs. map as_run runs.items ≡ runs_in bytes.now events.now) }
+    ensures runs { IfOk result (λ runs. map as_run runs.items ≡ runs_in one_tilde bytes.now events.now) }
     ensures turns { turns.new ≤ turns.old + length events.now }
 {
     let mut runs = Vec::new(alloc);
@@ -174,7 +176,7 @@ pub fn runs_of_counted<L: Ledger>(
         let exit = &events[index + 1];
         if depth == 0 && is_sequence(enter, exit) {
             let behind = index_of_event(events, index + 2);
-            runs.push(run_at(alloc, bytes, index, enter, exit, before, behind))?;
+            runs.push(run_at(alloc, bytes, one_tilde, index, enter, exit, before, behind))?;
             before = Some(exit.point.index);
             index += 2;
         } else {
@@ -190,21 +192,27 @@ pub fn runs_of_counted<L: Ledger>(
 fn runs_uncounted<L: Ledger>(
     alloc: Global,
     bytes: &[u8],
+    one_tilde: bool,
     events: &[Event],
     blank: Blank,
 ) -> Result<Vec<Delimiters>, AllocError>
     requires name { blank.name ≡ L.name }
     requires parts { blank.parts ≡ L.parts }
     requires some { 0 < blank.parts }
-    ensures { IfOk result (λ runs. map as_run runs.items ≡ runs_in bytes.now events.now) }
+    ensures { IfOk result (λ runs. map as_run runs.items ≡ runs_in one_tilde bytes.now events.now) }
 {
     let mut turns = Turns::<L>::new(blank);
-    runs_of_counted(alloc, bytes, events, &mut turns)
+    runs_of_counted(alloc, bytes, one_tilde, events, &mut turns)
 }
 
 /// The delimiter runs of a list of events, as `runs_of_counted` finds them.
-pub fn runs_of(alloc: Global, bytes: &[u8], events: &[Event]) -> Result<Vec<Delimiters>, AllocError>
-    ensures { IfOk result (λ runs. map as_run runs.items ≡ runs_in bytes.now events.now) }
+pub fn runs_of(
+    alloc: Global,
+    bytes: &[u8],
+    one_tilde: bool,
+    events: &[Event],
+) -> Result<Vec<Delimiters>, AllocError>
+    ensures { IfOk result (λ runs. map as_run runs.items ≡ runs_in one_tilde bytes.now events.now) }
 {
-    runs_uncounted::<Brand>(alloc, bytes, events, Blank::new(1))
+    runs_uncounted::<Brand>(alloc, bytes, one_tilde, events, Blank::new(1))
 }

@@ -1,6 +1,6 @@
 -- What links keep between places: the outermost spans of a list go from place to place, and so do the runs that are taken for them, one behind
 -- another.
-use Rattle.std.proofs.Common.{◌≡◌, ◌+◌, ◌<◌, ◌≤◌, ◌∙◌, ℕ, zero, suc, List, [], ◌∷◌, ◌++◌, false, cond, Option, Some, None, ap, append-nil, arith, inl, inr, length, length-append, map, refl, subst, sym}
+use Rattle.std.proofs.Common.{◌≡◌, ◌+◌, ◌<◌, ◌≤◌, ◌∙◌, ℕ, zero, suc, Bool, List, [], ◌∷◌, ◌++◌, false, cond, Option, Some, None, ap, append-nil, arith, inl, inr, length, length-append, map, refl, subst, sym}
 use Rattle.std.proofs.lemmas.Bool.{cases_Bool}
 use Rattle.std.specs.List.{AllByRecursion}
 use Rattle.std.specs.Prelude.{slice_get}
@@ -38,7 +38,7 @@ some-in-place p q r [] zero [] h = absurd (omega (arith, h))
 place-some : (r : Run) → 0 < markers r → 0 < length (in_place r)
 place-some r h = let p = later (markers_of_all r.closed) r.start in some-in-place r.start p (later r.left p) r.closed r.left r.opened h
 
-module _ (bytes : List ℕ) (T : List Event → Type 0) (Q : Type 0) (A B : Q → List Event → Q → Type 0) (R : Q → Run → Q → Type 0) (kept : IsKeptBetween bytes T Q A B R) where
+module _ (one : Bool) (bytes : List ℕ) (T : List Event → Type 0) (Q : Type 0) (A B : Q → List Event → Q → Type 0) (R : Q → Run → Q → Type 0) (kept : IsKeptBetween bytes T Q A B R) where
   -- places with an index of the list
   abbrev pub Place : Type 0
   Place = Q × ℕ
@@ -101,7 +101,7 @@ module _ (bytes : List ℕ) (T : List Event → Type 0) (Q : Type 0) (A B : Q �
       (m : Q) × (k : ℕ) × ((n : Place) × IsSpan Place Goes RunGoes p w.0 n × IsPart Place Goes RunGoes p x.0 n × AreSpans Place Goes RunGoes n (spans_in bound w.1) x.1 (m, k)) × A m [] q
 
   pub aligned : (bound : ℕ) (es : List Event) (j : ℕ) (before : Option ℕ) (p q : Q) → length es ≤ bound → names_after_all (Some []) es ≡ Some [] → AllByRecursion T (spans_in bound es) → A p es q
-      → (m : Q) × (k : ℕ) × AreSpans Place Goes RunGoes (p, j) (spans_in bound es) (runs_from bytes j 0 before es) (m, k) × A m [] q
+      → (m : Q) × (k : ℕ) × AreSpans Place Goes RunGoes (p, j) (spans_in bound es) (runs_from one bytes j 0 before es) (m, k) × A m [] q
   aligned zero [] j before p q few end known h = (p, j, refl, h)
   aligned zero (e ∷ es) j before p q few end known h = absurd (omega (arith, few))
   aligned (suc b) [] j before p q few end known h = (p, j, refl, h)
@@ -111,9 +111,9 @@ module _ (bytes : List ℕ) (T : List Event → Type 0) (Q : Type 0) (A B : Q �
         | inl is ↦
             let kinds = sequence-is e.kind g.kind e.name g.name is in
             let span = e ∷ g ∷ [] in
-            let r = run_at bytes j e g before (index_of_event (slice_get es 0)) in
-            let rs = runs_from bytes (j + 2) 0 (Some g.point.index) es in
-            let runs : runs_from bytes j 0 before (e ∷ g ∷ es) ≡ r ∷ rs = rw is refl in
+            let r = run_at one bytes j e g before (index_of_event (slice_get es 0)) in
+            let rs = runs_from one bytes (j + 2) 0 (Some g.point.index) es in
+            let runs : runs_from one bytes j 0 before (e ∷ g ∷ es) ≡ r ∷ rs = rw is refl in
             let pair = pair-span e g es kinds.0 kinds.1 in
             let closes = subst (Closes []) pair (span-closes 0 (e ∷ g ∷ es) [] refl end) in
             let first = balanced_from_open span closes.0 in
@@ -131,10 +131,10 @@ module _ (bytes : List ℕ) (T : List Event → Type 0) (Q : Type 0) (A B : Q �
             let w = span_at 1 (g ∷ es) in
             let span = e ∷ w.0 in
             let k = (j + 1) + length w.0 in
-            let step : runs_from bytes j 0 before (e ∷ g ∷ es) ≡ runs_from bytes (j + 1) 1 (Some e.point.index) (g ∷ es) = rw (other, kind) refl in
-            let skip = skipped bytes (g ∷ es) (j + 1) 0 (Some e.point.index) in
-            let rs = runs_from bytes k 0 skip.0 w.1 in
-            let runs : runs_from bytes j 0 before (e ∷ g ∷ es) ≡ rs = step ∙ skip.1 in
+            let step : runs_from one bytes j 0 before (e ∷ g ∷ es) ≡ runs_from one bytes (j + 1) 1 (Some e.point.index) (g ∷ es) = rw (other, kind) refl in
+            let skip = skipped one bytes (g ∷ es) (j + 1) 0 (Some e.point.index) in
+            let rs = runs_from one bytes k 0 skip.0 w.1 in
+            let runs : runs_from one bytes j 0 before (e ∷ g ∷ es) ≡ rs = step ∙ skip.1 in
             let opens = span-opens e (g ∷ es) kind in
             let front = front-first 1 g es in
             let plain : is_run span ≡ false = ap (λ xs. is_run (e ∷ xs)) front.1 ∙ no-run e g front.0 other in
@@ -153,8 +153,8 @@ module _ (bytes : List ℕ) (T : List Event → Type 0) (Q : Type 0) (A B : Q �
       ]
 
   -- Links and images keep the property
-  pub links-keep-between : (es : List Event) (p q : Q) → IsBalanced es → AllByRecursion T (outermost_spans es) → A p es q → B p (with_links bytes es) q
+  pub links-keep-between : (es : List Event) (p q : Q) → IsBalanced es → AllByRecursion T (outermost_spans es) → A p es q → B p (with_links one bytes es) q
   links-keep-between es p q balanced known h =
       let a = aligned (length es) es 0 None p q (omega arith) (names_after_balanced balanced []) known h in
-      let all = all-go Place Goes RunGoes by-parts (p, 0) (a.0, a.1) (outermost_spans es) (runs_in bytes es) a.2 in
-      subst (λ xs. B p xs q) (append-nil (with_links bytes es)) (kept.together p a.0 q (with_links bytes es) [] (links-balanced bytes es balanced) empty all.0 (kept.same a.0 q [] empty a.3))
+      let all = all-go Place Goes RunGoes by-parts (p, 0) (a.0, a.1) (outermost_spans es) (runs_in one bytes es) a.2 in
+      subst (λ xs. B p xs q) (append-nil (with_links one bytes es)) (kept.together p a.0 q (with_links one bytes es) [] (links-balanced one bytes es balanced) empty all.0 (kept.same a.0 q [] empty a.3))

@@ -1,5 +1,5 @@
 -- What links cost.
-use Rattle.std.proofs.Common.{◌≡◌, ◌==◌, ◌+◌, ◌-◌, ◌*◌, ◌<◌, ◌≤◌, ◌∙◌, ℕ, zero, suc, List, [], ◌∷◌, ◌++◌, cond, inl, inr, Err, Ok, Result, ap, arith, drop, get_or, length, length-append, map, refl, sym, take}
+use Rattle.std.proofs.Common.{◌≡◌, ◌==◌, ◌+◌, ◌-◌, ◌*◌, ◌<◌, ◌≤◌, ◌∙◌, ℕ, zero, suc, Bool, List, [], ◌∷◌, ◌++◌, cond, inl, inr, Err, Ok, Result, ap, arith, drop, get_or, length, length-append, map, refl, sym, take}
 use Rattle.std.proofs.Math.Seq.{take-suc}
 use Rattle.std.proofs.lemmas.Bool.{cases_Bool}
 use Rattle.std.proofs.lemmas.List.{drop-map, length-drop, length-map, map-append, reverse-append, take-append-drop, take-map, take_all}
@@ -171,21 +171,21 @@ turned-pay (d ∷ ds) =
     omega (arith, more, a, b)
 
 -- before the first span the runs were looked for
-pub first-paid : (bytes : List ℕ) (es : List Event) (all : Pieces) (left runs : List Delimiters) (t0 t1 : ℕ) → all.runs.items ≡ [] → all.pieces.items ≡ [] → map as_run runs ≡ runs_in bytes es → left ≡ reverse runs
-    → t1 ≤ t0 + length es → t1 + to_pay all left ≤ t0 + (length es + pay (runs_in bytes es)) + 2 * 0
-first-paid bytes es all left runs t0 t1 rs ps is turned looked =
+pub first-paid : (one : Bool) (bytes : List ℕ) (es : List Event) (all : Pieces) (left runs : List Delimiters) (t0 t1 : ℕ) → all.runs.items ≡ [] → all.pieces.items ≡ [] → map as_run runs ≡ runs_in one bytes es → left ≡ reverse runs
+    → t1 ≤ t0 + length es → t1 + to_pay all left ≤ t0 + (length es + pay (runs_in one bytes es)) + 2 * 0
+first-paid one bytes es all left runs t0 t1 rs ps is turned looked =
     let a = ap (λ xs. pay (map as_run xs)) rs in
     let b = ap to_write ps in
     let c = ap (λ xs. pay (map as_run xs)) turned ∙ turned-pay runs ∙ ap pay is in
     omega (arith, a, b, c, looked)
 
 -- runs of a text are in no pair yet
-pub runs-pay : (bytes : List ℕ) (es : List Event) → pay (runs_in bytes es) ≡ emphasis_a_run * length (runs_in bytes es) + 3 * markers_left (runs_in bytes es)
-runs-pay bytes es = let none = runs-no-ends bytes es in omega (arith, none)
+pub runs-pay : (one : Bool) (bytes : List ℕ) (es : List Event) → pay (runs_in one bytes es) ≡ emphasis_a_run * length (runs_in one bytes es) + 3 * markers_left (runs_in one bytes es)
+runs-pay one bytes es = let none = runs-no-ends one bytes es in omega (arith, none)
 
 pub links-cost-little : LinksCostLittle
-links-cost-little bytes es p q inside order =
-    let few = runs-are-few bytes es in
+links-cost-little one bytes es p q inside order =
+    let few = runs-are-few one bytes es in
     let runs = few.0 in
     let markers = few.2 p q inside order in
     omega (arith, runs, markers)

@@ -28,25 +28,25 @@ abbrev end : ℕ → List Event
 end i = span LabelEnd i (i + 1) (leaf LabelMarker i (i + 1))
 
 -- `[a](u)`, with the resource as one span
-link : with_links (91 ∷ 97 ∷ 93 ∷ 40 ∷ 117 ∷ 41 ∷ []) (bracket 0 ++ (leaf Data 1 2 ++ (end 2 ++ leaf Resource 3 6)))
+link : with_links true (91 ∷ 97 ∷ 93 ∷ 40 ∷ 117 ∷ 41 ∷ []) (bracket 0 ++ (leaf Data 1 2 ++ (end 2 ++ leaf Resource 3 6)))
     ≡ span Link 0 6 (span Label 0 3 (bracket 0 ++ (span LabelText 1 2 (leaf Data 1 2) ++ end 2)) ++ leaf Resource 3 6)
 link = refl
 
 -- `![a](u)`
-image : with_links (33 ∷ 91 ∷ 97 ∷ 93 ∷ 40 ∷ 117 ∷ 41 ∷ []) (image_bracket 0 ++ (leaf Data 2 3 ++ (end 3 ++ leaf Resource 4 7)))
+image : with_links true (33 ∷ 91 ∷ 97 ∷ 93 ∷ 40 ∷ 117 ∷ 41 ∷ []) (image_bracket 0 ++ (leaf Data 2 3 ++ (end 3 ++ leaf Resource 4 7)))
     ≡ span Image 0 7 (span Label 0 4 (image_bracket 0 ++ (span LabelText 2 3 (leaf Data 2 3) ++ end 3)) ++ leaf Resource 4 7)
 image = refl
 
 -- `[](u)`: no text
-empty : with_links (91 ∷ 93 ∷ 40 ∷ 117 ∷ 41 ∷ []) (bracket 0 ++ (end 1 ++ leaf Resource 2 5)) ≡ span Link 0 5 (span Label 0 2 (bracket 0 ++ end 1) ++ leaf Resource 2 5)
+empty : with_links true (91 ∷ 93 ∷ 40 ∷ 117 ∷ 41 ∷ []) (bracket 0 ++ (end 1 ++ leaf Resource 2 5)) ≡ span Link 0 5 (span Label 0 2 (bracket 0 ++ end 1) ++ leaf Resource 2 5)
 empty = refl
 
 -- `[[a]`, with `a` defined: the first bracket is data
-waits : with_links (91 ∷ 91 ∷ 97 ∷ 93 ∷ []) (bracket 0 ++ (bracket 1 ++ (leaf Data 2 3 ++ end 3))) ≡ leaf Data 0 1 ++ span Link 1 4 (span Label 1 4 (bracket 1 ++ (span LabelText 2 3 (leaf Data 2 3) ++ end 3)))
+waits : with_links true (91 ∷ 91 ∷ 97 ∷ 93 ∷ []) (bracket 0 ++ (bracket 1 ++ (leaf Data 2 3 ++ end 3))) ≡ leaf Data 0 1 ++ span Link 1 4 (span Label 1 4 (bracket 1 ++ (span LabelText 2 3 (leaf Data 2 3) ++ end 3)))
 waits = refl
 
 -- `[a]`, with no `a` defined: a `]` that makes nothing
-fails : with_links (91 ∷ 97 ∷ 93 ∷ []) (bracket 0 ++ (leaf Data 1 2 ++ leaf LabelMarker 2 3)) ≡ leaf Data 0 1 ++ (leaf Data 1 2 ++ leaf Data 2 3)
+fails : with_links true (91 ∷ 97 ∷ 93 ∷ []) (bracket 0 ++ (leaf Data 1 2 ++ leaf LabelMarker 2 3)) ≡ leaf Data 0 1 ++ (leaf Data 1 2 ++ leaf Data 2 3)
 fails = refl
 
 -- a run of one asterisk, and the events of a text with these runs

@@ -148,8 +148,8 @@ module _ (P : Point → Type 0) (B : List Event → Type 0) (F : Run → Type 0)
       ]
 
   -- Links and images keep the property, if each outermost span and each run has it
-  pub links-keep : (bytes : List ℕ) (es : List Event) → AllByRecursion B (outermost_spans es) → AllByRecursion F (runs_in bytes es) → B (with_links bytes es)
-  links-keep bytes es bs fresh =
-      let z : SoFar = linked_from (record { waiting = []; behind = []; runs = runs_in bytes es }) (outermost_spans es) in
-      let h = is-linked (outermost_spans es) (record { waiting = []; behind = []; runs = runs_in bytes es }) bs (record { waits = tt; behind = tt; fresh = fresh }) in
+  pub links-keep : (one : Bool) (bytes : List ℕ) (es : List Event) → AllByRecursion B (outermost_spans es) → AllByRecursion F (runs_in one bytes es) → B (with_links one bytes es)
+  links-keep one bytes es bs fresh =
+      let z : SoFar = linked_from (record { waiting = []; behind = []; runs = runs_in one bytes es }) (outermost_spans es) in
+      let h = is-linked (outermost_spans es) (record { waiting = []; behind = []; runs = runs_in one bytes es }) bs (record { waits = tt; behind = tt; fresh = fresh }) in
       parts-emphasised (all_parts z.waiting z.behind) (parts-all z.waiting z.behind h.waits h.behind)

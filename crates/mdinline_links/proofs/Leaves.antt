@@ -1,5 +1,5 @@
 -- Links and images leave a balanced list balanced, and one without links without them, as emphasis does.
-use Rattle.std.proofs.Common.{◌==◌, ◌+◌, ℕ, List, [], ◌∷◌, true, false, cond, Option, Some, None, refl}
+use Rattle.std.proofs.Common.{◌==◌, ◌+◌, ℕ, Bool, List, [], ◌∷◌, true, false, cond, Option, Some, None, refl}
 use Rattle.std.specs.List.{AllByRecursion}
 use Rattle.std.specs.Prelude.{◌&&◌, slice_get}
 use Rattle.markdown_base.specs.declared.event.Event.{Event}
@@ -24,13 +24,13 @@ use Rattle.mdinline_emphasis.proofs.RunEdits.{no-links-runs}
 
 -- ---- the runs of a text are in no pair yet
 
-pub runs-fresh : (bytes : List ℕ) (i depth : ℕ) (before : Option ℕ) (es : List Event) → AllByRecursion IsFresh (runs_from bytes i depth before es)
-runs-fresh bytes i depth before [] = tt
-runs-fresh bytes i depth before (e ∷ []) = tt
-runs-fresh bytes i depth before (e ∷ f ∷ es) =
-    elim (depth == 0 && is_sequence e f) as (λ t. AllByRecursion IsFresh (cond t (run_at bytes i e f before (index_of_event (slice_get es 0)) ∷ runs_from bytes (i + 2) depth (Some f.point.index) es) (runs_from bytes (i + 1) (depth_after e.kind depth) (Some e.point.index) (f ∷ es)))) [
-      | true ↦ ((refl, refl), runs-fresh bytes (i + 2) depth (Some f.point.index) es)
-      | false ↦ runs-fresh bytes (i + 1) (depth_after e.kind depth) (Some e.point.index) (f ∷ es)
+pub runs-fresh : (one : Bool) (bytes : List ℕ) (i depth : ℕ) (before : Option ℕ) (es : List Event) → AllByRecursion IsFresh (runs_from one bytes i depth before es)
+runs-fresh one bytes i depth before [] = tt
+runs-fresh one bytes i depth before (e ∷ []) = tt
+runs-fresh one bytes i depth before (e ∷ f ∷ es) =
+    elim (depth == 0 && is_sequence e f) as (λ t. AllByRecursion IsFresh (cond t (run_at one bytes i e f before (index_of_event (slice_get es 0)) ∷ runs_from one bytes (i + 2) depth (Some f.point.index) es) (runs_from one bytes (i + 1) (depth_after e.kind depth) (Some e.point.index) (f ∷ es)))) [
+      | true ↦ ((refl, refl), runs-fresh one bytes (i + 2) depth (Some f.point.index) es)
+      | false ↦ runs-fresh one bytes (i + 1) (depth_after e.kind depth) (Some e.point.index) (f ∷ es)
     ]
 
 are-fresh : (texts : ℕ → List Event) (rs : List Run) → ((k : ℕ) → IsBalanced (texts k)) → AllByRecursion IsFresh rs → AreFresh texts rs
@@ -56,8 +56,8 @@ balanced-is-kept = record {
   emphasis = λ texts rs rest between fresh behind. leaves-balanced texts rs rest (are-fresh texts rs between fresh) behind;
 }
 
-pub links-balanced : (bytes : List ℕ) (es : List Event) → IsBalanced es → IsBalanced (with_links bytes es)
-links-balanced bytes es h = links-keep Anywhere IsBalanced IsFresh balanced-is-kept bytes es (spans-balanced es h) (runs-fresh bytes 0 0 None es)
+pub links-balanced : (one : Bool) (bytes : List ℕ) (es : List Event) → IsBalanced es → IsBalanced (with_links one bytes es)
+links-balanced one bytes es h = links-keep Anywhere IsBalanced IsFresh balanced-is-kept one bytes es (spans-balanced es h) (runs-fresh one bytes 0 0 None es)
 
 -- ---- without links
 
@@ -78,5 +78,5 @@ unlinked-is-kept = record {
   emphasis = λ texts rs rest between fresh behind. leaves-no-links texts rs rest between behind;
 }
 
-pub links-unlinked : (bytes : List ℕ) (es : List Event) → HaveNoLinks es → HaveNoLinks (with_links bytes es)
-links-unlinked bytes es h = links-keep Anywhere HaveNoLinks IsFresh unlinked-is-kept bytes es (spans-unlinked es h) (runs-fresh bytes 0 0 None es)
+pub links-unlinked : (one : Bool) (bytes : List ℕ) (es : List Event) → HaveNoLinks es → HaveNoLinks (with_links one bytes es)
+links-unlinked one bytes es h = links-keep Anywhere HaveNoLinks IsFresh unlinked-is-kept one bytes es (spans-unlinked es h) (runs-fresh one bytes 0 0 None es)

@@ -80,23 +80,23 @@ all-no-brackets : (spans : List (List Event)) → AllByRecursion (λ s. has_brac
 all-no-brackets [] h = tt
 all-no-brackets (s ∷ spans) h = (is-no-bracket s h.0, all-no-brackets spans h.1)
 
-plain-is : (bytes : List ℕ) (events : List Event) → IsBalanced events → has_brackets events ≡ false → with_links bytes events ≡ with_emphasis bytes events
-plain-is bytes events balanced h =
-    emphasis-alone bytes events balanced (all-no-brackets (outermost_spans events) (spans-have (λ s. has_brackets s ≡ false) none-parts (length events) events h))
+plain-is : (one : Bool) (bytes : List ℕ) (events : List Event) → IsBalanced events → has_brackets events ≡ false → with_links one bytes events ≡ with_emphasis one bytes events
+plain-is one bytes events balanced h =
+    emphasis-alone one bytes events balanced (all-no-brackets (outermost_spans events) (spans-have (λ s. has_brackets s ≡ false) none-parts (length events) events h))
 
 pub links-can-be-made : LinksCanBeMade
-links-can-be-made bytes events balanced none =
-    let new = with_links bytes events in
-    let still = links-balanced bytes events balanced in
-    let unlinked = links-unlinked bytes events none in
+links-can-be-made one bytes events balanced none =
+    let new = with_links one bytes events in
+    let still = links-balanced one bytes events balanced in
+    let unlinked = links-unlinked one bytes events none in
     elim (cases_Bool (has_brackets events)) [
       | inl h ↦
-          subst (λ t. let edits = cond t (edit_at 0 (length events) new ∷ []) (edits_of (paired (runs_in bytes events))) in AreDisjoint 0 edits (length events) × (edited edits events ≡ new) × IsBalanced new × HaveNoLinks new) (sym h)
+          subst (λ t. let edits = cond t (edit_at 0 (length events) new ∷ []) (edits_of (paired (runs_in one bytes events))) in AreDisjoint 0 edits (length events) × (edited edits events ≡ new) × IsBalanced new × HaveNoLinks new) (sym h)
           (whole-apart events new, whole-edited events new none, still, unlinked)
       | inr h ↦
-          let made = emphasis-can-be-made bytes events balanced none in
-          subst (λ t. let edits = cond t (edit_at 0 (length events) new ∷ []) (edits_of (paired (runs_in bytes events))) in AreDisjoint 0 edits (length events) × (edited edits events ≡ new) × IsBalanced new × HaveNoLinks new) (sym h)
-          (made.0, made.1 ∙ sym (plain-is bytes events balanced h), still, unlinked)
+          let made = emphasis-can-be-made one bytes events balanced none in
+          subst (λ t. let edits = cond t (edit_at 0 (length events) new ∷ []) (edits_of (paired (runs_in one bytes events))) in AreDisjoint 0 edits (length events) × (edited edits events ≡ new) × IsBalanced new × HaveNoLinks new) (sym h)
+          (made.0, made.1 ∙ sym (plain-is one bytes events balanced h), still, unlinked)
     ]
 
 -- the tests of a loop

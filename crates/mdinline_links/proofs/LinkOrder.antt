@@ -1,5 +1,5 @@
 -- Links and images keep the order of places: their events stand at the ends of the spans that they are made of, and those of emphasis in its runs.
-use Rattle.std.proofs.Common.{◌≡◌, ◌<◌, ◌∙◌, ℕ, List, [], ◌∷◌, ◌++◌, false, ap, arith, refl, subst, sym}
+use Rattle.std.proofs.Common.{◌≡◌, ◌<◌, ◌∙◌, ℕ, Bool, List, [], ◌∷◌, ◌++◌, false, ap, arith, refl, subst, sym}
 use Rattle.std.specs.List.{AllByRecursion}
 use Rattle.markdown_base.proofs.Orders.{InOrder, order-both, order-from, upto-upto}
 use Rattle.markdown_base.proofs.Seats.{stands-self}
@@ -138,12 +138,12 @@ module _ (At : Point → Type 0) where
   }
 
   -- Links, images and emphasis leave events in order, each at one of these places
-  pub links-ordered : (bytes : List ℕ) (es : List Event) (p q : Point) → IsBalanced es → AreBytewise At es → Ordered At p es q → Ordered At p (with_links bytes es) q
-  links-ordered bytes es p q = links-keep-between bytes (IsBytewise At) Point (Ordered At) (Ordered At) RunIsOrdered (order-is-kept bytes) es p q
+  pub links-ordered : (one : Bool) (bytes : List ℕ) (es : List Event) (p q : Point) → IsBalanced es → AreBytewise At es → Ordered At p es q → Ordered At p (with_links one bytes es) q
+  links-ordered one bytes es p q = links-keep-between one bytes (IsBytewise At) Point (Ordered At) (Ordered At) RunIsOrdered (order-is-kept bytes) es p q
 
 all-anywhere : (es : List Event) → AllByRecursion (λ (e : Event). Anywhere e.point) es
 all-anywhere [] = tt
 all-anywhere (e ∷ es) = (tt, all-anywhere es)
 
 pub in-order : LinksKeepOrder
-in-order bytes es p q balanced steps h = (links-ordered Anywhere bytes es p q balanced steps (record { order = h; places = all-anywhere es })).order
+in-order one bytes es p q balanced steps h = (links-ordered Anywhere one bytes es p q balanced steps (record { order = h; places = all-anywhere es })).order

@@ -1,5 +1,5 @@
 -- The events of links, images and emphasis stand where the events before did, or in delimiter runs; so they stand inside the document.
-use Rattle.std.proofs.Common.{◌+◌, ◌-◌, ◌≤◌, ◌==◌, ℕ, List, [], ◌∷◌, ◌++◌, true, false, cond, Option, Some, None, arith, length, map, subst, sym}
+use Rattle.std.proofs.Common.{◌+◌, ◌-◌, ◌≤◌, ◌==◌, ℕ, Bool, List, [], ◌∷◌, ◌++◌, true, false, cond, Option, Some, None, arith, length, map, subst, sym}
 use Rattle.std.proofs.lemmas.List.Elements.{All-from_recursion, recursion_from_All}
 use Rattle.std.specs.List.{AllByRecursion}
 use Rattle.std.specs.Prelude.{◌&&◌, slice_get}
@@ -63,9 +63,9 @@ module _ (At : Point → Type 0) where
   }
 
   -- Links, images and emphasis stand at such places, if the events before did, and each place of a delimiter run is one
-  pub links-at : (bytes : List ℕ) (es : List Event) → AllAt At es → AllByRecursion RunAt (runs_in bytes es) → AllAt At (with_links bytes es)
-  links-at bytes es h each =
-      links-keep At (AllAt At) RunAt at-is-kept bytes es (spans-have (AllAt At) (λ xs ys k. (all-front EventAt xs ys k, all-back EventAt xs ys k)) (length es) es h) each
+  pub links-at : (one : Bool) (bytes : List ℕ) (es : List Event) → AllAt At es → AllByRecursion RunAt (runs_in one bytes es) → AllAt At (with_links one bytes es)
+  links-at one bytes es h each =
+      links-keep At (AllAt At) RunAt at-is-kept one bytes es (spans-have (AllAt At) (λ xs ys k. (all-front EventAt xs ys k, all-back EventAt xs ys k)) (length es) es h) each
 
 -- ---- places in the document
 
@@ -75,17 +75,17 @@ Inside bytes p = (p.index ≤ length bytes) × HasRoom (length bytes - p.index) 
 steps-inside : (bytes : List ℕ) (p q : Point) → Inside bytes p → Inside bytes q → AreSteps (Inside bytes) p (0 + (q.index - p.index + 0))
 steps-inside bytes p q h k n less = (omega (arith, h.0, k.0, less), (omega (arith, h.0, k.0, h.1.0, less), omega (arith, h.0, k.0, h.1.1, less)))
 
-runs-inside : (bytes : List ℕ) (i depth : ℕ) (before : Option ℕ) (es : List Event) → AllAt (Inside bytes) es → AllByRecursion (RunAt (Inside bytes)) (runs_from bytes i depth before es)
-runs-inside bytes i depth before [] h = tt
-runs-inside bytes i depth before (e ∷ []) h = tt
-runs-inside bytes i depth before (e ∷ f ∷ es) h =
-    elim (depth == 0 && is_sequence e f) as (λ t. AllByRecursion (RunAt (Inside bytes)) (cond t (run_at bytes i e f before (index_of_event (slice_get es 0)) ∷ runs_from bytes (i + 2) depth (Some f.point.index) es) (runs_from bytes (i + 1) (depth_after e.kind depth) (Some e.point.index) (f ∷ es)))) [
-      | true ↦ (steps-inside bytes e.point f.point h.0 h.1.0, runs-inside bytes (i + 2) depth (Some f.point.index) es h.1.1)
-      | false ↦ runs-inside bytes (i + 1) (depth_after e.kind depth) (Some e.point.index) (f ∷ es) h.1
+runs-inside : (one : Bool) (bytes : List ℕ) (i depth : ℕ) (before : Option ℕ) (es : List Event) → AllAt (Inside bytes) es → AllByRecursion (RunAt (Inside bytes)) (runs_from one bytes i depth before es)
+runs-inside one bytes i depth before [] h = tt
+runs-inside one bytes i depth before (e ∷ []) h = tt
+runs-inside one bytes i depth before (e ∷ f ∷ es) h =
+    elim (depth == 0 && is_sequence e f) as (λ t. AllByRecursion (RunAt (Inside bytes)) (cond t (run_at one bytes i e f before (index_of_event (slice_get es 0)) ∷ runs_from one bytes (i + 2) depth (Some f.point.index) es) (runs_from one bytes (i + 1) (depth_after e.kind depth) (Some e.point.index) (f ∷ es)))) [
+      | true ↦ (steps-inside bytes e.point f.point h.0 h.1.0, runs-inside one bytes (i + 2) depth (Some f.point.index) es h.1.1)
+      | false ↦ runs-inside one bytes (i + 1) (depth_after e.kind depth) (Some e.point.index) (f ∷ es) h.1
     ]
 
 pub stay-inside : LinksKeepPlaces
-stay-inside bytes es h =
+stay-inside one bytes es h =
     let In : Event → Type 0 = λ e. Inside bytes e.point in
     let all = recursion_from_All In es h in
-    All-from_recursion In (with_links bytes es) (links-at (Inside bytes) bytes es all (runs-inside bytes 0 0 None es all))
+    All-from_recursion In (with_links one bytes es) (links-at (Inside bytes) one bytes es all (runs-inside one bytes 0 0 None es all))

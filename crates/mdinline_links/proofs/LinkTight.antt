@@ -1,5 +1,5 @@
 -- Links and images leave the exit of each void span behind its enter.
-use Rattle.std.proofs.Common.{◌≡◌, ◌∙◌, ℕ, zero, suc, List, [], ◌∷◌, ◌++◌, true, false, Option, Some, None, ap, append_assoc, inl, inr, length, refl, subst, sym}
+use Rattle.std.proofs.Common.{◌≡◌, ◌∙◌, ℕ, zero, suc, Bool, List, [], ◌∷◌, ◌++◌, true, false, Option, Some, None, ap, append_assoc, inl, inr, length, refl, subst, sym}
 use Rattle.std.proofs.lemmas.Bool.{cases_Bool}
 use Rattle.std.specs.List.{AllByRecursion}
 use Rattle.std.specs.Prelude.{◌||◌}
@@ -125,5 +125,5 @@ spans-tight (suc bound) (e ∷ es) n h =
     let both = subst AreTight (sym (span-joins 0 (e ∷ es))) h in
     (tight-front (Some []) p.0 p.1 closes.0 both, spans-tight bound p.1 closes.1 (tight-back p.0 p.1 both))
 
-pub links-tight : (bytes : List ℕ) (es : List Event) → IsBalanced es → AreTight es → AreTight (with_links bytes es)
-links-tight bytes es b h = links-keep Anywhere AreTight IsFresh tight-is-kept bytes es (spans-tight (length es) es (names_after_balanced b []) h) (runs-fresh bytes 0 0 None es)
+pub links-tight : (one : Bool) (bytes : List ℕ) (es : List Event) → IsBalanced es → AreTight es → AreTight (with_links one bytes es)
+links-tight one bytes es b h = links-keep Anywhere AreTight IsFresh tight-is-kept one bytes es (spans-tight (length es) es (names_after_balanced b []) h) (runs-fresh one bytes 0 0 None es)

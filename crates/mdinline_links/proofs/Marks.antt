@@ -39,17 +39,17 @@ no-sequence depth e f h =
     ∙ no-other (depth == 0) (is_enter e.kind) (not (is_enter f.kind) && same_name f.name AttentionSequence)
 
 -- where no mark is, no run is
-no-runs : (bytes : List ℕ) (i depth : ℕ) (before : Option ℕ) (es : List Event) → length es ≤ position_or_len is_mark es → runs_from bytes i depth before es ≡ []
-no-runs bytes i depth before [] h = refl
-no-runs bytes i depth before (e ∷ []) h = refl
-no-runs bytes i depth before (e ∷ f ∷ es) h = cases (is_mark e) refl h (no-runs bytes (i + 1) (depth_after e.kind depth) (Some e.point.index) (f ∷ es))
+no-runs : (one : Bool) (bytes : List ℕ) (i depth : ℕ) (before : Option ℕ) (es : List Event) → length es ≤ position_or_len is_mark es → runs_from one bytes i depth before es ≡ []
+no-runs one bytes i depth before [] h = refl
+no-runs one bytes i depth before (e ∷ []) h = refl
+no-runs one bytes i depth before (e ∷ f ∷ es) h = cases (is_mark e) refl h (no-runs one bytes (i + 1) (depth_after e.kind depth) (Some e.point.index) (f ∷ es))
   where
     cases : (b : Bool) → is_mark e ≡ b → length (e ∷ f ∷ es) ≤ cond (not b) (1 + position_or_len is_mark (f ∷ es)) 0
-        → (length (f ∷ es) ≤ position_or_len is_mark (f ∷ es) → runs_from bytes (i + 1) (depth_after e.kind depth) (Some e.point.index) (f ∷ es) ≡ [])
-        → runs_from bytes i depth before (e ∷ f ∷ es) ≡ []
+        → (length (f ∷ es) ≤ position_or_len is_mark (f ∷ es) → runs_from one bytes (i + 1) (depth_after e.kind depth) (Some e.point.index) (f ∷ es) ≡ [])
+        → runs_from one bytes i depth before (e ∷ f ∷ es) ≡ []
     cases true m k more = absurd (omega (arith, k))
     cases false m k more =
-        ap (λ b. cond b (run_at bytes i e f before (index_of_event (slice_get es 0)) ∷ runs_from bytes (i + 2) depth (Some f.point.index) es) (runs_from bytes (i + 1) (depth_after e.kind depth) (Some e.point.index) (f ∷ es))) (no-sequence depth e f m)
+        ap (λ b. cond b (run_at one bytes i e f before (index_of_event (slice_get es 0)) ∷ runs_from one bytes (i + 2) depth (Some f.point.index) es) (runs_from one bytes (i + 1) (depth_after e.kind depth) (Some e.point.index) (f ∷ es))) (no-sequence depth e f m)
         ∙ more (omega (arith, k))
 
 pub from-first : (es : List Event) (n : ℕ) → n ≡ position_or_len is_mark es → has_brackets (take (length es - n) (drop n es)) ≡ has_brackets es
@@ -58,8 +58,8 @@ from-first es n h =
     ∙ ap (λ m. has_brackets (drop m es)) h ∙ marked-brackets es
 
 -- where no mark is, nothing is edited
-pub no-edits : (bytes : List ℕ) (es : List Event) (n : ℕ) → n ≡ position_or_len is_mark es → length es ≤ n → link_edits bytes es ≡ []
-no-edits bytes es n is all =
+pub no-edits : (one : Bool) (bytes : List ℕ) (es : List Event) (n : ℕ) → n ≡ position_or_len is_mark es → length es ≤ n → link_edits one bytes es ≡ []
+no-edits one bytes es n is all =
     let none : has_brackets es ≡ false = sym (ap (λ m. has_brackets (drop m es)) is ∙ marked-brackets es) ∙ ap has_brackets (drop_all n es all) in
-    let runs : runs_in bytes es ≡ [] = no-runs bytes 0 0 None es (omega (arith, is, all)) in
-    ap (λ b. cond b (edit_at 0 (length es) (with_links bytes es) ∷ []) (edits_of (paired (runs_in bytes es)))) none ∙ ap (λ rs. edits_of (paired rs)) runs
+    let runs : runs_in one bytes es ≡ [] = no-runs one bytes 0 0 None es (omega (arith, is, all)) in
+    ap (λ b. cond b (edit_at 0 (length es) (with_links one bytes es) ∷ []) (edits_of (paired (runs_in one bytes es)))) none ∙ ap (λ rs. edits_of (paired rs)) runs

@@ -76,13 +76,13 @@ module _ (f : ℕ → List Event) (rest : List Event) where
   agree since (events es ∷ ps) h = agree (since ++ es) ps h
 
 -- runs have the indices behind where they are looked for
-pub runs-behind : (bytes : List ℕ) (b i depth : ℕ) (before : Option ℕ) (es : List Event) → b ≤ i → AllByRecursion (λ s. b ≤ s.index) (runs_from bytes i depth before es)
-runs-behind bytes b i depth before [] h = tt
-runs-behind bytes b i depth before (e ∷ []) h = tt
-runs-behind bytes b i depth before (e ∷ g ∷ es) h =
-    elim (depth == 0 && is_sequence e g) as (λ t. AllByRecursion (λ s. b ≤ s.index) (cond t (run_at bytes i e g before (index_of_event (slice_get es 0)) ∷ runs_from bytes (i + 2) depth (Some g.point.index) es) (runs_from bytes (i + 1) (depth_after e.kind depth) (Some e.point.index) (g ∷ es)))) [
-      | true ↦ (h, runs-behind bytes b (i + 2) depth (Some g.point.index) es (omega (arith, h)))
-      | false ↦ runs-behind bytes b (i + 1) (depth_after e.kind depth) (Some e.point.index) (g ∷ es) (omega (arith, h))
+pub runs-behind : (one : Bool) (bytes : List ℕ) (b i depth : ℕ) (before : Option ℕ) (es : List Event) → b ≤ i → AllByRecursion (λ s. b ≤ s.index) (runs_from one bytes i depth before es)
+runs-behind one bytes b i depth before [] h = tt
+runs-behind one bytes b i depth before (e ∷ []) h = tt
+runs-behind one bytes b i depth before (e ∷ g ∷ es) h =
+    elim (depth == 0 && is_sequence e g) as (λ t. AllByRecursion (λ s. b ≤ s.index) (cond t (run_at one bytes i e g before (index_of_event (slice_get es 0)) ∷ runs_from one bytes (i + 2) depth (Some g.point.index) es) (runs_from one bytes (i + 1) (depth_after e.kind depth) (Some e.point.index) (g ∷ es)))) [
+      | true ↦ (h, runs-behind one bytes b (i + 2) depth (Some g.point.index) es (omega (arith, h)))
+      | false ↦ runs-behind one bytes b (i + 1) (depth_after e.kind depth) (Some e.point.index) (g ∷ es) (omega (arith, h))
     ]
 
 -- ---- the first span of a balanced list that is no run
@@ -129,10 +129,10 @@ same-events f g (r ∷ rs) h = rw (h.0, same-events f g rs h.1) refl
 same-paired : (f g : ℕ → List Event) (rs : List Run) → AllByRecursion (λ s. f s.index ≡ g s.index) rs → events_of_runs f (paired rs) ≡ events_of_runs g (paired rs)
 same-paired f g rs h = same-events f g (paired rs) (subst (AllByRecursion (λ k. f k ≡ g k)) (sym (pairs-keep-indices rs)) (indices-agree f g rs h))
 
-module _ (bytes : List ℕ) where
+module _ (one : Bool) (bytes : List ℕ) where
   -- no run begins in a span
   abbrev pub Skips : (i depth : ℕ) (before : Option ℕ) (es : List Event) → List Event × List Event → Type 0
-  Skips i depth before es p = (before' : Option ℕ) × (runs_from bytes i depth before es ≡ runs_from bytes (i + length p.0) 0 before' p.1)
+  Skips i depth before es p = (before' : Option ℕ) × (runs_from one bytes i depth before es ≡ runs_from one bytes (i + length p.0) 0 before' p.1)
 
   abbrev pub cut_by : Event → List Event → ℕ → Bool → List Event × List Event
   cut_by e es d t = cond t (e ∷ [], es) (e ∷ (span_at d es).0, (span_at d es).1)
@@ -142,14 +142,14 @@ module _ (bytes : List ℕ) where
 
   -- what is left behind an event, by how many spans are open then
   abbrev pub SkipsMore : Event → List Event → (i : ℕ) → Option ℕ → ℕ → Bool → Type 0
-  SkipsMore e es i before d t = (before' : Option ℕ) × (runs_from bytes (i + 1) d before es ≡ runs_from bytes (i + length (cut_by e es d t).0) 0 before' (cut_by e es d t).1)
+  SkipsMore e es i before d t = (before' : Option ℕ) × (runs_from one bytes (i + 1) d before es ≡ runs_from one bytes (i + length (cut_by e es d t).0) 0 before' (cut_by e es d t).1)
 
   skip-more : (e : Event) (es : List Event) (i : ℕ) (before : Option ℕ) → ((d : ℕ) → Skips (i + 1) (suc d) before es (span_at (suc d) es)) → (d : ℕ) → SkipsMore e es i before d (d == 0)
   skip-more e es i before ih zero = (before, refl)
   skip-more e es i before ih (suc d) =
       let more = ih d in
       let n : (i + 1) + length (span_at (suc d) es).0 ≡ i + length (e ∷ (span_at (suc d) es).0) = omega arith in
-      subst (SkipsMore e es i before (suc d)) (sym (open-yet d)) (more.0, more.1 ∙ ap (λ k. runs_from bytes k 0 more.0 (span_at (suc d) es).1) n)
+      subst (SkipsMore e es i before (suc d)) (sym (open-yet d)) (more.0, more.1 ∙ ap (λ k. runs_from one bytes k 0 more.0 (span_at (suc d) es).1) n)
 
   pub skipped : (es : List Event) (i depth : ℕ) (before : Option ℕ) → Skips i (suc depth) before es (span_at (suc depth) es)
   skipped [] i depth before = (None, refl)
@@ -160,8 +160,8 @@ module _ (bytes : List ℕ) where
   skipped (e ∷ g ∷ es) i depth before =
       let d = depth_after e.kind (suc depth) in
       let more = skip-more e (g ∷ es) i (Some e.point.index) (λ n. skipped (g ∷ es) (i + 1) n (Some e.point.index)) d in
-      let here : runs_from bytes i (suc depth) before (e ∷ g ∷ es) ≡ runs_from bytes (i + 1) d (Some e.point.index) (g ∷ es) =
-      ap (λ t. cond (t && is_sequence e g) (run_at bytes i e g before (index_of_event (slice_get es 0)) ∷ runs_from bytes (i + 2) (suc depth) (Some g.point.index) es) (runs_from bytes (i + 1) d (Some e.point.index) (g ∷ es))) (open-yet depth) in
+      let here : runs_from one bytes i (suc depth) before (e ∷ g ∷ es) ≡ runs_from one bytes (i + 1) d (Some e.point.index) (g ∷ es) =
+      ap (λ t. cond (t && is_sequence e g) (run_at one bytes i e g before (index_of_event (slice_get es 0)) ∷ runs_from one bytes (i + 2) (suc depth) (Some g.point.index) es) (runs_from one bytes (i + 1) d (Some e.point.index) (g ∷ es))) (open-yet depth) in
       (more.0, here ∙ more.1)
 
   module _ (f : ℕ → List Event) (rest : List Event) where
@@ -169,9 +169,9 @@ module _ (bytes : List ℕ) where
     Goal since b p rs = let ps = parts_of (p.0 ∷ spans_in b p.1) rs in Placed f rest since ps × (runs_of_parts ps ≡ rs)
 
     placed : (bound : ℕ) (es since : List Event) (i j : ℕ) (before : Option ℕ) → length es ≤ bound → names_after_all (Some []) es ≡ Some [] → j ≡ i + length since
-        → HasRunsAt f rest i (map index_of (runs_from bytes j 0 before es)) (since ++ es)
-        → let ps = parts_of (spans_in bound es) (runs_from bytes j 0 before es) in
-        Placed f rest since ps × (runs_of_parts ps ≡ runs_from bytes j 0 before es)
+        → HasRunsAt f rest i (map index_of (runs_from one bytes j 0 before es)) (since ++ es)
+        → let ps = parts_of (spans_in bound es) (runs_from one bytes j 0 before es) in
+        Placed f rest since ps × (runs_of_parts ps ≡ runs_from one bytes j 0 before es)
     placed zero [] since i j before few end at h = (sym (append-nil since) ∙ h, refl)
     placed zero (e ∷ es) since i j before few end at h = absurd (omega (arith, few))
     placed (suc b) [] since i j before few end at h = (sym (append-nil since) ∙ h, refl)
@@ -181,9 +181,9 @@ module _ (bytes : List ℕ) where
         elim (cases_Bool (is_sequence e g)) [
           | inl is ↦
               let kinds = sequence-is e.kind g.kind e.name g.name is in
-              let r = run_at bytes j e g before (index_of_event (slice_get es 0)) in
-              let rs = runs_from bytes (j + 2) 0 (Some g.point.index) es in
-              let runs : runs_from bytes j 0 before (e ∷ g ∷ es) ≡ r ∷ rs = rw is refl in
+              let r = run_at one bytes j e g before (index_of_event (slice_get es 0)) in
+              let rs = runs_from one bytes (j + 2) 0 (Some g.point.index) es in
+              let runs : runs_from one bytes j 0 before (e ∷ g ∷ es) ≡ r ∷ rs = rw is refl in
               let has = subst (λ qs. HasRunsAt f rest i (map index_of qs) (since ++ e ∷ g ∷ es)) runs h in
               let long : length (f j) ≡ length since = omega (arith, at, has.4) in
               let whole = has.0 ∷ has.1 ∷ has.2 in
@@ -194,16 +194,16 @@ module _ (bytes : List ℕ) where
               let pair = pair-span e g es kinds.0 kinds.1 in
               let closes = subst (Closes []) pair (span-closes 0 (e ∷ g ∷ es) [] refl end) in
               let ih = placed b es [] (j + 2) (j + 2) (Some g.point.index) (omega (arith, few)) closes.1 (omega arith) (subst (HasRunsAt f rest (j + 2) (map index_of rs)) more has.5) in
-              let behind = subst (AllByRecursion (λ (s : Run). suc j ≤ s.index)) (sym ih.1) (runs-behind bytes (suc j) (j + 2) 0 (Some g.point.index) es (omega arith)) in
+              let behind = subst (AllByRecursion (λ (s : Run). suc j ≤ s.index)) (sym ih.1) (runs-behind one bytes (suc j) (j + 2) 0 (Some g.point.index) es (omega arith)) in
               subst (λ qs. Goal since b (span_at 0 (e ∷ g ∷ es)) qs) (sym runs) (subst (λ p. Goal since b p (r ∷ rs)) (sym pair)
               (subst (λ t. let q : Part × List Run = cond t (run r, rs) (events (e ∷ g ∷ []), r ∷ rs) in let ps = q.0 ∷ parts_of (spans_in b es) q.1 in Placed f rest since ps × (runs_of_parts ps ≡ r ∷ rs)) (sym is)
               ((same, behind, ih.0), ap (λ qs. r ∷ qs) ih.1)))
           | inr other ↦
               let q = span_at 1 (g ∷ es) in
-              let step : runs_from bytes j 0 before (e ∷ g ∷ es) ≡ runs_from bytes (j + 1) 1 (Some e.point.index) (g ∷ es) = rw (other, kind) refl in
+              let step : runs_from one bytes j 0 before (e ∷ g ∷ es) ≡ runs_from one bytes (j + 1) 1 (Some e.point.index) (g ∷ es) = rw (other, kind) refl in
               let skip = skipped (g ∷ es) (j + 1) 0 (Some e.point.index) in
-              let rs = runs_from bytes ((j + 1) + length q.0) 0 skip.0 q.1 in
-              let runs : runs_from bytes j 0 before (e ∷ g ∷ es) ≡ rs = step ∙ skip.1 in
+              let rs = runs_from one bytes ((j + 1) + length q.0) 0 skip.0 q.1 in
+              let runs : runs_from one bytes j 0 before (e ∷ g ∷ es) ≡ rs = step ∙ skip.1 in
               let opens = span-opens e (g ∷ es) kind in
               let first = front-first 1 g es in
               let plain : is_run (e ∷ q.0) ≡ false = ap (λ xs. is_run (e ∷ xs)) first.1 ∙ no-run e g first.0 other in
@@ -219,13 +219,13 @@ module _ (bytes : List ℕ) where
         ]
 
 pub emphasis-alone : IsEmphasisAlone
-emphasis-alone bytes es h none =
-    let rs = runs_in bytes es in
+emphasis-alone one bytes es h none =
+    let rs = runs_in one bytes es in
     let f = text_before_run es rs in
     let rest = text_behind_runs es rs in
     let ps = parts_of (outermost_spans es) rs in
-    let has = (runs-and-texts bytes es h).0 in
-    let is = placed bytes f rest (length es) es [] 0 0 None (omega arith) (names_after_balanced h []) refl has in
+    let has = (runs-and-texts one bytes es h).0 in
+    let is = placed one bytes f rest (length es) es [] 0 0 None (omega arith) (names_after_balanced h []) refl has in
     let same = agree f rest [] ps is.0 in
     let alike = subst (AllByRecursion (λ (s : Run). text_before [] ps s.index ≡ f s.index)) is.1 same.0 in
     ap emphasised_parts (parts-plain rs es none)

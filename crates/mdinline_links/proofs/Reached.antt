@@ -1,5 +1,5 @@
 -- The code's loop goes along the fold over outermost spans.
-use Rattle.std.proofs.Common.{◌≡◌, ◌+◌, ◌-◌, ◌<◌, ◌≤◌, ◌∙◌, ℕ, zero, suc, List, [], ◌∷◌, ◌++◌, true, false, cond, Option, Some, None, ap, arith, drop, length, length-append, map, refl, subst, sym, take}
+use Rattle.std.proofs.Common.{◌≡◌, ◌+◌, ◌-◌, ◌<◌, ◌≤◌, ◌∙◌, ℕ, zero, suc, Bool, List, [], ◌∷◌, ◌++◌, true, false, cond, Option, Some, None, ap, arith, drop, length, length-append, map, refl, subst, sym, take}
 use Rattle.std.proofs.lemmas.List.{length-drop, length-map}
 use Rattle.std.specs.List.{AllByRecursion, between}
 use Rattle.std.specs.Prelude.{nat_lt, ◌==◌, ◌&&◌, slice_get}
@@ -141,37 +141,37 @@ behind-it : (i : ℕ) (rs : List Run) → AllByRecursion (λ s. i + 1 ≤ s.inde
 behind-it i [] h = tt
 behind-it i (r ∷ rs) h = (omega (arith, h.0), behind-it i rs h.1)
 
-ascending-from : (bytes : List ℕ) (i depth : ℕ) (before : Option ℕ) (es : List Event) → AreAscending (runs_from bytes i depth before es)
-ascending-from bytes i depth before [] = tt
-ascending-from bytes i depth before (e ∷ []) = tt
-ascending-from bytes i depth before (e ∷ g ∷ es) =
-    elim (depth == 0 && is_sequence e g) as (λ t. AreAscending (cond t (run_at bytes i e g before (index_of_event (slice_get es 0)) ∷ runs_from bytes (i + 2) depth (Some g.point.index) es) (runs_from bytes (i + 1) (depth_after e.kind depth) (Some e.point.index) (g ∷ es)))) [
-      | true ↦ (behind-it i (runs_from bytes (i + 2) depth (Some g.point.index) es) (runs-behind bytes (i + 1) (i + 2) depth (Some g.point.index) es (omega arith)), ascending-from bytes (i + 2) depth (Some g.point.index) es)
-      | false ↦ ascending-from bytes (i + 1) (depth_after e.kind depth) (Some e.point.index) (g ∷ es)
+ascending-from : (one : Bool) (bytes : List ℕ) (i depth : ℕ) (before : Option ℕ) (es : List Event) → AreAscending (runs_from one bytes i depth before es)
+ascending-from one bytes i depth before [] = tt
+ascending-from one bytes i depth before (e ∷ []) = tt
+ascending-from one bytes i depth before (e ∷ g ∷ es) =
+    elim (depth == 0 && is_sequence e g) as (λ t. AreAscending (cond t (run_at one bytes i e g before (index_of_event (slice_get es 0)) ∷ runs_from one bytes (i + 2) depth (Some g.point.index) es) (runs_from one bytes (i + 1) (depth_after e.kind depth) (Some e.point.index) (g ∷ es)))) [
+      | true ↦ (behind-it i (runs_from one bytes (i + 2) depth (Some g.point.index) es) (runs-behind one bytes (i + 1) (i + 2) depth (Some g.point.index) es (omega arith)), ascending-from one bytes (i + 2) depth (Some g.point.index) es)
+      | false ↦ ascending-from one bytes (i + 1) (depth_after e.kind depth) (Some e.point.index) (g ∷ es)
     ]
 
-pub runs-ascend : (bytes : List ℕ) (es : List Event) → AreAscending (runs_in bytes es)
-runs-ascend bytes es = ascending-from bytes 0 0 None es
+pub runs-ascend : (one : Bool) (bytes : List ℕ) (es : List Event) → AreAscending (runs_in one bytes es)
+runs-ascend one bytes es = ascending-from one bytes 0 0 None es
 
 -- when nothing was read yet
-pub stands-first : (bytes : List ℕ) (es : List Event) → ArePlacesInside bytes es → Stands es [] [] [] [] (runs_in bytes es) (start_of (runs_in bytes es))
-stands-first bytes es h = record {
+pub stands-first : (one : Bool) (bytes : List ℕ) (es : List Event) → ArePlacesInside bytes es → Stands es [] [] [] [] (runs_in one bytes es) (start_of (runs_in one bytes es))
+stands-first one bytes es h = record {
   laid = (refl, refl, refl);
   owners = refl;
   left = refl;
-  apart = runs-ascend bytes es;
-  room = all-room bytes es 0 0 None h;
+  apart = runs-ascend one bytes es;
+  room = all-room one bytes es 0 0 None h;
   fit = tt;
 }
 
 -- ---- the whole text
 
 -- when no span is left, the runs that are left pair, and the pieces are the text's
-pub all-written : (bytes : List ℕ) (es : List Event) (bs : List Bracket) (rs : List Run) (os : List ℕ) (ps : List Piece) (rest : List Run) (bound next : ℕ) (z : SoFar)
-    → Stands es bs rs os ps rest z → linked_from (start_of (runs_in bytes es)) (outermost_spans es) ≡ linked_from z (spans_in bound (drop next es)) → length es ≤ next
+pub all-written : (one : Bool) (bytes : List ℕ) (es : List Event) (bs : List Bracket) (rs : List Run) (os : List ℕ) (ps : List Piece) (rest : List Run) (bound next : ℕ) (z : SoFar)
+    → Stands es bs rs os ps rest z → linked_from (start_of (runs_in one bytes es)) (outermost_spans es) ≡ linked_from z (spans_in bound (drop next es)) → length es ≤ next
     → (ds : List Delimiters) → map as_run ds ≡ paired rs
-    → written_from es [] (placed_at ps os ds) ≡ with_links bytes es
-all-written bytes es bs rs os ps rest bound next z h same end ds pairs =
+    → written_from es [] (placed_at ps os ds) ≡ with_links one bytes es
+all-written one bytes es bs rs os ps rest bound next z h same end ds pairs =
     let joined = all-joined es z.waiting z.behind bs rs ps h.laid in
     let parts = all_parts z.waiting z.behind in
     let rs' = runs_of_parts parts in
@@ -179,7 +179,7 @@ all-written bytes es bs rs os ps rest bound next z h same end ds pairs =
     sym (length-map ds as_run) ∙ ap length pairs ∙ sym (length-map (paired rs) standing) ∙ ap length (pairs-keep rs) ∙ length-map rs standing ∙ ap length joined.0 in
     let left = length-drop next es in
     let none : spans_in bound (drop next es) ≡ [] = spans-none bound (drop next es) (omega (arith, left, end)) in
-    let reached : linked_from (start_of (runs_in bytes es)) (outermost_spans es) ≡ z = same ∙ ap (linked_from z) none in
+    let reached : linked_from (start_of (runs_in one bytes es)) (outermost_spans es) ≡ z = same ∙ ap (linked_from z) none in
     let filled-all = filled-is es parts ps ds joined.1 (subst AreAscending joined.0 (ascending-front rs rest h.apart)) (pairs ∙ ap paired joined.0) long in
     ap (written_from es []) (ap (λ ns. placed_at ps ns ds) h.owners ∙ placed-are ps [] ds)
     ∙ filled-all.1 []

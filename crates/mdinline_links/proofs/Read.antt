@@ -1,5 +1,5 @@
 -- What the code does with a span, in the words of its contracts.
-use Rattle.std.proofs.Common.{◌≡◌, ◌-◌, ◌<◌, ◌≤◌, ◌∙◌, ℕ, List, [], ◌∷◌, ◌++◌, true, false, cond, ap, arith, drop, length, map, refl, subst, sym, take}
+use Rattle.std.proofs.Common.{◌≡◌, ◌-◌, ◌<◌, ◌≤◌, ◌∙◌, ℕ, Bool, List, [], ◌∷◌, ◌++◌, true, false, cond, ap, arith, drop, length, map, refl, subst, sym, take}
 use Rattle.std.proofs.lemmas.List.{length-map, map-append, reverse-append}
 use Rattle.std.specs.List.{AllByRecursion, between}
 use Rattle.std.specs.Prelude.{nat_lt, reverse}
@@ -173,14 +173,14 @@ pub many-paired : (rs : List Run) (ds : List Delimiters) → map as_run ds ≡ p
 many-paired rs ds h = sym (length-map ds as_run) ∙ ap length h ∙ sym (length-map (paired rs) standing) ∙ ap length (pairs-keep rs) ∙ length-map rs standing
 
 -- before the first span
-pub first-reached : (bytes : List ℕ) (es : List Event) (all : Pieces) (left runs : List Delimiters) → ArePlacesInside bytes es → all.brackets.items ≡ [] → all.runs.items ≡ [] → all.owners.items ≡ [] → all.pieces.items ≡ []
-    → map as_run runs ≡ runs_in bytes es → left ≡ reverse runs → IsReached es (start_of (runs_in bytes es)) (outermost_spans es) 0 all left
-first-reached bytes es all left runs places bs rs os ps is turned = record {
-  so_far = start_of (runs_in bytes es);
+pub first-reached : (one : Bool) (bytes : List ℕ) (es : List Event) (all : Pieces) (left runs : List Delimiters) → ArePlacesInside bytes es → all.brackets.items ≡ [] → all.runs.items ≡ [] → all.owners.items ≡ [] → all.pieces.items ≡ []
+    → map as_run runs ≡ runs_in one bytes es → left ≡ reverse runs → IsReached es (start_of (runs_in one bytes es)) (outermost_spans es) 0 all left
+first-reached one bytes es all left runs places bs rs os ps is turned = record {
+  so_far = start_of (runs_in one bytes es);
   bound = length es;
   stands =
-      stands-by es [] all.brackets.items [] (map as_run all.runs.items) [] all.owners.items [] all.pieces.items (runs_in bytes es) (reverse (map as_run left)) (start_of (runs_in bytes es))
-      bs (ap (map as_run) rs) os ps (ap (λ ds. reverse (map as_run ds)) turned ∙ back runs ∙ is) (stands-first bytes es places);
+      stands-by es [] all.brackets.items [] (map as_run all.runs.items) [] all.owners.items [] all.pieces.items (runs_in one bytes es) (reverse (map as_run left)) (start_of (runs_in one bytes es))
+      bs (ap (map as_run) rs) os ps (ap (λ ds. reverse (map as_run ds)) turned ∙ back runs ∙ is) (stands-first one bytes es places);
   enough = omega arith;
   same = refl;
 }
@@ -193,10 +193,10 @@ first-reached bytes es all left runs places bs rs os ps is turned = record {
         ∙ reverse-append (map as_run (reverse ds)) (as_run d ∷ [])
         ∙ ap (λ xs. as_run d ∷ xs) (back ds)
 
-module _ (bytes : List ℕ) (es : List Event) (all : Pieces) (left : List Delimiters) (next : ℕ) (h : IsReached es (start_of (runs_in bytes es)) (outermost_spans es) next all left)
+module _ (one : Bool) (bytes : List ℕ) (es : List Event) (all : Pieces) (left : List Delimiters) (next : ℕ) (h : IsReached es (start_of (runs_in one bytes es)) (outermost_spans es) next all left)
     (ds : List Delimiters) (pairs : map as_run ds ≡ paired (map as_run all.runs.items)) where
-  pub reached-written : length es ≤ next → written_from es [] (placed_at all.pieces.items all.owners.items ds) ≡ with_links bytes es
-  reached-written end = all-written bytes es all.brackets.items (map as_run all.runs.items) all.owners.items all.pieces.items (reverse (map as_run left)) h.bound next h.so_far h.stands h.same end ds pairs
+  pub reached-written : length es ≤ next → written_from es [] (placed_at all.pieces.items all.owners.items ds) ≡ with_links one bytes es
+  reached-written end = all-written one bytes es all.brackets.items (map as_run all.runs.items) all.owners.items all.pieces.items (reverse (map as_run left)) h.bound next h.so_far h.stands h.same end ds pairs
 
   pub reached-many : length all.owners.items ≡ length ds
   reached-many = many-owners es all.brackets.items all.runs.items all.owners.items all.pieces.items (reverse (map as_run left)) h.so_far h.stands

@@ -1,5 +1,5 @@
 -- What is promised of links and images.
-use Rattle.std.specs.Prelude.{◌≡◌, ◌+◌, ◌*◌, ◌/◌, ◌≤◌, ℕ, false, List, length}
+use Rattle.std.specs.Prelude.{◌≡◌, ◌+◌, ◌*◌, ◌/◌, ◌≤◌, ℕ, Bool, false, List, length}
 use Rattle.std.specs.List.{AllByRecursion}
 use Rattle.markdown_base.specs.declared.event.Event.{Event}
 use Rattle.markdown_base.specs.declared.event.Name.TheVariants.{LabelEnd, LabelMarker}
@@ -19,23 +19,23 @@ IsNoBracket span = (is_bracket span ≡ false) × (is_named LabelMarker span ≡
 
 -- of a balanced text without brackets emphasis alone is made
 abbrev pub IsEmphasisAlone : Type 0
-IsEmphasisAlone = (bytes : List ℕ) (es : List Event) → IsBalanced es → AllByRecursion IsNoBracket (outermost_spans es) → with_links bytes es ≡ with_emphasis bytes es
+IsEmphasisAlone = (one_tilde : Bool) (bytes : List ℕ) (es : List Event) → IsBalanced es → AllByRecursion IsNoBracket (outermost_spans es) → with_links one_tilde bytes es ≡ with_emphasis one_tilde bytes es
 
 -- Links and images leave a balanced list balanced, and a list without links without them
 abbrev pub LinksKeepLists : Type 0
-LinksKeepLists = (bytes : List ℕ) (es : List Event) → (IsBalanced es → IsBalanced (with_links bytes es)) × (HaveNoLinks es → HaveNoLinks (with_links bytes es))
+LinksKeepLists = (one_tilde : Bool) (bytes : List ℕ) (es : List Event) → (IsBalanced es → IsBalanced (with_links one_tilde bytes es)) × (HaveNoLinks es → HaveNoLinks (with_links one_tilde bytes es))
 
 -- They leave the exit of each void span behind its enter
 abbrev pub LinksKeepTight : Type 0
-LinksKeepTight = (bytes : List ℕ) (es : List Event) → IsBalanced es → AreTight es → AreTight (with_links bytes es)
+LinksKeepTight = (one_tilde : Bool) (bytes : List ℕ) (es : List Event) → IsBalanced es → AreTight es → AreTight (with_links one_tilde bytes es)
 
 -- They leave events in order between two places, if each delimiter run goes byte by byte
 abbrev pub LinksKeepOrder : Type 0
-LinksKeepOrder = (bytes : List ℕ) (es : List Event) (p q : Point) → IsBalanced es → AreBytewise Anywhere es → InOrder p es q → InOrder p (with_links bytes es) q
+LinksKeepOrder = (one_tilde : Bool) (bytes : List ℕ) (es : List Event) (p q : Point) → IsBalanced es → AreBytewise Anywhere es → InOrder p es q → InOrder p (with_links one_tilde bytes es) q
 
 -- They leave places in the document, with room behind them in their lines
 abbrev pub LinksKeepPlaces : Type 0
-LinksKeepPlaces = (bytes : List ℕ) (es : List Event) → ArePlacesInside bytes es → ArePlacesInside bytes (with_links bytes es)
+LinksKeepPlaces = (one_tilde : Bool) (bytes : List ℕ) (es : List Event) → ArePlacesInside bytes es → ArePlacesInside bytes (with_links one_tilde bytes es)
 
 -- What they may take for each event: five looks, and half of what emphasis takes for a run, which has two events
 abbrev pub links_an_event : ℕ
@@ -43,5 +43,5 @@ links_an_event = 5 + (emphasis_a_run + 1) / 2
 
 -- What links, images and emphasis may cost is linear in the events of a text, which stand in order inside the document, and its bytes
 abbrev pub LinksCostLittle : Type 0
-LinksCostLittle = (bytes : List ℕ) (es : List Event) (p q : Point) → ArePlacesInside bytes es → InOrder p es q
-    → (emphasis_a_run * length (runs_in bytes es) + 3 * markers_left (runs_in bytes es)) + 5 * length es ≤ links_an_event * length es + 3 * length bytes
+LinksCostLittle = (one_tilde : Bool) (bytes : List ℕ) (es : List Event) (p q : Point) → ArePlacesInside bytes es → InOrder p es q
+    → (emphasis_a_run * length (runs_in one_tilde bytes es) + 3 * markers_left (runs_in one_tilde bytes es)) + 5 * length es ≤ links_an_event * length es + 3 * length bytes

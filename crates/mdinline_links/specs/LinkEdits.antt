@@ -25,12 +25,12 @@ abbrev pub has_brackets : List Event → Bool
 has_brackets [] = false
 has_brackets (e ∷ es) = is_of_bracket e.name || has_brackets es
 
-abbrev pub link_edits : List ℕ → List Event → List Edit
-link_edits bytes events = cond (has_brackets events) (edit_at 0 (length events) (with_links bytes events) ∷ []) (edits_of (paired (runs_in bytes events)))
+abbrev pub link_edits : (one_tilde : Bool) → List ℕ → List Event → List Edit
+link_edits one_tilde bytes events = cond (has_brackets events) (edit_at 0 (length events) (with_links one_tilde bytes events) ∷ []) (edits_of (paired (runs_in one_tilde bytes events)))
 
 -- In a balanced list without links the edits can be made: links, images and emphasis take the place of brackets and runs, and the list stays
 -- balanced and without links
 abbrev pub LinksCanBeMade : Type 0
-LinksCanBeMade = (bytes : List ℕ) (events : List Event) → IsBalanced events → HaveNoLinks events
-    → let edits = link_edits bytes events in
-    AreDisjoint 0 edits (length events) × (edited edits events ≡ with_links bytes events) × IsBalanced (with_links bytes events) × HaveNoLinks (with_links bytes events)
+LinksCanBeMade = (one_tilde : Bool) (bytes : List ℕ) (events : List Event) → IsBalanced events → HaveNoLinks events
+    → let edits = link_edits one_tilde bytes events in
+    AreDisjoint 0 edits (length events) × (edited edits events ≡ with_links one_tilde bytes events) × IsBalanced (with_links one_tilde bytes events) × HaveNoLinks (with_links one_tilde bytes events)

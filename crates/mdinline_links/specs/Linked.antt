@@ -169,5 +169,5 @@ abbrev pub linked_parts : List Run → List Event → List Part
 linked_parts runs es = let z = linked_from (record { waiting = []; behind = []; runs = runs }) (outermost_spans es) in all_parts z.waiting z.behind
 
 -- The events of a text of a document with links, images and emphasis in place of brackets and runs
-abbrev pub with_links : (bytes : List ℕ) → List Event → List Event
-with_links bytes es = emphasised_parts (linked_parts (runs_in bytes es) es)
+abbrev pub with_links : (one_tilde : Bool) → (bytes : List ℕ) → List Event → List Event
+with_links one_tilde bytes es = emphasised_parts (linked_parts (runs_in one_tilde bytes es) es)

@@ -286,15 +286,16 @@ impl Pieces {
 fn pieces_of<L: Ledger>(
     alloc: Global,
     bytes: &[u8],
+    one_tilde: bool,
     events: &[Event],
     turns: &mut Turns<L>,
 ) -> Result<Vec<Piece>, AllocError>
     requires room { ArePlacesInside bytes.now events.now }
-    ensures links { IfOk result (λ pieces. written_from events.now [] pieces.items ≡ with_links bytes.now events.now) }
+    ensures links { IfOk result (λ pieces. written_from events.now [] pieces.items ≡ with_links one_tilde bytes.now events.now) }
     ensures fit { IfOk result (λ pieces. AllByRecursion (Fits (length events.now)) pieces.items) }
-    ensures paid { IfOk result (λ pieces. turns.new + to_write pieces.items ≤ turns.old + pay (runs_in bytes.now events.now) + 3 * length events.now) }
+    ensures paid { IfOk result (λ pieces. turns.new + to_write pieces.items ≤ turns.old + pay (runs_in one_tilde bytes.now events.now) + 3 * length events.now) }
 {
-    let mut left = turned(runs_of_counted(alloc, bytes, events, turns)?);
+    let mut left = turned(runs_of_counted(alloc, bytes, one_tilde, events, turns)?);
     // (a span has two events or more)
     let mut all = Pieces::with_room(alloc, events.len() / 2)?;
     let mut next = 0;
@@ -310,13 +311,14 @@ fn pieces_of<L: Ledger>(
 pub(crate) fn linked<L: Ledger>(
     alloc: Global,
     bytes: &[u8],
+    one_tilde: bool,
     events: &[Event],
     turns: &mut Turns<L>,
 ) -> Result<Vec<Event>, AllocError>
     requires room { ArePlacesInside bytes.now events.now }
-    ensures links { IfOk result (λ out. out.items ≡ with_links bytes.now events.now) }
-    ensures linear { OnOk result (turns.new ≤ turns.old + pay (runs_in bytes.now events.now) + 3 * length events.now) }
+    ensures links { IfOk result (λ out. out.items ≡ with_links one_tilde bytes.now events.now) }
+    ensures linear { OnOk result (turns.new ≤ turns.old + pay (runs_in one_tilde bytes.now events.now) + 3 * length events.now) }
 {
-    let pieces = pieces_of(alloc, bytes, events, turns)?;
+    let pieces = pieces_of(alloc, bytes, one_tilde, events, turns)?;
     written(alloc, events, pieces.as_slice(), turns)
 }

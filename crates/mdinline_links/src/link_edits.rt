@@ -77,24 +77,25 @@ fn has_brackets<L: Ledger>(events: &[Event], turns: &mut Turns<L>) -> bool
 fn linked_counted<L: Ledger>(
     alloc: Global,
     bytes: &[u8],
+    one_tilde: bool,
     events: &[Event],
     turns: &mut Turns<L>,
 ) -> Result<Option<Vec<Event>>, AllocError>
     requires balanced { IsBalanced events.now }
     requires unlinked { HaveNoLinks events.now }
     requires room { ArePlacesInside bytes.now events.now }
-    ensures edits { IfOk result (λ new. unwrap_or (option_map (λ v. v.items) new) events.now ≡ edited (link_edits bytes.now events.now) events.now) }
-    ensures linear { OnOk result (turns.new ≤ turns.old + (emphasis_a_run * length (runs_in bytes.now events.now) + 3 * markers_left (runs_in bytes.now events.now)) + 5 * length events.now) }
+    ensures edits { IfOk result (λ new. unwrap_or (option_map (λ v. v.items) new) events.now ≡ edited (link_edits one_tilde bytes.now events.now) events.now) }
+    ensures linear { OnOk result (turns.new ≤ turns.old + (emphasis_a_run * length (runs_in one_tilde bytes.now events.now) + 3 * markers_left (runs_in one_tilde bytes.now events.now)) + 5 * length events.now) }
 {
     let first = first_mark(events, turns);
     if first >= events.len() {
         return Ok(None);
     }
     if !has_brackets(&events[first..], turns) {
-        let new = emphasized_counted(alloc, bytes, events, turns)?;
+        let new = emphasized_counted(alloc, bytes, one_tilde, events, turns)?;
         return Ok(Some(new));
     }
-    let all = linked(alloc, bytes, events, turns)?;
+    let all = linked(alloc, bytes, one_tilde, events, turns)?;
     Ok(Some(all))
 }
 
@@ -116,17 +117,18 @@ fn put_in(events: &mut Vec<Event>, new: Vec<Event>)
 pub fn link_events_counted<L: Ledger>(
     alloc: Global,
     bytes: &[u8],
+    one_tilde: bool,
     events: &mut Vec<Event>,
     turns: &mut Turns<L>,
 ) -> Result<(), AllocError>
     requires balanced { IsBalanced events.old.items }
     requires unlinked { HaveNoLinks events.old.items }
     requires room { ArePlacesInside bytes.now events.old.items }
-    ensures edits { OnOk result (events.new.items ≡ edited (link_edits bytes.now events.old.items) events.old.items) }
+    ensures edits { OnOk result (events.new.items ≡ edited (link_edits one_tilde bytes.now events.old.items) events.old.items) }
     ensures same { OnErr result (events.new.items ≡ events.old.items) }
-    ensures linear { let es = events.old.items in OnOk result (turns.new ≤ turns.old + (emphasis_a_run * length (runs_in bytes.now es) + 3 * markers_left (runs_in bytes.now es)) + 5 * length es) }
+    ensures linear { let es = events.old.items in OnOk result (turns.new ≤ turns.old + (emphasis_a_run * length (runs_in one_tilde bytes.now es) + 3 * markers_left (runs_in one_tilde bytes.now es)) + 5 * length es) }
 {
-    let found = linked_counted(alloc, bytes, events.as_slice(), turns)?;
+    let found = linked_counted(alloc, bytes, one_tilde, events.as_slice(), turns)?;
     match found {
         None => Ok(()),
         Some(list) => {
@@ -140,6 +142,7 @@ pub fn link_events_counted<L: Ledger>(
 fn link_events_uncounted<L: Ledger>(
     alloc: Global,
     bytes: &[u8],
+    one_tilde: bool,
     events: &mut Vec<Event>,
     blank: Blank,
 ) -> Result<(), AllocError>
@@ -149,22 +152,27 @@ fn link_events_uncounted<L: Ledger>(
     requires balanced { IsBalanced events.old.items }
     requires unlinked { HaveNoLinks events.old.items }
     requires room { ArePlacesInside bytes.now events.old.items }
-    ensures edits { OnOk result (events.new.items ≡ edited (link_edits bytes.now events.old.items) events.old.items) }
+    ensures edits { OnOk result (events.new.items ≡ edited (link_edits one_tilde bytes.now events.old.items) events.old.items) }
     ensures same { OnErr result (events.new.items ≡ events.old.items) }
 {
     let mut turns = Turns::<L>::new(blank);
-    link_events_counted(alloc, bytes, events, &mut turns)
+    link_events_counted(alloc, bytes, one_tilde, events, &mut turns)
 }
 
 /// Puts links, images and emphasis in place, as `link_events_counted` does.
 ///
 /// If it runs out of memory, the list stays as it was.
-pub fn link_events(alloc: Global, bytes: &[u8], events: &mut Vec<Event>) -> Result<(), AllocError>
+pub fn link_events(
+    alloc: Global,
+    bytes: &[u8],
+    one_tilde: bool,
+    events: &mut Vec<Event>,
+) -> Result<(), AllocError>
     requires balanced { IsBalanced events.old.items }
     requires unlinked { HaveNoLinks events.old.items }
     requires room { ArePlacesInside bytes.now events.old.items }
-    ensures edits { OnOk result (events.new.items ≡ edited (link_edits bytes.now events.old.items) events.old.items) }
+    ensures edits { OnOk result (events.new.items ≡ edited (link_edits one_tilde bytes.now events.old.items) events.old.items) }
     ensures same { OnErr result (events.new.items ≡ events.old.items) }
 {
-    link_events_uncounted::<Brand>(alloc, bytes, events, Blank::new(1))
+    link_events_uncounted::<Brand>(alloc, bytes, one_tilde, events, Blank::new(1))
 }

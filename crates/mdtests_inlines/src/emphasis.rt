@@ -128,9 +128,8 @@ fn push_pairs(text: &mut String, pairs: &[Style], last_first: bool) -> Result<()
     Ok(())
 }
 
-/// The pairs of a row.
-fn paired(alloc: Global, row: &[Run]) -> Result<String, AllocError> {
-    let mut runs = runs_of_row(alloc, row)?;
+/// The pairs of runs.
+fn paired(alloc: Global, mut runs: Vec<Delimiters>) -> Result<String, AllocError> {
     pair_all(alloc, runs.as_mut_slice())?;
     let mut text = String::new(alloc);
     for run in runs.iter() {
@@ -142,11 +141,17 @@ fn paired(alloc: Global, row: &[Run]) -> Result<String, AllocError> {
     Ok(text)
 }
 
+/// The pairs of a row.
+fn row_paired(alloc: Global, row: &[Run]) -> Result<String, AllocError> {
+    let runs = runs_of_row(alloc, row)?;
+    paired(alloc, runs)
+}
+
 #[test]
 fn runs_are_paired(rt: HostRuntime) {
     let alloc = rt.alloc();
     for row in ROWS {
-        assert_shown(&rt, paired(alloc, row.0), row.1);
+        assert_shown(&rt, row_paired(alloc, row.0), row.1);
     }
 }
 
@@ -210,7 +215,7 @@ fn push_span(
 /// What the runs of events in a document may do, each as `o` and `c`.
 fn flanks(alloc: Global, bytes: &[u8], events: &[Event]) -> Result<String, AllocError> {
     let mut text = String::new(alloc);
-    for run in runs_of(alloc, bytes, events)?.iter() {
+    for run in runs_of(alloc, bytes, true, events)?.iter() {
         if run.opens {
             text.push('o')?;
         }
@@ -251,4 +256,34 @@ fn runs_flank_by_the_classes_beside(rt: HostRuntime) {
         assert_shown(&rt, flanks_of(alloc, row, true), row.3);
         assert_shown(&rt, flanks_of(alloc, row, false), "");
     }
+}
+
+/// The spans of `~a~ ~~b~~`, each from where the one before ends.
+const TILDES: &[(Name, usize)] = &[
+    (Name::AttentionSequence, 1),
+    (Name::Data, 2),
+    (Name::AttentionSequence, 3),
+    (Name::Data, 4),
+    (Name::AttentionSequence, 6),
+    (Name::Data, 7),
+    (Name::AttentionSequence, 9),
+];
+
+/// The pairs of its runs, where one tilde counts or not.
+fn tildes_paired(alloc: Global, one_tilde: bool) -> Result<String, AllocError> {
+    let mut events = Vec::new(alloc);
+    let mut start = 0;
+    for span in TILDES {
+        push_span(&mut events, span.0, start, span.1)?;
+        start = span.1;
+    }
+    let runs = runs_of(alloc, b"~a~ ~~b~~", one_tilde, events.as_slice())?;
+    paired(alloc, runs)
+}
+
+#[test]
+fn one_tilde_counts_or_not(rt: HostRuntime) {
+    let alloc = rt.alloc();
+    assert_shown(&rt, tildes_paired(alloc, true), "0t t0 0T T0 ");
+    assert_shown(&rt, tildes_paired(alloc, false), "1 1 0T T0 ");
 }

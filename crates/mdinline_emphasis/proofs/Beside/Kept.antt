@@ -3,18 +3,18 @@ use Rattle.mdinline_emphasis.proofs.Prelude.{ℕ, ◌+◌, Bool, true, false, co
 use Rattle.mdinline_emphasis.proofs.Beside.Neighbours.{pairs-beside}
 
 -- the runs of a list are in no pair
-runs-unpaired : (bytes : List ℕ) (i depth : ℕ) (before : Option ℕ) (es : List Event) → AreUnpaired (runs_from bytes i depth before es)
-runs-unpaired bytes i depth before [] = tt
-runs-unpaired bytes i depth before (e ∷ []) = tt
-runs-unpaired bytes i depth before (e ∷ f ∷ es) = either (depth == 0 && is_sequence e f) _ _ (runs-unpaired bytes (i + 2) depth (Some f.point.index) es) (runs-unpaired bytes (i + 1) (depth_after e.kind depth) (Some e.point.index) (f ∷ es))
+runs-unpaired : (one : Bool) (bytes : List ℕ) (i depth : ℕ) (before : Option ℕ) (es : List Event) → AreUnpaired (runs_from one bytes i depth before es)
+runs-unpaired one bytes i depth before [] = tt
+runs-unpaired one bytes i depth before (e ∷ []) = tt
+runs-unpaired one bytes i depth before (e ∷ f ∷ es) = either (depth == 0 && is_sequence e f) _ _ (runs-unpaired one bytes (i + 2) depth (Some f.point.index) es) (runs-unpaired one bytes (i + 1) (depth_after e.kind depth) (Some e.point.index) (f ∷ es))
   where
-    either : (b : Bool) (rs ss : List Run) → AreUnpaired rs → AreUnpaired ss → AreUnpaired (cond b (run_at bytes i e f before (index_of_event (slice_get es 0)) ∷ rs) ss)
+    either : (b : Bool) (rs ss : List Run) → AreUnpaired rs → AreUnpaired ss → AreUnpaired (cond b (run_at one bytes i e f before (index_of_event (slice_get es 0)) ∷ rs) ss)
     either true rs ss h k = ((refl, refl), h)
     either false rs ss h k = k
 
-pub unpaired-in : (bytes : List ℕ) (events : List Event) → AreUnpaired (runs_in bytes events)
-unpaired-in bytes events = runs-unpaired bytes 0 0 None events
+pub unpaired-in : (one : Bool) (bytes : List ℕ) (events : List Event) → AreUnpaired (runs_in one bytes events)
+unpaired-in one bytes events = runs-unpaired one bytes 0 0 None events
 
 -- so, with their pairs, neighbours among them are beside one another
-pub beside-in : (bytes : List ℕ) (events : List Event) → AreBeside (paired (runs_in bytes events))
-beside-in bytes events = pairs-beside (runs_in bytes events) (unpaired-in bytes events)
+pub beside-in : (one : Bool) (bytes : List ℕ) (events : List Event) → AreBeside (paired (runs_in one bytes events))
+beside-in one bytes events = pairs-beside (runs_in one bytes events) (unpaired-in one bytes events)

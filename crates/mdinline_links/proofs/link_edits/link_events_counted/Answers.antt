@@ -28,7 +28,7 @@ returns-in-None-clause-edits g c =
     sym is
     ∙ sym (ap (λ f. unwrap_or (option_map (λ (v : Vec Event). v.items) f) slice) c.in-None.is)
     ∙ c.in_ok-found.ensures.edits
-    ∙ ap (λ es. edited (link_edits c.args.bytes.now es) es) is
+    ∙ ap (λ es. edited (link_edits c.args.one_tilde c.args.bytes.now es) es) is
 
 pub returns-in-Some-clause-edits : goal.returns-in-Some-clause-edits
 returns-in-Some-clause-edits g c =
@@ -36,14 +36,16 @@ returns-in-Some-clause-edits g c =
     c.put_in.ensures
     ∙ sym (ap (λ f. unwrap_or (option_map (λ (v : Vec Event). v.items) f) slice) c.in-Some.is)
     ∙ c.in_ok-found.ensures.edits
-    ∙ ap (λ es. edited (link_edits c.args.bytes.now es) es) c.as_slice.ensures.value
+    ∙ ap (λ es. edited (link_edits c.args.one_tilde c.args.bytes.now es) es) c.as_slice.ensures.value
 
 pub returns-in-None-clause-linear : goal.returns-in-None-clause-linear
 returns-in-None-clause-linear g c =
+    let one = c.args.one_tilde in
     let bytes = c.args.bytes.now in
-    subst (λ es. c.linked_counted.new.turns ≤ c.args.turns.now + (emphasis_a_run * length (runs_in bytes es) + 3 * markers_left (runs_in bytes es)) + 5 * length es) c.as_slice.ensures.value c.in_ok-found.ensures.linear
+    subst (λ es. c.linked_counted.new.turns ≤ c.args.turns.now + (emphasis_a_run * length (runs_in one bytes es) + 3 * markers_left (runs_in one bytes es)) + 5 * length es) c.as_slice.ensures.value c.in_ok-found.ensures.linear
 
 pub returns-in-Some-clause-linear : goal.returns-in-Some-clause-linear
 returns-in-Some-clause-linear g c =
+    let one = c.args.one_tilde in
     let bytes = c.args.bytes.now in
-    subst (λ es. c.linked_counted.new.turns ≤ c.args.turns.now + (emphasis_a_run * length (runs_in bytes es) + 3 * markers_left (runs_in bytes es)) + 5 * length es) c.as_slice.ensures.value c.in_ok-found.ensures.linear
+    subst (λ es. c.linked_counted.new.turns ≤ c.args.turns.now + (emphasis_a_run * length (runs_in one bytes es) + 3 * markers_left (runs_in one bytes es)) + 5 * length es) c.as_slice.ensures.value c.in_ok-found.ensures.linear
