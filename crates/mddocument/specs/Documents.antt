@@ -47,7 +47,7 @@ module _ (options : ParseOptions) (bytes : List ℕ) where
 
   -- and with their texts read as inline text, and strings as strings
   abbrev pub AreFlowInlines : List Event → Type 0
-  AreFlowInlines events = events ≡ flow_inlines options.constructs bytes virtual_bytes
+  AreFlowInlines events = events ≡ flow_inlines options bytes virtual_bytes
 
   -- Containers and the leaf blocks in them
   abbrev pub AreDocumentLeafBlocks : List Event → Type 0

@@ -15,7 +15,7 @@ use Rattle.mddocument.specs.FlowTexts.{flow_inlines}
 -- gaps the text has. Leaf blocks alone define no labels
 abbrev pub InlinesAreRead : Type 0
 InlinesAreRead = (g : Given) (text : Text) → IsText g text
-    → with_strings g (with_inlines no_labels g (flow_events g.options.constructs g.bytes text.seats)) ≡ flow_inlines g.options.constructs g.bytes text.seats
+    → with_strings g (with_inlines no_labels g (flow_events g.options.constructs g.bytes text.seats)) ≡ flow_inlines g.options g.bytes text.seats
 
 -- With the children of all their chains at once they are the same: as with those of chains of text, and then of strings; whatever labels are defined
 abbrev pub InlinesAreReadAtOnce : Type 0
@@ -24,8 +24,8 @@ InlinesAreReadAtOnce = (defined : List ℕ → Bool) (g : Given) (text : Text) (
 
 -- with inline text they are well formed
 abbrev pub InlinesAreFormed : Type 0
-InlinesAreFormed = (g : Given) (text : Text) → IsText g text → IsWellFormed g (flow_inlines g.options.constructs g.bytes text.seats)
+InlinesAreFormed = (g : Given) (text : Text) → IsText g text → IsWellFormed g (flow_inlines g.options g.bytes text.seats)
 
 -- each virtual byte of the text is in exactly one innermost span of these too
 abbrev pub InlinesAccount : Type 0
-InlinesAccount = (g : Given) (text : Text) → IsText g text → AccountFor (flow_inlines g.options.constructs g.bytes text.seats) g.bytes text.seats
+InlinesAccount = (g : Given) (text : Text) → IsText g text → AccountFor (flow_inlines g.options g.bytes text.seats) g.bytes text.seats

@@ -2,6 +2,7 @@
 use Rattle.std.specs.Prelude.{ℕ, Bool, List, map, None}
 use Rattle.std.specs.List.{flat_map}
 use Rattle.markdown_base.specs.declared.configuration.Constructs.{Constructs}
+use Rattle.markdown_base.specs.declared.configuration.ParseOptions.{ParseOptions}
 use Rattle.markdown_base.specs.declared.event.Event.{Event}
 use Rattle.markdown_base.specs.Virtual.{Seat}
 use Rattle.mdconstructs_machines.specs.LineEvents.{lines_in}
@@ -30,9 +31,9 @@ module _ (texts strings : List Seat → List Event) where
   flow_read on bytes seats = linked_from 0 (flat_map (block_texts bytes) (leaf_blocks on (lines_in seats)))
 
 -- the events of virtual bytes of a document, as inline text, by which labels are defined
-abbrev pub inline_seat_events : (defined : List ℕ → Bool) → Constructs → (bytes : List ℕ) → List Seat → List Event
-inline_seat_events defined on bytes seats = with_links bytes (flat_map (item_events bytes) (inline_items on defined bytes seats))
+abbrev pub inline_seat_events : (defined : List ℕ → Bool) → ParseOptions → (bytes : List ℕ) → List Seat → List Event
+inline_seat_events defined options bytes seats = with_links options.gfm_strikethrough_single_tilde bytes (flat_map (item_events bytes) (inline_items options.constructs defined bytes seats))
 
 -- `Flow` with inline text: each text is read as `Inlines` reads it. Leaf blocks alone define no labels
-abbrev pub flow_inlines : Constructs → (bytes : List ℕ) → List Seat → List Event
-flow_inlines on bytes seats = flow_read (inline_seat_events no_labels on bytes) (string_seat_events on bytes) on bytes seats
+abbrev pub flow_inlines : ParseOptions → (bytes : List ℕ) → List Seat → List Event
+flow_inlines options bytes seats = flow_read (inline_seat_events no_labels options bytes) (string_seat_events options.constructs bytes) options.constructs bytes seats

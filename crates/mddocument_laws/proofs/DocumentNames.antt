@@ -30,7 +30,7 @@ use Rattle.mdblock_definitions.specs.Sections.{table}
 use Rattle.mddocument.proofs.DefinedLabels.{labels-are-defined}
 use Rattle.mddocument.proofs.InContainers.CellsKeep.{cells-each}
 use Rattle.mddocument.proofs.FlowTexts.InlineSteps.{Steps, steps-virtual}
-use Rattle.mddocument.specs.DocumentEvents.{document_events, document_texts, is_defined_in}
+use Rattle.mddocument.specs.DocumentEvents.{document_events, document_events_by, document_texts_by, is_defined_in}
 use Rattle.mddocument_laws.specs.Names.{may_be_named}
 use Rattle.mddocument_laws.specs.NamesOff.{AreDefinedIfOn, AreOfDocument, DocumentsAreNamed, InlinesAreNamed, LeafBlocksAreNamed, OffIsLeftOut, SkeletonsAreNamed, StringsAreNamed}
 use Rattle.mddocument_laws.proofs.ChildNames.{children-named, with-strings-named}
@@ -72,7 +72,7 @@ of-document g seats h =
 pub inline-inside : (labels : List ℕ → Bool) (g : Given) (text : TextOf) → AreDefinedIfOn labels g.options.constructs → AreOfDocument g text.seats → Named (StandsInside g.options.constructs) (inline_events labels g text)
 inline-inside labels g text h of =
     let on = g.options.constructs in
-    links-named on g.bytes _ (read-outer on labels g.bytes h text.seats) (read-runs on labels g.bytes h text.seats (of-document g text.seats of))
+    links-named on g.options.gfm_strikethrough_single_tilde g.bytes _ (read-outer on labels g.bytes h text.seats) (read-runs on labels g.bytes h text.seats (of-document g text.seats of))
 
 string-named : (on : Constructs) (bytes : List ℕ) (seats : List Seat) → Named (May on) (string_seat_events on bytes seats)
 string-named on bytes seats = weaker (inside-may on) (string_seat_events on bytes seats) (string-inside on bytes seats)
@@ -150,17 +150,22 @@ blocks-named g =
     let on = g.options.constructs in
     record { all = cells-each (λ (e : Event). may_be_named on e.name ≡ true) (λ e h. h) on (document_leaf_blocks g) (leaf-blocks-are-named g).all }
 
-texts-named : (g : Given) → Named (May g.options.constructs) (document_texts g)
-texts-named g =
-    let on = g.options.constructs in
-    let blocks = document_blocks g in
-    let inlines = with_inlines (is_defined_in g) g blocks in
-    children-named (May on) (Some String) inlines (λ c. string_events g (chain_text g inlines c))
-    (children-named (May on) (Some Text) blocks (λ c. inline_events (is_defined_in g) g (chain_text g blocks c)) (blocks-named g) (λ c. inline-named (is_defined_in g) g (chain_text g blocks c) (defined-if-on g) (chain-in g blocks c)))
-    (λ c. string-named on g.bytes (chain_text g inlines c).seats)
+-- by which labels are defined
+module _ (defined : List ℕ → Bool) (g : Given) (if_on : AreDefinedIfOn defined g.options.constructs) where
+  texts-named-by : Named (May g.options.constructs) (document_texts_by defined g)
+  texts-named-by =
+      let on = g.options.constructs in
+      let blocks = document_blocks g in
+      let inlines = with_inlines defined g blocks in
+      children-named (May on) (Some String) inlines (λ c. string_events g (chain_text g inlines c))
+      (children-named (May on) (Some Text) blocks (λ c. inline_events defined g (chain_text g blocks c)) (blocks-named g) (λ c. inline-named defined g (chain_text g blocks c) if_on (chain-in g blocks c)))
+      (λ c. string-named on g.bytes (chain_text g inlines c).seats)
+
+  pub document-named-by : Named (May g.options.constructs) (document_events_by defined g)
+  document-named-by = with-strings-named g.options.constructs g.tab g.bytes (document_texts_by defined g) texts-named-by
 
 document-named : (g : Given) → Named (May g.options.constructs) (document_events g)
-document-named g = with-strings-named g.options.constructs g.tab g.bytes (document_texts g) (texts-named g)
+document-named g = document-named-by (is_defined_in g) g (defined-if-on g)
 
 pub documents-named : DocumentsAreNamed
 documents-named g = all-named g.options.constructs (document_events g) (document-named g)

@@ -69,7 +69,7 @@ module _ (g : Given) where
     inline-whole : (defined : List ℕ → Bool) → Are (inline_events defined g text)
     inline-whole defined =
         let on = g.options.constructs in
-        links-whole (IsSpanOf g.bytes) g.bytes (flat_map (item_events g.bytes) (inline_items on defined g.bytes text.seats)) (read-has g.bytes text.seats Are refl (whole-both (IsSpanOf g.bytes)) named-whole item-whole on defined)
+        links-whole (IsSpanOf g.bytes) g.options.gfm_strikethrough_single_tilde g.bytes (flat_map (item_events g.bytes) (inline_items on defined g.bytes text.seats)) (read-has g.bytes text.seats Are refl (whole-both (IsSpanOf g.bytes)) named-whole item-whole on defined)
 
 -- ---- strings in place of data
 

@@ -1,5 +1,5 @@
 -- Links, images and emphasis in place of brackets and runs: each event is one of the list, or has a name of theirs.
-use Rattle.std.proofs.Common.{◌≡◌, ℕ, List, [], ◌∷◌, true, false, length, refl, subst}
+use Rattle.std.proofs.Common.{◌≡◌, Bool, ℕ, List, [], ◌∷◌, true, false, length, refl, subst}
 use Rattle.std.proofs.lemmas.Bool.{false_from_ne_true, false≢true}
 use Rattle.std.specs.List.{AllByRecursion}
 use Rattle.markdown_base.proofs.Common.{every-append}
@@ -74,7 +74,7 @@ module _ (P : Event → Type 0) (other : (e : Event) → same_name e.name Charac
   }
 
   -- Each event of a text with links is one of the text's, or is theirs
-  pub links-are : (bytes : List ℕ) (es : List Event) → Are es → Are (with_links bytes es)
-  links-are bytes es h =
+  pub links-are : (one : Bool) (bytes : List ℕ) (es : List Event) → Are es → Are (with_links one bytes es)
+  links-are one bytes es h =
       let spans = spans-have Are (λ xs ys k. (every-front P xs ys k, every-back P xs ys k)) (length es) es h in
-      links-keep Anywhere Are AnyRun kept bytes es spans (any-runs (runs_in bytes es))
+      links-keep Anywhere Are AnyRun kept one bytes es spans (any-runs (runs_in one bytes es))

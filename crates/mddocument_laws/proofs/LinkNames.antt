@@ -97,14 +97,14 @@ module _ (on : Constructs) where
   sequence-on : (bytes : List ℕ) (e f : Event) → is_sequence e f ≡ true → MayRun on bytes e → IsMarkerOn on (marker_from (slice_get bytes e.point.index))
   sequence-on bytes e f h r = r (and_parts (is_enter e.kind && same_name e.name AttentionSequence) _ h).0
 
-  runs-on : (bytes : List ℕ) (i depth : ℕ) (before : Option ℕ) (es : List Event) → AllByRecursion (MayRun on bytes) es → AllByRecursion IsRunOn (runs_from bytes i depth before es)
-  runs-on bytes i depth before [] h = tt
-  runs-on bytes i depth before (e ∷ []) h = tt
-  runs-on bytes i depth before (e ∷ f ∷ es) h =
-      cond_both (depth == 0 && is_sequence e f) (run_at bytes i e f before (index_of_event (slice_get es 0)) ∷ runs_from bytes (i + 2) depth (Some f.point.index) es)
-      (runs_from bytes (i + 1) (depth_after e.kind depth) (Some e.point.index) (f ∷ es)) (AllByRecursion IsRunOn)
-      (λ is. (record { on = sequence-on bytes e f (and_parts (depth == 0) (is_sequence e f) is).1 h.0; closed = tt; opened = tt }, runs-on bytes (i + 2) depth (Some f.point.index) es h.1.1))
-      (λ other. runs-on bytes (i + 1) (depth_after e.kind depth) (Some e.point.index) (f ∷ es) h.1)
+  runs-on : (one : Bool) (bytes : List ℕ) (i depth : ℕ) (before : Option ℕ) (es : List Event) → AllByRecursion (MayRun on bytes) es → AllByRecursion IsRunOn (runs_from one bytes i depth before es)
+  runs-on one bytes i depth before [] h = tt
+  runs-on one bytes i depth before (e ∷ []) h = tt
+  runs-on one bytes i depth before (e ∷ f ∷ es) h =
+      cond_both (depth == 0 && is_sequence e f) (run_at one bytes i e f before (index_of_event (slice_get es 0)) ∷ runs_from one bytes (i + 2) depth (Some f.point.index) es)
+      (runs_from one bytes (i + 1) (depth_after e.kind depth) (Some e.point.index) (f ∷ es)) (AllByRecursion IsRunOn)
+      (λ is. (record { on = sequence-on bytes e f (and_parts (depth == 0) (is_sequence e f) is).1 h.0; closed = tt; opened = tt }, runs-on one bytes (i + 2) depth (Some f.point.index) es h.1.1))
+      (λ other. runs-on one bytes (i + 1) (depth_after e.kind depth) (Some e.point.index) (f ∷ es) h.1)
 
   -- ---- parts
   abbrev AreNamed : List Part → Type 0
@@ -182,17 +182,17 @@ module _ (on : Constructs) where
   }
 
   -- Whole spans with links, images and emphasis in place of brackets and runs have such names
-  pub links-named : (bytes : List ℕ) (es : List Event) → Outer on es → AllByRecursion (MayRun on bytes) es → Are (with_links bytes es)
-  links-named bytes es h runs =
+  pub links-named : (one : Bool) (bytes : List ℕ) (es : List Event) → Outer on es → AllByRecursion (MayRun on bytes) es → Are (with_links one bytes es)
+  links-named one bytes es h runs =
       let spans : AllByRecursion (IsFine on) (outermost_spans es) = subst (λ (l : List Event). AllByRecursion (IsFine on) (spans_in (length es) l)) (append-nil es) (h.fine [] none-fine (length es)) in
-      let few : runs_among (outermost_spans es) ≤ length (runs_in bytes es) =
-      subst (λ (l : List Event). runs_among (spans_in (length es) l) ≤ length (runs_from bytes 0 0 None l)) (append-nil es) (h.found [] none-found bytes 0 None (length es)) in
-      parts-named (linked_parts (runs_in bytes es) es) (parts-are walk (runs_in bytes es) es spans (runs-on bytes 0 0 None es runs, few))
+      let few : runs_among (outermost_spans es) ≤ length (runs_in one bytes es) =
+      subst (λ (l : List Event). runs_among (spans_in (length es) l) ≤ length (runs_from one bytes 0 0 None l)) (append-nil es) (h.found [] none-found one bytes 0 None (length es)) in
+      parts-named (linked_parts (runs_in one bytes es) es) (parts-are walk (runs_in one bytes es) es spans (runs-on one bytes 0 0 None es runs, few))
     where
       none-fine : (bound : ℕ) → AllByRecursion (IsFine on) (spans_in bound [])
       none-fine zero = tt
       none-fine (suc bound) = tt
 
       none-found : AreFound []
-      none-found given i before zero = omega arith
-      none-found given i before (suc bound) = omega arith
+      none-found one given i before zero = omega arith
+      none-found one given i before (suc bound) = omega arith

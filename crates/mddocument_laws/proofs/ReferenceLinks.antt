@@ -1,5 +1,5 @@
 -- Links, images and emphasis leave each character reference whole.
-use Rattle.mddocument_laws.proofs.Prelude.{◌≡◌, ℕ, List, [], ◌∷◌, ◌++◌, true, refl, inl, AllByRecursion, every-append, Event, Exit, Name, Point, Style, Run, closings, data_of, events_of_runs, later, markers_of_all, openings, paired, unlinked_event, runs_in, IsKept, is_made_of, as_data, spanning, with_links}
+use Rattle.mddocument_laws.proofs.Prelude.{◌≡◌, Bool, ℕ, List, [], ◌∷◌, ◌++◌, true, refl, inl, AllByRecursion, every-append, Event, Exit, Name, Point, Style, Run, closings, data_of, events_of_runs, later, markers_of_all, openings, paired, unlinked_event, runs_in, IsKept, is_made_of, as_data, spanning, with_links}
 use Rattle.mdinline_links.proofs.Kept.{links-keep}
 use Rattle.mddocument_laws.proofs.EmphasisEvents.{as-data-are, closings-are, data-are, openings-are}
 use Rattle.mddocument_laws.proofs.LinkEvents.{AnyRun, IsOther as IsOtherName, any-runs, other-made, other-styles}
@@ -42,5 +42,5 @@ module _ (Is : Event → List Event → Type 0) where
   }
 
   -- If those of a list are whole, they are so with links
-  pub links-whole : (bytes : List ℕ) (es : List Event) → AreWhole Is es → AreWhole Is (with_links bytes es)
-  links-whole bytes es h = links-keep (λ p. Unit {0}) Are AnyRun kept bytes es (spans-whole Is _ es h) (any-runs (runs_in bytes es))
+  pub links-whole : (one : Bool) (bytes : List ℕ) (es : List Event) → AreWhole Is es → AreWhole Is (with_links one bytes es)
+  links-whole one bytes es h = links-keep (λ p. Unit {0}) Are AnyRun kept one bytes es (spans-whole Is _ es h) (any-runs (runs_in one bytes es))

@@ -10,7 +10,7 @@ pub inline-good : (defined : List ℕ → Bool) (g : Given) (text : Text) → Ar
 inline-good defined g text =
     let on = g.options.constructs in
     let seats = text.seats in
-    links-are (IsGood g.bytes seats) (other-good g.bytes seats) g.bytes (flat_map (item_events g.bytes) (inline_items on defined g.bytes seats)) (read-good g.bytes seats on defined)
+    links-are (IsGood g.bytes seats) (other-good g.bytes seats) g.options.gfm_strikethrough_single_tilde g.bytes (flat_map (item_events g.bytes) (inline_items on defined g.bytes seats)) (read-good g.bytes seats on defined)
 
 pub references-of-inlines : ReferencesOfInlinesStand
 references-of-inlines defined g text = All-from_recursion (IsGood g.bytes text.seats) (inline_events defined g text) (inline-good defined g text)

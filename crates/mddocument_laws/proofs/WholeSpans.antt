@@ -1,5 +1,5 @@
 -- Lists of whole spans, one behind another: where a span is open they are passed over, and each outermost span that is a run is counted as one.
-use Rattle.mddocument_laws.proofs.Prelude.{◌≡◌, ℕ, zero, suc, ◌+◌, ◌-◌, ◌≤◌, ◌==◌, ◌∙◌, List, [], ◌∷◌, ◌++◌, true, false, cond, Option, Some, append_assoc, length-append, arith, length, refl, sym, ap, subst, ◌&&◌, slice_get, eqb-suc-zero, Event, Enter, Exit, Name, AttentionSequence, is_enter, same_name, Seat, end_after, depth_after, index_of_event, is_sequence, run_at, runs_from, is_run, span_at, spans_in, event, span}
+use Rattle.mddocument_laws.proofs.Prelude.{◌≡◌, ℕ, Bool, zero, suc, ◌+◌, ◌-◌, ◌≤◌, ◌==◌, ◌∙◌, List, [], ◌∷◌, ◌++◌, true, false, cond, Option, Some, append_assoc, length-append, arith, length, refl, sym, ap, subst, ◌&&◌, slice_get, eqb-suc-zero, Event, Enter, Exit, Name, AttentionSequence, is_enter, same_name, Seat, end_after, depth_after, index_of_event, is_sequence, run_at, runs_from, is_run, span_at, spans_in, event, span}
 use Rattle.std.proofs.Math.Bool.{and-false}
 use Rattle.markdown_base.specs.declared.event.Kind.{Kind}
 
@@ -8,15 +8,15 @@ abbrev IsPassed : List Event → Type 0
 IsPassed es = (d : ℕ) (rest : List Event) → span_at (suc d) (es ++ rest) ≡ (es ++ (span_at (suc d) rest).0, (span_at (suc d) rest).1)
 
 -- and no run is found in it
-abbrev Skips : (bytes : List ℕ) (i d : ℕ) (before : Option ℕ) → List Event → List Event → Type 0
-Skips bytes i d before es rest = (j : ℕ) × (b : Option ℕ) × (runs_from bytes i (suc d) before (es ++ rest) ≡ runs_from bytes j (suc d) b rest)
+abbrev Skips : (one : Bool) (bytes : List ℕ) (i d : ℕ) (before : Option ℕ) → List Event → List Event → Type 0
+Skips one bytes i d before es rest = (j : ℕ) × (b : Option ℕ) × (runs_from one bytes i (suc d) before (es ++ rest) ≡ runs_from one bytes j (suc d) b rest)
 
 pub record IsWhole (es : List Event) : Type 0 where
   pub passed : IsPassed es
-  pub skipped : (bytes : List ℕ) (i d : ℕ) (before : Option ℕ) (rest : List Event) → Skips bytes i d before es rest
+  pub skipped : (one : Bool) (bytes : List ℕ) (i d : ℕ) (before : Option ℕ) (rest : List Event) → Skips one bytes i d before es rest
 
 pub none-whole : IsWhole []
-none-whole = record { passed = λ d rest. refl; skipped = λ bytes i d before rest. (i, before, refl) }
+none-whole = record { passed = λ d rest. refl; skipped = λ one bytes i d before rest. (i, before, refl) }
 
 both-passed : (xs ys : List Event) → IsPassed xs → IsPassed ys → IsPassed (xs ++ ys)
 both-passed xs ys h k d rest =
@@ -28,10 +28,10 @@ both-passed xs ys h k d rest =
 pub both-whole : (xs ys : List Event) → IsWhole xs → IsWhole ys → IsWhole (xs ++ ys)
 both-whole xs ys h k = record {
   passed = both-passed xs ys h.passed k.passed;
-  skipped = λ bytes i d before rest.
-      let first = h.skipped bytes i d before (ys ++ rest) in
-      let second = k.skipped bytes first.0 d first.1 rest in
-      (second.0, second.1, ap (runs_from bytes i (suc d) before) (append_assoc xs ys rest) ∙ first.2 ∙ second.2);
+  skipped = λ one bytes i d before rest.
+      let first = h.skipped one bytes i d before (ys ++ rest) in
+      let second = k.skipped one bytes first.0 d first.1 rest in
+      (second.0, second.1, ap (runs_from one bytes i (suc d) before) (append_assoc xs ys rest) ∙ first.2 ∙ second.2);
 }
 
 -- behind an event, with so many spans open
@@ -40,11 +40,11 @@ deeper e d es h =
     let more : (depth_after e.kind d == 0) ≡ false = ap (λ n. n == 0) h ∙ eqb-suc-zero (depth_after e.kind d - 1) in
     ap (λ b. cond b (e ∷ [], es) (e ∷ (span_at (depth_after e.kind d) es).0, (span_at (depth_after e.kind d) es).1)) more
 
-step : (bytes : List ℕ) (i d m : ℕ) (before : Option ℕ) (e : Event) (es : List Event) → depth_after e.kind (suc d) ≡ m → runs_from bytes i (suc d) before (e ∷ es) ≡ runs_from bytes (i + 1) m (Some e.point.index) es
-step bytes i d m before e [] h = refl
-step bytes i d m before e (f ∷ es) h =
-    ap (λ b. cond (b && is_sequence e f) (run_at bytes i e f before (index_of_event (slice_get es 0)) ∷ runs_from bytes (i + 2) (suc d) (Some f.point.index) es) (runs_from bytes (i + 1) (depth_after e.kind (suc d)) (Some e.point.index) (f ∷ es))) (eqb-suc-zero d)
-    ∙ ap (λ k. runs_from bytes (i + 1) k (Some e.point.index) (f ∷ es)) h
+step : (one : Bool) (bytes : List ℕ) (i d m : ℕ) (before : Option ℕ) (e : Event) (es : List Event) → depth_after e.kind (suc d) ≡ m → runs_from one bytes i (suc d) before (e ∷ es) ≡ runs_from one bytes (i + 1) m (Some e.point.index) es
+step one bytes i d m before e [] h = refl
+step one bytes i d m before e (f ∷ es) h =
+    ap (λ b. cond (b && is_sequence e f) (run_at one bytes i e f before (index_of_event (slice_get es 0)) ∷ runs_from one bytes (i + 2) (suc d) (Some f.point.index) es) (runs_from one bytes (i + 1) (depth_after e.kind (suc d)) (Some e.point.index) (f ∷ es))) (eqb-suc-zero d)
+    ∙ ap (λ k. runs_from one bytes (i + 1) k (Some e.point.index) (f ∷ es)) h
 
 module _ (bytes : List ℕ) (n : Name) (s : Seat) (ss : List Seat) (inside : List Event) (h : IsWhole inside) where
   abbrev enters : Event
@@ -64,20 +64,20 @@ module _ (bytes : List ℕ) (n : Name) (s : Seat) (ss : List Seat) (inside : Lis
       deeper enters (suc d) ((inside ++ exits ∷ []) ++ rest) (omega arith) ∙ ap (λ (q : List Event × List Event). (enters ∷ q.0, q.1)) through ∙ ap (λ (l : List Event). (enters ∷ l, p.1)) (sym (append_assoc inside (exits ∷ []) p.0))
 
   -- the runs from behind its enter on are those behind its exit
-  behind-enter : (given : List ℕ) (i d : ℕ) (before : Option ℕ) (rest : List Event)
-      → (j : ℕ) × (b : Option ℕ) × (runs_from given i (suc d) before ((inside ++ exits ∷ []) ++ rest) ≡ runs_from given j d b rest)
-  behind-enter given i d before rest =
-      let inner = h.skipped given i d before (exits ∷ rest) in
-      let one : suc d - 1 ≡ d = omega arith in (
+  behind-enter : (one : Bool) (given : List ℕ) (i d : ℕ) (before : Option ℕ) (rest : List Event)
+      → (j : ℕ) × (b : Option ℕ) × (runs_from one given i (suc d) before ((inside ++ exits ∷ []) ++ rest) ≡ runs_from one given j d b rest)
+  behind-enter one given i d before rest =
+      let inner = h.skipped one given i d before (exits ∷ rest) in
+      let out : suc d - 1 ≡ d = omega arith in (
         inner.0 + 1,
         Some exits.point.index,
-        ap (runs_from given i (suc d) before) (append_assoc inside (exits ∷ []) rest) ∙ inner.2 ∙ step given inner.0 d d inner.1 exits rest one,
+        ap (runs_from one given i (suc d) before) (append_assoc inside (exits ∷ []) rest) ∙ inner.2 ∙ step one given inner.0 d d inner.1 exits rest out,
       )
 
-  skipped-around : (given : List ℕ) (i d : ℕ) (before : Option ℕ) (rest : List Event) → Skips given i d before (span bytes n (s ∷ ss) inside) rest
-  skipped-around given i d before rest =
-      let behind = behind-enter given (i + 1) (suc d) (Some enters.point.index) rest in
-      (behind.0, behind.1, step given i d (suc (suc d)) before enters ((inside ++ exits ∷ []) ++ rest) refl ∙ behind.2)
+  skipped-around : (one : Bool) (given : List ℕ) (i d : ℕ) (before : Option ℕ) (rest : List Event) → Skips one given i d before (span bytes n (s ∷ ss) inside) rest
+  skipped-around one given i d before rest =
+      let behind = behind-enter one given (i + 1) (suc d) (Some enters.point.index) rest in
+      (behind.0, behind.1, step one given i d (suc (suc d)) before enters ((inside ++ exits ∷ []) ++ rest) refl ∙ behind.2)
 
   pub around-whole : IsWhole (span bytes n (s ∷ ss) inside)
   around-whole = record { passed = passed-around; skipped = skipped-around }
@@ -107,7 +107,7 @@ runs_among (es ∷ spans) = cond (is_run es) 1 0 + runs_among spans
 
 -- so many runs are found at least
 abbrev pub AreFound : List Event → Type 0
-AreFound es = (bytes : List ℕ) (i : ℕ) (before : Option ℕ) (bound : ℕ) → runs_among (spans_in bound es) ≤ length (runs_from bytes i 0 before es)
+AreFound es = (one : Bool) (bytes : List ℕ) (i : ℕ) (before : Option ℕ) (bound : ℕ) → runs_among (spans_in bound es) ≤ length (runs_from one bytes i 0 before es)
 
 long-no-run : (e f : Event) (xs : List Event) (g : Event) → is_run (e ∷ f ∷ (xs ++ g ∷ [])) ≡ false
 long-no-run e f [] g = refl
@@ -118,40 +118,40 @@ open-no-run e x h = rw h (and-false (is_enter e.kind && same_name e.name Attenti
 
 module _ (bytes : List ℕ) (n : Name) (s : Seat) (ss : List Seat) where
   -- a span alone may be a run, and one around others is none
-  found-alone : (given : List ℕ) (i : ℕ) (before : Option ℕ) (bound : ℕ) (rest : List Event) → AreFound rest
-      → cond (is_run (span bytes n (s ∷ ss) [])) 1 0 + runs_among (spans_in bound rest) ≤ length (runs_from given i 0 before (span bytes n (s ∷ ss) [] ++ rest))
-  found-alone given i before bound rest f =
+  found-alone : (one : Bool) (given : List ℕ) (i : ℕ) (before : Option ℕ) (bound : ℕ) (rest : List Event) → AreFound rest
+      → cond (is_run (span bytes n (s ∷ ss) [])) 1 0 + runs_among (spans_in bound rest) ≤ length (runs_from one given i 0 before (span bytes n (s ∷ ss) [] ++ rest))
+  found-alone one given i before bound rest f =
       let e = event bytes Enter n s.point in
       let g = event bytes Exit n (end_after s.end ss) in
-      let behind = behind-enter bytes n s ss [] none-whole given (i + 1) 0 (Some e.point.index) rest in
-      let r = run_at given i e g before (index_of_event (slice_get rest 0)) in
-      elim (is_sequence e g) as (λ b. cond b 1 0 + runs_among (spans_in bound rest) ≤ length (cond b (r ∷ runs_from given (i + 2) 0 (Some g.point.index) rest) (runs_from given (i + 1) 1 (Some e.point.index) (g ∷ rest)))) [
-        | true ↦ (let more = f given (i + 2) (Some g.point.index) bound in omega (arith, more))
-        | false ↦ (let more = f given behind.0 behind.1 bound in let same = ap length behind.2 in omega (arith, more, same))
+      let behind = behind-enter bytes n s ss [] none-whole one given (i + 1) 0 (Some e.point.index) rest in
+      let r = run_at one given i e g before (index_of_event (slice_get rest 0)) in
+      elim (is_sequence e g) as (λ b. cond b 1 0 + runs_among (spans_in bound rest) ≤ length (cond b (r ∷ runs_from one given (i + 2) 0 (Some g.point.index) rest) (runs_from one given (i + 1) 1 (Some e.point.index) (g ∷ rest)))) [
+        | true ↦ (let more = f one given (i + 2) (Some g.point.index) bound in omega (arith, more))
+        | false ↦ (let more = f one given behind.0 behind.1 bound in let same = ap length behind.2 in omega (arith, more, same))
       ]
 
-  found-around : (x : Event) (xs : List Event) → IsWhole (x ∷ xs) → (given : List ℕ) (i : ℕ) (before : Option ℕ) (bound : ℕ) (rest : List Event) → AreFound rest
-      → cond (is_run (span bytes n (s ∷ ss) (x ∷ xs))) 1 0 + runs_among (spans_in bound rest) ≤ length (runs_from given i 0 before (span bytes n (s ∷ ss) (x ∷ xs) ++ rest))
-  found-around x xs w given i before bound rest f =
+  found-around : (x : Event) (xs : List Event) → IsWhole (x ∷ xs) → (one : Bool) (given : List ℕ) (i : ℕ) (before : Option ℕ) (bound : ℕ) (rest : List Event) → AreFound rest
+      → cond (is_run (span bytes n (s ∷ ss) (x ∷ xs))) 1 0 + runs_among (spans_in bound rest) ≤ length (runs_from one given i 0 before (span bytes n (s ∷ ss) (x ∷ xs) ++ rest))
+  found-around x xs w one given i before bound rest f =
       let e = event bytes Enter n s.point in
       let g = event bytes Exit n (end_after s.end ss) in
       let more = (xs ++ g ∷ []) ++ rest in
-      let behind = behind-enter bytes n s ss (x ∷ xs) w given (i + 1) 0 (Some e.point.index) rest in
+      let behind = behind-enter bytes n s ss (x ∷ xs) w one given (i + 1) 0 (Some e.point.index) rest in
       let none = long-no-run e x xs g in
       let other = open-no-run e x (begins-open x xs w) in
-      let here : runs_from given i 0 before (e ∷ x ∷ more) ≡ runs_from given (i + 1) 1 (Some e.point.index) (x ∷ more) =
-      ap (λ b. cond b (run_at given i e x before (index_of_event (slice_get more 0)) ∷ runs_from given (i + 2) 0 (Some x.point.index) more) (runs_from given (i + 1) 1 (Some e.point.index) (x ∷ more))) other in
-      let few = f given behind.0 behind.1 bound in
+      let here : runs_from one given i 0 before (e ∷ x ∷ more) ≡ runs_from one given (i + 1) 1 (Some e.point.index) (x ∷ more) =
+      ap (λ b. cond b (run_at one given i e x before (index_of_event (slice_get more 0)) ∷ runs_from one given (i + 2) 0 (Some x.point.index) more) (runs_from one given (i + 1) 1 (Some e.point.index) (x ∷ more))) other in
+      let few = f one given behind.0 behind.1 bound in
       let same = ap length (here ∙ behind.2) in
       let zeroed : cond {A = ℕ} (is_run (e ∷ x ∷ (xs ++ g ∷ []))) 1 0 ≡ 0 = ap (λ b. cond {A = ℕ} b 1 0) none in
       omega (arith, few, same, zeroed)
 
-  found-first : (inside : List Event) → IsWhole inside → (given : List ℕ) (i : ℕ) (before : Option ℕ) (bound : ℕ) (rest : List Event) → AreFound rest
-      → cond (is_run (span bytes n (s ∷ ss) inside)) 1 0 + runs_among (spans_in bound rest) ≤ length (runs_from given i 0 before (span bytes n (s ∷ ss) inside ++ rest))
-  found-first [] w given i before bound rest f = found-alone given i before bound rest f
-  found-first (x ∷ xs) w given i before bound rest f = found-around x xs w given i before bound rest f
+  found-first : (inside : List Event) → IsWhole inside → (one : Bool) (given : List ℕ) (i : ℕ) (before : Option ℕ) (bound : ℕ) (rest : List Event) → AreFound rest
+      → cond (is_run (span bytes n (s ∷ ss) inside)) 1 0 + runs_among (spans_in bound rest) ≤ length (runs_from one given i 0 before (span bytes n (s ∷ ss) inside ++ rest))
+  found-first [] w one given i before bound rest f = found-alone one given i before bound rest f
+  found-first (x ∷ xs) w one given i before bound rest f = found-around x xs w one given i before bound rest f
 
   pub found-more : (inside rest : List Event) → IsWhole inside → AreFound rest → AreFound (span bytes n (s ∷ ss) inside ++ rest)
-  found-more inside rest w f given i before zero = omega arith
-  found-more inside rest w f given i before (suc bound) =
-      subst (λ (p : List Event × List Event). runs_among (p.0 ∷ spans_in bound p.1) ≤ length (runs_from given i 0 before (span bytes n (s ∷ ss) inside ++ rest))) (sym (first-span bytes n s ss inside w rest)) (found-first inside w given i before bound rest f)
+  found-more inside rest w f one given i before zero = omega arith
+  found-more inside rest w f one given i before (suc bound) =
+      subst (λ (p : List Event × List Event). runs_among (p.0 ∷ spans_in bound p.1) ≤ length (runs_from one given i 0 before (span bytes n (s ∷ ss) inside ++ rest))) (sym (first-span bytes n s ss inside w rest)) (found-first inside w one given i before bound rest f)

@@ -1,5 +1,5 @@
 -- What is promised of emphasis and strikethrough: their spans, by the pairs of delimiter runs.
-use Rattle.std.specs.Prelude.{◌≡◌, ℕ, ◌+◌, ◌<◌, ◌≤◌, ◌==◌, All, List, Some, false, flat_map, length, slice_get}
+use Rattle.std.specs.Prelude.{◌≡◌, ℕ, Bool, ◌+◌, ◌<◌, ◌≤◌, ◌==◌, All, List, Some, false, flat_map, length, slice_get}
 use Rattle.std.specs.List.Sorted.{IsPermutation}
 use Rattle.markdown_base.specs.declared.event.Content.TheVariants.{Text as TextContent}
 use Rattle.markdown_base.specs.declared.event.Event.{Event}
@@ -31,9 +31,11 @@ pub record IsOfTildes (rs : List Run) (p : Pair) : Type 0 where
   pub tildes : (opener.marker ≡ Tilde) × (closer.marker ≡ Tilde)
   pub all : (opener.left ≡ markers_of p.style) × (closer.left ≡ markers_of p.style)
 
--- Each pair of the runs of a text that makes strikethrough is one of tildes: "any text wrapped in a matching pair of one or two tildes" (GFM 0.29, 6.5)
+-- Each pair of the runs of a text that makes strikethrough is one of tildes: "any text wrapped in a matching pair of one or two tildes" (GFM 0.29, 6.5); of two,
+-- if one does not count
 abbrev pub StrikethroughIsOfTildes : Type 0
-StrikethroughIsOfTildes = (bytes : List ℕ) (es : List Event) → All (λ rs. All (λ p. outer_name p.style ≡ GfmStrikethrough → IsOfTildes rs p) (pairs rs)) (runs_apart bytes es)
+StrikethroughIsOfTildes = (one_tilde : Bool) (bytes : List ℕ) (es : List Event)
+    → All (λ rs. All (λ p. outer_name p.style ≡ GfmStrikethrough → IsOfTildes rs p × (one_tilde ≡ false → markers_of p.style ≡ 2)) (pairs rs)) (runs_apart one_tilde bytes es)
 
 -- A run has the markers that its pairs take: so the sequences of a pair are bytes of its two runs, and no byte is in two of them
 abbrev pub RunsHaveMarkers : Type 0
@@ -48,11 +50,12 @@ pub record AreTakenApart (runs : List Run) (parts : List (List Run)) : Type 0 wh
 
 -- so links and images take the runs of any text apart
 abbrev pub RunsAreApart : Type 0
-RunsAreApart = (bytes : List ℕ) (es : List Event) → AreTakenApart (runs_in bytes es) (runs_apart bytes es)
+RunsAreApart = (one_tilde : Bool) (bytes : List ℕ) (es : List Event) → AreTakenApart (runs_in one_tilde bytes es) (runs_apart one_tilde bytes es)
 
 -- Links, images and emphasis have a span of emphasis or strikethrough for each pair of the runs of a text, and no other, if the text had none before
 abbrev pub TextsHaveSpansOfPairs : Type 0
-TextsHaveSpansOfPairs = (bytes : List ℕ) (es : List Event) → All (λ e. is_emphasis e.name ≡ false) es → IsPermutation (emphasis_spans (with_links bytes es)) (spans_of_text bytes es)
+TextsHaveSpansOfPairs = (one_tilde : Bool) (bytes : List ℕ) (es : List Event) → All (λ e. is_emphasis e.name ≡ false) es
+    → IsPermutation (emphasis_spans (with_links one_tilde bytes es)) (spans_of_text one_tilde bytes es)
 
 -- the first chunks of the texts of a document, in order: of each chain of text of its blocks
 abbrev pub text_starts : Given → List ℕ
@@ -66,4 +69,4 @@ DocumentsHaveSpansOfTexts = (g : Given) → IsDocument g
 -- So they are those of the pairs of each text
 abbrev pub DocumentsHaveSpansOfPairs : Type 0
 DocumentsHaveSpansOfPairs = (g : Given) → IsDocument g
-    → IsPermutation (emphasis_spans (document_events g)) (flat_map (λ c. spans_of_text g.bytes (read_events (is_defined_in g) g (chain_text g (document_blocks g) c))) (text_starts g))
+    → IsPermutation (emphasis_spans (document_events g)) (flat_map (λ c. spans_of_text g.options.gfm_strikethrough_single_tilde g.bytes (read_events (is_defined_in g) g (chain_text g (document_blocks g) c))) (text_starts g))

@@ -1,6 +1,6 @@
 -- Which delimiter runs of a text pair among themselves: those in the text of each link and image, and the others (CommonMark 0.31, 6.2, rule 17:
 -- "Inline code spans, links, images, and HTML tags group more tightly than emphasis"; and the appendix, "look for link or image").
-use Rattle.std.specs.Prelude.{ℕ, cond, List, [], ◌∷◌, ◌++◌}
+use Rattle.std.specs.Prelude.{ℕ, Bool, cond, List, [], ◌∷◌, ◌++◌}
 use Rattle.std.specs.List.{flat_map}
 use Rattle.markdown_base.specs.declared.event.Event.{Event}
 use Rattle.markdown_base.specs.declared.event.Name.TheVariants.{LabelEnd}
@@ -27,10 +27,10 @@ runs_apart_from z (span ∷ next ∷ spans) =
     (runs_inside z.waiting z ++ cond (is_tail next) (runs_apart_from (ended span next z.waiting z) spans) (runs_apart_from (ended span [] z.waiting z) (next ∷ spans)))
     (runs_apart_from (taken span z) (next ∷ spans))
 
--- The delimiter runs of a text, by which of them pair among themselves
-abbrev pub runs_apart : (bytes : List ℕ) → List Event → List (List Run)
-runs_apart bytes es = runs_apart_from (record { waiting = []; behind = []; runs = runs_in bytes es }) (outermost_spans es)
+-- The delimiter runs of a text, with strikethrough by one tilde or without, by which of them pair among themselves
+abbrev pub runs_apart : (one_tilde : Bool) → (bytes : List ℕ) → List Event → List (List Run)
+runs_apart one_tilde bytes es = runs_apart_from (record { waiting = []; behind = []; runs = runs_in one_tilde bytes es }) (outermost_spans es)
 
 -- The spans of emphasis of a text: one for each pair of its runs
-abbrev pub spans_of_text : (bytes : List ℕ) → List Event → List EmphasisSpan
-spans_of_text bytes es = flat_map spans_of_runs (runs_apart bytes es)
+abbrev pub spans_of_text : (one_tilde : Bool) → (bytes : List ℕ) → List Event → List EmphasisSpan
+spans_of_text one_tilde bytes es = flat_map spans_of_runs (runs_apart one_tilde bytes es)

@@ -71,7 +71,7 @@ pub fn leaf_blocks_stand_in_their_lines()
 /// Each span of emphasis, strong emphasis and strikethrough in the events of a document comes from a pair of delimiter runs of the text in which it
 /// stands: it begins with bytes of the one run, and ends with bytes of the other. And each pair of each text makes one such span. The texts have their
 /// spans one behind another. Which runs of a text pair among themselves is by its links and images, and what they pair to is by CommonMark's
-/// procedure. A pair makes strikethrough only if both runs are of tildes, of one or of two, as many in both.
+/// procedure. A pair makes strikethrough only if both runs are of tildes, of one or of two, as many in both; of two, if one tilde does not count.
 pub fn emphasis_is_of_pairs()
     ensures runs { PairsAreOfRuns }
     ensures markers { RunsHaveMarkers }

@@ -368,7 +368,7 @@ pub document-events-of-both : DocumentEventsOfBoth
 document-events-of-both defined options a b is rest = events-both defined options a b is (rest-begins options a b rest) (document-blocks-of-both options a b is rest)
 
 -- no bytes have no events
-no-events : (defined : List ℕ → Bool) (options : ParseOptions) → events_by options defined [] ≡ []
+pub no-events : (defined : List ℕ → Bool) (options : ParseOptions) → events_by options defined [] ≡ []
 no-events defined options =
     let g = document options [] in
     ap (λ (blocks : List Event). with_strings options.constructs options.tab_size [] (with_string_chunks g (with_inlines defined g blocks))) (by options.constructs.gfm_table)

@@ -213,7 +213,7 @@ module _ (defined : List ℕ → Bool) (options : ParseOptions) (a b : List ℕ)
     texts-both : IsOfBoth texts_of a b
     texts-both =
         ap (with_inlines defined whole) blocks
-        ∙ ready-reads-both (inline_seat_events defined on) (inlines-move defined on) (Some content.Text) t a b torn options options options (blocks_of options a) (blocks_of options b) some
+        ∙ ready-reads-both (inline_seat_events defined options) (inlines-move defined options) (Some content.Text) t a b torn options options options (blocks_of options a) (blocks_of options b) some
         (content-ready skeleton-laws first one content.Text) (content-ready skeleton-laws second two content.Text) (text-chunks-before-end first one b torn)
 
     strings-both : IsOfBoth strings_of a b

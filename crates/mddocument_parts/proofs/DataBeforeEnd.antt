@@ -310,7 +310,7 @@ module _ (laws : SkeletonLaws) (g : Given) (is : IsDocument g) (b : List ℕ) (e
     inline-stands text one at =
         let from = shown g.bytes text.start in
         let course = text-course g text one in
-        inline-at At g.bytes defined g.tab g.options.constructs text.seats from [] (subst (Course AcrossGap g.tab g.bytes from) (sym (append-nil text.seats)) course)
+        inline-at At g.bytes defined g.tab g.options text.seats from [] (subst (Course AcrossGap g.tab g.bytes from) (sym (append-nil text.seats)) course)
         (course-every AcrossGap g.tab g.bytes (Steps g.bytes) (steps-virtual g.bytes g.tab) from text.seats course) at
 
     inlines-stand : Each (StandsAt At) inlines

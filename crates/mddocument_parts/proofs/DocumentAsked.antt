@@ -95,13 +95,13 @@ module _ (bytes : List ℕ) (on : Constructs) (defined others : List ℕ → Boo
         ap (λ (i : Found). here ++ asked_from bytes on others n (after_item bytes m i) (drop i.size (s ∷ ss))) same ∙ ap (λ labels. here ++ labels) more.1,
       )
 
-  pub labels-decide : (seats : List Seat) → Agree defined others (asked_labels bytes on defined seats)
-      → (with_links bytes (flat_map (item_events bytes) (inline_items on others bytes seats)) ≡ with_links bytes (flat_map (item_events bytes) (inline_items on defined bytes seats)))
+  pub labels-decide : (one : Bool) (seats : List Seat) → Agree defined others (asked_labels bytes on defined seats)
+      → (with_links one bytes (flat_map (item_events bytes) (inline_items on others bytes seats)) ≡ with_links one bytes (flat_map (item_events bytes) (inline_items on defined bytes seats)))
       × (asked_labels bytes on others seats ≡ asked_labels bytes on defined seats)
-  labels-decide seats h =
+  labels-decide one seats h =
       let n = prefix_len is_white (bytes_of seats) in
       let all = items-agree (length seats) (after_item bytes (nothing_read seats) (white_space n)) (drop n seats) h in
-      (ap (λ items. with_links bytes (flat_map (item_events bytes) ((white_space n, take n seats) ∷ items))) all.0, all.1)
+      (ap (λ items. with_links one bytes (flat_map (item_events bytes) ((white_space n, take n seats) ∷ items))) all.0, all.1)
 
 -- ==== Which labels the events of a document depend on: those that are looked up in its texts.
 module _ (defined others : List ℕ → Bool) (options : ParseOptions) (bytes : List ℕ) where
@@ -119,7 +119,7 @@ module _ (defined others : List ℕ → Bool) (options : ParseOptions) (bytes : 
   texts-agree [] h = (refl, refl)
   texts-agree (c ∷ cs) h =
       let Same = λ (label : List ℕ). others label ≡ defined label in
-      let here = labels-decide bytes options.constructs defined others (chain_text g blocks c).seats (every-front Same (asked defined c) (flat_map (asked defined) cs) h) in
+      let here = labels-decide bytes options.constructs defined others options.gfm_strikethrough_single_tilde (chain_text g blocks c).seats (every-front Same (asked defined c) (flat_map (asked defined) cs) h) in
       let rest = texts-agree cs (every-back Same (asked defined c) (flat_map (asked defined) cs) h) in
       ((λ i. here.0 i ∷ rest.0 i), (λ i. here.1 i ++ rest.1 i))
 

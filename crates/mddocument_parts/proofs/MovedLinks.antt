@@ -50,9 +50,9 @@ module _ (m : Moving) where
   length-moved : (p q : Point) → (m.places.to q).index - (m.places.to p).index ≡ q.index - p.index
   length-moved p q = let a = m.index p in let b = m.index q in omega (arith, a, b)
 
-  run-moved : (i : ℕ) (e f : Event) (before before2 behind behind2 : Option ℕ) → m.places.known e.point ≡ true → m.places.known f.point ≡ true → before2 ≡ shifted before → behind2 ≡ shifted behind
-      → run_at m.places.new i (moved_event m e) (moved_event m f) before2 behind2 ≡ moved_run (run_at m.places.old i e f before behind)
-  run-moved i e f before before2 behind behind2 h k is was =
+  run-moved : (one : Bool) (i : ℕ) (e f : Event) (before before2 behind behind2 : Option ℕ) → m.places.known e.point ≡ true → m.places.known f.point ≡ true → before2 ≡ shifted before → behind2 ≡ shifted behind
+      → run_at one m.places.new i (moved_event m e) (moved_event m f) before2 behind2 ≡ moved_run (run_at one m.places.old i e f before behind)
+  run-moved one i e f before before2 behind behind2 h k is was =
       let left = ap (λ o. class_beside o (m.places.to e.point).index (class_before m.places.new (m.places.to e.point).index)) is ∙ beside-moved before e.point _ _ (m.before e.point h) in
       let right = ap (λ o. class_beside o (m.places.to f.point).index (class_after m.places.new (m.places.to f.point).index)) was ∙ beside-moved behind f.point _ _ (m.after f.point k) in
       let byte = m.byte e.point h in
@@ -64,26 +64,26 @@ module _ (m : Moving) where
         start = m.places.to e.point;
         marker = marker;
         rest = size d % 3;
-        opens = may_mark marker (size d) && can_open marker (left d) (right d);
-        closes = may_mark marker (size d) && can_close marker (left d) (right d);
+        opens = may_mark one marker (size d) && can_open marker (left d) (right d);
+        closes = may_mark one marker (size d) && can_close marker (left d) (right d);
         closed = [];
         left = size d;
         opened = [];
       } in r)
 
-  runs-from-moved : (es : List Event) (i depth : ℕ) (before before2 : Option ℕ) → before2 ≡ shifted before → AreKnown m es → runs_from m.places.new i depth before2 (moved_events m es) ≡ moved_runs (runs_from m.places.old i depth before es)
-  runs-from-moved [] i depth before before2 is h = refl
-  runs-from-moved (e ∷ []) i depth before before2 is h = refl
-  runs-from-moved (e ∷ f ∷ es) i depth before before2 is h =
-      by (depth == 0 && is_sequence e f) _ _ _ _ _ _ (run-moved i e f before before2 _ _ h.0 h.1.0 is (next-moved es)) (runs-from-moved es (i + 2) depth (Some f.point.index) _ (ap (λ j. Some j) (m.index f.point)) h.1.1)
-      (runs-from-moved (f ∷ es) (i + 1) (depth_after e.kind depth) (Some e.point.index) _ (ap (λ j. Some j) (m.index e.point)) h.1)
+  runs-from-moved : (one : Bool) (es : List Event) (i depth : ℕ) (before before2 : Option ℕ) → before2 ≡ shifted before → AreKnown m es → runs_from one m.places.new i depth before2 (moved_events m es) ≡ moved_runs (runs_from one m.places.old i depth before es)
+  runs-from-moved one [] i depth before before2 is h = refl
+  runs-from-moved one (e ∷ []) i depth before before2 is h = refl
+  runs-from-moved one (e ∷ f ∷ es) i depth before before2 is h =
+      by (depth == 0 && is_sequence e f) _ _ _ _ _ _ (run-moved one i e f before before2 _ _ h.0 h.1.0 is (next-moved es)) (runs-from-moved one es (i + 2) depth (Some f.point.index) _ (ap (λ j. Some j) (m.index f.point)) h.1.1)
+      (runs-from-moved one (f ∷ es) (i + 1) (depth_after e.kind depth) (Some e.point.index) _ (ap (λ j. Some j) (m.index e.point)) h.1)
     where
       by : (c : Bool) (r r2 : Run) (x x2 y y2 : List Run) → r2 ≡ moved_run r → x2 ≡ moved_runs x → y2 ≡ moved_runs y → cond c (r2 ∷ x2) y2 ≡ moved_runs (cond c (r ∷ x) y)
       by true r r2 x x2 y y2 p q s = (λ d. p d ∷ q d)
       by false r r2 x x2 y y2 p q s = s
 
-  pub runs-moved : (es : List Event) → AreKnown m es → runs_in m.places.new (moved_events m es) ≡ moved_runs (runs_in m.places.old es)
-  runs-moved es h = runs-from-moved es 0 0 None None refl h
+  pub runs-moved : (one : Bool) (es : List Event) → AreKnown m es → runs_in one m.places.new (moved_events m es) ≡ moved_runs (runs_in one m.places.old es)
+  runs-moved one es h = runs-from-moved one es 0 0 None None refl h
 
   -- ---- their pairs
   abbrev moved_delimiter : Delimiter → Delimiter
@@ -421,12 +421,12 @@ module _ (m : Moving) where
       by false d x y w = refl
 
   -- the events of a text, moved, have links, images and emphasis that are the others, moved
-  pub links-moved : (es : List Event) → AreKnown m es → with_links m.places.new (moved_events m es) ≡ moved_events m (with_links m.places.old es)
-  links-moved es h =
-      let rs = runs_in m.places.old es in
+  pub links-moved : (one : Bool) (es : List Event) → AreKnown m es → with_links one m.places.new (moved_events m es) ≡ moved_events m (with_links one m.places.old es)
+  links-moved one es h =
+      let rs = runs_in one m.places.old es in
       let first = so_far [] [] rs in
       let z = linked_from first (outermost_spans es) in
-      let runs = runs-moved m es h in
+      let runs = runs-moved m one es h in
       let spans = outermost-moved es in
       let folded = (λ i. linked_from (so_far [] [] (runs i)) (spans i)) ∙ linked-moved first (outermost_spans es) in
       ap (λ (z : SoFar). emphasised_parts (all_parts z.waiting z.behind)) folded ∙ ap emphasised_parts (all-parts-moved z.waiting z.behind) ∙ parts-moved (all_parts z.waiting z.behind)

@@ -197,11 +197,11 @@ module _ (m : Moving) where
         (items-move (length seats) behind (drop n seats) (after-known start (white_space n) known moves) rest.ok))))
 
     -- what virtual bytes are read as, as inline text
-    pub inlines-moved : (s r : List Seat) → Part m s r
-        → with_links m.places.new (flat_map (item_events m.places.new) (inline_items on defined m.places.new s)) ≡ moved_events m (with_links m.places.old (flat_map (item_events m.places.old) (inline_items on defined m.places.old r)))
-    inlines-moved s r p =
+    pub inlines-moved : (one : Bool) (s r : List Seat) → Part m s r
+        → with_links one m.places.new (flat_map (item_events m.places.new) (inline_items on defined m.places.new s)) ≡ moved_events m (with_links one m.places.old (flat_map (item_events m.places.old) (inline_items on defined m.places.old r)))
+    inlines-moved one s r p =
         let all = all-move r p.ok in
-        ap (λ s. with_links m.places.new (flat_map (item_events m.places.new) (inline_items on defined m.places.new s))) p.is ∙ ap (with_links m.places.new) all.is ∙ links-moved m _ all.known
+        ap (λ s. with_links one m.places.new (flat_map (item_events m.places.new) (inline_items on defined m.places.new s))) p.is ∙ ap (with_links one m.places.new) all.is ∙ links-moved m one _ all.known
 
 -- ==== Texts and strings of a document whose first part ends a line: they are read as in its parts.
 abbrev back_one : Point → Point
@@ -296,9 +296,9 @@ module _ (a b : List ℕ) (h : begins_line b a ≡ true) where
   behind-part lines events seats = record { is = refl; ok = all-known lines events seats }
 
 pub inlines-move : InlinesMove
-inlines-move defined on a b h = (
-  λ seats k. inlines-moved (staying a b h) on defined seats seats (front-part a b h seats k) ∙ same-events _,
-  λ lines events seats. inlines-moved (going a b h lines events) on defined _ seats (behind-part a b h lines events seats),
+inlines-move defined options a b h = (
+  λ seats k. inlines-moved (staying a b h) options.constructs defined options.gfm_strikethrough_single_tilde seats seats (front-part a b h seats k) ∙ same-events _,
+  λ lines events seats. inlines-moved (going a b h lines events) options.constructs defined options.gfm_strikethrough_single_tilde _ seats (behind-part a b h lines events seats),
 )
 
 pub strings-moved : StringsMove

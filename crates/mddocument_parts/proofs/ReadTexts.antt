@@ -86,4 +86,6 @@ read-events-of-both texts strings move move_strings on t a b h =
     ∙ ap (λ r. linked_from 0 first ++ r) (linked-moved l n k marks 0 (0 + length first) same back)
 
 pub flow-inlines-of-both : FlowInlinesOfBoth
-flow-inlines-of-both on = read-events-of-both (inline_seat_events no_labels on) (string_seat_events on) (inlines-move no_labels on) (strings-moved on) on
+flow-inlines-of-both options =
+    let on = options.constructs in
+    read-events-of-both (inline_seat_events no_labels options) (string_seat_events on) (inlines-move no_labels options) (strings-moved on) on

@@ -61,7 +61,7 @@ module _ (rest : (a b : List ℕ) → Bool) (begins : (a b : List ℕ) → rest 
   some-document s (next ∷ more) h = leb-true 1 (length s) (and-left (nat_le 1 (length s)) (rest s next && are_sections_by rest (next ∷ more)) h)
 
   -- a section begins at a rest, whatever sections come behind it
-  rest-ahead : (s next : List ℕ) (more : List (List ℕ)) → rest s next ≡ true → are_sections_by rest (next ∷ more) ≡ true → rest s (next ++ document_of more) ≡ true
+  pub rest-ahead : (s next : List ℕ) (more : List (List ℕ)) → rest s next ≡ true → are_sections_by rest (next ∷ more) ≡ true → rest s (next ++ document_of more) ≡ true
   rest-ahead s next [] h sections = ap (rest s) (append-nil next) ∙ h
   rest-ahead s next (third ∷ more) h sections =
       let behind = and-right (nat_le 1 (length next)) (rest next third && are_sections_by rest (third ∷ more)) sections in
@@ -97,4 +97,4 @@ pub sections-give-events : SectionsGiveEvents
 sections-give-events on t = sections-give on t (λ bytes. flow_events on bytes (virtual t bytes)) refl (events-of-both on t)
 
 pub sections-give-inlines : SectionsGiveInlines
-sections-give-inlines on t = sections-give on t (λ bytes. flow_inlines on bytes (virtual t bytes)) refl (flow-inlines-of-both on t)
+sections-give-inlines options t = sections-give options.constructs t (λ bytes. flow_inlines options bytes (virtual t bytes)) refl (flow-inlines-of-both options t)

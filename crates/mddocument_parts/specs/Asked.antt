@@ -2,6 +2,7 @@
 use Rattle.std.specs.Prelude.{◌≡◌, ℕ, zero, suc, Bool, true, cond, List, [], ◌∷◌, ◌++◌, map, take, drop, length, Option, None, Some}
 use Rattle.std.specs.List.{AllByRecursion, prefix_len}
 use Rattle.markdown_base.specs.declared.configuration.Constructs.{Constructs}
+use Rattle.markdown_base.specs.declared.configuration.ParseOptions.{ParseOptions}
 use Rattle.markdown_base.specs.Virtual.{Seat}
 use Rattle.mddocument.specs.FlowTexts.{inline_seat_events}
 use Rattle.mddocument_parts.specs.Moved.{begins_line, moved_seat}
@@ -66,8 +67,8 @@ Agree defined others labels = AllByRecursion (λ label. others label ≡ defined
 
 -- If they agree on the labels that are looked up, virtual bytes are read as the same inline text by both, and the same labels are looked up
 abbrev pub LabelsDecide : Type 0
-LabelsDecide = (defined others : List ℕ → Bool) (on : Constructs) (bytes : List ℕ) (seats : List Seat) → Agree defined others (asked_labels bytes on defined seats)
-    → (inline_seat_events others on bytes seats ≡ inline_seat_events defined on bytes seats) × (asked_labels bytes on others seats ≡ asked_labels bytes on defined seats)
+LabelsDecide = (defined others : List ℕ → Bool) (options : ParseOptions) (bytes : List ℕ) (seats : List Seat) → let on = options.constructs in Agree defined others (asked_labels bytes on defined seats)
+    → (inline_seat_events others options bytes seats ≡ inline_seat_events defined options bytes seats) × (asked_labels bytes on others seats ≡ asked_labels bytes on defined seats)
 
 -- The labels that are looked up in a part of a document are those in the part alone
 abbrev pub AskedLabelsMove : Type 0

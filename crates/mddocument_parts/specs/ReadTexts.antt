@@ -2,6 +2,7 @@
 use Rattle.std.specs.Prelude.{◌≡◌, ℕ, ◌<◌, Bool, true, List, ◌++◌, length, map}
 use Rattle.std.specs.List.{AllByRecursion}
 use Rattle.markdown_base.specs.declared.configuration.Constructs.{Constructs}
+use Rattle.markdown_base.specs.declared.configuration.ParseOptions.{ParseOptions}
 use Rattle.markdown_base.specs.declared.event.Event.{Event}
 use Rattle.mddocument.specs.FlowTexts.{flow_inlines, flow_read, inline_seat_events}
 use Rattle.mdinline_constructs.specs.StringItems.{string_seat_events}
@@ -22,7 +23,7 @@ ReadsMove reads = (a b : List ℕ) → begins_line b a ≡ true
 
 -- Inline text moves so, whatever labels are defined; and so do strings
 abbrev pub InlinesMove : Type 0
-InlinesMove = (defined : List ℕ → Bool) (on : Constructs) → ReadsMove (inline_seat_events defined on)
+InlinesMove = (defined : List ℕ → Bool) (options : ParseOptions) → ReadsMove (inline_seat_events defined options)
 
 abbrev pub StringsMove : Type 0
 StringsMove = (on : Constructs) → ReadsMove (string_seat_events on)
@@ -35,6 +36,6 @@ ReadEventsOfBoth = (texts strings : List ℕ → List Seat → List Event) → R
 
 -- so it is with inline text and strings in leaf blocks
 abbrev pub FlowInlinesOfBoth : Type 0
-FlowInlinesOfBoth = (on : Constructs) (t : ℕ) (a b : List ℕ) → begins_at_rest on t a b ≡ true
-    → let first = flow_inlines on a (virtual t a) in
-    flow_inlines on (a ++ b) (virtual t (a ++ b)) ≡ first ++ map (moved_event (line_endings a) (length a) (length first)) (flow_inlines on b (virtual t b))
+FlowInlinesOfBoth = (options : ParseOptions) (t : ℕ) (a b : List ℕ) → begins_at_rest options.constructs t a b ≡ true
+    → let first = flow_inlines options a (virtual t a) in
+    flow_inlines options (a ++ b) (virtual t (a ++ b)) ≡ first ++ map (moved_event (line_endings a) (length a) (length first)) (flow_inlines options b (virtual t b))

@@ -2,6 +2,7 @@
 use Rattle.std.specs.Prelude.{◌≡◌, ℕ, ◌≤◌, ◌&&◌, nat_le, Bool, true, List, [], ◌∷◌, ◌++◌, length, map}
 use Rattle.std.specs.List.{flat_map}
 use Rattle.markdown_base.specs.declared.configuration.Constructs.{Constructs}
+use Rattle.markdown_base.specs.declared.configuration.ParseOptions.{ParseOptions}
 use Rattle.markdown_base.specs.declared.event.Event.{Event}
 use Rattle.mddocument.specs.FlowTexts.{flow_inlines}
 use Rattle.mdblock_leaf_blocks.specs.LeafEvents.{flow_events}
@@ -41,5 +42,5 @@ SectionsGiveEvents = (on : Constructs) (t : ℕ) (sections : List (List ℕ)) �
 
 -- So are they with inline text and strings
 abbrev pub SectionsGiveInlines : Type 0
-SectionsGiveInlines = (on : Constructs) (t : ℕ) (sections : List (List ℕ)) → are_sections on t sections ≡ true
-    → let read = λ (bytes : List ℕ). flow_inlines on bytes (virtual t bytes) in read (document_of sections) ≡ events_of_sections read sections
+SectionsGiveInlines = (options : ParseOptions) (t : ℕ) (sections : List (List ℕ)) → are_sections options.constructs t sections ≡ true
+    → let read = λ (bytes : List ℕ). flow_inlines options bytes (virtual t bytes) in read (document_of sections) ≡ events_of_sections read sections

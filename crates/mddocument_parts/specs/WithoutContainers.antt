@@ -27,7 +27,7 @@ abbrev pub DocumentsWithoutContainers : Type 0
 DocumentsWithoutContainers = (options : ParseOptions) (bytes : List ℕ) → IsDocument (document options bytes) → options.constructs.gfm_table ≡ false → begins_no_container options bytes ≡ true → defines_nothing options bytes ≡ true
     → let on = options.constructs in
     AreFlowEvents options bytes (document_blocks (document options bytes))
-    × (document_events (document options bytes) ≡ with_strings on options.tab_size bytes (flow_inlines on bytes (virtual_bytes options bytes)))
+    × (document_events (document options bytes) ≡ with_strings on options.tab_size bytes (flow_inlines options bytes (virtual_bytes options bytes)))
 
 -- Where block quotes, lists and footnote definitions are off, no line of a document begins one
 abbrev pub NoneBeginsWhereOff : Type 0

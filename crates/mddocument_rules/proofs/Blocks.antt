@@ -69,7 +69,7 @@ celled-walk true around (e ∷ es) t h = (as-text-stands around e (t refl) e.kin
 celled-walk false around (e ∷ es) t h = (h.0, celled-walk (enters_cell e) (behind_one e.kind e.name around) es (in-cell e.kind e.name around) h.1)
 
 -- where no text of a cell begins, events are as they were
-between-same : (b : Bool) (es : List Event) (from to : ℕ) → ((m : ℕ) → from ≤ m → m < to → is_cell_at b es m ≡ false) → between from to (celled b es) ≡ between from to es
+pub between-same : (b : Bool) (es : List Event) (from to : ℕ) → ((m : ℕ) → from ≤ m → m < to → is_cell_at b es m ≡ false) → between from to (celled b es) ≡ between from to es
 between-same b es from to none = same b es from (to - from) (λ m low high. none m low (omega (arith, low, high)))
   where
     same : (b : Bool) (es : List Event) (k n : ℕ) → ((m : ℕ) → k ≤ m → m < k + n → is_cell_at b es m ≡ false) → take n (drop k (celled b es)) ≡ take n (drop k es)

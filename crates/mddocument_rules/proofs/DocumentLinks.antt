@@ -96,7 +96,7 @@ module _ (g : Given) (is : IsDocument g) where
       ∙ chosen-of-children is_link g.tab g.bytes (Some Text) blocks texts-ready inline (blocks-linkless g)
 
   document-flat : IsFlat (document_events g)
-  document-flat = flat-of (document_events g) inline (text_starts g) (λ c. inline-flat g.bytes g.options.constructs (is_defined_in g) (chain_text g blocks c).seats) links-are
+  document-flat = flat-of (document_events g) inline (text_starts g) (λ c. inline-flat g.bytes g.options.constructs (is_defined_in g) (chain_text g blocks c).seats g.options.gfm_strikethrough_single_tilde) links-are
 
 pub links-apart-in-documents : NoLinkInALink
 links-apart-in-documents g is = flat-stands (document_events g) (events-formed skeleton-laws g is (events-tight skeleton-laws inlines-hold-text g is)).balanced (document-flat g is)

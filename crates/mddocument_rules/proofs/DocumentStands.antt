@@ -145,7 +145,7 @@ module _ (g : Given) (is : IsDocument g) where
   each-text [] = tt
   each-text (c ∷ cs) =
       let es = inline c in
-      let h = inline-stands (is_defined_in g) g.options.constructs g.bytes (chain_text g blocks c).seats in
+      let h = inline-stands (is_defined_in g) g.options g.bytes (chain_text g blocks c).seats in
       let names = λ (around : List Name) (r : InText around). all-walks may_stand around es (h.1 around r) in (
         record {
           balanced = h.0;

@@ -96,7 +96,7 @@ module _ (Ok : Event → List Event → Type 0) where
   pub between-none : BetweenChunks []
   between-none = record { go = λ waits ys g. g }
 
-  between-both : (xs ys : List Mark) → BetweenChunks xs → BetweenChunks ys → BetweenChunks (xs ++ ys)
+  pub between-both : (xs ys : List Mark) → BetweenChunks xs → BetweenChunks ys → BetweenChunks (xs ++ ys)
   between-both xs ys h k = record { go = λ waits zs g. subst (Gapped waits) (sym (append_assoc xs ys zs)) (h.go waits (ys ++ zs) (k.go waits zs g)) }
 
   never : (e : Event) (es : List Event) → false ≡ true → Ok e es

@@ -86,7 +86,7 @@ in_text = name.Paragraph ∷ []
 inline-other : (defined : List ℕ → Bool) (g : Given) (c : ℕ) (es : List Event) → AreOther is_definition (inline_events defined g (chain_text g es c))
 inline-other defined g c es =
     let seats = (chain_text g es c).seats in
-    let h = inline-stands defined g.options.constructs g.bytes seats in
+    let h = inline-stands defined g.options g.bytes seats in
     inside-other h.0 name.Paragraph [] (refl, refl) (all-walks may_stand in_text (inline_events defined g (chain_text g es c)) (h.1 in_text refl))
 
 pub string-other : (on : Constructs) (bytes : List ℕ) (seats : List Seat) → AreOther is_definition (string_seat_events on bytes seats)

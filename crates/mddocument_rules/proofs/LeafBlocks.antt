@@ -28,7 +28,7 @@ module _ (bytes : List ℕ) where
       passes-both around (chunk_span bytes (Some (text_of_lines has_previous true)) name.Data line []) (text_marks bytes true (next ∷ lines))
       (chunk-passes bytes around (text_of_lines has_previous true) name.Data line (free-may around name.Data refl (texts-apart around t), t)) (texts true (next ∷ lines) around t)
 
-  no-texts : (has_previous : Bool) (lines : List Line) → body lines ≡ [] → text_marks bytes has_previous lines ≡ []
+  pub no-texts : (has_previous : Bool) (lines : List Line) → body lines ≡ [] → text_marks bytes has_previous lines ≡ []
   no-texts has_previous [] e = refl
   no-texts has_previous (line ∷ []) e = ap (λ (s : List Seat). chunk_span bytes (Some (record { content = content.Text; has_previous = has_previous; has_next = false })) name.Data s []) e
   no-texts has_previous (line ∷ next ∷ lines) e =

@@ -1,5 +1,5 @@
 -- Links, images and emphasis in place of brackets and runs: events of links come in turn, as a link is made only of a bracket behind which none was made.
-use Rattle.mddocument_rules.proofs.Prelude.{◌≡◌, ◌∙◌, ℕ, true, false, cond, not, List, [], ◌∷◌, ◌++◌, ◌+◌, drop, length, map, refl, sym, ap, subst, inl, inr, cases_Bool, cond_both, false≢true, and_parts, or_cases, AllByRecursion, every-append, ◌&&◌, ◌||◌, Event, Exit, Name, same_name-true, Run, unlinked_event}
+use Rattle.mddocument_rules.proofs.Prelude.{◌≡◌, Bool, ◌∙◌, ℕ, true, false, cond, not, List, [], ◌∷◌, ◌++◌, ◌+◌, drop, length, map, refl, sym, ap, subst, inl, inr, cases_Bool, cond_both, false≢true, and_parts, or_cases, AllByRecursion, every-append, ◌&&◌, ◌||◌, Event, Exit, Name, same_name-true, Run, unlinked_event}
 use Rattle.std.proofs.lemmas.Bool.{or_parts}
 use Rattle.std.proofs.Math.Bool.{and-false}
 use Rattle.markdown_base.specs.declared.event.Kind.TheVariants.{Enter}
@@ -242,9 +242,9 @@ fold-agrees runs spans last l r =
     agreed last (folded runs spans).waiting (AreLinkless (folded runs spans).behind) h.waits
 
 -- Links come in turn, if spans are read so
-pub links-flat : (bytes : List ℕ) (es : List Event) (last : List Bracket) → AllByRecursion IsLinkless (outermost_spans es) → AreRead 0 [] (outermost_spans es) last → IsFlat (with_links bytes es)
-links-flat bytes es last l r =
-    let start : SoFar = record { waiting = []; behind = []; runs = runs_in bytes es } in
+pub links-flat : (one : Bool) (bytes : List ℕ) (es : List Event) (last : List Bracket) → AllByRecursion IsLinkless (outermost_spans es) → AreRead 0 [] (outermost_spans es) last → IsFlat (with_links one bytes es)
+links-flat one bytes es last l r =
+    let start : SoFar = record { waiting = []; behind = []; runs = runs_in one bytes es } in
     let z = linked_from start (outermost_spans es) in
     let h = linked (outermost_spans es) 0 [] last start l r (record { waits = tt; behind = tt }) in
-    all-parts-hold IsFlat flat-both flat-linkless (linked_parts (runs_in bytes es) es) (every-part (IsPart IsFlat AnyRun) (λ (w : Waiting). AreFlat w.before) (λ w b. b) data-flat z.waiting z.behind (all-before last z.waiting (AreLinkless z.behind) h.waits) h.behind)
+    all-parts-hold IsFlat flat-both flat-linkless (linked_parts (runs_in one bytes es) es) (every-part (IsPart IsFlat AnyRun) (λ (w : Waiting). AreFlat w.before) (λ w b. b) data-flat z.waiting z.behind (all-before last z.waiting (AreLinkless z.behind) h.waits) h.behind)

@@ -120,4 +120,4 @@ walk = record {
 }
 
 pub links-stand : LinksStand
-links-stand bytes es pieces = parts-stand (linked_parts (runs_in bytes es) es) (parts-are walk (runs_in bytes es) es pieces (runs-fresh bytes 0 0 None es))
+links-stand one bytes es pieces = parts-stand (linked_parts (runs_in one bytes es) es) (parts-are walk (runs_in one bytes es) es pieces (runs-fresh one bytes 0 0 None es))

@@ -29,7 +29,7 @@ use Rattle.mdinline_link_tails.proofs.Resources.Built.{resource-built}
 use Rattle.mdinline_full_references.proofs.FullReferences.Built.{full-reference-built}
 use Rattle.mdinline_links.proofs.Leaves.{links-balanced}
 use Rattle.mdinline_links.proofs.Spans.{spans-have}
-use Rattle.mdinline_links.specs.Linked.{Waiting, is_named, outermost_spans, spans_in}
+use Rattle.mdinline_links.specs.Linked.{Waiting, is_named, outermost_spans, spans_in, with_links}
 use Rattle.mdinline_machine.proofs.BracketBytes.{tail-holds}
 use Rattle.mdinline_machine.specs.Brackets.{Bracket, Memory, after_item, behind_events, begins_end, begins_link, end_at, end_of_last, image_bracket, is_image_bracket, is_wanted_at, label_end, link_bracket, lone_end, nothing_read, tail_of, waiting_behind}
 use Rattle.mdinline_machine.specs.InlineEvents.{bracket_or_part, data_length, data_run, delimiter_run, inline_grammars, inline_item_at, inline_items, line_break, run_length, run_or_part}
@@ -390,13 +390,16 @@ module _ (bytes : List ℕ) where
             spans-have IsLinkless parts (length front_events) front_events (parts front_events (flat_map (item_events bytes) rest) (subst IsLinkless whole all-linkless)).0
 
       -- The events of links of inline text come in turn
-      pub inline-flat : IsFlat (inline_seat_events defined on bytes seats)
-      inline-flat =
+      pub inline-flat : (one : Bool) → IsFlat (with_links one bytes read)
+      inline-flat one =
           let all : all_items ≡ all_items ++ [] = sym (append-nil all_items) in
-          links-flat bytes read (last_brackets all_items [] all) (front-linkless all_items [] all) (front-read all_items [] all)
+          links-flat one bytes read (last_brackets all_items [] all) (front-linkless all_items [] all) (front-read all_items [] all)
 
 pub links-apart-in-texts : NoLinkInALinkOfText
-links-apart-in-texts defined on bytes seats = flat-stands (inline_seat_events defined on bytes seats) (links-balanced bytes (read bytes on defined seats) (balanced-of 4 bytes defined on seats)) (inline-flat bytes on defined seats)
+links-apart-in-texts defined options bytes seats =
+    let on = options.constructs in
+    let one = options.gfm_strikethrough_single_tilde in
+    flat-stands (inline_seat_events defined options bytes seats) (links-balanced one bytes (read bytes on defined seats) (balanced-of 4 bytes defined on seats)) (inline-flat bytes on defined seats one)
 
 -- ---- both walks over brackets
 pub walks-are-one : WalksAreOne

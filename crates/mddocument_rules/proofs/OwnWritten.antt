@@ -78,12 +78,12 @@ parts-unmarked [] rs h = tt
 parts-unmarked (span ∷ spans) rs h = (part-is AreUnmarked span rs h.0, parts-unmarked spans (part_of span rs).1 h.1)
 
 -- ---- a text of a document
-module _ (t : ℕ) (bytes : List ℕ) (defined : List ℕ → Bool) (on : Constructs) (seats : List Seat) (p : Point) (course : Course AcrossGap t bytes p seats) where
+module _ (t : ℕ) (bytes : List ℕ) (defined : List ℕ → Bool) (on : Constructs) (one : Bool) (seats : List Seat) (p : Point) (course : Course AcrossGap t bytes p seats) where
   abbrev pub read : List Event
   read = read_of t bytes defined on seats
 
   abbrev pub runs : List Run
-  runs = runs_in bytes read
+  runs = runs_in one bytes read
 
   -- a place: the virtual bytes that are left, and an index of the events that were read
   abbrev pub Place : Type 0
@@ -96,7 +96,7 @@ module _ (t : ℕ) (bytes : List ℕ) (defined : List ℕ → Bool) (on : Constr
   RunGoes x r y = RunOver bytes x.0 r y.0 × (x.1 ≤ r.index) × (r.index < y.1)
 
   pub parts-keep : IsKeptByParts Place Goes RunGoes
-  parts-keep = by-parts bytes HoldsMarkers (List Seat) (IsRead bytes) (Over bytes) (RunOver bytes) (over-is-kept bytes)
+  parts-keep = by-parts one bytes HoldsMarkers (List Seat) (IsRead bytes) (Over bytes) (RunOver bytes) (over-is-kept bytes)
 
   -- the outermost spans that are read, one behind another
   pub all-spans : (end : Place) × AreSpans Place Goes RunGoes (seats, 0) (outermost_spans read) runs end
@@ -104,7 +104,7 @@ module _ (t : ℕ) (bytes : List ℕ) (defined : List ℕ → Bool) (on : Constr
       let balanced = balanced-of t bytes defined on seats in
       let whole = subst (Course AcrossGap t bytes p) (sym (append-nil seats)) course in
       let steps = course-every AcrossGap t bytes (Steps bytes) (steps-virtual bytes t) p seats course in
-      let a = aligned bytes HoldsMarkers (List Seat) (IsRead bytes) (Over bytes) (RunOver bytes) (over-is-kept bytes) (length read) read 0 None seats [] (omega arith) (names_after_balanced balanced []) (shaped-hold read (inline-shaped bytes on defined seats)) (is-read t bytes defined on seats p [] whole steps) in
+      let a = aligned one bytes HoldsMarkers (List Seat) (IsRead bytes) (Over bytes) (RunOver bytes) (over-is-kept bytes) (length read) read 0 None seats [] (omega arith) (names_after_balanced balanced []) (shaped-hold read (inline-shaped bytes on defined seats)) (is-read t bytes defined on seats p [] whole steps) in
       ((a.0, a.1), a.2)
 
   -- those of some items

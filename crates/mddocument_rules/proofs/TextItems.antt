@@ -336,4 +336,6 @@ module _ (bytes : List ℕ) where
 
 -- Inline text stands in texts
 pub inline-stands : InlineTextStands
-inline-stands defined on bytes seats = links-stand bytes (flat_map (item_events bytes) (inline_items on defined bytes seats)) (all-pieces bytes on defined seats)
+inline-stands defined options bytes seats =
+    let on = options.constructs in
+    links-stand options.gfm_strikethrough_single_tilde bytes (flat_map (item_events bytes) (inline_items on defined bytes seats)) (all-pieces bytes on defined seats)

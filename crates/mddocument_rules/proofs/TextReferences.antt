@@ -14,7 +14,7 @@ use Rattle.mdinline_labels.specs.Labels.{is_label}
 use Rattle.mdinline_full_references.specs.FullReference.{full_reference, label_text}
 use Rattle.mdinline_links.proofs.Between.{spans-go}
 use Rattle.mdinline_links.proofs.Spans.{spans-balanced}
-use Rattle.mdinline_links.specs.Linked.{SoFar, ended, emphasised_parts, linked_from, made, outermost_spans}
+use Rattle.mdinline_links.specs.Linked.{SoFar, ended, emphasised_parts, linked_from, made, outermost_spans, with_links}
 use Rattle.mdinline_machine.proofs.InlineBuilt.{span-balanced}
 use Rattle.mdinline_machine.specs.Brackets.{Bracket, Memory, is_wanted_at, label_end, nothing_read, own_tail}
 use Rattle.mdinline_machine.specs.InlineEvents.{inline_events, inline_items, read_events}
@@ -26,7 +26,6 @@ use Rattle.mdinline_text_machine.specs.TextEvents.{item_events}
 use Rattle.mddocument.proofs.InContainers.Skeletons.{skeleton-laws}
 use Rattle.mddocument.proofs.InContainers.TextsFormed.{content-ready}
 use Rattle.mddocument.specs.DocumentEvents.{document_events, is_defined_in}
-use Rattle.mddocument.specs.FlowTexts.{inline_seat_events}
 use Rattle.mddocument_link_targets.specs.Strings.{as_written}
 use Rattle.mddocument_link_targets.specs.Targets.{definition_of}
 use Rattle.mddocument_rules.proofs.CutTexts.{item-here, spans-both, text-read}
@@ -47,9 +46,9 @@ use Rattle.mddocument_rules.specs.ReferenceLaws.{OwnLabelsAreWritten, References
 balanced-back : (xs ys : List Event) → IsBalanced xs → IsBalanced (xs ++ ys) → IsBalanced ys
 balanced-back xs ys b c = balanced_from_open ys (ap (λ o. names_after_all o ys) (sym (names_after_balanced b [])) ∙ sym (names_after_all-append (Some []) xs ys) ∙ names_after_balanced c [])
 
-module _ (t : ℕ) (bytes : List ℕ) (defined : List ℕ → Bool) (on : Constructs) (seats : List Seat) (p : Point) (course : Course AcrossGap t bytes p seats) where
+module _ (t : ℕ) (bytes : List ℕ) (defined : List ℕ → Bool) (on : Constructs) (one : Bool) (seats : List Seat) (p : Point) (course : Course AcrossGap t bytes p seats) where
   abbrev all_runs : List Run
-  all_runs = runs t bytes defined on seats p course
+  all_runs = runs t bytes defined on one seats p course
 
   abbrev items : List (Found × List Seat)
   items = inline_items on defined bytes seats
@@ -87,11 +86,11 @@ module _ (t : ℕ) (bytes : List ℕ) (defined : List ℕ → Bool) (on : Constr
     z-text : IsBalanced (emphasised_parts z.behind)
     z-text =
         let start : SoFar = record { waiting = []; behind = []; runs = all_runs } in
-        let Pl = Place t bytes defined on seats p course in
-        let G = Goes t bytes defined on seats p course in
-        let R = RunGoes t bytes defined on seats p course in
-        let here = front-spans t bytes defined on seats p course front (i ∷ rest) e in
-        let sf = spans-go Pl G R (parts-keep t bytes defined on seats p course) (seats, 0) (seats, 0) here.0 (spans_of front) start all_runs (record { middle = (seats, 0); waits = refl; behind = refl }, refl) here.1 in
+        let Pl = Place t bytes defined on one seats p course in
+        let G = Goes t bytes defined on one seats p course in
+        let R = RunGoes t bytes defined on one seats p course in
+        let here = front-spans t bytes defined on one seats p course front (i ∷ rest) e in
+        let sf = spans-go Pl G R (parts-keep t bytes defined on one seats p course) (seats, 0) (seats, 0) here.0 (spans_of front) start all_runs (record { middle = (seats, 0); waits = refl; behind = refl }, refl) here.1 in
         parts-balanced Pl G R sf.middle here.0 z.behind sf.behind
 
     -- What stands behind the end leads well
@@ -119,7 +118,7 @@ module _ (t : ℕ) (bytes : List ℕ) (defined : List ℕ → Bool) (on : Constr
         })
     tail-leads s ss b bs tail ahead waits (inr (inr (own, is))) =
         let o = own-is bytes ss in
-        let asked = own-label-written t bytes defined on seats p course front (i ∷ rest) e b bs waits own in
+        let asked = own-label-written t bytes defined on one seats p course front (i ∷ rest) e b bs waits own in
         subst (λ (f : Found). IsTailed (f.events bytes (take f.size ss))) (sym is)
         (record { whole = o.whole; leads = λ f x fs xs opens closes tail_is none. by-text bytes defined x f xs fs z.behind ((own_tail (bytes_of ss)).events bytes (take (own_tail (bytes_of ss)).size ss)) opens closes z-text tail_is none o.no_resource o.no_string asked })
 
@@ -199,21 +198,21 @@ module _ (t : ℕ) (bytes : List ℕ) (defined : List ℕ → Bool) (on : Constr
   go front (i ∷ rest) e h = go (front ++ i ∷ []) rest (e ∙ sym (append_assoc front (i ∷ []) rest)) (step front i rest e h)
 
   -- In inline text each link and each image leads to a destination, or to a label that is defined
-  pub inline-lead : Lead bytes defined (inline_seat_events defined on bytes seats)
+  pub inline-lead : Lead bytes defined (with_links one bytes (flat_map (item_events bytes) items))
   inline-lead = all-lead bytes defined all_runs (flat_map (item_events bytes) items) (go [] items refl (record { waits = tt; behind = tt }))
 
 -- ---- texts of documents
 pub own-labels-are-written : OwnLabelsAreWritten
 own-labels-are-written defined g text front rest b bs is e waits own =
     let on = g.options.constructs in
-    let label = own-label-written g.tab g.bytes defined on text.seats (shown g.bytes text.start) (text-course g text is) front rest e b bs waits own in
-    let z = folded (runs_in g.bytes (read_events defined g text)) (outermost_spans (flat_map (item_events g.bytes) front)) in
+    let label = own-label-written g.tab g.bytes defined on g.options.gfm_strikethrough_single_tilde text.seats (shown g.bytes text.start) (text-course g text is) front rest e b bs waits own in
+    let z = folded (runs_in g.options.gfm_strikethrough_single_tilde g.bytes (read_events defined g text)) (outermost_spans (flat_map (item_events g.bytes) front)) in
     let said = as_written g.bytes (emphasised_parts z.behind) in
     (and_parts (is_label said) (defined said) label).1
 
 pub references-of-texts-are-defined : ReferencesOfTextsAreDefined
 references-of-texts-are-defined defined g text at label is h =
-    lead-target g.bytes defined (inline_events defined g text) at label (inline-lead g.tab g.bytes defined g.options.constructs text.seats (shown g.bytes text.start) (text-course g text is)) h
+    lead-target g.bytes defined (inline_events defined g text) at label (inline-lead g.tab g.bytes defined g.options.constructs g.options.gfm_strikethrough_single_tilde text.seats (shown g.bytes text.start) (text-course g text is)) h
 
 -- ---- chains of text of a document
 pub references-of-chains-are-defined : ReferencesOfChainsAreDefined

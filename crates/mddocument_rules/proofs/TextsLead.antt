@@ -138,14 +138,14 @@ module _ (g : Given) (is : IsDocument g) where
         let orderly = inline-orderly defined g text one in
         record {
           well = record {
-            lined = inline-lined g.tab g.bytes on defined text.seats steps p [] (subst (Course AcrossGap g.tab g.bytes p) (sym (append-nil text.seats)) course);
+            lined = inline-lined g.tab g.bytes g.options defined text.seats steps p [] (subst (Course AcrossGap g.tab g.bytes p) (sym (append-nil text.seats)) course);
             balanced = orderly.balanced;
             in_order = orderly.in_order.0;
           };
           from = p;
           course = course;
           plain = inline-unmarked g c;
-          leads = inline-lead g.tab g.bytes defined on text.seats p course;
+          leads = inline-lead g.tab g.bytes defined on g.options.gfm_strikethrough_single_tilde text.seats p course;
           bares = alone-bare (inline c) (inline-alone defined g text);
         }
 

@@ -94,7 +94,7 @@ OwnLabelsAreWritten =
     (defined : List ℕ → Bool) (g : Given) (text : Text) (front rest : List (Found × List Seat)) (b : Bracket) (bs : List Bracket) → IsText g text
     → inline_items g.options.constructs defined g.bytes text.seats ≡ front ++ rest → let m = remembered g.bytes (nothing_read text.seats) front in
     m.waiting ≡ b ∷ bs → own_is_defined defined g.bytes b m ≡ true
-    → let z = folded (runs_in g.bytes (read_events defined g text)) (outermost_spans (flat_map (item_events g.bytes) front)) in defined (as_written g.bytes (emphasised_parts z.behind)) ≡ true
+    → let z = folded (runs_in g.options.gfm_strikethrough_single_tilde g.bytes (read_events defined g text)) (outermost_spans (flat_map (item_events g.bytes) front)) in defined (as_written g.bytes (emphasised_parts z.behind)) ≡ true
 
 -- "A shortcut reference link consists of a link label that matches a link reference definition elsewhere in the document" (6.3), as do the labels of the other
 -- references: each link and each image without a resource leads to a label that is defined, in the form by which labels are compared

@@ -1,7 +1,7 @@
 -- What is promised of where inline text stands.
 use Rattle.std.specs.Prelude.{◌≡◌, ◌||◌, ℕ, Bool, List, [], true, false}
 use Rattle.std.specs.List.{AllByRecursion}
-use Rattle.markdown_base.specs.declared.configuration.Constructs.{Constructs}
+use Rattle.markdown_base.specs.declared.configuration.ParseOptions.{ParseOptions}
 use Rattle.markdown_base.specs.declared.event.Event.{Event}
 use Rattle.markdown_base.specs.declared.event.Name.{Name}
 use Rattle.markdown_base.specs.declared.event.Name.TheVariants.{LabelEnd}
@@ -38,12 +38,12 @@ pub record IsPiece (span : List Event) : Type 0 where
 
 -- If the outermost spans of a text are such, it stands in texts with links, images and emphasis in place of its brackets and runs
 abbrev pub LinksStand : Type 0
-LinksStand = (bytes : List ℕ) (es : List Event) → AllByRecursion IsPiece (outermost_spans es) → StandInTexts (with_links bytes es)
+LinksStand = (one_tilde : Bool) (bytes : List ℕ) (es : List Event) → AllByRecursion IsPiece (outermost_spans es) → StandInTexts (with_links one_tilde bytes es)
 
 -- So inline text stands in texts, whichever labels are defined
 abbrev pub InlineTextStands : Type 0
-InlineTextStands = (defined : List ℕ → Bool) (on : Constructs) (bytes : List ℕ) (seats : List Seat) → StandInTexts (inline_seat_events defined on bytes seats)
+InlineTextStands = (defined : List ℕ → Bool) (options : ParseOptions) (bytes : List ℕ) (seats : List Seat) → StandInTexts (inline_seat_events defined options bytes seats)
 
 -- "Links may not contain other links, at any level of nesting" (6.3): so it is of inline text, whichever labels are defined
 abbrev pub NoLinkInALinkOfText : Type 0
-NoLinkInALinkOfText = (defined : List ℕ → Bool) (on : Constructs) (bytes : List ℕ) (seats : List Seat) → all_stand is_outside_links [] (inline_seat_events defined on bytes seats) ≡ true
+NoLinkInALinkOfText = (defined : List ℕ → Bool) (options : ParseOptions) (bytes : List ℕ) (seats : List Seat) → all_stand is_outside_links [] (inline_seat_events defined options bytes seats) ≡ true

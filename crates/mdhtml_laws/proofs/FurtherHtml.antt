@@ -23,7 +23,7 @@ use Rattle.mdhtml_document.specs.declared.names.Inline.{Inline}
 use Rattle.mdhtml_document.specs.declared.names.Inline.TheVariants as inline
 use Rattle.mdhtml_document.specs.declared.shapes.Mode.{Mode}
 use Rattle.mdhtml_document.specs.declared.shapes.Mode.TheVariants as mode
-use Rattle.mdhtml_document.specs.Html.{Shape, address_at, address_link, alignment_of, alone, block_shape, cell, cell_shape, check, code, columns_behind, columns_in, empty_cell, empty_cells, behind_column, heading, html_by, image_of, inline_shape, is_check, is_in_cell, lacking, language, line, link_to, pieces, raw, shape, shape_by, table_shape, container, uncalled}
+use Rattle.mdhtml_document.specs.Html.{Shape, address_at, address_link, alignment_of, alone, block_shape, cell, cell_shape, check, code, columns_behind, columns_in, empty_cell, empty_cells, behind_column, heading, html_by, image_of, inline_shape, is_check, is_in_cell, lacking, language, line, link_to, pieces, raw, raw_within, shape, shape_by, table_shape, container, uncalled}
 use Rattle.mdhtml_document.specs.Names.{block_of, inline_of}
 use Rattle.mdhtml_document.specs.Spans.{Nothing, Span, Spans, events_of, spans_of}
 use Rattle.mdhtml_document.specs.Values.{alt_of, behind_first_line, cell_text, code_lines, said}
@@ -128,7 +128,7 @@ module _ (links : Option Link → Option Link) (lines n : ℕ) (new old : List �
   inline-on in_cell inline.Struck es said alt h = refl
   inline-on in_cell inline.Code es said alt h =
       ap (λ (t : List ℕ). alone (Open CodeElement [] ∷ Text (cell_text in_cell t) ∷ Close CodeElement ∷ [])) (code-text-on links lines n new old Fits Reads same es h)
-  inline-on in_cell inline.Html es said alt h = ap (λ (t : List ℕ). alone (raw options (cell_text in_cell t) ∷ [])) (html-text-on links lines n new old Fits Reads same es h)
+  inline-on in_cell inline.Html es said alt h = ap (λ (t : List ℕ). alone (raw_within options (cell_text in_cell t) ∷ [])) (html-text-on links lines n new old Fits Reads same es h)
   inline-on in_cell inline.Autolink es said alt h =
       let address = address-on links lines n new old Fits Reads same es h in
       let email = any-on links lines n name.AutolinkEmail es in

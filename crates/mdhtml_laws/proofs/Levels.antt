@@ -186,9 +186,9 @@ left-goes more mode.Text columns k i most h = record { ends = refl; deep = omega
 left-goes more mode.Nothing columns k i most h = record { ends = refl; deep = omega (arith, h) }
 
 -- HTML of the document opens no element
-raw-goes : (allowed : Bool) (h : List ℕ) (o most : ℕ) (ps : List Piece) → Goes o o most ps → Goes o o most (cond allowed (Kept h) (Text h) ∷ ps)
-raw-goes true h o most ps g = record { ends = g.ends; deep = g.deep }
-raw-goes false h o most ps g = record { ends = g.ends; deep = g.deep }
+raw-goes : (allowed : Bool) (k h : List ℕ) (o most : ℕ) (ps : List Piece) → Goes o o most ps → Goes o o most (cond allowed (Kept k) (Text h) ∷ ps)
+raw-goes true k h o most ps g = record { ends = g.ends; deep = g.deep }
+raw-goes false k h o most ps g = record { ends = g.ends; deep = g.deep }
 
 fresh-goes : (o most : ℕ) (ps : List Piece) → Goes o o most ps → Goes o o most (Fresh ∷ ps)
 fresh-goes o most ps g = record { ends = g.ends; deep = g.deep }
@@ -271,7 +271,7 @@ module _ (options : CompileOptions) (bytes : List ℕ) (known : Known) (tab more
       a-block tight block.Item es loose start n h = stray-item tight k all h
       a-block tight block.Fenced es loose start n h = just _ (record { ends = omega arith; deep = omega (arith, h) })
       a-block tight block.Indented es loose start n h = just _ (record { ends = omega arith; deep = omega (arith, h) })
-      a-block tight block.Html es loose start n h = just _ (fresh-goes o most _ (raw-goes options.allow_dangerous_html _ o most (Fresh ∷ []) (record { ends = refl; deep = omega (arith, h) })))
+      a-block tight block.Html es loose start n h = just _ (fresh-goes o most _ (raw-goes options.allow_dangerous_html _ _ o most (Fresh ∷ []) (record { ends = refl; deep = omega (arith, h) })))
       a-block tight block.Rule es loose start n h = just _ (record { ends = refl; deep = omega (arith, h) })
       a-block tight block.Table es loose start n h = in-container Table [] mode.Table k all (omega (arith, h))
       a-block tight block.TableHead es loose start n h = none (omega (arith, h))
@@ -402,7 +402,7 @@ module _ (options : CompileOptions) (bytes : List ℕ) (known : Known) (tab more
       an-inline in_cell inline.Strong es said alt n h = let less = n refl in in-line _ _ (k - 1) (omega (arith, less)) (omega (arith, less, h))
       an-inline in_cell inline.Struck es said alt n h = let less = n refl in in-line _ _ (k - 1) (omega (arith, less)) (omega (arith, less, h))
       an-inline in_cell inline.Code es said alt n h = just _ (record { ends = omega arith; deep = omega (arith, h) })
-      an-inline in_cell inline.Html es said alt n h = just _ (raw-goes options.allow_dangerous_html _ o most [] (record { ends = refl; deep = omega (arith, h) }))
+      an-inline in_cell inline.Html es said alt n h = just _ (raw-goes options.allow_dangerous_html _ _ o most [] (record { ends = refl; deep = omega (arith, h) }))
       an-inline in_cell inline.Autolink es said alt n h = just _ (record { ends = omega arith; deep = omega (arith, h) })
       an-inline in_cell inline.Www es said alt n h = just _ (record { ends = omega arith; deep = omega (arith, h) })
       an-inline in_cell inline.Email es said alt n h = just _ (record { ends = omega arith; deep = omega (arith, h) })

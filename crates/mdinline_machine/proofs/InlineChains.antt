@@ -11,7 +11,7 @@ use Rattle.mdinline_machine.proofs.Resolved.{resolved-so}
 pub reads-texts : (defined : List ℕ → Bool) (g : Given) → ReadsTexts g (inlines_rules defined) (inline_events defined g)
 reads-texts defined g text is flag r ends well final sub resolved =
     let read = (ends-as-counted defined g text flag TextStart (text_ending defined g text) (inlines-read defined g text is flag) r ends).1 in
-    let made = links-can-be-made g.bytes (read_events defined g text) (read-balanced defined g text) (read-alone defined g text) in
+    let made = links-can-be-made g.options.gfm_strikethrough_single_tilde g.bytes (read_events defined g text) (read-balanced defined g text) (read-alone defined g text) in
     (resolved-so defined g TextStart (0, omega arith, (cc)) text is flag r ends well final sub resolved).1 (subst (λ es. HaveNoLinks (edited (linking_edits g es) es)) (sym read) (subst HaveNoLinks (sym made.1) made.3))
     ∙ ap (λ es. edited (linking_edits g es) es) read
     ∙ made.1
@@ -21,7 +21,7 @@ chains-read-inline defined g events document ready = chains-read g events docume
 
 -- what is read has no links
 pub inline-alone : (defined : List ℕ → Bool) (g : Given) (text : Text) → HaveNoLinks (inline_events defined g text)
-inline-alone defined g text = (links-can-be-made g.bytes (read_events defined g text) (read-balanced defined g text) (read-alone defined g text)).3
+inline-alone defined g text = (links-can-be-made g.options.gfm_strikethrough_single_tilde g.bytes (read_events defined g text) (read-balanced defined g text) (read-alone defined g text)).3
 
 pub inline-stays-ready : StaysReadyAfterInlineText
 inline-stays-ready defined g events document ready next new sub other h =

@@ -19,7 +19,7 @@ reads-inline-text defined g events sub document =
     let text = whole_text g in
     let is = whole-is-text g document in
     let read = ends-as-counted defined g text false TextStart (text_ending defined g text) (inlines-read defined g text is false) in (
-      λ run. makes-links defined g events sub document run ∙ ap (with_links g.bytes) (read run.result run.ends).1,
+      λ run. makes-links defined g events sub document run ∙ ap (with_links g.options.gfm_strikethrough_single_tilde g.bytes) (read run.result run.ends).1,
       λ run. run.events ∙ ap (λ (k : Configuration Unit Unit). k.events) run.resolved.0 ∙ (read run.result run.ends).1,
     )
 

@@ -22,5 +22,5 @@ resolved-so defined g start among text is flag r ends well final sub resolved =
 pub makes-links : MakesLinks
 makes-links defined g events sub document run =
     let there = resolved-so defined g TextStart (0, omega arith, (cc)) (whole_text g) (whole-is-text g document) false run.result run.ends run.well run.final sub run.resolved in
-    let made = links-can-be-made g.bytes run.result.configuration.events run.well_formed.balanced there.0 in
+    let made = links-can-be-made g.options.gfm_strikethrough_single_tilde g.bytes run.result.configuration.events run.well_formed.balanced there.0 in
     run.events ∙ there.1 (subst HaveNoLinks (sym made.1) made.3) ∙ made.1

@@ -24,12 +24,12 @@ no-sequence e f calm =
     ∙ ap (λ t. t && (not (is_enter f.kind) && same_name f.name AttentionSequence)) (and-false (is_enter e.kind))
 
 -- among them no run is
-runs-none : (bytes : List ℕ) (i depth : ℕ) (before : Option ℕ) (es : List Event) → AreCalm es → runs_from bytes i depth before es ≡ []
-runs-none bytes i depth before [] calm = refl
-runs-none bytes i depth before (e ∷ []) calm = refl
-runs-none bytes i depth before (e ∷ f ∷ es) calm =
-    ap (λ t. cond t (run_at bytes i e f before (index_of_event (slice_get es 0)) ∷ runs_from bytes (i + 2) depth (Some f.point.index) es) (runs_from bytes (i + 1) (depth_after e.kind depth) (Some e.point.index) (f ∷ es))) (ap (λ t. (depth == 0) && t) (no-sequence e f calm.0) ∙ and-false (depth == 0))
-    ∙ runs-none bytes (i + 1) (depth_after e.kind depth) (Some e.point.index) (f ∷ es) calm.1
+runs-none : (one : Bool) (bytes : List ℕ) (i depth : ℕ) (before : Option ℕ) (es : List Event) → AreCalm es → runs_from one bytes i depth before es ≡ []
+runs-none one bytes i depth before [] calm = refl
+runs-none one bytes i depth before (e ∷ []) calm = refl
+runs-none one bytes i depth before (e ∷ f ∷ es) calm =
+    ap (λ t. cond t (run_at one bytes i e f before (index_of_event (slice_get es 0)) ∷ runs_from one bytes (i + 2) depth (Some f.point.index) es) (runs_from one bytes (i + 1) (depth_after e.kind depth) (Some e.point.index) (f ∷ es))) (ap (λ t. (depth == 0) && t) (no-sequence e f calm.0) ∙ and-false (depth == 0))
+    ∙ runs-none one bytes (i + 1) (depth_after e.kind depth) (Some e.point.index) (f ∷ es) calm.1
 
 -- nor a bracket
 brackets-none : (es : List Event) → AreCalm es → has_brackets es ≡ false
@@ -39,8 +39,8 @@ brackets-none (e ∷ es) calm = ap (λ t. t || has_brackets es) (or_parts (same_
 -- so links, images and emphasis change nothing
 pub calm-same : (g : Given) (es : List Event) → AreCalm es → HaveNoLinks es → edited (linking_edits g es) es ≡ es
 calm-same g es calm unlinked =
-    ap (λ t. edited (cond t (edit_at 0 (length es) (with_links g.bytes es) ∷ []) (edits_of (paired (runs_in g.bytes es)))) es) (brackets-none es calm)
-    ∙ ap (λ rs. edited (edits_of (paired rs)) es) (runs-none g.bytes 0 0 _ es calm) ∙ edited-same es unlinked
+    ap (λ t. edited (cond t (edit_at 0 (length es) (with_links g.options.gfm_strikethrough_single_tilde g.bytes es) ∷ []) (edits_of (paired (runs_in g.options.gfm_strikethrough_single_tilde g.bytes es)))) es) (brackets-none es calm)
+    ∙ ap (λ rs. edited (edits_of (paired rs)) es) (runs-none g.options.gfm_strikethrough_single_tilde g.bytes 0 0 _ es calm) ∙ edited-same es unlinked
 
 module _ (bytes : List ℕ) where
   calm-leaf : (name : Name) → is_stirred name ≡ false → (seats : List Seat) → AreCalm (leaf bytes name seats)

@@ -105,4 +105,4 @@ module _ (defined : List ℕ → Bool) where
 
   -- The events of inline text: those, with links, images and emphasis in place of its brackets and runs
   abbrev pub inline_events : Given → Text → List Event
-  inline_events g text = with_links g.bytes (read_events g text)
+  inline_events g text = with_links g.options.gfm_strikethrough_single_tilde g.bytes (read_events g text)

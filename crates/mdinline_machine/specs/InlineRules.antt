@@ -15,12 +15,12 @@ use Rattle.mdinline_machine.specs.Registered.{registered_plan}
 
 -- the edits that put links, images and emphasis in place of the brackets and the delimiter runs of events
 abbrev pub linking_edits : Given → List Event → List Edit
-linking_edits g events = link_edits g.bytes events
+linking_edits g events = link_edits g.options.gfm_strikethrough_single_tilde g.bytes events
 
 -- What the machine promises of its final events: they are some well formed events without links to other events, with links, images and emphasis in
 -- place of their brackets and delimiter runs; and none is linked to another
 abbrev pub EndsLinked : Given → Text → List Event → Type 0
-EndsLinked g text events = (read : List Event) × IsWellFormed g read × HaveNoLinks read × (events ≡ with_links g.bytes read) × HaveNoLinks events
+EndsLinked g text events = (read : List Event) × IsWellFormed g read × HaveNoLinks read × (events ≡ with_links g.options.gfm_strikethrough_single_tilde g.bytes read) × HaveNoLinks events
 
 -- the plan of the machine, by which labels are defined
 abbrev pub inline_plan : (defined : List ℕ → Bool) → Plan TextByte Unit Unit

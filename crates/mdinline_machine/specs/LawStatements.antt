@@ -33,7 +33,7 @@ IsRunOfInlines defined g events = (sub : Subresult) × IsRun g (inlines_rules de
 -- delimiter runs
 abbrev pub MakesLinks : Type 0
 MakesLinks = (defined : List ℕ → Bool) (g : Given) (events : List Event) (sub : Subresult) → IsDocument g → (run : IsRun g (inlines_rules defined) true TextStart events sub)
-    → events ≡ with_links g.bytes run.result.configuration.events
+    → events ≡ with_links g.options.gfm_strikethrough_single_tilde g.bytes run.result.configuration.events
 
 -- For each document, a run that resolves returns the events of inline text; and one that does not, the events that are read
 abbrev pub ReadsInlineText : Type 0

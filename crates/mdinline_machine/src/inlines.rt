@@ -246,7 +246,8 @@ impl Machine for Inlines {
         name: (),
     ) -> Result<Option<Subresult>, Fault> {
         let state = t.parse_state();
-        link_events(alloc, state.bytes, t.events_mut())?;
+        let one_tilde = state.options.gfm_strikethrough_single_tilde;
+        link_events(alloc, state.bytes, one_tilde, t.events_mut())?;
         Ok(None)
     }
 

@@ -1,5 +1,5 @@
 -- Each virtual byte of a text is in one innermost span of the events of leaf blocks with inline text.
-use Rattle.mddocument.proofs.Prelude.{ℕ, Bool, List, [], ◌∷◌, ◌++◌, None, append_assoc, map, sym, subst, append-nil, AllByRecursion, flat_map, Constructs, Event, Point, Seat, end_after, every-back, every-front, AccountFor, lines_in, string_seat_events, shown, AcrossGap, Course, course-every, course-on, text-course, AreSpans, Begins, accounts-kept, IsKeptBySpans, leaf_blocks, Mark, InlinesAccount, block_texts, inline_seat_events, read_marks}
+use Rattle.mddocument.proofs.Prelude.{ℕ, Bool, List, [], ◌∷◌, ◌++◌, None, append_assoc, map, sym, subst, append-nil, AllByRecursion, flat_map, Constructs, ParseOptions, Event, Point, Seat, end_after, every-back, every-front, AccountFor, lines_in, string_seat_events, shown, AcrossGap, Course, course-every, course-on, text-course, AreSpans, Begins, accounts-kept, IsKeptBySpans, leaf_blocks, Mark, InlinesAccount, block_texts, inline_seat_events, read_marks}
 use Rattle.mddocument.proofs.Emphasis.InlineReads.{balanced-of, read-lined, read_of}
 use Rattle.mddocument.proofs.Emphasis.Pairs.{Opens, shut-account}
 use Rattle.mddocument.proofs.Emphasis.Runs.{balanced-opens, balanced-shut}
@@ -15,7 +15,10 @@ begins-marks : (es : List Event) → Opens es → Begins (map (λ (e : Event). (
 begins-marks [] h = tt
 begins-marks (e ∷ es) h = h
 
-module _ (t : ℕ) (bytes : List ℕ) (on : Constructs) where
+module _ (t : ℕ) (bytes : List ℕ) (options : ParseOptions) where
+  abbrev on : Constructs
+  on = options.constructs
+
   -- marks over virtual bytes of a text, wherever these are
   abbrev SpansThere : List Mark → List Seat → Type 0
   SpansThere marks seats = AllByRecursion (Steps bytes) seats → (p : Point) (rest : List Seat) → Course AcrossGap t bytes p (seats ++ rest) → AreSpans bytes marks seats
@@ -39,13 +42,13 @@ module _ (t : ℕ) (bytes : List ℕ) (on : Constructs) where
       }
 
   -- inline text accounts for such virtual bytes, line by line
-  pub inline-lined : (defined : List ℕ → Bool) (seats : List Seat) → AllByRecursion (Steps bytes) seats → (p : Point) (rest : List Seat) → Course AcrossGap t bytes p (seats ++ rest) → LinedFor (inline_seat_events defined on bytes seats) bytes seats
-  inline-lined defined seats steps p rest course = read-lined t bytes defined on seats p rest course steps
+  pub inline-lined : (defined : List ℕ → Bool) (seats : List Seat) → AllByRecursion (Steps bytes) seats → (p : Point) (rest : List Seat) → Course AcrossGap t bytes p (seats ++ rest) → LinedFor (inline_seat_events defined options bytes seats) bytes seats
+  inline-lined defined seats steps p rest course = read-lined t bytes defined on seats p rest course steps options.gfm_strikethrough_single_tilde
 
-  inline-spans : (defined : List ℕ → Bool) (seats : List Seat) → SpansThere (read_marks (inline_seat_events defined on bytes) bytes seats) seats
+  inline-spans : (defined : List ℕ → Bool) (seats : List Seat) → SpansThere (read_marks (inline_seat_events defined options bytes) bytes seats) seats
   inline-spans defined seats steps p rest course =
-      let read = inline_seat_events defined on bytes seats in
-      let balanced = links-balanced bytes (read_of t bytes defined on seats) (balanced-of t bytes defined on seats) in
+      let read = inline_seat_events defined options bytes seats in
+      let balanced = links-balanced options.gfm_strikethrough_single_tilde bytes (read_of t bytes defined on seats) (balanced-of t bytes defined on seats) in
       let account = (inline-lined defined seats steps p rest course).account in
       record {
         begins = begins-marks read (balanced-opens balanced);
@@ -55,12 +58,12 @@ module _ (t : ℕ) (bytes : List ℕ) (on : Constructs) where
 pub inlines-account : InlinesAccount
 inlines-account g text is =
     let on = g.options.constructs in
-    let reads = inline_seat_events no_labels on g.bytes in
+    let reads = inline_seat_events no_labels g.options g.bytes in
     let strings = string_seat_events on g.bytes in
     let seats = text.seats in
     let p = shown g.bytes text.start in
     let course = text-course g text is in
     let steps = course-every AcrossGap g.tab g.bytes (Steps g.bytes) (steps-virtual g.bytes g.tab) p seats course in
     linked-account g.bytes (flat_map (block_texts reads strings g.bytes) (leaf_blocks on (lines_in seats))) seats
-    (texts-keep on reads strings g.bytes (SpansThere g.tab g.bytes on) (kept g.tab g.bytes on) (inline-spans g.tab g.bytes on no_labels)
+    (texts-keep on reads strings g.bytes (SpansThere g.tab g.bytes g.options) (kept g.tab g.bytes g.options) (inline-spans g.tab g.bytes g.options no_labels)
     (λ string steps p rest course. cut-spans g.bytes strings (string-cut on g.bytes) string) seats steps p [] (subst (Course AcrossGap g.tab g.bytes p) (sym (append-nil seats)) course))

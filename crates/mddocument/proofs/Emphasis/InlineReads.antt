@@ -42,8 +42,8 @@ module _ (t : ℕ) (bytes : List ℕ) where
       read-bytewise At ends = reads-bytewise At bytes read_of seats [] balanced-of is-read ends
 
       -- links, images and emphasis account for them, line by line
-      pub read-lined : LinedFor (with_links bytes read_of) bytes seats
-      read-lined =
+      pub read-lined : (one : Bool) → LinedFor (with_links one bytes read_of) bytes seats
+      read-lined one =
           let r = is-read in
-          subst (LinedFor (with_links bytes read_of) bytes) (sym (r.are ∙ append-nil _))
-          (links-account bytes read_of r.atoms balanced-of (shaped-hold read_of (inline-shaped bytes on defined seats)) r.have r.lines r.good)
+          subst (LinedFor (with_links one bytes read_of) bytes) (sym (r.are ∙ append-nil _))
+          (links-account bytes one read_of r.atoms balanced-of (shaped-hold read_of (inline-shaped bytes on defined seats)) r.have r.lines r.good)

@@ -1,5 +1,5 @@
 -- Links, images and emphasis account for the virtual bytes that brackets, runs and the texts between them do, line by line.
-use Rattle.mddocument.proofs.Prelude.{◌≡◌, ℕ, ◌+◌, ◌<◌, true, false, cond, inl, inr, ◌⊎◌, List, [], ◌∷◌, ◌++◌, append_assoc, length, map, refl, sym, ap, ◌∙◌, subst, arith, append-nil, flat_map-append, every-back, every-front, slice_get, AllByRecursion, Event, Enter, Exit, Data, AttentionSequence, Point, IsBalanced, is_enter, same_name, shown, Seat, end_after, end-after-append, AreBeside, IsBeside, Run, markers_of_all, paired, same, unlinked_event, Standing, markers, standing, marker_from, Marker, Atom, InOneLine, OneLine, NoEnding, atom_seats, seats_of, is_delimiter, pairs-keep}
+use Rattle.mddocument.proofs.Prelude.{Bool, ◌≡◌, ℕ, ◌+◌, ◌<◌, true, false, cond, inl, inr, ◌⊎◌, List, [], ◌∷◌, ◌++◌, append_assoc, length, map, refl, sym, ap, ◌∙◌, subst, arith, append-nil, flat_map-append, every-back, every-front, slice_get, AllByRecursion, Event, Enter, Exit, Data, AttentionSequence, Point, IsBalanced, is_enter, same_name, shown, Seat, end_after, end-after-append, AreBeside, IsBeside, Run, markers_of_all, paired, same, unlinked_event, Standing, markers, standing, marker_from, Marker, Atom, InOneLine, OneLine, NoEnding, atom_seats, seats_of, is_delimiter, pairs-keep}
 use Rattle.markdown_base.specs.declared.event.Name.{Name}
 use Rattle.markdown_base.specs.declared.event.Name.TheVariants.{LabelImageMarker, LabelText}
 use Rattle.markdown_base.proofs.Facts.Lists.{some-front}
@@ -316,9 +316,9 @@ module _ (bytes : List ℕ) where
   }
 
   -- Of balanced events with these atoms links, images and emphasis account for the virtual bytes of the atoms, line by line
-  pub links-account : (es : List Event) (atoms : List Atom) → IsBalanced es → AllByRecursion HoldsMarkers (outermost_spans es) → HaveAtoms bytes es atoms → AllByRecursion InOneLine atoms → AreGood atoms []
-      → LinedFor (with_links bytes es) bytes (seats_of atoms)
-  links-account es atoms balanced known have lines good =
-      let over = links-keep-between bytes HoldsMarkers (List Seat) IsRead Over RunOver over-is-kept es (seats_of atoms) [] balanced known
+  pub links-account : (one : Bool) (es : List Event) (atoms : List Atom) → IsBalanced es → AllByRecursion HoldsMarkers (outermost_spans es) → HaveAtoms bytes es atoms → AllByRecursion InOneLine atoms → AreGood atoms []
+      → LinedFor (with_links one bytes es) bytes (seats_of atoms)
+  links-account one es atoms balanced known have lines good =
+      let over = links-keep-between one bytes HoldsMarkers (List Seat) IsRead Over RunOver over-is-kept es (seats_of atoms) [] balanced known
       (record { atoms = atoms; have = have; lines = lines; are = sym (append-nil (seats_of atoms)); good = good }) in
-      subst (LinedFor (with_links bytes es) bytes) (sym (over.are ∙ append-nil over.seats)) over.lined
+      subst (LinedFor (with_links one bytes es) bytes) (sym (over.are ∙ append-nil over.seats)) over.lined

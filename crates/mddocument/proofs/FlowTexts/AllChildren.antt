@@ -28,7 +28,7 @@ module _ (g : Given) (document : IsDocument g) (list : List Event) (textual : Ha
   module _ (defined : List ℕ → Bool) where
     -- what a chain of a content is read as, which begins at an index
     abbrev pub read_as : Option Content → ℕ → List Event
-    read_as o c = by_content g.bytes (inline_seat_events defined g.options.constructs g.bytes) (string_seat_events g.options.constructs g.bytes) o (chain_text g list c).seats
+    read_as o c = by_content g.bytes (inline_seat_events defined g.options g.bytes) (string_seat_events g.options.constructs g.bytes) o (chain_text g list c).seats
 
     -- what the chain that begins at an index is read as
     abbrev pub read_at : ℕ → List Event

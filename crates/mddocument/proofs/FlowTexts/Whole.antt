@@ -12,7 +12,7 @@ text_over seats = record (empty_text (point 1 1 0 0)) { seats = seats }
 
 -- leaf blocks with their inline text, by which labels are defined
 abbrev pub inlines_by : (defined : List ℕ → Bool) → Given → Text → List Event
-inlines_by defined g text = let on = g.options.constructs in flow_read (inline_seat_events defined on g.bytes) (string_seat_events on g.bytes) on g.bytes text.seats
+inlines_by defined g text = let on = g.options.constructs in flow_read (inline_seat_events defined g.options g.bytes) (string_seat_events on g.bytes) on g.bytes text.seats
 
 module _ (g : Given) (text : Text) (is : IsText g text) where
   some : 0 < g.tab
@@ -68,13 +68,13 @@ module _ (g : Given) (text : Text) (is : IsText g text) where
   -- inline text and strings, by which labels are defined: at once, and one behind the other
   module _ (defined : List ℕ → Bool) where
     pub all-inlines-are-read : let on = g.options.constructs in
-        with_children None flat (map (λ c. by_content g.bytes (inline_seat_events defined on g.bytes) (string_seat_events on g.bytes) (content_at flat c) (chain_text g flat c).seats) (fitting_starts None flat)) ≡ inlines_by defined g text
+        with_children None flat (map (λ c. by_content g.bytes (inline_seat_events defined g.options g.bytes) (string_seat_events on g.bytes) (content_at flat c) (chain_text g flat c).seats) (fitting_starts None flat)) ≡ inlines_by defined g text
     all-inlines-are-read =
-        all-is-read (inline_seat_events defined g.options.constructs g.bytes) (string_seat_events g.options.constructs g.bytes) refl refl (λ seats. inline-alone defined g (text_over seats)) (λ seats. string-alone g (text_over seats))
+        all-is-read (inline_seat_events defined g.options g.bytes) (string_seat_events g.options.constructs g.bytes) refl refl (λ seats. inline-alone defined g (text_over seats)) (λ seats. string-alone g (text_over seats))
 
     pub inlines-are-read-by : with_strings g (with_inlines defined g flat) ≡ inlines_by defined g text
     inlines-are-read-by =
-        flow-is-read (inline_seat_events defined g.options.constructs g.bytes) (string_seat_events g.options.constructs g.bytes) refl refl (λ seats. inline-alone defined g (text_over seats)) (λ seats. string-alone g (text_over seats))
+        flow-is-read (inline_seat_events defined g.options g.bytes) (string_seat_events g.options.constructs g.bytes) refl refl (λ seats. inline-alone defined g (text_over seats)) (λ seats. string-alone g (text_over seats))
 
 pub inlines-are-read : InlinesAreRead
 inlines-are-read g text is = inlines-are-read-by g text is no_labels

@@ -1,5 +1,5 @@
 -- The events of inline text and of strings stand where virtual bytes are shown, or end; so do those that links, images and emphasis make.
-use Rattle.mddocument.proofs.Prelude.{ℕ, Bool, List, [], ◌∷◌, ◌++◌, sym, subst, AllByRecursion, every-append, every-back, every-front, Constructs, Event, Enter, Exit, Kind, Point, InOrder, shown, Seat, end_after, event, Atom, IsCut, all_at, atom_events, atom_seats, events_of, seats_of, string_seat_events, AcrossGap, Course, inline_seat_events}
+use Rattle.mddocument.proofs.Prelude.{ℕ, Bool, List, [], ◌∷◌, ◌++◌, sym, subst, AllByRecursion, every-append, every-back, every-front, Constructs, ParseOptions, Event, Enter, Exit, Kind, Point, InOrder, shown, Seat, end_after, event, Atom, IsCut, all_at, atom_events, atom_seats, events_of, seats_of, string_seat_events, AcrossGap, Course, inline_seat_events}
 use Rattle.markdown_base.specs.declared.event.Name.{Name}
 use Rattle.mddocument.proofs.Emphasis.InlineReads.{balanced-of, read-bytewise, read_of}
 use Rattle.mddocument.proofs.FlowTexts.Forms.{ordered-atoms}
@@ -39,12 +39,13 @@ module _ (At : Point → Type 0) (bytes : List ℕ) where
   string-at on seats h = cut-at (string_seat_events on bytes seats) seats (string-cut on bytes seats) h
 
   -- inline text
-  pub inline-at : (defined : List ℕ → Bool) (t : ℕ) (on : Constructs) (seats : List Seat) (p : Point) (rest : List Seat) → Course AcrossGap t bytes p (seats ++ rest) → AllByRecursion (Steps bytes) seats → AllByRecursion (EndsAt At bytes) seats
-      → AllAt At bytes (inline_seat_events defined on bytes seats)
-  inline-at defined t on seats p rest course steps ends =
+  pub inline-at : (defined : List ℕ → Bool) (t : ℕ) (options : ParseOptions) (seats : List Seat) (p : Point) (rest : List Seat) → Course AcrossGap t bytes p (seats ++ rest) → AllByRecursion (Steps bytes) seats → AllByRecursion (EndsAt At bytes) seats
+      → AllAt At bytes (inline_seat_events defined options bytes seats)
+  inline-at defined t options seats p rest course steps ends =
+      let on = options.constructs in
       let es = read_of t bytes defined on seats in
       let cut = inline-cut bytes on defined seats in
       let q = end_after p seats in
       let placed = ordered-atoms t bytes p cut.atoms rest (subst (λ l. Course AcrossGap t bytes p (l ++ rest)) cut.all course) in
       let order = subst (λ l. InOrder p l q) (sym cut.are) (subst (λ l. InOrder p (events_of bytes cut.atoms) (end_after p l)) (sym cut.all) placed.order) in
-      (links-ordered At bytes es p q (balanced-of t bytes defined on seats) (read-bytewise t bytes defined on seats p rest course steps At ends) (record { order = order; places = cut-at es seats cut ends })).places
+      (links-ordered At options.gfm_strikethrough_single_tilde bytes es p q (balanced-of t bytes defined on seats) (read-bytewise t bytes defined on seats p rest course steps At ends) (record { order = order; places = cut-at es seats cut ends })).places

@@ -75,9 +75,9 @@ pub inline-orderly : (defined : List ℕ → Bool) (g : Given) (text : Text) →
 inline-orderly defined g text is =
     let on = g.options.constructs in
     let start = from g text is in
-    let formed = inline-forms g.tab g.bytes on defined text.seats (whole-steps g text is) start [] (whole-course g text is) in
+    let formed = inline-forms g.tab g.bytes g.options defined text.seats (whole-steps g text is) start [] (whole-course g text is) in
     let to = end_after start text.seats in
-    formed-orderly g.tab g.bytes start (inline_events defined g text) to (subst (λ l. Formed g.tab g.bytes start l to) (bare-marks (inline_seat_events defined on g.bytes text.seats)) formed)
+    formed-orderly g.tab g.bytes start (inline_events defined g text) to (subst (λ l. Formed g.tab g.bytes start l to) (bare-marks (inline_seat_events defined g.options g.bytes text.seats)) formed)
 
 -- ---- chains of a content, each read so
 module _ (g : Given) (is : IsDocument g) (content : Content) (events : List Event) (ready : IsReady g.tab g.bytes (Some content) events) (reads : Text → List Event)
@@ -137,7 +137,7 @@ module _ (laws : SkeletonLaws) (g : Given) (is : IsDocument g) where
     inlines = with_inlines defined g blocks
 
     inline-stands : (At : Point → Type 0) (text : Text) → IsText g text → AllByRecursion (EndsAt At g.bytes) text.seats → AllByRecursion (λ (e : Event). At e.point) (inline_events defined g text)
-    inline-stands At text one ends = inline-at At g.bytes defined g.tab g.options.constructs text.seats (shown g.bytes text.start) [] (whole-course g text one) (whole-steps g text one) ends
+    inline-stands At text one ends = inline-at At g.bytes defined g.tab g.options text.seats (shown g.bytes text.start) [] (whole-course g text one) (whole-steps g text one) ends
 
     inlines-orderly : IsOrderly g.tab g.bytes inlines
     inlines-orderly = read-orderly g is TextContent blocks (content-ready TextContent) (inline_events defined g) (inline-orderly defined g) inline-stands blocks-orderly

@@ -122,7 +122,7 @@ module _ (laws : SkeletonLaws) (g : Given) (is : IsDocument g) where
             record {
               ready = text-alone text one;
               shown = λ i e within. (orderly.at_places i e within, orderly.in_order.1 i e within);
-              tight = tight-at (inline_events defined g text) (inline-tight defined g.options.constructs g.bytes text.seats);
+              tight = tight-at (inline_events defined g text) (inline-tight defined g.options g.bytes text.seats);
               whole = hold defined g text one;
             },
             can cs b.1,
@@ -137,7 +137,7 @@ module _ (laws : SkeletonLaws) (g : Given) (is : IsDocument g) where
       inlines-tight : IsVoidTight inlines
       inlines-tight =
           (children_fit g.tab g.bytes (Some TextContent) blocks text-ready texts).tight (blocks-well laws g is).void_tight
-          (all-texts IsVoidTight (λ text one. tight-at (inline_events defined g text) (inline-tight defined g.options.constructs g.bytes text.seats))) texts-torn
+          (all-texts IsVoidTight (λ text one. tight-at (inline_events defined g text) (inline-tight defined g.options g.bytes text.seats))) texts-torn
 
       pub inlines-lone : HasLoneChunks (Some StringContent) inlines
       inlines-lone =

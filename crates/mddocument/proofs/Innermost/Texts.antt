@@ -29,7 +29,7 @@ module _ (g : Given) (text : Text) (is : IsText g text) where
       let steps = course-every AcrossGap g.tab g.bytes (Steps g.bytes) (steps-virtual g.bytes g.tab) p text.seats course in
       let orderly = inline-orderly defined g text is in
       record {
-        lined = inline-lined g.tab g.bytes on defined text.seats steps p [] (subst (Course AcrossGap g.tab g.bytes p) (sym (append-nil text.seats)) course);
+        lined = inline-lined g.tab g.bytes g.options defined text.seats steps p [] (subst (Course AcrossGap g.tab g.bytes p) (sym (append-nil text.seats)) course);
         balanced = orderly.balanced;
         in_order = orderly.in_order.0;
       }

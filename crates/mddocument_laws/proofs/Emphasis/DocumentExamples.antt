@@ -1,5 +1,5 @@
 -- Examples of spans of emphasis in documents, among their events and by the pairs of their texts, computed from the definitions.
-use Rattle.std.proofs.Common.{◌≡◌, ◌+◌, ℕ, List, [], ◌∷◌, ◌++◌, refl, true}
+use Rattle.std.proofs.Common.{◌≡◌, ◌+◌, ℕ, List, [], ◌∷◌, ◌++◌, refl, false, true}
 use lib.Utf8.{encode}
 use Rattle.std.specs.List.{flat_map}
 use Rattle.std.specs.Prelude.{codes}
@@ -28,7 +28,7 @@ abbrev of_events : Given → List EmphasisSpan
 of_events g = emphasis_spans (document_events g)
 
 abbrev of_pairs : Given → List EmphasisSpan
-of_pairs g = flat_map (λ c. spans_of_text g.bytes (read_events (is_defined_in g) g (chain_text g (document_blocks g) c))) (text_starts g)
+of_pairs g = flat_map (λ c. spans_of_text g.options.gfm_strikethrough_single_tilde g.bytes (read_events (is_defined_in g) g (chain_text g (document_blocks g) c))) (text_starts g)
 
 abbrev named : Name → (start end : ℕ) → EmphasisSpan
 named name start end = record { start = record { line = 1; column = start + 1; index = start; vs = 0 }; end = record { line = 1; column = end + 1; index = end; vs = 0 }; name = name }
@@ -77,6 +77,18 @@ struck-events = refl
 struck-pairs : of_pairs struck ≡ over 3 6 ∷ named GfmStrikethrough 0 9 ∷ []
 unfolding is_utf8 chars encode white_space punctuation
 struck-pairs = refl
+
+-- by its option one tilde does not count, and two do
+abbrev strict : List ℕ → Given
+strict bytes = record { bytes = bytes; options = record default_parse_options { constructs = record default_constructs { gfm_strikethrough = true }; gfm_strikethrough_single_tilde = false }; tab = 4 }
+
+strict-events : of_events (strict (codes "~a ~~b~~ c~")) ≡ named GfmStrikethrough 3 8 ∷ []
+unfolding is_utf8 chars encode white_space punctuation
+strict-events = refl
+
+strict-pairs : of_pairs (strict (codes "~a ~~b~~ c~")) ≡ named GfmStrikethrough 3 8 ∷ []
+unfolding is_utf8 chars encode white_space punctuation
+strict-pairs = refl
 
 plain-events : of_events (document with_tildes) ≡ over 3 6 ∷ []
 unfolding is_utf8 chars encode white_space punctuation

@@ -84,10 +84,10 @@ module _ (g : Given) (is : IsDocument g) where
   inline c = inline_events (is_defined_in g) g (chain_text g blocks c)
 
   abbrev of_pairs : ℕ → List EmphasisSpan
-  of_pairs c = spans_of_text g.bytes (read_events (is_defined_in g) g (chain_text g blocks c))
+  of_pairs c = spans_of_text g.options.gfm_strikethrough_single_tilde g.bytes (read_events (is_defined_in g) g (chain_text g blocks c))
 
   have : (c : ℕ) → HaveSpans (inline c) (of_pairs c)
-  have c = text-spans g.bytes (read_events (is_defined_in g) g (chain_text g blocks c)) (read-plain g (chain_text g blocks c))
+  have c = text-spans g.options.gfm_strikethrough_single_tilde g.bytes (read_events (is_defined_in g) g (chain_text g blocks c)) (read-plain g (chain_text g blocks c))
 
   texts-ready : IsReady g.tab g.bytes (Some Text) blocks
   texts-ready = content-ready skeleton-laws g is Text
@@ -112,7 +112,7 @@ module _ (g : Given) (is : IsDocument g) where
       (IsPermutation-append_right (of_pairs c) rest (flat_map of_pairs cs) (in-texts cs))
 
 pub texts-have-spans : TextsHaveSpansOfPairs
-texts-have-spans bytes es h = (text-spans bytes es (recursion_from_All (λ (e : Event). is_emphasis e.name ≡ false) es h)).all
+texts-have-spans one bytes es h = (text-spans one bytes es (recursion_from_All (λ (e : Event). is_emphasis e.name ≡ false) es h)).all
 
 pub documents-have-spans : DocumentsHaveSpansOfTexts
 documents-have-spans g is = spans-are g is

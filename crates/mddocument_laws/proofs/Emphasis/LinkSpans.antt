@@ -345,7 +345,7 @@ along (span ∷ next ∷ spans) z p h =
 
 -- ---- from the front
 -- Links, images and emphasis of a list without emphasis end each span that they begin, and their spans are those of its pairs
-pub text-spans : (bytes : List ℕ) (es : List Event) → ArePlain es → HaveSpans (with_links bytes es) (spans_of_text bytes es)
-text-spans bytes es h =
-    along (outermost_spans es) (record { waiting = []; behind = []; runs = runs_in bytes es }) (spans-have ArePlain (λ xs ys k. (every-front IsPlain xs ys k, every-back IsPlain xs ys k)) (length es) es h)
-    (record { waits = tt; behind = tt; fresh = runs-fresh bytes 0 0 None es; up = runs-ascend bytes es })
+pub text-spans : (one : Bool) (bytes : List ℕ) (es : List Event) → ArePlain es → HaveSpans (with_links one bytes es) (spans_of_text one bytes es)
+text-spans one bytes es h =
+    along (outermost_spans es) (record { waiting = []; behind = []; runs = runs_in one bytes es }) (spans-have ArePlain (λ xs ys k. (every-front IsPlain xs ys k, every-back IsPlain xs ys k)) (length es) es h)
+    (record { waits = tt; behind = tt; fresh = runs-fresh one bytes 0 0 None es; up = runs-ascend one bytes es })

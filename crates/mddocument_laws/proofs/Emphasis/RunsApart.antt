@@ -8,20 +8,20 @@ use Rattle.mddocument_laws.proofs.WholeSpans.{runs_among}
 
 -- ---- as many runs are found as there are spans that are runs
 
-module _ (bytes : List ℕ) where
+module _ (one : Bool) (bytes : List ℕ) where
   -- behind the span that is open, runs are found as at the front of a list
   record IsPassed (d i : ℕ) (before : Option ℕ) (es : List Event) : Type 0 where
     index : ℕ
     since : Option ℕ
-    is : runs_from bytes i (suc d) before es ≡ runs_from bytes index 0 since (span_at (suc d) es).1
+    is : runs_from one bytes i (suc d) before es ≡ runs_from one bytes index 0 since (span_at (suc d) es).1
 
   rest-of : (d : ℕ) (e : Event) → (span_at d (e ∷ [])).1 ≡ []
   rest-of d e = cond_both (depth_after e.kind d == 0) (e ∷ [], []) (e ∷ [], []) (λ (p : List Event × List Event). p.1 ≡ []) (λ x. refl) (λ x. refl)
 
-  on-further : (d i m : ℕ) (before : Option ℕ) (e f : Event) (es : List Event) → depth_after e.kind (suc d) ≡ m → runs_from bytes i (suc d) before (e ∷ f ∷ es) ≡ runs_from bytes (i + 1) m (Some e.point.index) (f ∷ es)
+  on-further : (d i m : ℕ) (before : Option ℕ) (e f : Event) (es : List Event) → depth_after e.kind (suc d) ≡ m → runs_from one bytes i (suc d) before (e ∷ f ∷ es) ≡ runs_from one bytes (i + 1) m (Some e.point.index) (f ∷ es)
   on-further d i m before e f es h =
-      ap (λ b. cond (b && is_sequence e f) (run_at bytes i e f before (index_of_event (slice_get es 0)) ∷ runs_from bytes (i + 2) (suc d) (Some f.point.index) es) (runs_from bytes (i + 1) (depth_after e.kind (suc d)) (Some e.point.index) (f ∷ es))) (eqb-suc-zero d)
-      ∙ ap (λ k. runs_from bytes (i + 1) k (Some e.point.index) (f ∷ es)) h
+      ap (λ b. cond (b && is_sequence e f) (run_at one bytes i e f before (index_of_event (slice_get es 0)) ∷ runs_from one bytes (i + 2) (suc d) (Some f.point.index) es) (runs_from one bytes (i + 1) (depth_after e.kind (suc d)) (Some e.point.index) (f ∷ es))) (eqb-suc-zero d)
+      ∙ ap (λ k. runs_from one bytes (i + 1) k (Some e.point.index) (f ∷ es)) h
 
   -- behind an event with which spans stay open, or no span does
   rest-open : (d m : ℕ) (e : Event) (es : List Event) → depth_after e.kind d ≡ suc m → (span_at d (e ∷ es)).1 ≡ (span_at (suc m) es).1
@@ -35,22 +35,22 @@ module _ (bytes : List ℕ) where
 
   passed : (d i : ℕ) (before : Option ℕ) (es : List Event) → IsPassed d i before es
   passed d i before [] = record { index = 0; since = None; is = refl }
-  passed d i before (e ∷ []) = record { index = 0; since = None; is = ap (runs_from bytes 0 0 None) (sym (rest-of (suc d) e)) }
+  passed d i before (e ∷ []) = record { index = 0; since = None; is = ap (runs_from one bytes 0 0 None) (sym (rest-of (suc d) e)) }
   passed d i before (e ∷ f ∷ es) = by e.kind refl d refl (λ m. passed m (i + 1) (Some e.point.index) (f ∷ es))
     where
       further : (m : ℕ) → depth_after e.kind (suc d) ≡ suc m → IsPassed m (i + 1) (Some e.point.index) (f ∷ es) → IsPassed d i before (e ∷ f ∷ es)
       further m h more = record {
         index = more.index;
         since = more.since;
-        is = on-further d i (suc m) before e f es h ∙ more.is ∙ ap (runs_from bytes more.index 0 more.since) (sym (rest-open (suc d) m e (f ∷ es) h));
+        is = on-further d i (suc m) before e f es h ∙ more.is ∙ ap (runs_from one bytes more.index 0 more.since) (sym (rest-open (suc d) m e (f ∷ es) h));
       }
 
       by : (k : Kind) → e.kind ≡ k → (n : ℕ) → d ≡ n → ((m : ℕ) → IsPassed m (i + 1) (Some e.point.index) (f ∷ es)) → IsPassed d i before (e ∷ f ∷ es)
       by Enter is n z more = further (suc d) (ap (λ k. depth_after k (suc d)) is) (more (suc d))
       by Exit is zero z more =
-          let shut : depth_after e.kind (suc d) ≡ 0 = ap (λ k. depth_after k (suc d)) is ∙ (let one : suc d - 1 ≡ 0 = omega (arith, z) in one) in
-          record { index = i + 1; since = Some e.point.index; is = on-further d i 0 before e f es shut ∙ ap (λ (p : List Event × List Event). runs_from bytes (i + 1) 0 (Some e.point.index) p.1) (sym (rest-shut (suc d) e (f ∷ es) shut)) }
-      by Exit is (suc n) z more = further n (ap (λ k. depth_after k (suc d)) is ∙ (let one : suc d - 1 ≡ suc n = omega (arith, z) in one)) (more n)
+          let shut : depth_after e.kind (suc d) ≡ 0 = ap (λ k. depth_after k (suc d)) is ∙ (let none : suc d - 1 ≡ 0 = omega (arith, z) in none) in
+          record { index = i + 1; since = Some e.point.index; is = on-further d i 0 before e f es shut ∙ ap (λ (p : List Event × List Event). runs_from one bytes (i + 1) 0 (Some e.point.index) p.1) (sym (rest-shut (suc d) e (f ∷ es) shut)) }
+      by Exit is (suc n) z more = further n (ap (λ k. depth_after k (suc d)) is ∙ (let left : suc d - 1 ≡ suc n = omega (arith, z) in left)) (more n)
 
   -- what is left is no longer
   rest-short : (d : ℕ) (es : List Event) → length (span_at d es).1 ≤ length es
@@ -66,15 +66,15 @@ module _ (bytes : List ℕ) where
 
   -- of the first span, and what is behind it
   abbrev Counts : ℕ → Option ℕ → List Event → (List Event × List Event) → Type 0
-  Counts i before es p = (j : ℕ) × (b : Option ℕ) × (length (runs_from bytes i 0 before es) ≡ cond (is_run p.0) 1 0 + length (runs_from bytes j 0 b p.1))
+  Counts i before es p = (j : ℕ) × (b : Option ℕ) × (length (runs_from one bytes i 0 before es) ≡ cond (is_run p.0) 1 0 + length (runs_from one bytes j 0 b p.1))
 
   count-exit : (i : ℕ) (before : Option ℕ) (e : Event) (es : List Event) → e.kind ≡ Exit → Counts i before (e ∷ es) (e ∷ [], es)
   count-exit i before e [] h = (0, None, refl)
   count-exit i before e (f ∷ es) h =
       let none : is_sequence e f ≡ false = ap (λ k. (is_enter k && same_name e.name AttentionSequence) && (not (is_enter f.kind) && same_name f.name AttentionSequence)) h in
-      let on : runs_from bytes i 0 before (e ∷ f ∷ es) ≡ runs_from bytes (i + 1) 0 (Some e.point.index) (f ∷ es) =
-      ap (λ b. cond b (run_at bytes i e f before (index_of_event (slice_get es 0)) ∷ runs_from bytes (i + 2) 0 (Some f.point.index) es) (runs_from bytes (i + 1) (depth_after e.kind 0) (Some e.point.index) (f ∷ es))) none
-      ∙ ap (λ k. runs_from bytes (i + 1) (depth_after k 0) (Some e.point.index) (f ∷ es)) h in
+      let on : runs_from one bytes i 0 before (e ∷ f ∷ es) ≡ runs_from one bytes (i + 1) 0 (Some e.point.index) (f ∷ es) =
+      ap (λ b. cond b (run_at one bytes i e f before (index_of_event (slice_get es 0)) ∷ runs_from one bytes (i + 2) 0 (Some f.point.index) es) (runs_from one bytes (i + 1) (depth_after e.kind 0) (Some e.point.index) (f ∷ es))) none
+      ∙ ap (λ k. runs_from one bytes (i + 1) (depth_after k 0) (Some e.point.index) (f ∷ es)) h in
       (i + 1, Some e.point.index, ap length on ∙ (let z : (n : ℕ) → n ≡ 0 + n = λ n. omega arith in z _))
 
   shut-after : (k : Kind) → not (is_enter k) ≡ true → depth_after k 1 ≡ 0
@@ -90,19 +90,19 @@ module _ (bytes : List ℕ) where
           let both = and_parts (is_enter e.kind && same_name e.name AttentionSequence) (not (is_enter f.kind) && same_name f.name AttentionSequence) is in
           let exits = (and_parts (not (is_enter f.kind)) (same_name f.name AttentionSequence) both.1).0 in
           let shut = rest-shut 1 f es (shut-after f.kind exits) in
-          let found : runs_from bytes i 0 before (e ∷ f ∷ es) ≡ run_at bytes i e f before (index_of_event (slice_get es 0)) ∷ runs_from bytes (i + 2) 0 (Some f.point.index) es =
-          ap (λ b. cond b (run_at bytes i e f before (index_of_event (slice_get es 0)) ∷ runs_from bytes (i + 2) 0 (Some f.point.index) es) (runs_from bytes (i + 1) (depth_after e.kind 0) (Some e.point.index) (f ∷ es))) is in
-          let one : (n : ℕ) → suc n ≡ 1 + n = λ n. omega arith in
-          subst (λ (p : List Event × List Event). Counts i before (e ∷ f ∷ es) (e ∷ p.0, p.1)) (sym shut) (i + 2, Some f.point.index, ap length found ∙ one _ ∙ sym (ap (λ b. cond b 1 0 + length (runs_from bytes (i + 2) 0 (Some f.point.index) es)) is))
+          let found : runs_from one bytes i 0 before (e ∷ f ∷ es) ≡ run_at one bytes i e f before (index_of_event (slice_get es 0)) ∷ runs_from one bytes (i + 2) 0 (Some f.point.index) es =
+          ap (λ b. cond b (run_at one bytes i e f before (index_of_event (slice_get es 0)) ∷ runs_from one bytes (i + 2) 0 (Some f.point.index) es) (runs_from one bytes (i + 1) (depth_after e.kind 0) (Some e.point.index) (f ∷ es))) is in
+          let plus_one : (n : ℕ) → suc n ≡ 1 + n = λ n. omega arith in
+          subst (λ (p : List Event × List Event). Counts i before (e ∷ f ∷ es) (e ∷ p.0, p.1)) (sym shut) (i + 2, Some f.point.index, ap length found ∙ plus_one _ ∙ sym (ap (λ b. cond b 1 0 + length (runs_from one bytes (i + 2) 0 (Some f.point.index) es)) is))
       by false is =
           let more = passed 0 (i + 1) (Some e.point.index) (f ∷ es) in
-          let on : runs_from bytes i 0 before (e ∷ f ∷ es) ≡ runs_from bytes (i + 1) 1 (Some e.point.index) (f ∷ es) =
-          ap (λ b. cond b (run_at bytes i e f before (index_of_event (slice_get es 0)) ∷ runs_from bytes (i + 2) 0 (Some f.point.index) es) (runs_from bytes (i + 1) (depth_after e.kind 0) (Some e.point.index) (f ∷ es))) is
-          ∙ ap (λ k. runs_from bytes (i + 1) (depth_after k 0) (Some e.point.index) (f ∷ es)) h in
+          let on : runs_from one bytes i 0 before (e ∷ f ∷ es) ≡ runs_from one bytes (i + 1) 1 (Some e.point.index) (f ∷ es) =
+          ap (λ b. cond b (run_at one bytes i e f before (index_of_event (slice_get es 0)) ∷ runs_from one bytes (i + 2) 0 (Some f.point.index) es) (runs_from one bytes (i + 1) (depth_after e.kind 0) (Some e.point.index) (f ∷ es))) is
+          ∙ ap (λ k. runs_from one bytes (i + 1) (depth_after k 0) (Some e.point.index) (f ∷ es)) h in
           let none : is_run (e ∷ (span_at 1 (f ∷ es)).0) ≡ false =
           cond_both (depth_after f.kind 1 == 0) (f ∷ [], es) (f ∷ (span_at (depth_after f.kind 1) es).0, (span_at (depth_after f.kind 1) es).1) (λ (p : List Event × List Event). is_run (e ∷ p.0) ≡ false) (λ x. is) (λ x. no-run e f (span_at (depth_after f.kind 1) es).0 is) in
           let zero_more : (n : ℕ) → n ≡ 0 + n = λ n. omega arith in
-          (more.index, more.since, ap length (on ∙ more.is) ∙ zero_more _ ∙ sym (ap (λ b. cond b 1 0 + length (runs_from bytes more.index 0 more.since (span_at 1 (f ∷ es)).1)) none))
+          (more.index, more.since, ap length (on ∙ more.is) ∙ zero_more _ ∙ sym (ap (λ b. cond b 1 0 + length (runs_from one bytes more.index 0 more.since (span_at 1 (f ∷ es)).1)) none))
 
   count-first : (i : ℕ) (before : Option ℕ) (e : Event) (es : List Event) → Counts i before (e ∷ es) (span_at 0 (e ∷ es))
   count-first i before e es = by e.kind refl
@@ -114,7 +114,7 @@ module _ (bytes : List ℕ) where
           subst (Counts i before (e ∷ es)) (sym opened_is) (count-enter i before e es is)
       by Exit is = subst (Counts i before (e ∷ es)) (sym (rest-shut 0 e es (ap (λ k. depth_after k 0) is))) (count-exit i before e es is)
 
-  pub count-runs : (bound i : ℕ) (before : Option ℕ) (es : List Event) → length es ≤ bound → runs_among (spans_in bound es) ≡ length (runs_from bytes i 0 before es)
+  pub count-runs : (bound i : ℕ) (before : Option ℕ) (es : List Event) → length es ≤ bound → runs_among (spans_in bound es) ≡ length (runs_from one bytes i 0 before es)
   count-runs zero i before [] few = refl
   count-runs zero i before (e ∷ es) few = absurd (omega (arith, few))
   count-runs (suc bound) i before [] few = refl
@@ -308,7 +308,7 @@ holds (span ∷ next ∷ spans) z count up =
     step-holds span z (taken span z) (runs_apart_from (taken span z) (next ∷ spans)) step (holds (next ∷ spans) (taken span z) (omega (arith, few, count)) (subst AreAscending (sym step.same) up)))
 
 pub runs-are-apart : RunsAreApart
-runs-are-apart bytes es =
-    let rs = runs_in bytes es in
-    let h = holds (outermost_spans es) (record { waiting = []; behind = []; runs = rs }) (count-runs bytes (length es) 0 None es (omega arith)) (runs-ascend bytes es) in
-    record { different = runs-ascend bytes es; all = h.all; in_order = All-from_recursion AreAscending (runs_apart bytes es) h.order }
+runs-are-apart one bytes es =
+    let rs = runs_in one bytes es in
+    let h = holds (outermost_spans es) (record { waiting = []; behind = []; runs = rs }) (count-runs one bytes (length es) 0 None es (omega arith)) (runs-ascend one bytes es) in
+    record { different = runs-ascend one bytes es; all = h.all; in_order = All-from_recursion AreAscending (runs_apart one bytes es) h.order }

@@ -21,37 +21,39 @@ use Rattle.mddocument_laws.specs.PairedApart.{runs_apart}
 use Rattle.mddocument_laws.proofs.Emphasis.PairOrder.{by-pairs, delimiter, pair_with}
 use Rattle.mddocument_laws.proofs.Emphasis.RunsApart.{runs-are-apart}
 
--- ---- runs as they are read: of tildes that open or close something there are two at most
-abbrev IsRead : Run → Type 0
-IsRead r = (is_tilde r.marker ≡ true → (r.opens || r.closes) ≡ true → r.left ≤ 2) × (r.rest ≡ r.left % 3)
+-- ---- runs as they are read: of tildes that open or close something there are two at most, and two if one does not count
+abbrev IsRead : (one : Bool) → Run → Type 0
+IsRead one r = (is_tilde r.marker ≡ true → (r.opens || r.closes) ≡ true → (r.left ≤ 2) × ((one || nat_le 2 r.left) ≡ true)) × (r.rest ≡ r.left % 3)
 
-abbrev AreRead : List Run → Type 0
-AreRead rs = AllByRecursion IsRead rs
+abbrev AreRead : (one : Bool) → List Run → Type 0
+AreRead one rs = AllByRecursion (IsRead one) rs
 
-few : (m : Marker) (n : ℕ) → is_tilde m ≡ true → may_mark m n ≡ true → n ≤ 2
-few m n t h = leb-true n 2 (subst (λ b. (not b || nat_le n 2) ≡ true) t h)
+few : (one : Bool) (m : Marker) (n : ℕ) → is_tilde m ≡ true → may_mark one m n ≡ true → (n ≤ 2) × ((one || nat_le 2 n) ≡ true)
+few one m n t h =
+    let both = and_parts (nat_le n 2) (one || nat_le 2 n) (subst (λ b. (not b || (nat_le n 2 && (one || nat_le 2 n))) ≡ true) t h) in
+    (leb-true n 2 both.0, both.1)
 
-run-read : (bytes : List ℕ) (i : ℕ) (e f : Event) (before behind : Option ℕ) → IsRead (run_at bytes i e f before behind)
-run-read bytes i e f before behind =
+run-read : (one : Bool) (bytes : List ℕ) (i : ℕ) (e f : Event) (before behind : Option ℕ) → IsRead one (run_at one bytes i e f before behind)
+run-read one bytes i e f before behind =
     let m = marker_from (slice_get bytes e.point.index) in
     let n = f.point.index - e.point.index in
     let first = class_beside before e.point.index (class_before bytes e.point.index) in
     let last = class_beside behind f.point.index (class_after bytes f.point.index) in (
-      λ t either. elim (or_cases (may_mark m n && can_open m first last) (may_mark m n && can_close m first last) either) [
-        | inl opens ↦ few m n t (and_parts (may_mark m n) (can_open m first last) opens).0
-        | inr closes ↦ few m n t (and_parts (may_mark m n) (can_close m first last) closes).0
+      λ t either. elim (or_cases (may_mark one m n && can_open m first last) (may_mark one m n && can_close m first last) either) [
+        | inl opens ↦ few one m n t (and_parts (may_mark one m n) (can_open m first last) opens).0
+        | inr closes ↦ few one m n t (and_parts (may_mark one m n) (can_close m first last) closes).0
       ],
       refl,
     )
 
-runs-read : (bytes : List ℕ) (i depth : ℕ) (before : Option ℕ) (es : List Event) → AreRead (runs_from bytes i depth before es)
-runs-read bytes i depth before [] = tt
-runs-read bytes i depth before (e ∷ []) = tt
-runs-read bytes i depth before (e ∷ f ∷ es) =
-    cond_both (depth == 0 && is_sequence e f) (run_at bytes i e f before (index_of_event (slice_get es 0)) ∷ runs_from bytes (i + 2) depth (Some f.point.index) es)
-    (runs_from bytes (i + 1) (depth_after e.kind depth) (Some e.point.index) (f ∷ es)) AreRead
-    (λ is. (run-read bytes i e f before (index_of_event (slice_get es 0)), runs-read bytes (i + 2) depth (Some f.point.index) es))
-    (λ other. runs-read bytes (i + 1) (depth_after e.kind depth) (Some e.point.index) (f ∷ es))
+runs-read : (one : Bool) (bytes : List ℕ) (i depth : ℕ) (before : Option ℕ) (es : List Event) → AreRead one (runs_from one bytes i depth before es)
+runs-read one bytes i depth before [] = tt
+runs-read one bytes i depth before (e ∷ []) = tt
+runs-read one bytes i depth before (e ∷ f ∷ es) =
+    cond_both (depth == 0 && is_sequence e f) (run_at one bytes i e f before (index_of_event (slice_get es 0)) ∷ runs_from one bytes (i + 2) depth (Some f.point.index) es)
+    (runs_from one bytes (i + 1) (depth_after e.kind depth) (Some e.point.index) (f ∷ es)) (AreRead one)
+    (λ is. (run-read one bytes i e f before (index_of_event (slice_get es 0)), runs-read one bytes (i + 2) depth (Some f.point.index) es))
+    (λ other. runs-read one bytes (i + 1) (depth_after e.kind depth) (Some e.point.index) (f ∷ es))
 
 -- ---- one pair
 tilde-is : (m : Marker) → is_tilde m ≡ true → m ≡ Tilde
@@ -83,6 +85,10 @@ takes-all Tilde (suc (suc zero)) (suc (suc zero)) t h k both = (refl, refl)
 takes-all Tilde (suc (suc zero)) (suc (suc (suc b))) t h k both = absurd (omega (arith, k))
 takes-all Tilde (suc (suc (suc a))) b t h k both = absurd (omega (arith, h))
 
+-- if one does not count, it has two
+two-if : (one : Bool) (n : ℕ) → one ≡ false → (n ≤ 2) × ((one || nat_le 2 n) ≡ true) → n ≡ 2
+two-if one n off h = let many = leb-true 2 n (subst (λ b. (b || nat_le 2 n) ≡ true) off h.1) in omega (arith, h.0, many)
+
 -- lengths of tildes that fit
 both-fit : (m : Marker) (one_does_both : Bool) (a b : ℕ) → is_tilde m ≡ true → lengths_fit m one_does_both a b ≡ true → are_both a b ≡ true
 both-fit Asterisk any a b t h = absurd (false≢true t)
@@ -90,16 +96,16 @@ both-fit Underscore any a b t h = absurd (false≢true t)
 both-fit Tilde any a b t h = h
 
 -- ---- the pairs of runs that were read
-module _ (all : List Run) where
+module _ (one : Bool) (all : List Run) where
   abbrev IsOf : Pair → Type 0
-  IsOf p = outer_name p.style ≡ GfmStrikethrough → IsOfTildes all p
+  IsOf p = outer_name p.style ≡ GfmStrikethrough → IsOfTildes all p × (one ≡ false → markers_of p.style ≡ 2)
 
   abbrev AreOf : List Pair → Type 0
   AreOf ps = AllByRecursion IsOf ps
 
   -- a run of tildes that is in no pair yet is as it was read
   abbrev Whole : Delimiter → Type 0
-  Whole d = is_tilde d.run.marker ≡ true → (slice_get all d.number ≡ Some d.run) × IsRead d.run
+  Whole d = is_tilde d.run.marker ≡ true → (slice_get all d.number ≡ Some d.run) × IsRead one d.run
 
   abbrev IsOpener : Delimiter → Type 0
   IsOpener d = Whole d × (d.run.opens ≡ true)
@@ -121,6 +127,7 @@ module _ (all : List Run) where
   -- a pair of tildes
   record IsTaken (o d : Delimiter) : Type 0 where
     pair : IsOfTildes all (pair_with o d)
+    two : one ≡ false → markers_of (style_of o.run d.run) ≡ 2
     opener : (gave (style_of o.run d.run) o).run.left ≡ 0
     closer : (gave (style_of o.run d.run) d).run.left ≡ 0
 
@@ -136,7 +143,7 @@ module _ (all : List Run) where
       let also : (d.run.opens || d.run.closes) ≡ true = ap (λ b. d.run.opens || b) closes ∙ or-true d.run.opens in
       let rests : are_both (o.run.left % 3) (d.run.left % 3) ≡ true =
       ap (λ n. are_both n (d.run.left % 3)) (sym its.1.1) ∙ ap (are_both o.run.rest) (sym own.1.1) ∙ both-fit d.run.marker (o.run.closes || d.run.opens) o.run.rest d.run.rest t both.1 in
-      let takes = takes-all d.run.marker o.run.left d.run.left t (its.1.0 tilde opens) (own.1.0 t also) rests in
+      let takes = takes-all d.run.marker o.run.left d.run.left t (its.1.0 tilde opens).0 (own.1.0 t also).0 rests in
       let n : ℕ = markers_of (style_of o.run d.run) in
       let first : o.run.left ≡ n = takes.0 in
       let second : d.run.left ≡ n = takes.1 in
@@ -144,6 +151,7 @@ module _ (all : List Run) where
       let none_second : d.run.left - n ≡ 0 = omega (arith, second) in
       record {
         pair = record { opener = o.run; closer = d.run; opens = its.0; closes = own.0; tildes = (tilde-is o.run.marker tilde, tilde-is d.run.marker t); all = takes };
+        two = λ off. sym first ∙ two-if one o.run.left off (its.1.0 tilde opens);
         opener = none_first;
         closer = none_second;
       }
@@ -159,7 +167,7 @@ module _ (all : List Run) where
         | inl t ↦
             let taken = is-taken o d t some closes fits behind.0 done in
             let next = ih (put (gave s o) below (inr taken.opener) behind.1) (inr taken.closer) in
-            (((λ e. taken.pair), next.0), next.1)
+            (((λ e. (taken.pair, taken.two)), next.0), next.1)
         | inr t ↦
             let marker : o.run.marker ≡ d.run.marker = same-is o.run.marker d.run.marker (and_parts (same o.run.marker d.run.marker) (lengths_fit d.run.marker (o.run.closes || d.run.opens) o.run.rest d.run.rest) fits).0 in
             let other : is_tilde o.run.marker ≡ false = ap is_tilde marker ∙ t in
@@ -168,7 +176,7 @@ module _ (all : List Run) where
       ])
       n d stack
 
-  pairs-of : (n : ℕ) (stack : List Delimiter) (rs : List Run) → AreOpeners stack → AreRead rs → ((i : ℕ) → slice_get all (n + i) ≡ slice_get rs i) → AreOf (pairs_from n stack rs)
+  pairs-of : (n : ℕ) (stack : List Delimiter) (rs : List Run) → AreOpeners stack → AreRead one rs → ((i : ℕ) → slice_get all (n + i) ≡ slice_get rs i) → AreOf (pairs_from n stack rs)
   pairs-of n stack [] h read at = tt
   pairs-of n stack (r ∷ rs) h read at =
       let closed = close_pairs r.left (delimiter n r) stack in
@@ -179,21 +187,21 @@ module _ (all : List Run) where
       every-append IsOf closed.1 (pairs_from (n + 1) closed.0 rs) are.0 (pairs-of (n + 1) closed.0 rs are.1 read.1 next)
 
 -- ---- the runs of a text, taken apart by links and images
-parts-read : (parts : List (List Run)) → AreRead (flat_map (λ rs. rs) parts) → AllByRecursion AreRead parts
-parts-read [] h = tt
-parts-read (rs ∷ parts) h = (every-front IsRead rs (flat_map (λ l. l) parts) h, parts-read parts (every-back IsRead rs (flat_map (λ l. l) parts) h))
+parts-read : (one : Bool) (parts : List (List Run)) → AreRead one (flat_map (λ rs. rs) parts) → AllByRecursion (AreRead one) parts
+parts-read one [] h = tt
+parts-read one (rs ∷ parts) h = (every-front (IsRead one) rs (flat_map (λ l. l) parts) h, parts-read one parts (every-back (IsRead one) rs (flat_map (λ l. l) parts) h))
 
-parts-of : (parts : List (List Run)) → AllByRecursion AreRead parts → AllByRecursion (λ rs. All (IsOf rs) (pairs rs)) parts
-parts-of [] h = tt
-parts-of (rs ∷ parts) h =
+parts-of : (one : Bool) (parts : List (List Run)) → AllByRecursion (AreRead one) parts → AllByRecursion (λ rs. All (IsOf one rs) (pairs rs)) parts
+parts-of one [] h = tt
+parts-of one (rs ∷ parts) h =
     let front : (i : ℕ) → slice_get rs (0 + i) ≡ slice_get rs i = λ i. let none : 0 + i ≡ i = omega arith in ap (slice_get rs) none in
-    (All-from_recursion (IsOf rs) (pairs rs) (pairs-of rs 0 [] rs tt h.0 front), parts-of parts h.1)
+    (All-from_recursion (IsOf one rs) (pairs rs) (pairs-of one rs 0 [] rs tt h.0 front), parts-of one parts h.1)
 
 pub strikethrough-of-tildes : StrikethroughIsOfTildes
-strikethrough-of-tildes bytes es =
-    let parts = runs_apart bytes es in
-    let rs = runs_in bytes es in
+strikethrough-of-tildes one bytes es =
+    let parts = runs_apart one bytes es in
+    let rs = runs_in one bytes es in
     let whole = flat_map (λ (l : List Run). l) parts in
-    let apart = runs-are-apart bytes es in
-    let read = All-permutation IsRead rs whole (IsPermutation-sym whole rs apart.all) (All-from_recursion IsRead rs (runs-read bytes 0 0 None es)) in
-    All-from_recursion (λ (l : List Run). All (IsOf l) (pairs l)) parts (parts-of parts (parts-read parts (recursion_from_All IsRead whole read)))
+    let apart = runs-are-apart one bytes es in
+    let read = All-permutation (IsRead one) rs whole (IsPermutation-sym whole rs apart.all) (All-from_recursion (IsRead one) rs (runs-read one bytes 0 0 None es)) in
+    All-from_recursion (λ (l : List Run). All (IsOf one l) (pairs l)) parts (parts-of one parts (parts-read one parts (recursion_from_All (IsRead one) whole read)))

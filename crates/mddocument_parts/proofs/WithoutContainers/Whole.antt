@@ -302,11 +302,11 @@ module _ (g : Given) (is : IsDocument g) where
         ∙ ap (linked_from 0) (sym cut.blocks)
 
     module _ (same : told.document_blocks g ≡ document_blocks g) (nothing : is_defined_in g ≡ no_labels) where
-      texts-are : document_texts g ≡ flow_inlines on g.bytes (virtual g.tab g.bytes)
+      texts-are : document_texts g ≡ flow_inlines g.options g.bytes (virtual g.tab g.bytes)
       texts-are =
           (λ i. with_string_chunks g (with_inlines (nothing i) g ((same ∙ blocks-are) i))) ∙ inlines-are-read g (whole_text g) (whole-is-text g is)
 
-      pub events-are : document_events g ≡ with_strings on g.tab g.bytes (flow_inlines on g.bytes (virtual g.tab g.bytes))
+      pub events-are : document_events g ≡ with_strings on g.tab g.bytes (flow_inlines g.options g.bytes (virtual g.tab g.bytes))
       events-are = ap (with_strings on g.tab g.bytes) texts-are
 
 pub documents-without-containers : DocumentsWithoutContainers

@@ -102,7 +102,7 @@ rows-keep defined =
 
 made : EditsCanBeMade linking_edits EndsLinked
 made g text events formed unlinked =
-    let (apart, is, balanced, none) = links-can-be-made g.bytes events formed.balanced unlinked in
+    let (apart, is, balanced, none) = links-can-be-made g.options.gfm_strikethrough_single_tilde g.bytes events formed.balanced unlinked in
     (apart, subst IsBalanced (sym is) balanced, subst HaveNoLinks (sym is) none, (events, formed, unlinked, is, subst HaveNoLinks (sym is) none))
 
 pub inlines-lawful : (defined : List ℕ → Bool) (g : Given) → IsLawful g (inlines_rules defined g)

@@ -19,6 +19,6 @@ returns-clause-resolves c =
     let t = c.args.t.now in
     let k = t.configuration in
     let made = c.in_ok-link_events.ensures.edits
-    ∙ ap (λ es. edited (link_edits c.parse_state-state.result.now.bytes.now es) es) c.events_mut.ensures.value
+    ∙ ap (λ es. edited (link_edits c.parse_state-state.result.now.options.now.gfm_strikethrough_single_tilde c.parse_state-state.result.now.bytes.now es) es) c.events_mut.ensures.value
     ∙ ap (λ g. edited (linking_edits g k.events) k.events) c.parse_state-state.ensures.given in
     ap (λ es. done (record k { events = es }) None) (sym made)
