@@ -1,4 +1,4 @@
--- What a map finds that is kept in the order of bytes.
+-- What a map finds that is kept in the order of bytes, of values of any type.
 use Rattle.std.proofs.Common.{◌≡◌, ℕ, Bool, true, false, cond, List, [], ◌∷◌, Option, Some, Ordering, Less, Equal, Greater, refl, sym, ap, ◌∙◌}
 use Rattle.std.proofs.lemmas.Bool.{false≢true}
 use Rattle.std.proofs.lemmas.Map.Text.{is_eq-slice_cmp}
@@ -18,16 +18,16 @@ module _ {K : Type 0} (items : K → List ℕ) (n : List ℕ) where
   by_items a b = slice_cmp nat_cmp (items a) (items b)
 
   -- what a search by order finds
-  pub found : (es : List (K × ℕ)) → lookup (λ k. is_eq (slice_cmp nat_cmp n (items k))) es ≡ lookup (λ k. bytes_eq n (items k)) es
+  pub found : {X : Type 0} (es : List (K × X)) → lookup (λ k. is_eq (slice_cmp nat_cmp n (items k))) es ≡ lookup (λ k. bytes_eq n (items k)) es
   found [] = refl
   found (e ∷ es) = ap (λ b. cond b (Some e.1) (lookup (λ k. is_eq (slice_cmp nat_cmp n (items k))) es)) (is_eq-slice_cmp n (items e.0)) ∙ ap (λ o. cond (is_it e.0) (Some e.1) o) (found es)
 
-  twice : (b : Bool) (x y z : Option ℕ) → cond b x z ≡ cond b x (cond b y z)
+  twice : {X : Type 0} (b : Bool) (x y z : Option X) → cond b x z ≡ cond b x (cond b y z)
   twice true x y z = refl
   twice false x y z = refl
 
   -- two keys that are not the same are not both the one that is looked for
-  swapped : (k l : K) (x y z : Option ℕ) → by_items k l ≡ Greater → cond (is_it l) y (cond (is_it k) x z) ≡ cond (is_it k) x (cond (is_it l) y z)
+  swapped : {X : Type 0} (k l : K) (x y z : Option X) → by_items k l ≡ Greater → cond (is_it l) y (cond (is_it k) x z) ≡ cond (is_it k) x (cond (is_it l) y z)
   swapped k l x y z h = by (is_it k) (is_it l) refl refl
     where
       by : (a b : Bool) → is_it k ≡ a → is_it l ≡ b → cond b y (cond a x z) ≡ cond a x (cond b y z)
@@ -39,7 +39,7 @@ module _ {K : Type 0} (items : K → List ℕ) (n : List ℕ) where
       by false b p q = refl
 
   -- one entry more
-  pub added : (k : K) (v : ℕ) (es : List (K × ℕ)) → lookup (λ l. bytes_eq n (items l)) (insert_entry (λ a b. slice_cmp nat_cmp (items a) (items b)) es k v) ≡ cond (bytes_eq n (items k)) (Some v) (lookup (λ l. bytes_eq n (items l)) es)
+  pub added : {X : Type 0} (k : K) (v : X) (es : List (K × X)) → lookup (λ l. bytes_eq n (items l)) (insert_entry (λ a b. slice_cmp nat_cmp (items a) (items b)) es k v) ≡ cond (bytes_eq n (items k)) (Some v) (lookup (λ l. bytes_eq n (items l)) es)
   added k v [] = refl
   added k v (e ∷ es) = of (added k v es) (by_items k e.0) refl
     where

@@ -9,7 +9,7 @@ use Rattle.markdown_base.specs.Virtual.{point}
 use Rattle.markdown_tokenizer.specs.Text.{IsDocument}
 use Rattle.mddocument.specs.Documents.{document}
 use Rattle.mdgfm_documents.specs.Documents.{gfm_events}
-use Rattle.mdgfm_footnotes.specs.CallEvents.{call_events, is_one_of, labels_in, with_calls}
+use Rattle.mdgfm_footnotes.specs.CallEvents.{call_events_by, with_calls}
 use Rattle.mdgfm_footnotes.proofs.Ordered.{calls-go}
 use Rattle.mdgfm_literals.proofs.Order.{Goes, pairs-go-all}
 use Rattle.mdgfm_literals.specs.LiteralEvents.{events_with as with_literals, literal_events}
@@ -20,7 +20,7 @@ use Rattle.mdgfm_documents.proofs.CallsAhead.{calls-ended, calls-inside}
 use Rattle.mdgfm_documents.proofs.Ended.{AreEnded}
 use Rattle.mdgfm_documents.proofs.LiteralsAhead.{literals-ended, literals-go, literals-inside, others-found, places-found}
 use Rattle.mdgfm_documents.proofs.DocumentAhead.{document-ended, document-inside}
-use Rattle.mdgfm_documents.proofs.Whole.{well-formed}
+use Rattle.mdgfm_documents.proofs.Whole.{own, well-formed}
 use Rattle.mddocument.specs.DocumentEvents.{document_events, is_defined_in}
 use Rattle.markdown_tokenizer.specs.Text.{Given}
 use Rattle.mdgfm_documents.proofs.CheckOrder.{tasks-go}
@@ -50,17 +50,15 @@ tasks-ahead options bytes es h = by options.constructs.gfm_task_list_item
 up-to : (tab : ℕ) (bytes : List ℕ) (es : List Event) → IsAhead tab (length bytes) es → AllByRecursion (λ (e : Event). e.point.index ≤ length bytes) es
 up-to tab bytes es h = every-map (λ (e : Event). IsInside tab (length bytes) e.point) (λ (e : Event). e.point.index ≤ length bytes) (λ e k. k.0) es h.inside
 
-calls-ahead : (options : ParseOptions) (bytes : List ℕ) (es : List Event) → IsAhead options.tab_size (length bytes) es → IsAhead options.tab_size (length bytes) (call_events options bytes es)
-calls-ahead options bytes es h = by options.constructs.gfm_label_start_footnote
+calls-ahead : (noted : (label : List ℕ) → Bool) (options : ParseOptions) (bytes : List ℕ) (es : List Event) → IsAhead options.tab_size (length bytes) es
+    → IsAhead options.tab_size (length bytes) (call_events_by noted options bytes es)
+calls-ahead noted options bytes es h = by options.constructs.gfm_label_start_footnote
   where
-    defined : (label : List ℕ) → Bool
-    defined = is_one_of (labels_in bytes es)
-
-    by : (t : Bool) → IsAhead options.tab_size (length bytes) (cond t (with_calls defined options.tab_size bytes es) es)
+    by : (t : Bool) → IsAhead options.tab_size (length bytes) (cond t (with_calls noted options.tab_size bytes es) es)
     by true = record {
-      goes = calls-go options.tab_size bytes defined es h.goes;
-      inside = calls-inside options.tab_size (length bytes) bytes defined es (up-to options.tab_size bytes es h) h.inside;
-      ended = calls-ended options.tab_size bytes defined es h.ended;
+      goes = calls-go options.tab_size bytes noted es h.goes;
+      inside = calls-inside options.tab_size (length bytes) bytes noted es (up-to options.tab_size bytes es h) h.inside;
+      ended = calls-ended options.tab_size bytes noted es h.ended;
     }
     by false = h
 
@@ -89,4 +87,5 @@ module _ (options : ParseOptions) (bytes : List ℕ) (is : IsDocument (document 
   pub gfm-ahead : IsAhead options.tab_size (length bytes) (gfm_events options bytes)
   gfm-ahead =
       let tasks = task_events options bytes (document_events g) in
-      literals-ahead options bytes (call_events options bytes tasks) (calls-ahead options bytes tasks (tasks-ahead options bytes (document_events g) document-ahead))
+      let noted = own bytes (document_events g) in
+      literals-ahead options bytes (call_events_by noted options bytes tasks) (calls-ahead noted options bytes tasks (tasks-ahead options bytes (document_events g) document-ahead))

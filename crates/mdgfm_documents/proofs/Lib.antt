@@ -10,3 +10,6 @@ pub mod GoAhead
 pub mod LiteralsAhead
 pub mod TasksAhead
 pub mod CallsAhead
+-- links: what stands in none
+pub mod InLinks
+pub mod LinksKept

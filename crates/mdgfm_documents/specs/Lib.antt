@@ -2,3 +2,4 @@
 pub mod Documents
 -- laws
 pub mod Laws
+pub mod LinkLaws

@@ -1,7 +1,7 @@
 -- Each call of a text is one at its place.
 use Rattle.std.proofs.Common.{◌≡◌, ℕ, zero, suc, ◌+◌, ◌-◌, ◌<◌, ◌≤◌, Bool, true, false, cond, List, [], ◌∷◌, drop, take, Option, Some, None, refl, sym, ap, ◌∙◌, arith}
-use Rattle.std.proofs.lemmas.List.{drop-drop}
 use Rattle.mdgfm_literals.specs.Literals.{more_passed}
+use Rattle.mdgfm_literals.proofs.LiteralLaws.{tail}
 use Rattle.mdgfm_footnotes.specs.Calls.{call_at, calls_from, label_at}
 use Rattle.mdgfm_footnotes.specs.Laws.{AreCalls, CallsAreCalls}
 use Rattle.markdown_base.specs.declared.event.Name.TheVariants.{GfmFootnoteCall}
@@ -19,18 +19,13 @@ module _ (defined : (label : List ℕ) → Bool) where
       by (Some m) q = two m (defined (take m (drop 2 text))) q
 
   module _ (start : ℕ) (text : List ℕ) where
-    tail : (at b : ℕ) (bs : List ℕ) → start ≤ at → drop (at - start) text ≡ b ∷ bs → drop (at + 1 - start) text ≡ bs
-    tail at b bs h e =
-        let one : at + 1 - start ≡ at - start + 1 = omega arith in
-        ap (λ n. drop n text) one ∙ sym (drop-drop 1 (at - start) text) ∙ ap (λ ts. drop 1 ts) e
-
     are : (skip at : ℕ) (rest : List ℕ) (end : ℕ) → start ≤ at → drop (at - start) text ≡ rest → end ≤ at + skip → AreCalls defined start text end (calls_from defined skip at rest)
     are skip at [] end h e k = tt
-    are (suc skip) at (b ∷ bs) end h e k = are skip (at + 1) bs end (omega (arith, h)) (tail at b bs h e) (omega (arith, k))
+    are (suc skip) at (b ∷ bs) end h e k = are skip (at + 1) bs end (omega (arith, h)) (tail start text at b bs h e) (omega (arith, k))
     are zero at (b ∷ bs) end h e k =
         by (call_at defined (b ∷ bs)) refl
-        (are (more_passed (b ∷ bs)) (at + 1) bs end (omega (arith, h)) (tail at b bs h e) (omega (arith, k)))
-        (λ n some. are (n - 1) (at + 1) bs (at + n) (omega (arith, h)) (tail at b bs h e) (omega (arith, some)))
+        (are (more_passed (b ∷ bs)) (at + 1) bs end (omega (arith, h)) (tail start text at b bs h e) (omega (arith, k)))
+        (λ n some. are (n - 1) (at + 1) bs (at + n) (omega (arith, h)) (tail start text at b bs h e) (omega (arith, some)))
       where
         by : (o : Option ℕ) → call_at defined (b ∷ bs) ≡ o
             → AreCalls defined start text end (calls_from defined (more_passed (b ∷ bs)) (at + 1) bs)

@@ -2,6 +2,7 @@
 use Rattle.std.proofs.Common.{◌≡◌, ℕ, ◌++◌, Bool, true, List, [], ◌∷◌, drop, ap, ◌∙◌}
 use Rattle.std.specs.List.{AllByRecursion}
 use Rattle.markdown_base.proofs.Common.{every-append, every-map}
+use Rattle.markdown_base.specs.declared.configuration.ParseOptions.{ParseOptions}
 use Rattle.markdown_base.specs.declared.event.Event.{Event}
 use Rattle.markdown_base.specs.declared.event.Name.{Name}
 use Rattle.markdown_base.specs.declared.event.Point.{Point}
@@ -12,7 +13,7 @@ use Rattle.mdgfm_events.proofs.Leaves.{leaf-passes}
 use Rattle.mdgfm_literals.specs.declared.texts.Literal.{Literal}
 use Rattle.mdgfm_literals.specs.LiteralEvents.{events_with}
 use Rattle.mdgfm_literals.proofs.Names.{either-all, with-passes}
-use Rattle.mdgfm_footnotes.specs.CallEvents.{inside_call, is_bare, is_one_of, labels_in, with_calls, with_insides}
+use Rattle.mdgfm_footnotes.specs.CallEvents.{call_events_by, inside_call, is_bare, is_one_of, labels_in, with_calls, with_insides}
 use Rattle.mdgfm_footnotes.specs.Calls.{calls_of}
 use Rattle.mdgfm_footnotes.specs.Laws.{NamesAreKept, call_names}
 use Rattle.mdgfm_footnotes.proofs.Insides.{IsKept, inside-kept}
@@ -53,8 +54,11 @@ module _ (test : Name → Bool) (seven : AllByRecursion (λ n. test n ≡ true) 
       let named = every-map IsNamed (λ (l : Literal). test l.name ≡ true) (λ l is. ap test is ∙ seven.0) calls (calls-named defined bytes es) in
       insides-pass tab bytes calls (events_with tab bytes 0 0 (point 1 1 0 0) calls es) (with-passes test seven.1.1.1.1.1.1.0 tab bytes 0 0 (point 1 1 0 0) calls es named h)
 
+pub names-by : (noted : (label : List ℕ) → Bool) (test : Name → Bool) (options : ParseOptions) (bytes : List ℕ) (events : List Event) → AllByRecursion (λ n. test n ≡ true) call_names
+    → AllByRecursion (λ e. test e.name ≡ true) events → AllByRecursion (λ e. test e.name ≡ true) (call_events_by noted options bytes events)
+names-by noted test options bytes events seven before =
+    either-all (λ (e : Event). test e.name ≡ true) options.constructs.gfm_label_start_footnote (with_calls noted options.tab_size bytes events) events
+    (calls-pass test seven noted options.tab_size bytes events before) before
+
 pub names-kept : NamesAreKept
-names-kept test options bytes events seven before =
-    let defined = is_one_of (labels_in bytes events) in
-    either-all (λ (e : Event). test e.name ≡ true) options.constructs.gfm_label_start_footnote (with_calls defined options.tab_size bytes events) events
-    (calls-pass test seven defined options.tab_size bytes events before) before
+names-kept test options bytes events = names-by (is_one_of (labels_in bytes events)) test options bytes events

@@ -5,6 +5,7 @@ use Rattle.std.specs.List.{AllByRecursion}
 use Rattle.std.specs.Prelude.{◌==◌, slice_index}
 use Rattle.markdown_base.proofs.Common.{every-append, every-map}
 use Rattle.markdown_base.proofs.Seats.{stands-self}
+use Rattle.markdown_base.specs.declared.configuration.ParseOptions.{ParseOptions}
 use Rattle.markdown_base.specs.declared.event.Event.{Event}
 use Rattle.markdown_base.specs.declared.event.Name.{Name}
 use Rattle.markdown_base.specs.declared.event.Point.{Point}
@@ -19,7 +20,7 @@ use Rattle.mdgfm_literals.specs.LiteralEvents.{events_with}
 use Rattle.mdgfm_literals.proofs.Fits.{Rise, no-cr, past-start}
 use Rattle.mdgfm_literals.proofs.Order.{Goes, at-flat, at-index, at-on, beyond, flat-index, goes-pairs, goes-rise, leaf-goes, pairs-go-all, start-comes, with-goes}
 use Rattle.mdgfm_literals.proofs.OrderLaw.{HasNone, Shows, at-shown, leaf-shows, shown-from, shown-to, start-shown-at, with-shows}
-use Rattle.mdgfm_footnotes.specs.CallEvents.{inside_call, is_bare, is_one_of, labels_in, with_calls, with_insides}
+use Rattle.mdgfm_footnotes.specs.CallEvents.{call_events_by, inside_call, is_bare, is_one_of, labels_in, with_calls, with_insides}
 use Rattle.mdgfm_footnotes.specs.Calls.{calls_of}
 use Rattle.mdgfm_footnotes.specs.Laws.{OrderIsKept, call_names}
 use Rattle.mdgfm_footnotes.proofs.Insides.{IsBare, IsKept, bare-by, caret_of, end_of, inside-kept, label_of}
@@ -181,18 +182,18 @@ module _ (tab : ℕ) (bytes : List ℕ) where
         insides-show calls (events_with tab bytes 0 0 start calls es) at
         (with-shows bytes tab 0 0 start calls es (start-shown-at bytes) (every-map (IsAt bytes) (HasNone bytes) have-none calls at) h)
 
-pub order-kept : OrderIsKept
-order-kept options bytes events order = by options.constructs.gfm_label_start_footnote
+pub order-by : (noted : (label : List ℕ) → Bool) (options : ParseOptions) (bytes : List ℕ) (events : List Event) → IsInOrder bytes events → IsInOrder bytes (call_events_by noted options bytes events)
+order-by noted options bytes events order = by options.constructs.gfm_label_start_footnote
   where
-    defined : (label : List ℕ) → Bool
-    defined = is_one_of (labels_in bytes events)
-
     all : List Event
-    all = with_calls defined options.tab_size bytes events
+    all = with_calls noted options.tab_size bytes events
 
     by : (t : Bool) → IsInOrder bytes (cond t all events)
     by true = (
-      goes-pairs (point 1 1 0 0) all (calls-go options.tab_size bytes defined events (pairs-go-all (point 1 1 0 0) events refl refl order.0)),
-      All-from_recursion (Shows bytes) all (calls-show options.tab_size bytes defined events (recursion_from_All (Shows bytes) events order.1)),
+      goes-pairs (point 1 1 0 0) all (calls-go options.tab_size bytes noted events (pairs-go-all (point 1 1 0 0) events refl refl order.0)),
+      All-from_recursion (Shows bytes) all (calls-show options.tab_size bytes noted events (recursion_from_All (Shows bytes) events order.1)),
     )
     by false = order
+
+pub order-kept : OrderIsKept
+order-kept options bytes events order = order-by (is_one_of (labels_in bytes events)) options bytes events order

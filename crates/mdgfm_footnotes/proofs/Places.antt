@@ -123,12 +123,12 @@ module _ (defined : (label : List ℕ) → Bool) (bytes : List ℕ) where
   between-all : (i j : ℕ) → Ascend i (between true i j) × AllByRecursion (Lies i j) (between true i j)
   between-all i j = lies i j i (between true i j) (omega arith) (calls-are-calls defined i (slice_range bytes i j))
 
-  between-lie : AllLie bytes between
+  pub between-lie : AllLie bytes between
   between-lie fresh i j = let both = between-all i j in (both.0, every-map (Lies i j) (LiesIn bytes i j) (λ l h. h.0) (between true i j) both.1)
 
   -- ---- calls of events
 
-  calls-found-of : (fresh : Bool) (depth skip : ℕ) (es : List Event) → found_of between fresh depth skip es ≡ calls_of defined bytes depth skip es
+  pub calls-found-of : (fresh : Bool) (depth skip : ℕ) (es : List Event) → found_of between fresh depth skip es ≡ calls_of defined bytes depth skip es
   calls-found-of fresh depth skip [] = refl
   calls-found-of fresh depth (suc skip) (e ∷ es) = calls-found-of fresh depth skip es
   calls-found-of fresh depth zero (e ∷ es) =

@@ -99,9 +99,6 @@ module _ (defined : (label : List ℕ) → Bool) where
     abbrev es : List Event
     es = drop (at + 1) events
 
-    on_events : (k : ℕ) → drop k es ≡ drop (at + 1 + k) events
-    on_events k = drop-drop k (at + 1) events
-
     abbrev stretch : ℕ → List Literal
     stretch stop = calls_from defined 0 e.point.index (slice_range bytes e.point.index stop)
 
@@ -113,10 +110,10 @@ module _ (defined : (label : List ℕ) → Bool) where
     text-next n p n-is p-is k =
         let r = reach 0 p.index (drop (at + 1 + n) events) in
         let reaches : reach (span_size 0 es) (span_end e.point 0 es).index es ≡ more n r =
-        ap (λ m. reach m (span_end e.point 0 es).index es) (sym n-is) ∙ ap (λ (q : Point). reach n q.index es) (sym p-is) ∙ reach-skip n p.index es k ∙ ap (λ ts. more n (reach 0 p.index ts)) (on_events n) in
+        ap (λ m. reach m (span_end e.point 0 es).index es) (sym n-is) ∙ ap (λ (q : Point). reach n q.index es) (sym p-is) ∙ reach-skip n p.index es k ∙ ap (λ ts. more n (reach 0 p.index ts)) (drop-drop n (at + 1) events) in
         let sum : at + 1 + (n + r.size) ≡ at + 1 + n + r.size = omega arith in
         let left : calls_of defined bytes depth (n + r.size) es ≡ calls_of defined bytes depth 0 (drop (at + 1 + n + r.size) events) =
-        calls-of-skip bytes depth (n + r.size) es ∙ ap (λ ts. calls_of defined bytes depth 0 ts) (on_events (n + r.size) ∙ ap (λ i. drop i events) sum) in
+        calls-of-skip bytes depth (n + r.size) es ∙ ap (λ ts. calls_of defined bytes depth 0 ts) (drop-drop (n + r.size) (at + 1) events ∙ ap (λ i. drop i events) sum) in
         append_assoc all (stretch r.stop) (calls_of defined bytes depth 0 (drop (at + 1 + n + r.size) events))
         ∙ ap (λ ls. all ++ (stretch r.stop ++ ls)) (sym left)
         ∙ ap (λ (q : Reach). all ++ (stretch q.stop ++ calls_of defined bytes depth q.size es)) (sym reaches)
@@ -200,14 +197,14 @@ module _ (calls : List Literal) (events : List Event) (count at : ℕ) (e : Even
         ∙ ap (λ (ts : List Event). out ++ with_insides tab bytes (drop count calls) ts) (sym here)
         ∙ so_far
 
--- ---- of labels that are defined
+-- ---- of labels that are noted
 
--- calls of labels that are those of events are calls of these
-pub of-labels : (known : (label : List ℕ) → Bool) (bytes : List ℕ) (events first second : List Event) (calls : List Literal) → ((label : List ℕ) → known label ≡ is_one_of (labels_in bytes first) label)
-    → first ≡ events → second ≡ events → calls ≡ calls_of known bytes 0 0 second → calls ≡ calls_of (is_one_of (labels_in bytes events)) bytes 0 0 events
-of-labels known bytes events first second calls same one two is =
-    let defined : known ≡ is_one_of (labels_in bytes first) = λ k. λ label. same label k in
-    is ∙ ap (calls_of known bytes 0 0) two ∙ ap (λ d. calls_of d bytes 0 0 events) defined ∙ ap (λ es. calls_of (is_one_of (labels_in bytes es)) bytes 0 0 events) one
+-- labels of events are those of their definitions
+pub noted-are : (bytes : List ℕ) (events seen : List Event) (noted : (label : List ℕ) → Bool) → seen ≡ events → ((label : List ℕ) → noted label ≡ is_one_of (labels_in bytes seen) label)
+    → noted ≡ is_one_of (labels_in bytes events)
+noted-are bytes events seen noted one same =
+    let first : noted ≡ is_one_of (labels_in bytes seen) = λ k. λ label. same label k in
+    first ∙ ap (λ es. is_one_of (labels_in bytes es)) one
 
 -- events with them, part by part
 pub of-parts : (tab : ℕ) (bytes : List ℕ) (found calls calls1 calls2 : List Literal) (events seen called called1 all : List Event) → calls ≡ found → calls1 ≡ calls → calls2 ≡ calls → seen ≡ events → called1 ≡ called

@@ -4,6 +4,7 @@ use Rattle.std.proofs.lemmas.Bool.{false≢true}
 use Rattle.std.specs.List.{AllByRecursion, list_any}
 use Rattle.std.specs.Prelude.{◌||◌, slice_range}
 use Rattle.markdown_base.proofs.Facts.Bools.{cond-same}
+use Rattle.markdown_base.specs.declared.configuration.ParseOptions.{ParseOptions}
 use Rattle.markdown_base.specs.declared.event.Event.{Event}
 use Rattle.markdown_base.specs.declared.event.Name.TheVariants.{GfmFootnoteCall, GfmFootnoteDefinitionLabelString}
 use Rattle.markdown_base.specs.declared.event.Point.{Point}
@@ -20,14 +21,18 @@ use Rattle.mdgfm_literals.proofs.EventSteps.{with-none}
 use Rattle.mdgfm_literals.proofs.Few.{with-few}
 use Rattle.mdgfm_literals.proofs.Fits.{Ascend}
 use Rattle.mdgfm_literals.proofs.Order.{goes-rise, pairs-go-all}
-use Rattle.mdgfm_footnotes.specs.CallEvents.{enters, is_one_of, labels_in, with_calls, with_insides}
+use Rattle.mdgfm_footnotes.specs.CallEvents.{call_events_by, enters, is_one_of, labels_in, with_calls, with_insides}
 use Rattle.mdgfm_footnotes.specs.Calls.{call_at, calls_from, calls_of, label_at}
 use Rattle.mdgfm_footnotes.specs.Laws.{BalanceIsKept, EventsStayFew, NoDefinitionChangesNothing, OffChangesNothing}
 use Rattle.mdgfm_footnotes.proofs.Insides.{insides-balanced, insides-few, insides-none}
 use Rattle.mdgfm_footnotes.proofs.Places.{IsAt, calls-at, calls-rise, calls-up-to}
 
+pub off-by : (noted : (label : List ℕ) → Bool) (options : ParseOptions) (bytes : List ℕ) (events : List Event) → options.constructs.gfm_label_start_footnote ≡ false
+    → call_events_by noted options bytes events ≡ events
+off-by noted options bytes events off = ap (λ b. cond b (with_calls noted options.tab_size bytes events) events) off
+
 pub off-changes-nothing : OffChangesNothing
-off-changes-nothing options bytes events off = ap (λ b. cond b (with_calls (is_one_of (labels_in bytes events)) options.tab_size bytes events) events) off
+off-changes-nothing options bytes events = off-by (is_one_of (labels_in bytes events)) options bytes events
 
 -- ---- if no label is defined
 
@@ -61,9 +66,6 @@ module _ (defined : (label : List ℕ) → Bool) (none : (label : List ℕ) → 
       by {xs} true here h k l = ap (λ (ls : List Literal). ls ++ xs) h ∙ k
       by false here h k l = l
 
-pub no-calls : (labels : List (List ℕ)) (bytes : List ℕ) (events : List Event) → labels ≡ [] → calls_of (is_one_of labels) bytes 0 0 events ≡ []
-no-calls labels bytes events none = none-of (is_one_of labels) (λ label. ap (λ ls. is_one_of ls label) none) bytes 0 0 events
-
 -- without a call events are as they were
 pub called-none : (defined : (label : List ℕ) → Bool) (tab : ℕ) (bytes : List ℕ) (events : List Event) → calls_of defined bytes 0 0 events ≡ [] → with_calls defined tab bytes events ≡ events
 called-none defined tab bytes events none =
@@ -71,10 +73,14 @@ called-none defined tab bytes events none =
     ∙ ap (with_insides tab bytes []) (with-none tab bytes 0 0 events)
     ∙ insides-none tab bytes events
 
-pub none-changes-nothing : NoDefinitionChangesNothing
-none-changes-nothing options bytes events none =
+pub nothing-noted : (noted : (label : List ℕ) → Bool) (options : ParseOptions) (bytes : List ℕ) (events : List Event) → ((label : List ℕ) → noted label ≡ false)
+    → call_events_by noted options bytes events ≡ events
+nothing-noted noted options bytes events none =
     let on = options.constructs.gfm_label_start_footnote in
-    ap (λ es. cond on es events) (called-none (is_one_of (labels_in bytes events)) options.tab_size bytes events (no-calls (labels_in bytes events) bytes events none)) ∙ cond-same on events
+    ap (λ es. cond on es events) (called-none noted options.tab_size bytes events (none-of noted none bytes 0 0 events)) ∙ cond-same on events
+
+pub none-changes-nothing : NoDefinitionChangesNothing
+none-changes-nothing options bytes events none = nothing-noted (is_one_of (labels_in bytes events)) options bytes events (λ label. ap (λ ls. is_one_of ls label) none)
 
 -- no event enters the label of a definition, and then there is none; and the other way round
 abbrev defines : Event → Bool
@@ -100,15 +106,18 @@ defined-none bytes (e ∷ es) h = by (defines e) h (defined-none bytes es)
 
 -- ---- balance
 
-pub balance-kept : BalanceIsKept
-balance-kept options bytes events b = by options.constructs.gfm_label_start_footnote
+pub balance-by : (noted : (label : List ℕ) → Bool) (options : ParseOptions) (bytes : List ℕ) (events : List Event) → IsBalanced events → IsBalanced (call_events_by noted options bytes events)
+balance-by noted options bytes events b = by options.constructs.gfm_label_start_footnote
   where
     calls : List Literal
-    calls = calls_of (is_one_of (labels_in bytes events)) bytes 0 0 events
+    calls = calls_of noted bytes 0 0 events
 
-    by : (t : Bool) → IsBalanced (cond t (with_calls (is_one_of (labels_in bytes events)) options.tab_size bytes events) events)
+    by : (t : Bool) → IsBalanced (cond t (with_calls noted options.tab_size bytes events) events)
     by true = insides-balanced options.tab_size bytes calls (events_with options.tab_size bytes 0 0 (point 1 1 0 0) calls events) (with-balanced options.tab_size bytes (point 1 1 0 0) calls events b)
     by false = b
+
+pub balance-kept : BalanceIsKept
+balance-kept options bytes events b = balance-by (is_one_of (labels_in bytes events)) options bytes events b
 
 -- ---- calls are few
 

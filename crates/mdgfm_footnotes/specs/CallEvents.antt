@@ -60,7 +60,10 @@ abbrev pub with_calls : (defined : (label : List ℕ) → Bool) → (tab : ℕ) 
 with_calls defined tab bytes events =
     let calls = calls_of defined bytes 0 0 events in with_insides tab bytes calls (events_with tab bytes 0 0 (point 1 1 0 0) calls events)
 
--- The events with calls, if they are on: of the labels of their own footnote definitions
+-- The events with calls, if they are on, of the labels that are noted: of footnotes that are defined
+abbrev pub call_events_by : (noted : (label : List ℕ) → Bool) → ParseOptions → List ℕ → List Event → List Event
+call_events_by noted options bytes events = cond options.constructs.gfm_label_start_footnote (with_calls noted options.tab_size bytes events) events
+
+-- of the labels of their own footnote definitions
 abbrev pub call_events : ParseOptions → List ℕ → List Event → List Event
-call_events options bytes events =
-    cond options.constructs.gfm_label_start_footnote (with_calls (is_one_of (labels_in bytes events)) options.tab_size bytes events) events
+call_events options bytes events = call_events_by (is_one_of (labels_in bytes events)) options bytes events

@@ -1,15 +1,17 @@
 -- Laws of calls of footnotes: what they are, and what they leave as it was.
-use Rattle.std.specs.Prelude.{◌≡◌, ◌≤◌, ◌<◌, ⊤, ℕ, zero, suc, ◌+◌, ◌-◌, ◌*◌, true, false, List, [], ◌∷◌, Bool, cond, drop, length, Some, None}
+use Rattle.std.specs.Prelude.{◌≡◌, ◌≤◌, ◌<◌, ⊤, ℕ, zero, suc, ◌+◌, ◌-◌, ◌*◌, true, false, List, [], ◌∷◌, ◌++◌, Bool, cond, drop, length, map, Option, Some, None}
 use Rattle.std.specs.List.{AllByRecursion}
 use Rattle.markdown_base.specs.declared.configuration.ParseOptions.{ParseOptions}
 use Rattle.markdown_base.specs.declared.event.Event.{Event}
+use Rattle.markdown_base.specs.declared.event.Link.{Link}
 use Rattle.markdown_base.specs.declared.event.Name.{Name}
 use Rattle.markdown_base.specs.declared.event.Name.TheVariants.{Data, GfmFootnoteCall, GfmFootnoteCallLabel, GfmFootnoteCallMarker, Label, LabelEnd, LabelMarker}
-use Rattle.markdown_base.specs.Events.{IsBalanced, IsInOrder}
+use Rattle.markdown_base.specs.Events.{IsBalanced, IsInOrder, same_name}
 use Rattle.mdblock_leaf_blocks.specs.LineWords.{starts_with}
 use Rattle.mdgfm_literals.specs.declared.texts.Literal.{Literal}
+use Rattle.mdgfm_literals.specs.Laws.{begins_block, further_event}
 use Rattle.mdgfm_literals.specs.Literals.{more_passed}
-use Rattle.mdgfm_footnotes.specs.CallEvents.{call_events, labels_in}
+use Rattle.mdgfm_footnotes.specs.CallEvents.{call_events, call_events_by, labels_in}
 use Rattle.mdgfm_footnotes.specs.Calls.{call_at, calls_from, label_size}
 
 -- Without the option nothing changes
@@ -44,6 +46,33 @@ abbrev pub NamesAreKept : Type 0
 NamesAreKept = (test : Name → Bool) (options : ParseOptions) (bytes : List ℕ) (events : List Event)
     → AllByRecursion (λ n. test n ≡ true) call_names → AllByRecursion (λ e. test e.name ≡ true) events
     → AllByRecursion (λ e. test e.name ≡ true) (call_events options bytes events)
+
+-- no event enters a call yet, or exits one
+abbrev pub HaveNoCalls : List Event → Type 0
+HaveNoCalls events = AllByRecursion (λ e. same_name e.name GfmFootnoteCall ≡ false) events
+
+-- Behind other bytes calls are the same, further on
+abbrev pub CallsMove : Type 0
+CallsMove =
+    (noted : (label : List ℕ) → Bool) (options : ParseOptions) (lines : ℕ) (before bytes : List ℕ) (links : Option Link → Option Link) (events : List Event) → links None ≡ None
+    → let further = map (further_event links lines (length before)) in
+    call_events_by noted options (before ++ bytes) (further events) ≡ further (call_events_by noted options bytes events)
+
+-- Bytes behind those of the events do nothing
+abbrev pub BytesBehindDoNothing : Type 0
+BytesBehindDoNothing =
+    (noted : (label : List ℕ) → Bool) (options : ParseOptions) (bytes behind : List ℕ) (events : List Event) → AllByRecursion (λ e. e.point.index ≤ length bytes) events
+    → call_events_by noted options (bytes ++ behind) events ≡ call_events_by noted options bytes events
+
+-- So calls of a document are those of its parts, if the same footnotes are noted for both: of balanced events without calls, and of events behind them that begin
+-- with no text
+abbrev pub CallsOfParts : Type 0
+CallsOfParts =
+    (noted : (label : List ℕ) → Bool) (options : ParseOptions) (lines : ℕ) (before bytes : List ℕ) (links : Option Link → Option Link) (xs ys : List Event)
+    → let further = map (further_event links lines (length before)) in
+    let called = call_events_by noted options in
+    links None ≡ None → IsBalanced xs → HaveNoCalls xs → AllByRecursion (λ e. e.point.index ≤ length before) xs → begins_block ys ≡ true
+    → IsInOrder (before ++ bytes) (xs ++ further ys) → called (before ++ bytes) (xs ++ further ys) ≡ called before xs ++ further (called bytes ys)
 
 -- Each call of a text is one at its place, and begins where the one before it ended or behind that. So its label is defined
 abbrev pub AreCalls : (defined : (label : List ℕ) → Bool) → (start : ℕ) → (text : List ℕ) → (end : ℕ) → List Literal → Type 0

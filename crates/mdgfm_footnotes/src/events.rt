@@ -1,10 +1,10 @@
 //! The events of a document with calls of footnotes in place of the data that they cover.
 
-ghost use Rattle.std.specs.Prelude.{ℕ, ◌≡◌, ◌+◌, ◌++◌, ◌<◌, ◌≤◌, IfOk, IsOk, IsTrue, List, OnOk, [], false, length};
+ghost use Rattle.std.specs.Prelude.{ℕ, ◌≡◌, ◌+◌, ◌++◌, ◌<◌, ◌≤◌, IfOk, IsOk, IsTrue, List, OnOk, [], false, length, true};
 ghost use Rattle.std.specs.List.{AllByRecursion, list_any};
 ghost use Rattle.markdown_base.specs.declared.event.Name.TheVariants.{GfmFootnoteDefinitionLabelString};
 ghost use Rattle.mdinline_labels.specs.Defined.{defines};
-ghost use Rattle.mdgfm_footnotes.specs.CallEvents.{call_events, enters, inside_call, is_bare, is_one_of, labels_in, with_calls, with_insides};
+ghost use Rattle.mdgfm_footnotes.specs.CallEvents.{call_events, call_events_by, enters, inside_call, is_bare, is_one_of, labels_in, with_calls, with_insides};
 ghost use Rattle.mdgfm_footnotes.specs.Calls.{calls_of};
 
 use crate::calls::push_calls;
@@ -40,7 +40,7 @@ fn has_definition(events: &[Event]) -> bool
 }
 
 /// The labels of the footnote definitions among events. It fails only if it runs out of memory.
-fn labels_of(alloc: Global, bytes: &[u8], events: &[Event]) -> Result<Labels, AllocError>
+pub fn labels_of(alloc: Global, bytes: &[u8], events: &[Event]) -> Result<Labels, AllocError>
     ensures { IfOk result (λ labels. (label : List ℕ) → defines labels label ≡ is_one_of (labels_in bytes.now events.now) label) }
 {
     let mut labels = Labels::new(alloc);
@@ -164,18 +164,18 @@ fn with_insides(
     Ok(out)
 }
 
-/// The events with calls, by the labels of their own footnote definitions. It fails only if it runs out of memory.
-fn with_defined(
+/// The events with calls, by the labels that are noted. It fails only if it runs out of memory.
+fn with_noted(
     alloc: Global,
     bytes: &[u8],
     tab: usize,
+    labels: &Labels,
     events: Vec<Event>,
 ) -> Result<Vec<Event>, AllocError>
     requires { 0 < tab }
-    ensures { IfOk result (λ all. all.items ≡ with_calls (is_one_of (labels_in bytes.now events.items)) tab bytes.now events.items) }
+    ensures { IfOk result (λ all. all.items ≡ with_calls (defines labels.now) tab bytes.now events.items) }
 {
-    let labels = labels_of(alloc, bytes, events.as_slice())?;
-    let calls = calls_of(alloc, bytes, &labels, events.as_slice())?;
+    let calls = calls_of(alloc, bytes, labels, events.as_slice())?;
     if calls.is_empty() {
         return Ok(events);
     }
@@ -183,7 +183,52 @@ fn with_defined(
     with_insides(alloc, bytes, tab, calls.as_slice(), called.as_slice())
 }
 
-/// The events of a document with calls of footnotes in place of the data that they cover, if the option is on. It fails only if it runs out of memory.
+/// The events of a document with calls of footnotes in place of the data that they cover, of the footnotes that are noted, if the option is on. It fails
+/// only if it runs out of memory.
+///
+/// Without the option, or if nothing is noted, or there is no call, they are returned as they are, and not copied.
+pub fn with_calls_by(
+    alloc: Global,
+    bytes: &[u8],
+    options: &ParseOptions,
+    noted: &Labels,
+    events: Vec<Event>,
+) -> Result<Vec<Event>, AllocError>
+    ensures events { IfOk result (λ all. all.items ≡ call_events_by (defines noted.now) options.now bytes.now events.items) }
+    ensures off { options.now.constructs.gfm_label_start_footnote ≡ false → IsOk result }
+{
+    if !options.constructs.gfm_label_start_footnote {
+        return Ok(events);
+    }
+    if noted.is_empty() {
+        return Ok(events);
+    }
+    with_noted(alloc, bytes, options.tab_size.get(), noted, events)
+}
+
+/// The labels of the footnote definitions among events, if calls are on. It fails only if it runs out of memory.
+///
+/// Without the option, or without a footnote definition, there are none, and it takes no memory.
+pub fn noted_in(
+    alloc: Global,
+    bytes: &[u8],
+    options: &ParseOptions,
+    events: &[Event],
+) -> Result<Labels, AllocError>
+    ensures labels { options.now.constructs.gfm_label_start_footnote ≡ true → IfOk result (λ noted. (label : List ℕ) → defines noted label ≡ is_one_of (labels_in bytes.now events.now) label) }
+    ensures off { options.now.constructs.gfm_label_start_footnote ≡ false → IsOk result }
+    ensures none { labels_in bytes.now events.now ≡ [] → IsOk result }
+{
+    if !options.constructs.gfm_label_start_footnote {
+        return Ok(Labels::new(alloc));
+    }
+    if !has_definition(events) {
+        return Ok(Labels::new(alloc));
+    }
+    labels_of(alloc, bytes, events)
+}
+
+/// The events of a document with calls of the labels of its own footnote definitions, if the option is on. It fails only if it runs out of memory.
 ///
 /// Without the option, without a footnote definition, or if there is no call, they are returned as they are, and not copied.
 pub fn with_calls(
@@ -202,5 +247,6 @@ pub fn with_calls(
     if !has_definition(events.as_slice()) {
         return Ok(events);
     }
-    with_defined(alloc, bytes, options.tab_size.get(), events)
+    let noted = labels_of(alloc, bytes, events.as_slice())?;
+    with_calls_by(alloc, bytes, options, &noted, events)
 }

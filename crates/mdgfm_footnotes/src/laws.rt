@@ -2,7 +2,7 @@
 
 ghost use Rattle.std.specs.Prelude.{◌≡◌};
 ghost use Rattle.mdgfm_footnotes.specs.Examples.{calls_of_texts, calls_told, lines_told, lines_with};
-ghost use Rattle.mdgfm_footnotes.specs.Laws.{BalanceIsKept, CallsAreCalls, EventsStayFew, LabelsAreReadOnce, NamesAreKept, NoDefinitionChangesNothing, OffChangesNothing, OrderIsKept};
+ghost use Rattle.mdgfm_footnotes.specs.Laws.{BalanceIsKept, BytesBehindDoNothing, CallsAreCalls, CallsMove, CallsOfParts, EventsStayFew, LabelsAreReadOnce, NamesAreKept, NoDefinitionChangesNothing, OffChangesNothing, OrderIsKept};
 
 /// The calls of some texts, on each side of each rule, and events with calls.
 pub fn calls_of_some_texts()
@@ -44,4 +44,11 @@ pub fn calls_are_calls()
 /// Each byte of a text is read once for a label.
 pub fn labels_are_read_once()
     ensures { LabelsAreReadOnce }
+{}
+
+/// Calls of a part of a document are those of the document there.
+pub fn calls_of_parts()
+    ensures moved { CallsMove }
+    ensures behind { BytesBehindDoNothing }
+    ensures parts { CallsOfParts }
 {}

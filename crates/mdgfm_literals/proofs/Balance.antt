@@ -103,7 +103,7 @@ module _ (tab : ℕ) (bytes : List ℕ) where
       IsBalanced-append (leaf Data from (start_of tab bytes from l)) (leaf l.name (start_of tab bytes from l) (end_of tab bytes from l))
       (leaf-balanced Data from (start_of tab bytes from l)) (leaf-balanced l.name (start_of tab bytes from l) (end_of tab bytes from l))
 
-  written-balanced : (first : Point) (stop : ℕ) (place : Point) (ls : List Literal) → IsBalanced (written tab bytes first stop place ls).events
+  pub written-balanced : (first : Point) (stop : ℕ) (place : Point) (ls : List Literal) → IsBalanced (written tab bytes first stop place ls).events
   written-balanced first stop place [] = empty
   written-balanced first stop place (l ∷ ls) =
       by (nat_lt l.from stop) (written tab bytes first stop (end_of tab bytes (later place first) l) ls) (written-balanced first stop (end_of tab bytes (later place first) l) ls)
@@ -113,7 +113,7 @@ module _ (tab : ℕ) (bytes : List ℕ) where
       by true more p = IsBalanced-append (with_one tab bytes (later place first) l) more.events (one-balanced (later place first) l) p
       by false more p = empty
 
-  left-balanced : (place first last : Point) (xs : List Event) → IsBalanced xs → IsBalanced (left_over place first last xs)
+  pub left-balanced : (place first last : Point) (xs : List Event) → IsBalanced xs → IsBalanced (left_over place first last xs)
   left-balanced place first last xs b = by (nat_le place.index first.index)
     where
       by : (t : Bool) → IsBalanced (cond t xs (leaf Data place last))
@@ -133,14 +133,14 @@ module _ (tab : ℕ) (bytes : List ℕ) where
   text_by depth place ls e q n rest =
       let v = written tab bytes e.point q.index place ls in v.events ++ (left_over v.place e.point q (e ∷ take n rest) ++ events_with tab bytes n depth v.place v.left rest)
 
-  with-text : (depth : ℕ) (place : Point) (ls : List Literal) (e : Event) (es : List Event) → is_text depth e ≡ true
+  pub with-text : (depth : ℕ) (place : Point) (ls : List Literal) (e : Event) (es : List Event) → is_text depth e ≡ true
       → events_with tab bytes 0 depth place ls (e ∷ es) ≡ text_by depth place ls e (span_end e.point 0 es) (span_size 0 es) es
   with-text depth place ls e es h = ap (λ t. cond t (text_by depth place ls e (span_end e.point 0 es) (span_size 0 es) es) (e ∷ events_with tab bytes 0 (depth_behind depth e) place ls es)) h
 
   -- a span that is no text
   module _ (depth : ℕ) (place : Point) (ls : List Literal) (e f : Event) (us vs : List Event) {xs : List Event} (is : xs ≡ e ∷ (us ++ f ∷ vs)) (enters : e.kind ≡ Enter)
       (exits : f.kind ≡ Exit) (same : f.name ≡ e.name) where
-    over-other : is_text depth e ≡ false → (inner : PassesOver (depth_behind depth e) place ls us) → PassesOver depth inner.last inner.left vs → PassesOver depth place ls xs
+    unfoldable pub over-other : is_text depth e ≡ false → (inner : PassesOver (depth_behind depth e) place ls us) → PassesOver depth inner.last inner.left vs → PassesOver depth place ls xs
     over-other h inner outer =
         let d = depth_behind depth e in
         record {
@@ -165,7 +165,7 @@ module _ (tab : ℕ) (bytes : List ℕ) where
     abbrev w : Written
     w = written tab bytes e.point f.point.index place ls
 
-    over-text : is_text depth e ≡ true → IsBalanced us → PassesOver depth w.place w.left vs → PassesOver depth place ls xs
+    unfoldable pub over-text : is_text depth e ≡ true → IsBalanced us → PassesOver depth w.place w.left vs → PassesOver depth place ls xs
     over-text h bu outer =
         let here = left_over w.place e.point f.point (e ∷ (us ++ f ∷ [])) in
         record {

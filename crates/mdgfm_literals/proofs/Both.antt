@@ -8,7 +8,7 @@ use Rattle.std.specs.Prelude.{◌==◌, ◌&&◌, nat_lt, not}
 use Rattle.markdown_base.specs.declared.event.Event.{Event}
 use Rattle.markdown_base.specs.declared.event.Name.TheVariants.{Data}
 use Rattle.markdown_base.specs.declared.event.Point.{Point}
-use Rattle.markdown_base.specs.Events.{is_enter}
+use Rattle.markdown_base.specs.Events.{IsBalanced, is_enter}
 use Rattle.markdown_base.specs.Virtual.{point}
 use Rattle.markdown_base.proofs.Common.{and-right, every-map}
 use Rattle.markdown_base.proofs.Facts.Bools.{and-left}
@@ -19,16 +19,15 @@ use Rattle.mdgfm_literals.specs.LiteralEvents.{Written, end_of, events_with, lef
 use Rattle.mdgfm_events.specs.Places.{later, leaf}
 use Rattle.mdgfm_events.specs.Spans.{span_end, span_size}
 use Rattle.mdgfm_literals.specs.Stretches.{depth_behind, is_fresh, is_plain, is_text, literals_between, literals_of, one_more, reach}
-use Rattle.mdgfm_literals.proofs.Balance.{literals-other}
-use Rattle.mdgfm_literals.proofs.Below.{AreUpTo, end-below, literals-below}
+use Rattle.mdgfm_literals.proofs.Below.{AreUpTo, IsUpTo, end-below, found-up-to}
 use Rattle.mdgfm_literals.proofs.EventSteps.{reach-end}
-use Rattle.mdgfm_literals.proofs.Fits.{Ascend, Fits, Past, Rise, all-fit, ascend-from, from-zero, literals-rise, past-start, text-flat}
+use Rattle.mdgfm_literals.proofs.Fits.{AllLie, Ascend, Fits, Past, Rise, ascend-from, between-lies, found-fit, found-rise, found_of, from-zero, literals-found-of, past-start, text-flat}
 use Rattle.mdgfm_literals.proofs.Order.{Goes, fits-left, fits-low, forward-index, goes-rise, last-place, later-other, pairs-go-all, text-well, written-well}
 use Rattle.mdgfm_literals.proofs.Whole.{Ends, Whole, whole-balanced}
 
 -- ---- spans that end are the same before others
 
-size-both : (n : ℕ) (xs zs : List Event) → Ends n xs → span_size n (xs ++ zs) ≡ span_size n xs
+pub size-both : (n : ℕ) (xs zs : List Event) → Ends n xs → span_size n (xs ++ zs) ≡ span_size n xs
 size-both n [] zs h = absurd h
 size-both n (e ∷ xs) zs h = by (is_enter e.kind) (n == 0) refl refl (λ k. size-both (n + 1) xs zs k) (λ k. size-both (n - 1) xs zs k)
   where
@@ -39,7 +38,7 @@ size-both n (e ∷ xs) zs h = by (is_enter e.kind) (n == 0) refl refl (λ k. siz
     by false true k-is z-is inner outer = refl
     by false false k-is z-is inner outer = ap (λ m. m + 1) (outer (h.1 k-is z-is))
 
-end-both : (p : Point) (n : ℕ) (xs zs : List Event) → Ends n xs → span_end p n (xs ++ zs) ≡ span_end p n xs
+pub end-both : (p : Point) (n : ℕ) (xs zs : List Event) → Ends n xs → span_end p n (xs ++ zs) ≡ span_end p n xs
 end-both p n [] zs h = absurd h
 end-both p n (e ∷ xs) zs h = by (is_enter e.kind) (n == 0) refl refl (λ k. end-both p (n + 1) xs zs k) (λ k. end-both p (n - 1) xs zs k)
   where
@@ -62,16 +61,20 @@ ends-fit n (e ∷ xs) h = by (is_enter e.kind) (n == 0) refl refl (λ k. ends-fi
 
 -- ---- what others are that begin with no text
 
--- they are not what a stretch goes on with, and their literals are as at the beginning
-record Opens (bytes : List ℕ) (zs : List Event) : Type 0 where
-  stops : (stop : ℕ) → reach 0 stop zs ≡ record { size = 0; stop = stop }
-  fresh : (b : Bool) → literals_of bytes b 0 0 zs ≡ literals_of bytes true 0 0 zs
+-- they are not what a stretch goes on with, and what is found in them is as at the beginning
+pub record Opens (zs : List Event) : Type 0 where
+  pub stops : (stop : ℕ) → reach 0 stop zs ≡ record { size = 0; stop = stop }
+  pub fresh : (between : Bool → ℕ → ℕ → List Literal) (b : Bool) → found_of between b 0 0 zs ≡ found_of between true 0 0 zs
 
-opens : (bytes : List ℕ) (zs : List Event) → begins_block zs ≡ true → Opens bytes zs
-opens bytes [] h = record { stops = λ stop. refl; fresh = λ b. refl }
-opens bytes (e ∷ zs) h = record {
+found-other : (between : Bool → ℕ → ℕ → List Literal) (fresh : Bool) (e : Event) (es : List Event) → is_text 0 e ≡ false
+    → found_of between fresh 0 0 (e ∷ es) ≡ found_of between (is_fresh e) (depth_behind 0 e) 0 es
+found-other between fresh e es h = rw h refl
+
+pub opens : (zs : List Event) → begins_block zs ≡ true → Opens zs
+opens [] h = record { stops = λ stop. refl; fresh = λ between b. refl }
+opens (e ∷ zs) h = record {
   stops = λ stop. reach-end stop e zs (ap (λ t. t && (e.point.index == stop)) isnt);
-  fresh = λ b. literals-other 4 bytes b 0 e zs isnt ∙ sym (literals-other 4 bytes true 0 e zs isnt);
+  fresh = λ between b. found-other between b e zs isnt ∙ sym (found-other between true e zs isnt);
 }
   where
     isnt : is_text 0 e ≡ false
@@ -114,14 +117,14 @@ whole-reach zero stop (e ∷ es) w = by (is_text 0 e && (e.point.index == stop))
     by true goes more = whole-one s.size e es (more (w.0 (and-left (is_text 0 e) (e.point.index == stop) goes)).1)
     by false ends more = w
 
-literals-both : (bytes : List ℕ) (fresh : Bool) (depth skip : ℕ) (xs zs : List Event) → Whole depth skip xs → Opens bytes zs
-    → literals_of bytes fresh depth skip (xs ++ zs) ≡ literals_of bytes fresh depth skip xs ++ literals_of bytes true 0 0 zs
-literals-both bytes fresh depth zero [] zs w o = ap (λ d. literals_of bytes fresh d 0 zs) w.0 ∙ o.fresh fresh
-literals-both bytes fresh depth (suc skip) [] zs w o = absurd (let isnt = w.1 in omega (arith, isnt))
-literals-both bytes fresh depth (suc skip) (e ∷ xs) zs w o = literals-both bytes fresh depth skip xs zs w o
-literals-both bytes fresh depth zero (e ∷ xs) zs w o =
-    by (is_text depth e) refl (λ h. literals-both bytes false depth (reach (span_size 0 xs) (span_end e.point 0 xs).index xs).size xs zs h o)
-    (λ h. literals-both bytes (is_fresh e) (depth_behind depth e) 0 xs zs h o)
+pub found-both : (between : Bool → ℕ → ℕ → List Literal) (fresh : Bool) (depth skip : ℕ) (xs zs : List Event) → Whole depth skip xs → Opens zs
+    → found_of between fresh depth skip (xs ++ zs) ≡ found_of between fresh depth skip xs ++ found_of between true 0 0 zs
+found-both between fresh depth zero [] zs w o = ap (λ d. found_of between fresh d 0 zs) w.0 ∙ o.fresh between fresh
+found-both between fresh depth (suc skip) [] zs w o = absurd (let isnt = w.1 in omega (arith, isnt))
+found-both between fresh depth (suc skip) (e ∷ xs) zs w o = found-both between fresh depth skip xs zs w o
+found-both between fresh depth zero (e ∷ xs) zs w o =
+    by (is_text depth e) refl (λ h. found-both between false depth (reach (span_size 0 xs) (span_end e.point 0 xs).index xs).size xs zs h o)
+    (λ h. found-both between (is_fresh e) (depth_behind depth e) 0 xs zs h o)
   where
     all : List Event
     all = xs ++ zs
@@ -130,15 +133,15 @@ literals-both bytes fresh depth zero (e ∷ xs) zs w o =
     s = reach (span_size 0 xs) (span_end e.point 0 xs).index xs
 
     more : List Literal
-    more = literals_of bytes true 0 0 zs
+    more = found_of between true 0 0 zs
 
     with_stretch : List Event → Reach → List Literal
-    with_stretch es r = literals_between bytes fresh e.point.index r.stop ++ literals_of bytes false depth r.size es
+    with_stretch es r = between fresh e.point.index r.stop ++ found_of between false depth r.size es
 
-    by : (t : Bool) → is_text depth e ≡ t → (Whole depth s.size xs → literals_of bytes false depth s.size all ≡ literals_of bytes false depth s.size xs ++ more)
-        → (Whole (depth_behind depth e) 0 xs → literals_of bytes (is_fresh e) (depth_behind depth e) 0 all ≡ literals_of bytes (is_fresh e) (depth_behind depth e) 0 xs ++ more)
-        → cond t (with_stretch all (reach (span_size 0 all) (span_end e.point 0 all).index all)) (literals_of bytes (is_fresh e) (depth_behind depth e) 0 all)
-        ≡ cond t (with_stretch xs s) (literals_of bytes (is_fresh e) (depth_behind depth e) 0 xs) ++ more
+    by : (t : Bool) → is_text depth e ≡ t → (Whole depth s.size xs → found_of between false depth s.size all ≡ found_of between false depth s.size xs ++ more)
+        → (Whole (depth_behind depth e) 0 xs → found_of between (is_fresh e) (depth_behind depth e) 0 all ≡ found_of between (is_fresh e) (depth_behind depth e) 0 xs ++ more)
+        → cond t (with_stretch all (reach (span_size 0 all) (span_end e.point 0 all).index all)) (found_of between (is_fresh e) (depth_behind depth e) 0 all)
+        ≡ cond t (with_stretch xs s) (found_of between (is_fresh e) (depth_behind depth e) 0 xs) ++ more
     by true text rest other =
         let h = w.0 text in
         let flat = text-flat depth e text in
@@ -149,8 +152,8 @@ literals-both bytes fresh depth zero (e ∷ xs) zs w o =
         ∙ reach-both (span_size 0 xs) (span_end e.point 0 xs).index xs zs whole o.stops in
         let behind = subst (λ d. Whole d s.size xs) (sym flat) (whole-reach (span_size 0 xs) (span_end e.point 0 xs).index xs whole) in
         ap (with_stretch all) reaches
-        ∙ ap (λ ls. literals_between bytes fresh e.point.index s.stop ++ ls) (rest behind)
-        ∙ sym (append_assoc (literals_between bytes fresh e.point.index s.stop) (literals_of bytes false depth s.size xs) more)
+        ∙ ap (λ ls. between fresh e.point.index s.stop ++ ls) (rest behind)
+        ∙ sym (append_assoc (between fresh e.point.index s.stop) (found_of between false depth s.size xs) more)
     by false isnt rest other = other (w.1 isnt)
 
 -- ---- events
@@ -288,7 +291,7 @@ module _ (tab : ℕ) (bytes : List ℕ) where
 
 -- ---- all
 
-goes-first : (p : Point) (xs ys : List Event) → Goes p (xs ++ ys) → Goes p xs
+pub goes-first : (p : Point) (xs ys : List Event) → Goes p (xs ++ ys) → Goes p xs
 goes-first p [] ys g = tt
 goes-first p (x ∷ xs) ys g = (g.0, goes-first x.point xs ys g.1)
 
@@ -308,42 +311,52 @@ rise-all : (i : ℕ) (es : List Event) → Rise i es → AllByRecursion (λ e. i
 rise-all i [] r = tt
 rise-all i (e ∷ es) r = (r.0, every-map (λ (f : Event). e.point.index ≤ f.point.index) (λ (f : Event). i ≤ f.point.index) (λ f h. omega (arith, h, r.0)) es (rise-all e.point.index es r.1))
 
+-- what is found in balanced events, and in others behind them that begin with no text, is found in each of them, and is in place of the data that it covers
+module _ (tab : ℕ) (bytes : List ℕ) (between : Bool → ℕ → ℕ → List Literal) (lie : AllLie bytes between) (xs ys : List Event) (balanced : IsBalanced xs) (goes : Goes (point 1 1 0 0) (xs ++ ys))
+    (begins : begins_block ys ≡ true) where
+  abbrev start : Point
+  start = point 1 1 0 0
+
+  abbrev found : List Event → List Literal
+  found es = found_of between true 0 0 es
+
+  abbrev most : ℕ
+  most = (last-place start xs).index
+
+  whole : Whole 0 0 xs
+  whole = whole-balanced xs balanced
+
+  pub found-of-both : found (xs ++ ys) ≡ found xs ++ found ys
+  found-of-both = found-both between true 0 0 xs ys whole (opens ys begins)
+
+  pub with-found-both : events_with tab bytes 0 0 start (found xs ++ found ys) (xs ++ ys) ≡ events_with tab bytes 0 0 start (found xs) xs ++ events_with tab bytes 0 0 start (found ys) ys
+  with-found-both =
+      let before : Goes start xs = goes-first start xs ys goes in
+      let rise : Rise 0 xs = goes-rise start xs before in
+      let behind : Rise most ys = goes-rise (last-place start xs) ys (goes-second start xs ys goes) in
+      let below = every-map (IsUpTo most) (λ (l : Literal). l.to ≤ most) (λ l h. h.1) (found xs) (found-up-to most bytes between lie true 0 0 xs (up-to-last start xs before)) in
+      with-both tab bytes most 0 0 start (found xs) (found ys) xs ys whole refl (found-rise bytes between lie true 0 0 0 xs rise) (found-fit bytes between lie true 0 0 0 xs rise) (past-start 0 0 xs) (from-zero most)
+      below (up-to-last start xs before) (ascend-from most (found ys) (found-rise bytes between lie true 0 0 most ys behind)) (rise-all most ys behind)
+
 pub of-both : LiteralsOfBoth
 of-both options bytes xs ys balanced order begins = by options.constructs.gfm_autolink_literal
   where
     start : Point
     start = point 1 1 0 0
 
-    tab : ℕ
-    tab = options.tab_size
+    between : Bool → ℕ → ℕ → List Literal
+    between = literals_between bytes
 
-    goes : Goes start (xs ++ ys)
-    goes = pairs-go-all start (xs ++ ys) refl refl order.0
+    with : List Literal → List Event → List Event
+    with ls es = events_with options.tab_size bytes 0 0 start ls es
 
-    most : ℕ
-    most = (last-place start xs).index
+    same : (es : List Event) → found_of between true 0 0 es ≡ literals_of bytes true 0 0 es
+    same es = literals-found-of bytes true 0 0 es
 
-    before : Goes start xs
-    before = goes-first start xs ys goes
-
-    rise : Rise 0 xs
-    rise = goes-rise start xs before
-
-    behind : Rise most ys
-    behind = goes-rise (last-place start xs) ys (goes-second start xs ys goes)
-
-    whole : Whole 0 0 xs
-    whole = whole-balanced xs balanced
-
-    ls : List Literal
-    ls = literals_of bytes true 0 0 xs
-
-    more : List Literal
-    more = literals_of bytes true 0 0 ys
-
-    by : (t : Bool) → cond t (events_with tab bytes 0 0 start (literals_of bytes true 0 0 (xs ++ ys)) (xs ++ ys)) (xs ++ ys) ≡ cond t (events_with tab bytes 0 0 start ls xs) xs ++ cond t (events_with tab bytes 0 0 start more ys) ys
+    by : (t : Bool) → cond t (with (literals_of bytes true 0 0 (xs ++ ys)) (xs ++ ys)) (xs ++ ys) ≡ cond t (with (literals_of bytes true 0 0 xs) xs) xs ++ cond t (with (literals_of bytes true 0 0 ys) ys) ys
     by true =
-        ap (λ ts. events_with tab bytes 0 0 start ts (xs ++ ys)) (literals-both bytes true 0 0 xs ys whole (opens bytes ys begins))
-        ∙ with-both tab bytes most 0 0 start ls more xs ys whole refl (literals-rise bytes true 0 0 0 xs rise) (all-fit bytes true 0 0 0 xs rise) (past-start 0 0 xs) (from-zero most)
-        (literals-below most bytes true 0 0 xs (up-to-last start xs before)) (up-to-last start xs before) (ascend-from most more (literals-rise bytes true 0 0 most ys behind)) (rise-all most ys behind)
+        let goes = pairs-go-all start (xs ++ ys) refl refl order.0 in
+        ap (λ ls. with ls (xs ++ ys)) (sym (same (xs ++ ys)) ∙ found-of-both options.tab_size bytes between (between-lies bytes) xs ys balanced goes begins)
+        ∙ with-found-both options.tab_size bytes between (between-lies bytes) xs ys balanced goes begins
+        ∙ (λ i. with (same xs i) xs ++ with (same ys i) ys)
     by false = refl

@@ -21,6 +21,7 @@ use Rattle.mdgfm_literals.specs.Literals.{literals_from, more_passed}
 use Rattle.mdgfm_events.specs.Places.{column_behind, event, later, leaf, place_at}
 use Rattle.mdgfm_events.specs.Spans.{span_end, span_size}
 use Rattle.mdgfm_literals.specs.Stretches.{before_stretch, depth_behind, is_fresh, is_text, literals_between, literals_of, one_more, reach}
+use Rattle.mdgfm_literals.proofs.Fits.{found_of, literals-found-of}
 use Rattle.mdgfm_literals.proofs.Below.{AreUpTo, IsUpTo, end-below, reach-below}
 
 same-test : (s t : Bool) → (s ≡ true → t ≡ false → ⊥) → (s ≡ false → t ≡ true → ⊥) → s ≡ t
@@ -29,7 +30,7 @@ same-test true false h k = absurd (h refl refl)
 same-test false true h k = absurd (k refl refl)
 same-test false false h k = refl
 
-le-on : (n i j : ℕ) → nat_le (i + n) (j + n) ≡ nat_le i j
+pub le-on : (n i j : ℕ) → nat_le (i + n) (j + n) ≡ nat_le i j
 le-on n i j =
     same-test (nat_le (i + n) (j + n)) (nat_le i j) (λ h k. let a = leb-true (i + n) (j + n) h in let b = leb-false i j k in omega (arith, a, b))
     (λ h k. let a = leb-false (i + n) (j + n) h in let b = leb-true i j k in omega (arith, a, b))
@@ -88,13 +89,13 @@ module _ (links : Option Link → Option Link) (no_link : links None ≡ None) (
 
   -- ---- spans and stretches
 
-  size-on : (o : ℕ) (es : List Event) → span_size o (map F es) ≡ span_size o es
+  pub size-on : (o : ℕ) (es : List Event) → span_size o (map F es) ≡ span_size o es
   size-on o [] = refl
   size-on o (e ∷ es) =
       ap (λ k. cond (is_enter e.kind) (k + 1) (cond (o == 0) 1 (span_size (o - 1) (map F es) + 1))) (size-on (o + 1) es)
       ∙ ap (λ k. cond (is_enter e.kind) (span_size (o + 1) es + 1) (cond (o == 0) 1 (k + 1))) (size-on (o - 1) es)
 
-  end-on : (p : Point) (o : ℕ) (es : List Event) → span_end (P p) o (map F es) ≡ P (span_end p o es)
+  pub end-on : (p : Point) (o : ℕ) (es : List Event) → span_end (P p) o (map F es) ≡ P (span_end p o es)
   end-on p o [] = refl
   end-on p o (e ∷ es) =
       ap (λ q. cond (is_enter e.kind) q (cond (o == 0) (P e.point) (span_end (P p) (o - 1) (map F es)))) (end-on p (o + 1) es)
@@ -137,7 +138,7 @@ module _ (links : Option Link → Option Link) (no_link : links None ≡ None) (
       by true = refl
       by false = refl
 
-  leaf-on : (m : Name) (p q : Point) → leaf m (P p) (P q) ≡ map F (leaf m p q)
+  pub leaf-on : (m : Name) (p q : Point) → leaf m (P p) (P q) ≡ map F (leaf m p q)
   leaf-on m p q = ap (λ t. cond t (event Enter m (P p) ∷ event Exit m (P q) ∷ []) []) (lt-on n p.index q.index) ∙ by (nat_lt p.index q.index)
     where
       linked : Option Link → List Event
@@ -145,6 +146,19 @@ module _ (links : Option Link → Option Link) (no_link : links None ≡ None) (
 
       by : (t : Bool) → cond t (event Enter m (P p) ∷ event Exit m (P q) ∷ []) [] ≡ map F (cond t (event Enter m p ∷ event Exit m q ∷ []) [])
       by true = ap linked (sym no_link)
+      by false = refl
+
+  pub place-on : (tab : ℕ) (small big : List ℕ) (p : Point) (i : ℕ) → slice_range big (p.index + n) (i + n) ≡ slice_range small p.index i → place_at tab big (P p) (i + n) ≡ P (place_at tab small p i)
+  place-on tab small big p i same =
+      ap (λ t. cond t (P p) (on (slice_range big (p.index + n) (i + n)))) (le-on n i p.index)
+      ∙ ap (λ ts. cond (nat_le i p.index) (P p) (on ts)) same
+      ∙ by (nat_le i p.index)
+    where
+      on : List ℕ → Point
+      on ts = record { line = p.line + lines; column = column_behind tab p.column ts; index = i + n; vs = 0 }
+
+      by : (t : Bool) → cond t (P p) (on (slice_range small p.index i)) ≡ P (cond t p (record { line = p.line; column = column_behind tab p.column (slice_range small p.index i); index = i; vs = 0 }))
+      by true = refl
       by false = refl
 
   left-on : (place first last : Point) (span : List Event) → left_over (P place) (P first) (P last) (map F span) ≡ map F (left_over place first last span)
@@ -157,21 +171,14 @@ module _ (links : Option Link → Option Link) (no_link : links None ≡ None) (
       by true = refl
       by false = refl
 
-  -- ---- over bytes that are the same there, up to an index
+  -- ---- what is found, if it is the same between two indices
 
-  module _ (tab : ℕ) (small big : List ℕ) (most : ℕ) (same_slice : (i j : ℕ) → j ≤ most → slice_range big (i + n) (j + n) ≡ slice_range small i j)
-      (same_before : (fresh : Bool) (i at : ℕ) (text : List ℕ) → i ≤ most → literals_from 0 (before_stretch big fresh (i + n)) at text ≡ literals_from 0 (before_stretch small fresh i) at text) where
-    between-on : (fresh : Bool) (i j : ℕ) → i ≤ most → j ≤ most → literals_between big fresh (i + n) (j + n) ≡ map L (literals_between small fresh i j)
-    between-on fresh i j h k =
-        same_before fresh i (i + n) (slice_range big (i + n) (j + n)) h
-        ∙ ap (literals_from 0 (before_stretch small fresh i) (i + n)) (same_slice i j k)
-        ∙ from-on n 0 (before_stretch small fresh i) i (slice_range small i j)
-
-    pub of-on : (fresh : Bool) (depth skip : ℕ) (es : List Event) → AreUpTo most es → literals_of big fresh depth skip (map F es) ≡ map L (literals_of small fresh depth skip es)
-    of-on fresh depth skip [] all = refl
-    of-on fresh depth (suc skip) (e ∷ es) all = of-on fresh depth skip es all.1
-    of-on fresh depth zero (e ∷ es) all =
-        by (is_text depth e) (of-on false depth (reach (span_size 0 es) (span_end e.point 0 es).index es).size es all.1) (of-on (is_fresh e) (depth_behind depth e) 0 es all.1)
+  module _ (small big : Bool → ℕ → ℕ → List Literal) (most : ℕ) (same_between : (fresh : Bool) (i j : ℕ) → i ≤ most → j ≤ most → big fresh (i + n) (j + n) ≡ map L (small fresh i j)) where
+    pub found-on : (fresh : Bool) (depth skip : ℕ) (es : List Event) → AreUpTo most es → found_of big fresh depth skip (map F es) ≡ map L (found_of small fresh depth skip es)
+    found-on fresh depth skip [] all = refl
+    found-on fresh depth (suc skip) (e ∷ es) all = found-on fresh depth skip es all.1
+    found-on fresh depth zero (e ∷ es) all =
+        by (is_text depth e) (found-on false depth (reach (span_size 0 es) (span_end e.point 0 es).index es).size es all.1) (found-on (is_fresh e) (depth_behind depth e) 0 es all.1)
       where
         s : Reach
         s = reach (span_size 0 es) (span_end e.point 0 es).index es
@@ -180,40 +187,43 @@ module _ (links : Option Link → Option Link) (no_link : links None ≡ None) (
         high = reach-below most (span_size 0 es) (span_end e.point 0 es).index es (end-below most e.point 0 es all.0 all.1) all.1
 
         with_stretch : Reach → List Literal
-        with_stretch r = literals_between big fresh (e.point.index + n) r.stop ++ literals_of big false depth r.size (map F es)
+        with_stretch r = big fresh (e.point.index + n) r.stop ++ found_of big false depth r.size (map F es)
 
         here : List Literal
-        here = literals_between small fresh e.point.index s.stop
+        here = small fresh e.point.index s.stop
 
-        by : (t : Bool) → literals_of big false depth s.size (map F es) ≡ map L (literals_of small false depth s.size es)
-            → literals_of big (is_fresh e) (depth_behind depth e) 0 (map F es) ≡ map L (literals_of small (is_fresh e) (depth_behind depth e) 0 es)
-            → cond t (with_stretch (reach (span_size 0 (map F es)) (span_end (P e.point) 0 (map F es)).index (map F es))) (literals_of big (is_fresh e) (depth_behind depth e) 0 (map F es))
-            ≡ map L (cond t (here ++ literals_of small false depth s.size es) (literals_of small (is_fresh e) (depth_behind depth e) 0 es))
+        by : (t : Bool) → found_of big false depth s.size (map F es) ≡ map L (found_of small false depth s.size es)
+            → found_of big (is_fresh e) (depth_behind depth e) 0 (map F es) ≡ map L (found_of small (is_fresh e) (depth_behind depth e) 0 es)
+            → cond t (with_stretch (reach (span_size 0 (map F es)) (span_end (P e.point) 0 (map F es)).index (map F es))) (found_of big (is_fresh e) (depth_behind depth e) 0 (map F es))
+            ≡ map L (cond t (here ++ found_of small false depth s.size es) (found_of small (is_fresh e) (depth_behind depth e) 0 es))
         by true rest other =
             ap with_stretch (reaches e es)
-            ∙ ap (λ ls. ls ++ literals_of big false depth s.size (map F es)) (between-on fresh e.point.index s.stop all.0 high)
+            ∙ ap (λ ls. ls ++ found_of big false depth s.size (map F es)) (same_between fresh e.point.index s.stop all.0 high)
             ∙ ap (λ ls. map L here ++ ls) rest
-            ∙ sym (map-append L here (literals_of small false depth s.size es))
+            ∙ sym (map-append L here (found_of small false depth s.size es))
         by false rest other = other
 
-    place-on : (p : Point) (i : ℕ) → i ≤ most → place_at tab big (P p) (i + n) ≡ P (place_at tab small p i)
-    place-on p i h =
-        ap (λ t. cond t (P p) (on (slice_range big (p.index + n) (i + n)))) (le-on n i p.index)
-        ∙ ap (λ ts. cond (nat_le i p.index) (P p) (on ts)) (same_slice p.index i h)
-        ∙ by (nat_le i p.index)
-      where
-        on : List ℕ → Point
-        on ts = record { line = p.line + lines; column = column_behind tab p.column ts; index = i + n; vs = 0 }
+  -- ---- over bytes that are the same there, up to an index
 
-        by : (t : Bool) → cond t (P p) (on (slice_range small p.index i)) ≡ P (cond t p (record { line = p.line; column = column_behind tab p.column (slice_range small p.index i); index = i; vs = 0 }))
-        by true = refl
-        by false = refl
+  module _ (tab : ℕ) (small big : List ℕ) (most : ℕ) (same_slice : (i j : ℕ) → j ≤ most → slice_range big (i + n) (j + n) ≡ slice_range small i j) where
+    module _ (same_before : (fresh : Bool) (i at : ℕ) (text : List ℕ) → i ≤ most → literals_from 0 (before_stretch big fresh (i + n)) at text ≡ literals_from 0 (before_stretch small fresh i) at text) where
+      between-on : (fresh : Bool) (i j : ℕ) → i ≤ most → j ≤ most → literals_between big fresh (i + n) (j + n) ≡ map L (literals_between small fresh i j)
+      between-on fresh i j h k =
+          same_before fresh i (i + n) (slice_range big (i + n) (j + n)) h
+          ∙ ap (literals_from 0 (before_stretch small fresh i) (i + n)) (same_slice i j k)
+          ∙ from-on n 0 (before_stretch small fresh i) i (slice_range small i j)
+
+      pub of-on : (fresh : Bool) (depth skip : ℕ) (es : List Event) → AreUpTo most es → literals_of big fresh depth skip (map F es) ≡ map L (literals_of small fresh depth skip es)
+      of-on fresh depth skip es all =
+          sym (literals-found-of big fresh depth skip (map F es))
+          ∙ found-on (literals_between small) (literals_between big) most between-on fresh depth skip es all
+          ∙ ap (map L) (literals-found-of small fresh depth skip es)
 
     start-on : (p : Point) (l : Literal) → IsUpTo most l → start_of tab big (P p) (L l) ≡ P (start_of tab small p l)
-    start-on p l h = place-on p l.from h.0
+    start-on p l h = place-on tab small big p l.from (same_slice p.index l.from h.0)
 
     end-of-on : (p : Point) (l : Literal) → IsUpTo most l → end_of tab big (P p) (L l) ≡ P (end_of tab small p l)
-    end-of-on p l h = ap (λ s. place_at tab big s (l.to + n)) (start-on p l h) ∙ place-on (start_of tab small p l) l.to h.1
+    end-of-on p l h = ap (λ s. place_at tab big s (l.to + n)) (start-on p l h) ∙ place-on tab small big (start_of tab small p l) l.to (same_slice (start_of tab small p l).index l.to h.1)
 
     one-far : (p : Point) (l : Literal) → IsUpTo most l → with_one tab big (P p) (L l) ≡ map F (with_one tab small p l)
     one-far p l h =

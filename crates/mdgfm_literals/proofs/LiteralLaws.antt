@@ -70,7 +70,7 @@ pub literal-bytes : (before : Option ℕ) (text : List ℕ) (f : Found) → lite
 literal-bytes before text = literal-has (λ f. 1 ≤ f.size) before text ((λ n h. h), ((λ n h. h), ((λ n h. h), ((λ n h. h), ((λ n h. h), tt)))))
 
 module _ (start : ℕ) (text : List ℕ) where
-  tail : (at b : ℕ) (bs : List ℕ) → start ≤ at → drop (at - start) text ≡ b ∷ bs → drop (at + 1 - start) text ≡ bs
+  pub tail : (at b : ℕ) (bs : List ℕ) → start ≤ at → drop (at - start) text ≡ b ∷ bs → drop (at + 1 - start) text ≡ bs
   tail at b bs h e =
       let one : at + 1 - start ≡ at - start + 1 = omega arith in
       ap (λ n. drop n text) one ∙ sym (drop-drop 1 (at - start) text) ∙ ap (λ ts. drop 1 ts) e

@@ -16,7 +16,7 @@ use Rattle.mdgfm_literals.specs.Laws.{BytesBehindDoNothing, LiteralsMove, Litera
 use Rattle.mdgfm_literals.specs.LiteralEvents.{events_with, literal_events}
 use Rattle.mdgfm_literals.specs.Literals.{literals_from, more_passed}
 use Rattle.mdgfm_literals.specs.Stretches.{before_stretch, byte_before, literals_of}
-use Rattle.mdgfm_literals.proofs.Below.{AreUpTo, literals-up-to}
+use Rattle.mdgfm_literals.proofs.Below.{AreUpTo, IsUpTo, literals-up-to}
 use Rattle.mdgfm_literals.proofs.Both.{of-both, with-place}
 use Rattle.mdgfm_literals.proofs.Further.{of-on, with-on}
 
@@ -74,11 +74,11 @@ slice-front bytes behind i j h = by (nat_le i (length bytes)) refl
 
 -- ---- indices of events
 
-abbrev highest : List Event → ℕ
+abbrev pub highest : List Event → ℕ
 highest [] = 0
 highest (e ∷ es) = max e.point.index (highest es)
 
-up-to-highest : (es : List Event) → AreUpTo (highest es) es
+pub up-to-highest : (es : List Event) → AreUpTo (highest es) es
 up-to-highest [] = tt
 up-to-highest (e ∷ es) =
     (omega arith, every-map (λ (f : Event). f.point.index ≤ highest es) (λ (f : Event). f.point.index ≤ max e.point.index (highest es)) (λ f h. omega (arith, h)) es (up-to-highest es))
@@ -86,8 +86,7 @@ up-to-highest (e ∷ es) =
 -- ---- events further on
 
 module _ (links : Option Link → Option Link) (no_link : links None ≡ None) (lines n tab : ℕ) (small big : List ℕ) (most : ℕ)
-    (same_slice : (i j : ℕ) → j ≤ most → slice_range big (i + n) (j + n) ≡ slice_range small i j)
-    (same_before : (fresh : Bool) (i at : ℕ) (text : List ℕ) → i ≤ most → literals_from 0 (before_stretch big fresh (i + n)) at text ≡ literals_from 0 (before_stretch small fresh i) at text) where
+    (same_slice : (i j : ℕ) → j ≤ most → slice_range big (i + n) (j + n) ≡ slice_range small i j) where
   abbrev moved : List Event → List Event
   moved = map (further_event links lines n)
 
@@ -98,14 +97,19 @@ module _ (links : Option Link → Option Link) (no_link : links None ≡ None) (
   all-from i [] h = tt
   all-from i (e ∷ es) h = (omega (arith, h), all-from i es h)
 
-  further-on : (es : List Event) → AreUpTo most es
-      → events_with tab big 0 0 start (literals_of big true 0 0 (moved es)) (moved es) ≡ moved (events_with tab small 0 0 start (literals_of small true 0 0 es) es)
-  further-on es up =
-      let ls = literals_of small true 0 0 es in
+  -- with literals that stand further on too
+  pub placed-on : (ls : List Literal) (es : List Event) → AllByRecursion (IsUpTo most) ls
+      → events_with tab big 0 0 start (map (further_literal n) ls) (moved es) ≡ moved (events_with tab small 0 0 start ls es)
+  placed-on ls es up =
       let from-start : 0 + n ≤ n = omega arith in
+      with-place tab big 0 0 start (further_point lines n start) (map (further_literal n) ls) (moved es) (all-from 0 es (omega arith)) (all-from (further_point lines n start).index es from-start)
+      ∙ with-on links no_link lines n tab small big most same_slice 0 0 start ls es up
+
+  further-on : ((fresh : Bool) (i at : ℕ) (text : List ℕ) → i ≤ most → literals_from 0 (before_stretch big fresh (i + n)) at text ≡ literals_from 0 (before_stretch small fresh i) at text)
+      → (es : List Event) → AreUpTo most es → events_with tab big 0 0 start (literals_of big true 0 0 (moved es)) (moved es) ≡ moved (events_with tab small 0 0 start (literals_of small true 0 0 es) es)
+  further-on same_before es up =
       ap (λ ts. events_with tab big 0 0 start ts (moved es)) (of-on links no_link lines n tab small big most same_slice same_before true 0 0 es up)
-      ∙ with-place tab big 0 0 start (further_point lines n start) (map (further_literal n) ls) (moved es) (all-from 0 es (omega arith)) (all-from (further_point lines n start).index es from-start)
-      ∙ with-on links no_link lines n tab small big most same_slice same_before 0 0 start ls es (literals-up-to most small true 0 0 es up)
+      ∙ placed-on (literals_of small true 0 0 es) es (literals-up-to most small true 0 0 es up)
 
 -- ---- behind other lines
 
@@ -185,7 +189,7 @@ behind-nothing options bytes behind events up = by options.constructs.gfm_autoli
 
 -- ---- both
 
-begins-further : (links : Option Link → Option Link) (lines n : ℕ) (es : List Event) → begins_block es ≡ true → begins_block (map (further_event links lines n) es) ≡ true
+pub begins-further : (links : Option Link → Option Link) (lines n : ℕ) (es : List Event) → begins_block es ≡ true → begins_block (map (further_event links lines n) es) ≡ true
 begins-further links lines n [] h = refl
 begins-further links lines n (e ∷ es) h = h
 

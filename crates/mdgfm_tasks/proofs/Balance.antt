@@ -25,7 +25,7 @@ use Rattle.mdgfm_tasks.proofs.Steps.{with-found}
 
 module _ (tab : ℕ) (bytes : List ℕ) where
   -- white space, a check and the data behind it, by their places
-  check-balanced : (p : Point) (f : Found) → IsBalanced (check_events tab bytes p f)
+  pub check-balanced : (p : Point) (f : Found) → IsBalanced (check_events tab bytes p f)
   check-balanced p f =
       let start = further tab bytes p f.check.columns in
       let value = further tab bytes start 1 in

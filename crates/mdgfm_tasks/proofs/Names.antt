@@ -28,7 +28,7 @@ module _ (test : Name → Bool) (six : AllByRecursion (λ n. test n ≡ true) ch
   value-passes true = six.1.1.0
   value-passes false = six.1.1.1.0
 
-  check-passes : (p : Point) (f : Found) → AllByRecursion Passes (check_events tab bytes p f)
+  pub check-passes : (p : Point) (f : Found) → AllByRecursion Passes (check_events tab bytes p f)
   check-passes p f =
       let start = further tab bytes p f.check.columns in
       let value = further tab bytes start 1 in
