@@ -1,0 +1,5 @@
+-- laws
+pub mod LinkLaws
+pub mod Parts
+-- notes
+pub mod Notes
