@@ -285,6 +285,7 @@ pub use Rattle.mddocument_editing.proofs.Anew
 pub use Rattle.mddocument_editing.proofs.AnyOf
 pub use Rattle.mddocument_editing.proofs.Apart
 pub use Rattle.mddocument_editing.proofs.AskedAgain
+pub use Rattle.mddocument_editing.proofs.AskedCalls
 pub use Rattle.mddocument_editing.proofs.AskedInBrackets
 pub use Rattle.mddocument_editing.proofs.AskedNothing
 pub use Rattle.mddocument_editing.proofs.AskingCode

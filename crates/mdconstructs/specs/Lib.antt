@@ -247,6 +247,7 @@ pub use Rattle.mddocument_editing.specs.Fits
 pub use Rattle.mddocument_editing.specs.Fronts
 pub use Rattle.mddocument_editing.specs.InBrackets
 pub use Rattle.mddocument_editing.specs.Kept
+pub use Rattle.mddocument_editing.specs.Known
 pub use Rattle.mddocument_editing.specs.Leading
 pub use Rattle.mddocument_editing.specs.Listed
 pub use Rattle.mddocument_editing.specs.Lookups

@@ -1,6 +1,6 @@
 -- Labels that change.
-use Rattle.mddocument_editing.proofs.Prelude.{◌≡◌, ℕ, false, List, arith, defines, Labels, changes}
+use Rattle.mddocument_editing.proofs.Prelude.{◌≡◌, Bool, false, arith, changes}
 
 -- a label that does not change
-pub same-unless-changed : (old new : Labels) (label : List ℕ) → changes old new label ≡ false → defines new label ≡ defines old label
+pub same-unless-changed : {A : Type 0} (old new : A → Bool) (label : A) → changes old new label ≡ false → new label ≡ old label
 same-unless-changed old new label h = grind arith

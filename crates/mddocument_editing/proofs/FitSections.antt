@@ -1,5 +1,5 @@
 -- If the events of a document can be packed, so can those of each of its sections; and an edited document within the limit is a possible one.
-use Rattle.mddocument_editing.proofs.Prelude.{◌≡◌, ℕ, ◌+◌, ◌-◌, ◌^◌, ◌&&◌, Bool, true, nat_lt, ◌<◌, List, [], ◌∷◌, ◌++◌, length, take, drop, map, refl, subst, sym, ap, ◌∙◌, arith, Option, Some, None, and_from, and_parts, lt-ltb, ltb-true, list_all-append, All-append, All-drop, All-take, AllByRecursion, All, IsWithinLimit, ParseOptions, Event, Link, Point, IsDocument, document_events, document, line_endings, moved_event, moved_index, moved_link, moved_point, events_of_sections, Divided, IsDivided, bytes_of, is_label_of, section_events, edited, IsPackable, end_fits, event_fits, events_fit, link_fits, point_fits, Edit}
+use Rattle.mddocument_editing.proofs.Prelude.{◌≡◌, ℕ, ◌+◌, ◌-◌, ◌^◌, ◌&&◌, Bool, true, nat_lt, ◌<◌, List, [], ◌∷◌, ◌++◌, length, take, drop, map, refl, subst, sym, ap, ◌∙◌, arith, Option, Some, None, and_from, and_parts, lt-ltb, ltb-true, list_all-append, All-append, All-drop, All-take, AllByRecursion, All, IsWithinLimit, ParseOptions, Event, Link, Point, IsDocument, document, line_endings, moved_event, moved_index, moved_link, moved_point, events_of_sections, Divided, IsDivided, bytes_of, is_key_of, section_events, edited, IsPackable, end_fits, event_fits, events_fit, link_fits, point_fits, Edit, Key, gfm_events}
 use Rattle.mddocument_editing.proofs.Below.{sections-give}
 
 -- a number fits if a greater one does
@@ -51,11 +51,11 @@ each-fits read (s ∷ more) fits =
     (parts.0, each-fits read more (events-fit (line_endings s) (length s) (length first) rest parts.1))
 
 -- if the events of a document fit, so do those of each of its sections, by the labels of the document
-pub sections-fit : (d : Divided) (defined : List ℕ → Bool) → IsDocument (document d.options (bytes_of d)) → IsDivided d → ((label : List ℕ) → defined label ≡ is_label_of d label)
-    → events_fit (document_events (document d.options (bytes_of d))) ≡ true → AllByRecursion (IsPackable d.options defined) d.sections
+pub sections-fit : (d : Divided) (defined : Key → Bool) → IsDocument (document d.options (bytes_of d)) → IsDivided d → ((key : Key) → defined key ≡ is_key_of d key)
+    → events_fit (gfm_events d.options (bytes_of d)) ≡ true → AllByRecursion (IsPackable d.options defined) d.sections
 sections-fit d defined possible is knows fits =
     let all = sections-give d.options d.sections possible is.sections.cut in
-    let same : defined ≡ is_label_of d = λ i label. knows label i in
+    let same : defined ≡ is_key_of d = λ i key. knows key i in
     subst (λ g. AllByRecursion (IsPackable d.options g) d.sections) (sym same) (each-fits (section_events d) d.sections (ap events_fit all ∙ fits))
 
 -- a document within the limit stays a possible one when it is edited

@@ -1,5 +1,5 @@
 -- What is in front of a section of what is kept, by sums: where it starts, and which line.
-use Rattle.mddocument_editing.proofs.Prelude.{◌≡◌, ℕ, ◌+◌, ◌-◌, ◌<◌, ◌≤◌, ◌^◌, true, false, List, [], ◌∷◌, length, take, refl, sym, ap, ◌∙◌, arith, get_or, length-append, sum_by, sum_by-cons, every-take, is_rest, document_of, Section, Kept, IsKept, IsRead, bytes_of_sections, defines, line_at, start_of}
+use Rattle.mddocument_editing.proofs.Prelude.{◌≡◌, ℕ, ◌+◌, ◌-◌, ◌<◌, ◌≤◌, ◌^◌, true, false, List, [], ◌∷◌, length, take, refl, sym, ap, ◌∙◌, arith, get_or, length-append, sum_by, sum_by-cons, every-take, is_rest, document_of, Section, Kept, IsKept, IsRead, bytes_of_sections, line_at, start_of, knows}
 use Rattle.mddocument_editing.specs.declared.list.Sums.{Sums}
 use Rattle.mddocument_editing.specs.declared.lookup.Found.{Found}
 use Rattle.mddocument_editing.specs.Finds.{IsByteIn, IsLineIn}
@@ -27,9 +27,9 @@ module _ (k : Kept) (kept : IsKept k) (short : length (document_of (bytes_of_sec
   pub line-sum : (i : ℕ) → sum_by (λ s. s.lines) (take i k.sections.items) ≡ line_at (bytes_of_sections k.sections.items) i
   line-sum i =
       let xs = k.sections.items in
-      let knows = defines k.machine.labels in
+      let defined = knows k.known in
       let all = bytes_of_sections xs in
-      lines-read k.options knows (take i xs) (every-take (IsRead k.options knows) i xs kept.read)
+      lines-read k.options defined (take i xs) (every-take (IsRead k.options defined) i xs kept.read)
       ∙ ap lines_in (sym (first-bytes i xs))
       ∙ lines-all k.options (take i all) (sections-take (is_rest k.options) i all kept.divided.sections.cut)
       ∙ sym (endings-are-counted (document_of (take i all)))

@@ -33,6 +33,7 @@ pub mod SaidSides
 pub mod Stays
 -- putting in
 pub mod AskedAgain
+pub mod AskedCalls
 pub mod AskedInBrackets
 pub mod AskedNothing
 pub mod AskingCode

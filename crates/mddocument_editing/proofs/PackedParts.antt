@@ -1,12 +1,12 @@
 -- If the events of each section of a document that is edited can be packed, so can those of its parts, by any labels that are the document's.
-use Rattle.mddocument_editing.proofs.Prelude.{◌≡◌, ℕ, Bool, List, [], ◌∷◌, ◌++◌, take, drop, subst, sym, drop-map, take-map, AllByRecursion, every-back, every-front, is_label_of, ArePackable, IsPackable, bytes_of_sections, recut_document, recut_sections, Kept, Section}
+use Rattle.mddocument_editing.proofs.Prelude.{◌≡◌, ℕ, Bool, List, [], ◌∷◌, ◌++◌, take, drop, subst, sym, drop-map, take-map, AllByRecursion, every-back, every-front, is_key_of, ArePackable, IsPackable, bytes_of_sections, recut_document, recut_sections, Kept, Section, Key}
 
 -- what holds of the bytes of each section holds of each
 each-bytes : (P : List ℕ → Type 0) (sections : List Section) → AllByRecursion P (bytes_of_sections sections) → AllByRecursion (λ section. P section.part.bytes.items) sections
 each-bytes P [] all = tt
 each-bytes P (s ∷ more) all = (all.0, each-bytes P more all.1)
 
-module _ (k : Kept) (from end : ℕ) (parts : List (List ℕ)) (defined : List ℕ → Bool) (knows : (label : List ℕ) → defined label ≡ is_label_of (recut_document k from end parts) label)
+module _ (k : Kept) (from end : ℕ) (parts : List (List ℕ)) (defined : Key → Bool) (knows : (key : Key) → defined key ≡ is_key_of (recut_document k from end parts) key)
     (fits : ArePackable (recut_document k from end parts)) where
   abbrev P : List ℕ → Type 0
   P bytes = IsPackable k.options defined bytes
@@ -19,7 +19,7 @@ module _ (k : Kept) (from end : ℕ) (parts : List (List ℕ)) (defined : List �
 
   all : AllByRecursion P (front ++ (parts ++ behind))
   all =
-      let same : defined ≡ is_label_of (recut_document k from end parts) = λ i label. knows label i in
+      let same : defined ≡ is_key_of (recut_document k from end parts) = λ i key. knows key i in
       subst (λ g. AllByRecursion (IsPackable k.options g) (recut_sections k from end parts)) (sym same) fits
 
   -- the new parts

@@ -54,24 +54,27 @@ pub use Rattle.mdblock_containers.specs.declared.rows.Row.{Row}
 pub use Rattle.mdblock_definitions.specs.Labelled.{is_one_of}
 pub use Rattle.mdblock_definitions.specs.Rows.{Known, is_behind_text, is_used_up, known_after, row_of}
 pub use Rattle.mddocument.proofs.Innermost.Lined.{LinedFor, lined-cut}
-pub use Rattle.mddocument.specs.DocumentEvents.{document_events}
-pub use Rattle.mddocument.specs.Documents.{AreDocumentEvents, document}
+pub use Rattle.mddocument.specs.Documents.{document}
 pub use Rattle.mddocument.proofs.ReferenceBytes.{IsWritten, dark-shown, is_dark, written-virtual}
 pub use Rattle.mddocument_parts.proofs.ChildrenOfBoth.{no-further}
 pub use Rattle.mddocument_parts.proofs.LineFronts.{line-ahead, line-behind}
 pub use Rattle.mddocument_parts.specs.Asked.{asked_from, asked_labels, if_label, label_ahead, label_behind, labels_at, looked_up, own_label}
-pub use Rattle.mddocument_parts.specs.BothDocuments.{DocumentLabelsDecide, DocumentSectionsGiveEvents, asked_in, blocks_of, events_by, is_rest}
+pub use Rattle.mddocument_parts.specs.BothDocuments.{DocumentLabelsDecide, asked_in, blocks_of, events_by, is_rest}
 pub use Rattle.mddocument_parts.specs.DocumentRests.{DocumentFirstLineTells, begins_anew, begins_at_document_rest, first_at_document_rest, is_closed, joins_list, known_at_start, known_behind}
 pub use Rattle.mddocument_parts.specs.Moved.{begins_line, line_endings, moved_event, moved_index, moved_line, moved_lines, moved_link, moved_point}
 pub use Rattle.mddocument_parts.specs.Rests.{begins_near}
 pub use Rattle.mddocument_parts.specs.Sections.{are_sections_by, document_of, events_of_sections}
+pub use Rattle.mdgfm_documents.specs.Documents.{gfm_events}
+pub use Rattle.mdgfm_sections.specs.Notes.{notes_written}
+pub use Rattle.mdgfm_sections.specs.Parts.{gfm_events_by}
 pub use Rattle.mddocument_editing.specs.Asking.{AskedLabelsAreInBrackets, BracketsDecide, BytesWithoutEndAskNothing}
-pub use Rattle.mddocument_editing.specs.Divided.{Divided, DividedIsUnique, EventsOfAllSectionsAreTheDocuments, IsDivided, bytes_of, events_between, events_of, is_label_of, section_events}
+pub use Rattle.mddocument_editing.specs.Divided.{Divided, DividedIsUnique, EventsOfAllSectionsAreTheDocuments, IsDivided, bytes_of, events_between, events_of, is_label_of, is_note_of, section_events}
 pub use Rattle.mddocument_editing.specs.Edits.{IsChange, IsWhy, KeepsEvents, KeepsTargets, NothingIsNamed, ascend_from, edited, numbers_of, section_of}
 pub use Rattle.mddocument_editing.specs.FirstRest.{AreSectionsOf, HasNoRestBefore, IsFirstRest, IsWhole, items_of}
 pub use Rattle.mddocument_editing.specs.Fronts.{IsFrontOf, IsSmall, moved_by}
-pub use Rattle.mddocument_editing.specs.InBrackets.{changes, is_in_brackets, is_untold, label_ends, may_ask, may_stand}
-pub use Rattle.mddocument_editing.specs.Kept.{ArePackable, IsKept, IsLabelled, IsPackable, IsRead, IsRecut, bytes_of_parts, bytes_of_sections, divided_of, has_end, labels_written, recut_document, recut_sections}
+pub use Rattle.mddocument_editing.specs.InBrackets.{AreAllNear, asks_for, changes, is_in_brackets, is_untold, label_ends, may_ask, may_stand}
+pub use Rattle.mddocument_editing.specs.Kept.{ArePackable, IsKept, IsLabelled, IsPackable, IsRead, IsRecut, bytes_of_parts, bytes_of_sections, divided_of, has_end, recut_document, recut_sections}
+pub use Rattle.mddocument_editing.specs.Known.{AreWritten, Key, is_key_of, is_written, knows, label_of, labels_written, link, note, part_events, written}
 pub use Rattle.mddocument_editing.specs.Lookups.{IsSectionAt, line_at, start_of}
 pub use Rattle.mddocument_editing.specs.Packed.{end_fits, event_fits, events_fit, link_fits, point_fits}
 pub use Rattle.mddocument_editing.specs.PositionParts.{EndingsAdd, OffsetsMove, OffsetsStay, PositionsMove, PositionsStay, StartsLine, down, endings}
@@ -80,6 +83,7 @@ pub use Rattle.mddocument_editing.specs.Put.{AreReread, HasEvents, HasLinking, I
 pub use Rattle.mddocument_editing.specs.Seams.{IsSeam}
 pub use Rattle.mddocument_editing.specs.Settled.{has_ending, is_settled}
 pub use Rattle.mddocument_editing.specs.Trims.{AreTrimmed, StayBehind, StayInFront}
+pub use Rattle.mddocument_editing.specs.declared.defined.Defined.{Defined}
 pub use Rattle.mddocument_editing.specs.declared.edit.Edit.{Edit}
 pub use Rattle.mddocument_editing.specs.declared.edit.Other.{Other}
 pub use Rattle.mddocument_editing.specs.declared.edit.Why.{Why}

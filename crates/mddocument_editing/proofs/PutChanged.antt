@@ -1,7 +1,6 @@
 -- Sections with others in the place of some, where labels change: the document that is kept then, and what changed.
-use Rattle.mddocument_editing.proofs.Prelude.{◌≡◌, ◌⊎◌, ℕ, zero, suc, ◌+◌, ◌-◌, ◌≤◌, ◌<◌, List, [], ◌∷◌, ◌++◌, length, get_or, take, drop, refl, subst, sym, ap, ◌∙◌, arith, append_assoc, inl, inr, get_or-append_right, get_or-map, get_or_append_left, length-append, length-map, length-take-le, AllByRecursion, Contains, Global, Vec, every-append, every-drop, every-map, every-take, Event, defines, events_by, Divided, is_label_of, IsChange, IsWhy, KeepsEvents, KeepsTargets, ascend_from, numbers_of, section_events, section_of, Option, IsKept, IsRead, IsRecut, bytes_of_sections, divided_of, recut_document, AreReread, HasEvents, put_all, AreTrimmed, Kept, Other, Reread, Section, Why}
+use Rattle.mddocument_editing.proofs.Prelude.{◌≡◌, ◌⊎◌, ℕ, zero, suc, ◌+◌, ◌-◌, ◌≤◌, ◌<◌, List, [], ◌∷◌, ◌++◌, length, get_or, take, drop, refl, subst, sym, ap, ◌∙◌, arith, append_assoc, inl, inr, get_or-append_right, get_or-map, get_or_append_left, length-append, length-map, length-take-le, AllByRecursion, Contains, Global, Vec, every-append, every-drop, every-map, every-take, Event, part_events, Divided, is_key_of, IsChange, IsWhy, KeepsEvents, KeepsTargets, ascend_from, numbers_of, section_events, section_of, Option, IsKept, IsRead, IsRecut, bytes_of_sections, divided_of, recut_document, AreReread, HasEvents, put_all, AreTrimmed, Kept, Other, Reread, Section, Why, knows, Key, Defined}
 use Rattle.mddocument_editing.specs.Listed.{Listed}
-use Rattle.mdinline_machine.specs.declared.inlines.Inlines.{Inlines}
 use Rattle.mddocument_editing.proofs.PutSections.{bytes-put, change-of, kept-as}
 use Rattle.mddocument_link_targets.specs.declared.targets.Parts.{Parts}
 use Rattle.mddocument_editing.specs.declared.edit.Why.TheVariants as why
@@ -17,23 +16,23 @@ at-element [] i lt f = absurd (omega (arith, lt))
 at-element (x ∷ xs) zero lt f = f x refl
 at-element (x ∷ xs) (suc i) lt f = at-element xs i (omega (arith, lt)) f
 
--- Parts were read by a machine that knows the new labels, and so were the others that have other events by them; then the sections that were read are put in
+-- Parts were read by the labels that are defined now, and so were the others that have other events by them; then the sections that were read are put in
 -- the place of some
-pub record ArePutIn (k : Kept) (machine : Inlines) (from end new_to : ℕ) (parts : List (List ℕ)) (read sections : List Section) (others : List Reread) (told : List Other) : Type 0 where
+pub record ArePutIn (k : Kept) (known : Defined) (from end new_to : ℕ) (parts : List (List ℕ)) (read sections : List Section) (others : List Reread) (told : List Other) : Type 0 where
   pub kept : IsKept k
   pub recut : IsRecut k from end parts
   pub trimmed : AreTrimmed (bytes_of_sections k.sections.items) from end parts
-  pub labels : (label : List ℕ) → defines machine.labels label ≡ is_label_of (recut_document k from end parts) label
+  pub labels : (key : Key) → knows known key ≡ is_key_of (recut_document k from end parts) key
   pub bytes : bytes_of_sections read ≡ parts
-  pub are_read : AllByRecursion (IsRead k.options (defines machine.labels)) read
+  pub are_read : AllByRecursion (IsRead k.options (knows known)) read
   pub ends : new_to ≡ from + length read
-  pub rereads_are : AreReread (events_by k.options (defines machine.labels)) 0 (take from k.sections.items ++ (read ++ drop end k.sections.items)) others
+  pub rereads_are : AreReread (part_events k.options (knows known)) 0 (take from k.sections.items ++ (read ++ drop end k.sections.items)) others
   pub sections_are : sections ≡ take from k.sections.items ++ (read ++ drop end k.sections.items)
-  pub told_are : AreToldAround (events_by k.options (defines machine.labels)) (first_said (events_by k.options (defines k.machine.labels)) (bytes_of_sections k.sections.items))
-      (first_said (events_by k.options (defines machine.labels)) (bytes_of_sections (take from k.sections.items ++ (read ++ drop end k.sections.items)))) new_to (take from k.sections.items) (drop end k.sections.items) told
+  pub told_are : AreToldAround (part_events k.options (knows known)) (first_said (part_events k.options (knows k.known)) (bytes_of_sections k.sections.items))
+      (first_said (part_events k.options (knows known)) (bytes_of_sections (take from k.sections.items ++ (read ++ drop end k.sections.items)))) new_to (take from k.sections.items) (drop end k.sections.items) told
 
-module _ {k : Kept} {machine : Inlines} {from end new_to : ℕ} {parts : List (List ℕ)} {read sections : List Section} {others : List Reread} {told : List Other}
-    (are : ArePutIn k machine from end new_to parts read sections others told) where
+module _ {k : Kept} {known : Defined} {from end new_to : ℕ} {parts : List (List ℕ)} {read sections : List Section} {others : List Reread} {told : List Other}
+    (are : ArePutIn k known from end new_to parts read sections others told) where
   abbrev front : List Section
   front = take from k.sections.items
 
@@ -44,10 +43,10 @@ module _ {k : Kept} {machine : Inlines} {from end new_to : ℕ} {parts : List (L
   all = front ++ (read ++ behind)
 
   abbrev by_old : Section → Type 0
-  by_old = IsRead k.options (defines k.machine.labels)
+  by_old = IsRead k.options (knows k.known)
 
   abbrev by_new : List ℕ → List Event
-  by_new = events_by k.options (defines machine.labels)
+  by_new = part_events k.options (knows known)
 
   count : length front ≡ from
   count = length-take-le from k.sections.items (omega (arith, are.recut.order, are.recut.within))
@@ -61,8 +60,8 @@ module _ {k : Kept} {machine : Inlines} {from end new_to : ℕ} {parts : List (L
   some-read : AllByRecursion (IsReadBySome k.options) all
   some-read =
       let P = IsReadBySome k.options in
-      let old = every-map by_old P (λ s is. (defines k.machine.labels, is)) k.sections.items are.kept.read in
-      let new = every-map (IsRead k.options (defines machine.labels)) P (λ s is. (defines machine.labels, is)) read are.are_read in
+      let old = every-map by_old P (λ s is. (knows k.known, is)) k.sections.items are.kept.read in
+      let new = every-map (IsRead k.options (knows known)) P (λ s is. (knows known, is)) read are.are_read in
       every-append P front (read ++ behind) (every-take P from k.sections.items old) (every-append P read behind new (every-drop P end k.sections.items old))
 
   -- a section in front of those that were put in, or behind them, is one that was kept
@@ -81,17 +80,17 @@ module _ {k : Kept} {machine : Inlines} {from end new_to : ℕ} {parts : List (L
   now-has : (i : ℕ) (s : Section) → s ≡ get_or all i s → from ≤ i → i < new_to → HasEvents by_new s
   now-has i s there least less =
       let few : i - from < length read = omega (arith, least, less, are.ends) in
-      let is = every-at (IsRead k.options (defines machine.labels)) read (i - from) s are.are_read few in
+      let is = every-at (IsRead k.options (knows known)) read (i - from) s are.are_read few in
       let same : s ≡ get_or read (i - from) s = there ∙ get_or-append_right front (read ++ behind) from i s count least ∙ get_or_append_left read behind s (i - from) few in
       subst (HasEvents by_new) (sym same) (sym is.events)
 
   -- the events of those that were read again are put in
   module _ (after : Listed) (put : after.items ≡ put_all sections others) where
     abbrev kept_then : Kept
-    kept_then = record { options = k.options; machine = machine; sections = after }
+    kept_then = record { options = k.options; known = known; sections = after }
 
-    abbrev again : (ss : List Section) × ((put_all all others ≡ ss) × ((bytes_of_sections ss ≡ bytes_of_sections all) × AllByRecursion (IsRead k.options (defines machine.labels)) ss))
-    again = put-again k.options (defines machine.labels) [] all 0 others refl are.rereads_are some-read
+    abbrev again : (ss : List Section) × ((put_all all others ≡ ss) × ((bytes_of_sections ss ≡ bytes_of_sections all) × AllByRecursion (IsRead k.options (knows known)) ss))
+    again = put-again k.options (knows known) [] all 0 others refl are.rereads_are some-read
 
     now : after.items ≡ again.0
     now = put ∙ ap (λ ss. put_all ss others) are.sections_are ∙ again.1.0
@@ -104,7 +103,7 @@ module _ {k : Kept} {machine : Inlines} {from end new_to : ℕ} {parts : List (L
     -- it is kept
     pub then-kept : IsKept kept_then
     then-kept =
-        kept-as kept_then (recut_document k from end parts) then-document are.recut.divided are.labels (subst (AllByRecursion (IsRead k.options (defines machine.labels))) (sym now) again.1.1.1)
+        kept-as kept_then (recut_document k from end parts) then-document are.recut.divided are.labels (subst (AllByRecursion (IsRead k.options (knows known))) (sym now) again.1.1.1)
 
     abbrev old : Divided
     old = divided_of k
@@ -125,11 +124,11 @@ module _ {k : Kept} {machine : Inlines} {from end new_to : ℕ} {parts : List (L
     section-is : (i : ℕ) (s : Section) → i < length all → s ≡ get_or all i s → section_of new i ≡ bytes s
     section-is i s lt there = ap (λ ss. get_or ss i []) (sym placed) ∙ get_or-map bytes all i s [] lt ∙ ap bytes (sym there)
 
-    by_new-is : by_new ≡ events_by k.options (is_label_of new)
-    by_new-is = let same : defines machine.labels ≡ is_label_of new = λ i label. are.labels label i in ap (events_by k.options) same
+    by_new-is : by_new ≡ part_events k.options (is_key_of new)
+    by_new-is = let same : knows known ≡ is_key_of new = λ i key. are.labels key i in ap (part_events k.options) same
 
-    by_old-is : events_by k.options (defines k.machine.labels) ≡ events_by k.options (is_label_of old)
-    by_old-is = let same : defines k.machine.labels ≡ is_label_of old = λ i label. are.kept.labels label i in ap (events_by k.options) same
+    by_old-is : part_events k.options (knows k.known) ≡ part_events k.options (is_key_of old)
+    by_old-is = let same : knows k.known ≡ is_key_of old = λ i key. are.kept.labels key i in ap (part_events k.options) same
 
     -- it keeps its events, if they are those that the new labels give, and only then
     keeps : (s : Section) → by_old s → HasEvents by_new s → KeepsEvents old new (bytes s)
@@ -141,7 +140,7 @@ module _ {k : Kept} {machine : Inlines} {from end new_to : ℕ} {parts : List (L
 
     -- what labels led to, and what they lead to
     abbrev old_leads : List ℕ → Option Parts
-    old_leads = first_said (events_by k.options (defines k.machine.labels)) (bytes_of_sections k.sections.items)
+    old_leads = first_said (part_events k.options (knows k.known)) (bytes_of_sections k.sections.items)
 
     abbrev new_leads : List ℕ → Option Parts
     new_leads = first_said by_new (bytes_of_sections all)
@@ -236,7 +235,7 @@ module _ {k : Kept} {machine : Inlines} {from end new_to : ℕ} {parts : List (L
     -- and this changed
     pub then-change : (changed : Vec Other Global) → changed.items ≡ told → IsChange (divided_of k) (divided_of kept_then) (record { from = from; old_to = end; new_to = new_to; others = changed })
     then-change changed named =
-        let known = subst (AllByRecursion IsTold) (sym named) told-all in
+        let all_told = subst (AllByRecursion IsTold) (sym named) told-all in
         let parts_end : new_to ≡ from + length parts = are.ends ∙ ap (λ n. from + n) (sym (length-map read bytes) ∙ ap length are.bytes) in
         let long = length-map k.sections.items bytes in
         let same : (i : ℕ) → i < length new.sections → (i < from) ⊎ (new_to ≤ i) → ¬ Contains (numbers_of changed.items) i → KeepsEvents old new (section_of new i) × KeepsTargets old new (section_of new i) = λ i within side unnamed.
@@ -249,5 +248,5 @@ module _ {k : Kept} {machine : Inlines} {from end new_to : ℕ} {parts : List (L
         subst (λ (d : Divided). IsChange old d (record { from = from; old_to = end; new_to = new_to; others = changed })) (sym then-document)
         (change-of old from end parts new_to changed are.recut.order (omega (arith, are.recut.within, long)) parts_end are.trimmed
         (subst (λ os. ascend_from 0 (numbers_of os)) (sym named) told-up)
-        (every-map IsTold (λ (other : Other). (other.section < length new.sections) × ((other.section < from) ⊎ (new_to ≤ other.section))) (λ other is. is.0) changed.items known)
-        (every-map IsTold (λ (other : Other). IsWhy old new (section_of new other.section) other.why) (λ other is. is.1) changed.items known) same)
+        (every-map IsTold (λ (other : Other). (other.section < length new.sections) × ((other.section < from) ⊎ (new_to ≤ other.section))) (λ other is. is.0) changed.items all_told)
+        (every-map IsTold (λ (other : Other). IsWhy old new (section_of new other.section) other.why) (λ other is. is.1) changed.items all_told) same)

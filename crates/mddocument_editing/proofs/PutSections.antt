@@ -1,5 +1,5 @@
 -- Sections with others in the place of some: the document that is kept then, and what changed.
-use Rattle.mddocument_editing.proofs.Prelude.{◌≡◌, ◌⊎◌, ℕ, ◌+◌, ◌-◌, ◌≤◌, ◌<◌, List, [], ◌++◌, length, get_or, take, drop, subst, sym, ap, ◌∙◌, arith, map-id, YieldsList-from_vec, drop-map, drop_at, get_or-append_right, get_or_append_left, length-append, length-take-le, map-append, take-map, take_at, AllByRecursion, Contains, into_iter_items, into_iter_len, into_iter_steps, Global, Vec, every-append, every-drop, every-take, IsWithinLimit, every-back, every-front, defines, document_of, Divided, IsDivided, is_label_of, IsChange, IsWhy, KeepsEvents, KeepsTargets, ascend_from, numbers_of, section_of, Other, IsKept, IsRead, bytes_of_sections, divided_of, AreTrimmed, Kept, Section}
+use Rattle.mddocument_editing.proofs.Prelude.{◌≡◌, ◌⊎◌, ℕ, ◌+◌, ◌-◌, ◌≤◌, ◌<◌, List, [], ◌++◌, length, get_or, take, drop, subst, sym, ap, ◌∙◌, arith, map-id, YieldsList-from_vec, drop-map, drop_at, get_or-append_right, get_or_append_left, length-append, length-take-le, map-append, take-map, take_at, AllByRecursion, Contains, into_iter_items, into_iter_len, into_iter_steps, Global, Vec, every-append, every-drop, every-take, IsWithinLimit, every-back, every-front, document_of, Divided, IsDivided, is_key_of, IsChange, IsWhy, KeepsEvents, KeepsTargets, ascend_from, numbers_of, section_of, Other, IsKept, IsRead, bytes_of_sections, divided_of, AreTrimmed, Kept, Section, knows, Key}
 use Rattle.std.proofs.lemmas.Iterator.{items_from_drains}
 use Rattle.std.proofs.lemmas.List.{append_assoc}
 use Rattle.std.specs.Iterator.{Drains}
@@ -21,11 +21,11 @@ parts-within t front parts behind limit =
     every-front (IsWithinLimit t) parts behind (every-back (IsWithinLimit t) front (parts ++ behind) (sections-within t (front ++ (parts ++ behind)) limit))
 
 -- what is kept, if it is this document
-pub kept-as : (k : Kept) (d : Divided) → divided_of k ≡ d → IsDivided d → ((label : List ℕ) → defines k.machine.labels label ≡ is_label_of d label)
-    → AllByRecursion (IsRead k.options (defines k.machine.labels)) k.sections.items → IsKept k
+pub kept-as : (k : Kept) (d : Divided) → divided_of k ≡ d → IsDivided d → ((key : Key) → knows k.known key ≡ is_key_of d key)
+    → AllByRecursion (IsRead k.options (knows k.known)) k.sections.items → IsKept k
 kept-as k d is divided labels read = record {
   divided = subst IsDivided (sym is) divided;
-  labels = λ label. labels label ∙ ap (λ (e : Divided). is_label_of e label) (sym is);
+  labels = λ key. labels key ∙ ap (λ (e : Divided). is_key_of e key) (sym is);
   read = read;
 }
 

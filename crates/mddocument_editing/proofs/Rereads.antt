@@ -1,5 +1,5 @@
 -- Sections that are read again, and their events put in.
-use Rattle.mddocument_editing.proofs.Prelude.{◌≡◌, ℕ, zero, suc, ◌+◌, ◌<◌, Bool, List, [], ◌∷◌, ◌++◌, length, Option, Some, None, get_or, take, set, refl, sym, ap, ◌∙◌, subst, arith, append_assoc, inl, inr, length-append, length-take-le, take_more, AllByRecursion, every-map, IfNone, IfSome, ParseOptions, Event, events_by, IsRead, bytes_of_sections, AreReread, HasEvents, HasLinking, put_all, put_at, read_again, read_as, Reread, Section}
+use Rattle.mddocument_editing.proofs.Prelude.{◌≡◌, ℕ, zero, suc, ◌+◌, ◌<◌, Bool, List, [], ◌∷◌, ◌++◌, length, Option, Some, None, get_or, take, set, refl, sym, ap, ◌∙◌, subst, arith, append_assoc, inl, inr, length-append, length-take-le, take_more, AllByRecursion, every-map, IfNone, IfSome, ParseOptions, Event, part_events, IsRead, bytes_of_sections, AreReread, HasEvents, HasLinking, put_all, put_at, read_again, read_as, Reread, Section, Key}
 use Rattle.mddocument_editing.specs.Said.{linking}
 use Rattle.mddocument_editing.specs.declared.linking.Linking.{Linking}
 use Rattle.mddocument_editing.specs.declared.section.Read.{Read}
@@ -97,14 +97,14 @@ module _ (read : List ℕ → List Event) where
 
 -- a section that was read, by whatever labels
 abbrev pub IsReadBySome : ParseOptions → Section → Type 0
-IsReadBySome options s = (defined : List ℕ → Bool) × IsRead options defined s
+IsReadBySome options s = (defined : Key → Bool) × IsRead options defined s
 
 -- by other labels it has been read, if it has the events that they give
-pub read-as : (options : ParseOptions) (defined : List ℕ → Bool) (s : Section) → IsReadBySome options s → HasEvents (events_by options defined) s → IsRead options defined s
+pub read-as : (options : ParseOptions) (defined : Key → Bool) (s : Section) → IsReadBySome options s → HasEvents (part_events options defined) s → IsRead options defined s
 read-as options defined s is has = record { limit = is.1.limit; labels = is.1.labels; lines = is.1.lines; asks = is.1.asks; events = sym has; linking = is.1.linking }
 
 -- sections, read again where they have other events: the events are put in
-pub put-again : (options : ParseOptions) (defined : List ℕ → Bool) (xs ss : List Section) (n : ℕ) (os : List Reread) → length xs ≡ n → AreReread (events_by options defined) n ss os
+pub put-again : (options : ParseOptions) (defined : Key → Bool) (xs ss : List Section) (n : ℕ) (os : List Reread) → length xs ≡ n → AreReread (part_events options defined) n ss os
     → AllByRecursion (IsReadBySome options) ss
     → (after : List Section) × ((put_all (xs ++ ss) os ≡ xs ++ after) × ((bytes_of_sections after ≡ bytes_of_sections ss) × AllByRecursion (IsRead options defined) after))
 put-again options defined xs [] n os len none all = ([], (ap (put_all (xs ++ [])) none, (refl, tt)))
@@ -117,7 +117,7 @@ put-again options defined xs (s ∷ ss) n os len (inl is) all =
       ),
     )
 put-again options defined xs (s ∷ ss) n os len (inr is) all =
-    let r = read_again (events_by options defined) n s in
+    let r = read_again (part_events options defined) n s in
     let t = read_as r s in
     let rest = is.0 in
     let next = put-again options defined (xs ++ t ∷ []) ss (n + 1) rest (length-append xs (t ∷ []) ∙ ap (λ k. k + 1) len) is.1.1.1 all.1 in
@@ -134,5 +134,5 @@ put-again options defined xs (s ∷ ss) n os len (inr is) all =
     )
 
 -- sections that were read so are not read again
-pub none-again : (options : ParseOptions) (defined : List ℕ → Bool) (n : ℕ) (ss : List Section) → AllByRecursion (IsRead options defined) ss → AreReread (events_by options defined) n ss []
-none-again options defined n ss are = rereads-none (events_by options defined) n ss (every-map (IsRead options defined) (λ (s : Section). HasEvents (events_by options defined) s × HasLinking s) (λ s is. (sym is.events, is.linking)) ss are)
+pub none-again : (options : ParseOptions) (defined : Key → Bool) (n : ℕ) (ss : List Section) → AllByRecursion (IsRead options defined) ss → AreReread (part_events options defined) n ss []
+none-again options defined n ss are = rereads-none (part_events options defined) n ss (every-map (IsRead options defined) (λ (s : Section). HasEvents (part_events options defined) s × HasLinking s) (λ s is. (sym is.events, is.linking)) ss are)

@@ -1,5 +1,5 @@
 -- The events of sections that were read, moved one after the other.
-use Rattle.mddocument_editing.proofs.Prelude.{◌≡◌, ℕ, ◌+◌, ◌≤◌, Bool, List, ◌∷◌, [], ◌++◌, length, map, refl, subst, sym, ap, ◌∙◌, arith, take, drop, drop-map, length-append, length-map, map-append, take-map, take_all, AllByRecursion, sum_by, every-take, ParseOptions, Event, AreDocumentEvents, defines, no-further, events_by, is_rest, line_endings, moved_event, document_of, events_of_sections, Kept, Front, Section, Divided, EventsOfAllSectionsAreTheDocuments, bytes_of, events_between, events_of, is_label_of, IsFrontOf, IsSmall, moved_by, IsKept, IsRead, bytes_of_sections, divided_of}
+use Rattle.mddocument_editing.proofs.Prelude.{◌≡◌, ℕ, ◌+◌, ◌≤◌, Bool, List, ◌∷◌, [], ◌++◌, length, map, refl, subst, sym, ap, ◌∙◌, arith, take, drop, drop-map, length-append, length-map, map-append, take-map, take_all, AllByRecursion, sum_by, every-take, ParseOptions, Event, no-further, part_events, is_rest, line_endings, moved_event, document_of, events_of_sections, Kept, Front, Section, Divided, EventsOfAllSectionsAreTheDocuments, bytes_of, events_between, events_of, is_key_of, IsFrontOf, IsSmall, moved_by, IsKept, IsRead, bytes_of_sections, divided_of, knows, Key}
 use Rattle.mddocument_editing.proofs.Below.{sections-give}
 use Rattle.mddocument_editing.proofs.CutLines.{endings-are-counted}
 use Rattle.mddocument_editing.proofs.Joined.{sections-take}
@@ -22,9 +22,9 @@ behind-none read before small = record { lines = omega arith; bytes = omega arit
 pub bytes-one : (xs : List Section) (x : Section) → bytes_of_sections (xs ++ x ∷ []) ≡ bytes_of_sections xs ++ x.part.bytes.items ∷ []
 bytes-one xs x = map-append (λ section. section.part.bytes.items) xs (x ∷ [])
 
-module _ (options : ParseOptions) (defined : List ℕ → Bool) where
+module _ (options : ParseOptions) (defined : Key → Bool) where
   abbrev read : List ℕ → List Event
-  read bytes = events_by options defined bytes
+  read bytes = part_events options defined bytes
 
   lines-one : (x : Section) → IsRead options defined x → x.lines ≡ line_endings x.part.bytes.items
   lines-one x is = is.lines ∙ endings-are-counted x.part.bytes.items
@@ -89,31 +89,31 @@ module _ (options : ParseOptions) (defined : List ℕ → Bool) where
 
 -- these are the events between
 pub between-events : (k : Kept) (from to : ℕ) → IsKept k → from ≤ to → to ≤ length k.sections.items → (before : Front) → IsFrontOf (take from k.sections.items) before
-    → map (moved_by before) (events_of_sections (events_by k.options (defines k.machine.labels)) (bytes_of_sections (drop from (take to k.sections.items)))) ≡ events_between (divided_of k) from to
+    → map (moved_by before) (events_of_sections (part_events k.options (knows k.known)) (bytes_of_sections (drop from (take to k.sections.items)))) ≡ events_between (divided_of k) from to
 between-events k from to kept order within before is =
     let d = divided_of k in
     let o = k.options in
-    let knows = defines k.machine.labels in
+    let defined = knows k.known in
     let all = k.sections.items in
     let bytes = λ (section : Section). section.part.bytes.items in
     let front = take from d.sections in
-    let E = λ (g : List ℕ → Bool) (l : List (List ℕ)). events_of_sections (events_by o g) l in
-    let same : knows ≡ is_label_of d = λ i label. kept.labels label i in
+    let E = λ (g : Key → Bool) (l : List (List ℕ)). events_of_sections (part_events o g) l in
+    let same : defined ≡ is_key_of d = λ i key. kept.labels key i in
     let first : bytes_of_sections (take from all) ≡ front = sym (take-map bytes from all) in
     let wanted : bytes_of_sections (drop from (take to all)) ≡ drop from (take to d.sections) = sym (drop-map bytes from (take to all)) ∙ ap (drop from) (sym (take-map bytes to all)) in
-    let read = every-take (IsRead o knows) from all kept.read in
+    let read = every-take (IsRead o defined) from all kept.read in
     let lines : before.lines ≡ line_endings (document_of front) =
-    is.lines ∙ lines-read o knows (take from all) read ∙ ap lines_in first ∙ lines-all o front (sections-take (is_rest o) from d.sections kept.divided.sections.cut)
+    is.lines ∙ lines-read o defined (take from all) read ∙ ap lines_in first ∙ lines-all o front (sections-take (is_rest o) from d.sections kept.divided.sections.cut)
     in
     let size : before.bytes ≡ length (document_of front) = is.bytes ∙ ap (λ l. length (document_of l)) first in
-    let count : before.events ≡ length (E (is_label_of d) front) =
-    is.events ∙ events-read o knows (take from all) read ∙ ap (λ l. length (E knows l)) first ∙ ap (λ g. length (E g front)) same
+    let count : before.events ≡ length (E (is_key_of d) front) =
+    is.events ∙ events-read o defined (take from all) read ∙ ap (λ l. length (E defined l)) first ∙ ap (λ g. length (E g front)) same
     in
-    ap (λ l. map (moved_by before) (E knows l)) wanted
+    ap (λ l. map (moved_by before) (E defined l)) wanted
     ∙ ap (λ g. map (moved_by before) (E g (drop from (take to d.sections)))) same
-    ∙ ap (λ n. map (moved_event n before.bytes before.events) (E (is_label_of d) (drop from (take to d.sections)))) lines
-    ∙ ap (λ n. map (moved_event (line_endings (document_of front)) n before.events) (E (is_label_of d) (drop from (take to d.sections)))) size
-    ∙ ap (λ n. map (moved_event (line_endings (document_of front)) (length (document_of front)) n) (E (is_label_of d) (drop from (take to d.sections)))) count
+    ∙ ap (λ n. map (moved_event n before.bytes before.events) (E (is_key_of d) (drop from (take to d.sections)))) lines
+    ∙ ap (λ n. map (moved_event (line_endings (document_of front)) n before.events) (E (is_key_of d) (drop from (take to d.sections)))) size
+    ∙ ap (λ n. map (moved_event (line_endings (document_of front)) (length (document_of front)) n) (E (is_key_of d) (drop from (take to d.sections)))) count
 
 -- those between the first section and the end are all
 all-between : (d : Divided) (n : ℕ) → length d.sections ≤ n → events_between d 0 n ≡ events_of d d.sections
@@ -122,4 +122,4 @@ all-between d n most = no-further (events_of d (take n d.sections)) ∙ ap (even
 -- so they are those of the document
 pub all-are-the-documents : EventsOfAllSectionsAreTheDocuments
 all-are-the-documents d possible is =
-    subst (AreDocumentEvents d.options (bytes_of d)) (sym (all-between d (length d.sections) (omega arith))) (sections-give d.options d.sections possible is.sections.cut)
+    all-between d (length d.sections) (omega arith) ∙ sections-give d.options d.sections possible is.sections.cut

@@ -1,8 +1,8 @@
 -- The labels of a document that is cut: those of its sections, one after another.
-use Rattle.mddocument_editing.proofs.Prelude.{◌≡◌, ℕ, ◌≤◌, true, List, [], ◌∷◌, ◌++◌, length, sym, ap, ◌∙◌, and_parts, leb-true, flat_map, ParseOptions, is_one_of, is_rest, are_sections_by, bytes_of, document, document_of, Divided, IsDivided, is_label_of, labels_written, ◌&&◌, nat_le}
+use Rattle.mddocument_editing.proofs.Prelude.{◌≡◌, ℕ, ◌≤◌, true, List, [], ◌∷◌, ◌++◌, length, sym, ap, ◌∙◌, and_parts, leb-true, flat_map, ParseOptions, is_one_of, is_rest, are_sections_by, bytes_of, document, document_of, Divided, IsDivided, labels_written, ◌&&◌, nat_le, IsDocument, Key, is_key_of, is_written, link, note}
 use Rattle.std.proofs.Common.{Bool, append-nil}
 use Rattle.mddocument.proofs.DefinedLabels.{labels-are-defined}
-use Rattle.mddocument_editing.proofs.Below.{first-tells, labels-both, labels-none, rest-begins}
+use Rattle.mddocument_editing.proofs.Below.{first-tells, labels-both, labels-none, notes-of-all, rest-begins}
 
 module _ (options : ParseOptions) where
   -- what the test of sections says of the first of them and the next
@@ -35,6 +35,7 @@ module _ (options : ParseOptions) where
       ∙ ap (λ labels. labels_written options s ++ labels) (labels-of-sections (next ∷ more) (cut-behind s next more cut).cut)
 
 -- a label is defined in a document that is cut if it is one of those of its sections
-pub labels-divided : (d : Divided) → IsDivided d → (label : List ℕ) → is_one_of (flat_map (labels_written d.options) d.sections) label ≡ is_label_of d label
-labels-divided d divided label =
+pub labels-divided : (d : Divided) → IsDocument (document d.options (bytes_of d)) → IsDivided d → (key : Key) → is_written d.options d.sections key ≡ is_key_of d key
+labels-divided d possible divided (link label) =
     ap (λ labels. is_one_of labels label) (sym (labels-of-sections d.options d.sections divided.sections.cut)) ∙ ap (λ (is : List ℕ → Bool). is label) (sym (labels-are-defined (document d.options (bytes_of d))))
+labels-divided d possible divided (note label) = ap (λ labels. is_one_of labels label) (sym (notes-of-all d.options d.sections possible divided.sections.cut))

@@ -1,5 +1,5 @@
 -- Where sections start, and the lines that they start.
-use Rattle.mddocument_editing.proofs.Prelude.{◌≡◌, ℕ, ◌+◌, ◌-◌, ◌<◌, ◌≤◌, true, List, ◌∷◌, [], ◌++◌, length, sym, ap, ◌∙◌, subst, arith, take, drop, get_or, Bool, cond, suc, ◌==◌, vec_len, begins_with_lf, length-append, length-map, take-map, ParseOptions, is_rest, line_endings, are_sections_by, document_of, Section, IsKept, IsRead, bytes_of_sections, Kept, defines, line_at, start_of, endings}
+use Rattle.mddocument_editing.proofs.Prelude.{◌≡◌, ℕ, ◌+◌, ◌-◌, ◌<◌, ◌≤◌, true, List, ◌∷◌, [], ◌++◌, length, sym, ap, ◌∙◌, subst, arith, take, drop, get_or, Bool, cond, suc, ◌==◌, vec_len, begins_with_lf, length-append, length-map, take-map, ParseOptions, is_rest, line_endings, are_sections_by, document_of, Section, IsKept, IsRead, bytes_of_sections, Kept, line_at, start_of, endings, knows}
 use Rattle.mddocument_editing.proofs.SectionBytes.{every-at}
 use Rattle.mddocument_editing.proofs.CutLines.{endings-are-counted}
 use Rattle.mddocument_editing.proofs.Joined.{document-cut, sections-take}
@@ -56,7 +56,7 @@ count-bytes xs = length-map xs bytes
 kept-line-next : (k : Kept) → IsKept k → (i : ℕ) (x : Section) → i < length k.sections.items → x ≡ get_or k.sections.items i x
     → line_at (bytes_of_sections k.sections.items) (i + 1) ≡ line_at (bytes_of_sections k.sections.items) i + x.lines
 kept-line-next k kept i x lt is =
-    let P = IsRead k.options (defines k.machine.labels) in
+    let P = IsRead k.options (knows k.known) in
     let read : P x = subst P (sym is) (every-at P k.sections.items i x kept.read lt) in
     omega (arith, line-next k.sections.items i x lt is k.options kept.divided.sections.cut, read.lines)
 
@@ -74,7 +74,7 @@ endings-few bs = omega (arith, endings-are-counted bs, lines-few bs)
 -- so has a section of what is kept
 kept-few : (k : Kept) → IsKept k → (i : ℕ) (x : Section) → i < length k.sections.items → x ≡ get_or k.sections.items i x → x.lines ≤ length x.part.bytes.items
 kept-few k kept i x lt is =
-    let P = IsRead k.options (defines k.machine.labels) in
+    let P = IsRead k.options (knows k.known) in
     let read : P x = subst P (sym is) (every-at P k.sections.items i x kept.read lt) in
     omega (arith, read.lines, endings-few x.part.bytes.items)
 

@@ -5,8 +5,10 @@ use Rattle.markdown_base.specs.declared.event.Event.{Event}
 use Rattle.markdown_base.specs.Virtual.{IsWithinLimit}
 use Rattle.markdown_tokenizer.specs.Text.{IsDocument}
 use Rattle.mddocument.specs.DocumentEvents.{is_defined_in}
-use Rattle.mddocument.specs.Documents.{AreDocumentEvents, document}
-use Rattle.mddocument_parts.specs.BothDocuments.{events_by}
+use Rattle.mddocument.specs.Documents.{document}
+use Rattle.mdgfm_documents.specs.Documents.{gfm_events}
+use Rattle.mdgfm_sections.specs.Notes.{is_noted_in}
+use Rattle.mdgfm_sections.specs.Parts.{gfm_events_by}
 use Rattle.mddocument_parts.specs.Moved.{line_endings, moved_event}
 use Rattle.mddocument_parts.specs.Sections.{document_of, events_of_sections}
 use Rattle.mddocument_editing.specs.FirstRest.{AreSectionsOf}
@@ -32,9 +34,13 @@ DividedIsUnique = (d e : Divided) → IsDivided d → IsDivided e → d.options 
 abbrev pub is_label_of : Divided → List ℕ → Bool
 is_label_of d = is_defined_in (document d.options (bytes_of d))
 
--- the events of a section as those of a document of its own, by the labels of the whole document
+-- so is a label of a footnote
+abbrev pub is_note_of : Divided → List ℕ → Bool
+is_note_of d = is_noted_in d.options (bytes_of d)
+
+-- the events of a section as those of a document of its own, by the labels of the whole document and by its footnotes
 abbrev pub section_events : Divided → (section : List ℕ) → List Event
-section_events d section = events_by d.options (is_label_of d) section
+section_events d section = gfm_events_by d.options (is_label_of d) (is_note_of d) section
 
 -- the events of sections, one behind the other
 abbrev pub events_of : Divided → (sections : List (List ℕ)) → List Event
@@ -48,4 +54,4 @@ events_between d from to =
 
 -- The events between section 0 and the number of sections are those of the document, if it is a possible one that is cut at each rest
 abbrev pub EventsOfAllSectionsAreTheDocuments : Type 0
-EventsOfAllSectionsAreTheDocuments = (d : Divided) → IsDocument (document d.options (bytes_of d)) → IsDivided d → AreDocumentEvents d.options (bytes_of d) (events_between d 0 (length d.sections))
+EventsOfAllSectionsAreTheDocuments = (d : Divided) → IsDocument (document d.options (bytes_of d)) → IsDivided d → events_between d 0 (length d.sections) ≡ gfm_events d.options (bytes_of d)

@@ -1,8 +1,7 @@
--- Labels that may be looked up in bytes: those that may stand between brackets there.
+-- Labels that may be looked up in bytes: those that may stand between brackets there, those of footnotes behind a `^`.
 use Rattle.std.specs.Prelude.{◌≡◌, ℕ, ◌==◌, ◌&&◌, ◌||◌, not, cond, Bool, false, List, [], ◌∷◌, ◌++◌}
-use Rattle.mdinline_labels.specs.Defined.{defines}
 use Rattle.mdinline_labels.specs.Labels.{is_bracket}
-use Rattle.mdinline_labels.specs.declared.labels.Labels.{Labels}
+use Rattle.mddocument_editing.specs.Known.{Key, link, note}
 
 -- a line ends at a byte
 abbrev pub ends_line : ℕ → Bool
@@ -20,15 +19,23 @@ abbrev pub is_in_brackets : (label bytes : List ℕ) → Bool
 is_in_brackets label [] = false
 is_in_brackets label (b ∷ bs) = ((b == 91) && may_stand label bs) || is_in_brackets label bs
 
--- a label is defined in one of two sets, and not in the other
-abbrev pub changes : (old new : Labels) → List ℕ → Bool
-changes old new label = cond (defines old label) (not (defines new label)) (defines new label)
+-- ---- labels that come or go
+
+module _ {A : Type 0} (old new : A → Bool) where
+  -- one is defined before or after, and not both
+  abbrev pub changes : A → Bool
+  changes label = cond (old label) (not (new label)) (new label)
+
+  -- those that change are all near
+  abbrev pub AreAllNear : (near : A → Bool) → Type 0
+  AreAllNear near = (label : A) → near label ≡ false → old label ≡ new label
+
+-- what stands between brackets is a label of links that changes, or `^` and one of footnotes
+abbrev pub asks_for : (changed : Key → Bool) → List ℕ → Bool
+asks_for changed [] = changed (link [])
+asks_for changed (b ∷ bs) = changed (link (b ∷ bs)) || ((b == 94) && changed (note bs))
 
 -- ---- how it is found out
-
--- labels that change are all near
-abbrev pub AreAllNear : (old new near : Labels) → Type 0
-AreAllNear old new near = (label : List ℕ) → defines near label ≡ false → defines old label ≡ defines new label
 
 -- at such a byte it is not told which label stands there: a line ends, or the next byte may be escaped
 abbrev pub is_untold : ℕ → Bool

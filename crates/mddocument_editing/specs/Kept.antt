@@ -2,15 +2,12 @@
 use Rattle.std.specs.Prelude.{◌≡◌, ◌≤◌, ◌==◌, ℕ, Bool, true, List, map, length, take, drop, ◌++◌}
 use Rattle.std.specs.List.{AllByRecursion, list_any}
 use Rattle.markdown_base.specs.declared.configuration.ParseOptions.{ParseOptions}
-use Rattle.markdown_base.specs.Virtual.{IsWithinLimit, virtual}
-use Rattle.mdblock_definitions.specs.Labelled.{AreDefined}
-use Rattle.mdblock_definitions.specs.Skeleton.{written_labels}
-use Rattle.mdinline_labels.specs.Defined.{defines}
-use Rattle.mddocument_parts.specs.BothDocuments.{events_by}
+use Rattle.markdown_base.specs.Virtual.{IsWithinLimit}
 use Rattle.mddocument_editing.specs.declared.kept.Kept.{Kept}
 use Rattle.mddocument_editing.specs.declared.section.Part.{Part}
 use Rattle.mddocument_editing.specs.declared.section.Section.{Section}
-use Rattle.mddocument_editing.specs.Divided.{Divided, IsDivided, bytes_of, is_label_of}
+use Rattle.mddocument_editing.specs.Divided.{Divided, IsDivided, bytes_of}
+use Rattle.mddocument_editing.specs.Known.{AreWritten, Key, is_key_of, knows, part_events}
 use Rattle.mddocument_editing.specs.Packed.{events_fit}
 use Rattle.mddocument_editing.specs.PositionParts.{endings}
 use Rattle.mddocument_editing.specs.Said.{linking}
@@ -22,33 +19,29 @@ bytes_of_parts parts = map (λ part. part.bytes.items) parts
 abbrev pub bytes_of_sections : List Section → List (List ℕ)
 bytes_of_sections sections = map (λ section. section.part.bytes.items) sections
 
--- the labels that bytes define, read as a document
-abbrev pub labels_written : ParseOptions → List ℕ → List (List ℕ)
-labels_written options bytes = written_labels options.constructs (virtual options.tab_size bytes)
-
 -- a part has the labels that it defines
 abbrev pub IsLabelled : ParseOptions → Part → Type 0
-IsLabelled options part = AreDefined part.labels (labels_written options part.bytes.items)
+IsLabelled options part = AreWritten options part.defined part.bytes.items
 
 -- there is a `]` in bytes
 abbrev pub has_end : List ℕ → Bool
 has_end bytes = list_any (λ byte. byte == 93) bytes
 
 -- the events of bytes can be packed, read by which labels are defined
-abbrev pub IsPackable : ParseOptions → (defined : List ℕ → Bool) → List ℕ → Type 0
-IsPackable options defined bytes = events_fit (events_by options defined bytes) ≡ true
+abbrev pub IsPackable : ParseOptions → (defined : Key → Bool) → List ℕ → Type 0
+IsPackable options defined bytes = events_fit (part_events options defined bytes) ≡ true
 
 -- the events of each section of a document can be packed, read by the labels of the document
 abbrev pub ArePackable : Divided → Type 0
-ArePackable d = AllByRecursion (IsPackable d.options (is_label_of d)) d.sections
+ArePackable d = AllByRecursion (IsPackable d.options (is_key_of d)) d.sections
 
 -- A section is read: by which labels are defined
-pub record IsRead (options : ParseOptions) (defined : List ℕ → Bool) (section : Section) : Type 0 where
+pub record IsRead (options : ParseOptions) (defined : Key → Bool) (section : Section) : Type 0 where
   pub limit : IsWithinLimit options.tab_size section.part.bytes.items
   pub labels : IsLabelled options section.part
   pub lines : section.lines ≡ endings section.part.bytes.items
   pub asks : section.asks ≡ has_end section.part.bytes.items
-  pub events : section.events ≡ events_by options defined section.part.bytes.items
+  pub events : section.events ≡ part_events options defined section.part.bytes.items
   pub linking : section.linking ≡ linking section.part.bytes.items section.events
 
 -- the document that is kept
@@ -58,8 +51,8 @@ divided_of k = record { options = k.options; sections = bytes_of_sections k.sect
 -- What is kept is a document and its events
 pub record IsKept (k : Kept) : Type 0 where
   pub divided : IsDivided (divided_of k)
-  pub labels : (label : List ℕ) → defines k.machine.labels label ≡ is_label_of (divided_of k) label
-  pub read : AllByRecursion (IsRead k.options (defines k.machine.labels)) k.sections.items
+  pub labels : (key : Key) → knows k.known key ≡ is_key_of (divided_of k) key
+  pub read : AllByRecursion (IsRead k.options (knows k.known)) k.sections.items
 
 -- What is kept is a document and its events, and the count is that of its bytes
 pub record IsKeptWithSize (k : Kept) (count : ℕ) : Type 0 where

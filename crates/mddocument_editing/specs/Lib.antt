@@ -10,6 +10,7 @@ pub mod Said
 pub mod FirstRest
 -- one section
 pub mod Kept
+pub mod Known
 -- seams
 pub mod Seams
 pub mod Seen

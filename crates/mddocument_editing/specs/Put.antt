@@ -5,23 +5,24 @@ use Rattle.markdown_base.specs.declared.configuration.ParseOptions.{ParseOptions
 use Rattle.markdown_base.specs.declared.event.Event.{Event}
 use Rattle.markdown_tokenizer.specs.Text.{IsDocument}
 use Rattle.mddocument.specs.Documents.{document}
-use Rattle.mdinline_labels.specs.declared.labels.Labels.{Labels}
+use Rattle.mddocument_editing.specs.declared.defined.Defined.{Defined}
 use Rattle.mddocument_editing.specs.declared.reread.Reread.{Reread}
 use Rattle.mddocument_editing.specs.declared.section.Section.{Section}
-use Rattle.mddocument_editing.specs.InBrackets.{changes, may_ask}
+use Rattle.mddocument_editing.specs.InBrackets.{asks_for, changes, may_ask}
 use Rattle.mddocument_editing.specs.Kept.{IsRead}
+use Rattle.mddocument_editing.specs.Known.{Key, knows}
 use Rattle.mddocument_editing.specs.Said.{linking}
 
 -- a section may look up a label that changes
-abbrev pub looks_up : (old new : Labels) → Section → Bool
-looks_up old new s = s.asks && may_ask (changes old new) s.part.bytes.items
+abbrev pub looks_up : (old new : Defined) → Section → Bool
+looks_up old new s = s.asks && may_ask (asks_for (changes (knows old) (knows new))) s.part.bytes.items
 
 -- a section has what links go by that are among its events
 abbrev pub HasLinking : Section → Type 0
 HasLinking s = s.linking ≡ linking s.part.bytes.items s.events
 
 -- a section that was read, and whose bytes are a possible document
-pub record IsReadDocument (options : ParseOptions) (defined : List ℕ → Bool) (section : Section) : Type 0 where
+pub record IsReadDocument (options : ParseOptions) (defined : Key → Bool) (section : Section) : Type 0 where
   pub read : IsRead options defined section
   pub document : IsDocument (document options section.part.bytes.items)
 

@@ -20,7 +20,7 @@ pub struct Edit<'a> {
 /// Why a section is named that was not replaced.
 #[derive(Clone, Copy, Debug, PartialEq, Eq)]
 pub enum Why {
-    /// It has other events than before, since a label came or went.
+    /// It has other events than before, since a label of links or of footnotes came or went.
     Events,
     /// It has the events that it had, and a link or an image in it leads elsewhere, since another definition of its label is the first, or says something
     /// else.

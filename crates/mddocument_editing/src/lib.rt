@@ -9,7 +9,8 @@ pub mod sections;
 mod cut;
 pub mod rests;
 
-// one section: its bytes, read
+// one section: its bytes, read; the labels that are defined
+mod defined;
 mod kept;
 mod section;
 

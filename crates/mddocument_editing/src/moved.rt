@@ -3,7 +3,8 @@
 ghost use Rattle.std.specs.Prelude.{◌≡◌, ◌≤◌, ◌<◌, ◌+◌, ◌^◌, ◌++◌, [], ◌∷◌, All, IfNone, IfOk, IfSome, List, OnOk, drop, length, map, take, true};
 ghost use Rattle.std.specs.List.{AllByRecursion};
 ghost use Rattle.markdown_tokenizer.specs.Text.{IsDocument};
-ghost use Rattle.mddocument.specs.Documents.{AreDocumentEvents, document};
+ghost use Rattle.mddocument.specs.Documents.{document};
+ghost use Rattle.mdgfm_documents.specs.Documents.{gfm_events};
 ghost use Rattle.mddocument_parts.specs.Moved.{line_endings, moved_event, moved_index, moved_link};
 ghost use Rattle.mddocument_editing.specs.Divided.{bytes_of, events_between};
 ghost use Rattle.mddocument_editing.specs.Fronts.{IsFrontOf, IsSmall, moved_by};
@@ -207,7 +208,7 @@ pub(crate) fn is_bytes(bytes: &[u8])
 /// The events of the document.
 pub(crate) fn all_events(alloc: Global, kept: &Kept) -> Result<Vec<Event>, AllocError>
     requires { IsKept kept.now }
-    ensures { IfOk result (λ events. AreDocumentEvents kept.now.options (bytes_of (divided_of kept.now)) events.items) }
+    ensures { IfOk result (λ events. events.items ≡ gfm_events kept.now.options (bytes_of (divided_of kept.now))) }
 {
     is_document(kept);
     events_between(alloc, kept, 0, kept.sections.len())

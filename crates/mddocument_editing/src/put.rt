@@ -5,13 +5,12 @@ ghost use Rattle.std.specs.List.{AllByRecursion};
 ghost use Rattle.markdown_base.specs.Virtual.{IsWithinLimit};
 ghost use Rattle.markdown_tokenizer.specs.Text.{IsDocument};
 ghost use Rattle.mddocument.specs.Documents.{document};
-ghost use Rattle.mdinline_labels.specs.Defined.{defines};
-ghost use Rattle.mddocument_parts.specs.BothDocuments.{events_by};
-ghost use Rattle.mddocument_editing.specs.Divided.{bytes_of, is_label_of};
+ghost use Rattle.mddocument_editing.specs.Divided.{bytes_of};
 ghost use Rattle.mddocument_editing.specs.Edits.{IsChange};
 ghost use Rattle.mddocument_editing.specs.FirstRest.{items_of};
 ghost use Rattle.mddocument_editing.specs.InBrackets.{AreAllNear};
 ghost use Rattle.mddocument_editing.specs.Kept.{ArePackable, IsKept, IsLabelled, IsPackable, IsRecut, IsRead, bytes_of_parts, bytes_of_sections, divided_of, recut_document};
+ghost use Rattle.mddocument_editing.specs.Known.{Key, is_key_of, knows, part_events};
 ghost use Rattle.mddocument_editing.specs.Leading.{first_said};
 ghost use Rattle.mddocument_editing.specs.Said.{linking};
 ghost use Rattle.mddocument_editing.specs.Put.{AreReread, HasEvents, IsReadDocument, looks_up};
@@ -19,6 +18,7 @@ ghost use Rattle.mddocument_editing.specs.Told.{AreToldAround};
 ghost use Rattle.mddocument_editing.specs.Trims.{AreTrimmed};
 
 use crate::asking::may_ask;
+use crate::defined::Defined;
 use crate::edit::{Change, Other, Refused};
 use crate::kept::{Kept, define_parts, define_sections};
 use crate::packed::{PackError, Packed};
@@ -29,8 +29,6 @@ use crate::trim::Recut;
 use markdown_base::configuration::ParseOptions;
 use markdown_base::event::Event;
 use markdown_base::laws::equal_events_are_one;
-use mdinline_labels::labels::Labels;
-use mdinline_machine::inlines::Inlines;
 use std::alloc::{AllocError, Global};
 
 /// The sections in front of those that are replaced that are read again, and those behind.
@@ -43,8 +41,8 @@ struct Rereads {
 /// The labels that a document defines, and some among which all are that came or went.
 #[derive(Drop)]
 struct NewLabels {
-    labels: Labels,
-    near: Labels,
+    labels: Defined,
+    near: Defined,
 }
 
 /// The labels that a document defines with parts in the place of some of its sections. `None` if they are the same as before. Only those come or go that these
@@ -57,25 +55,27 @@ fn new_labels(
     parts: &[Part],
 ) -> Result<Option<NewLabels>, AllocError>
     requires kept { IsKept kept.now }
+    requires possible { IsDocument (document kept.now.options (bytes_of (divided_of kept.now))) }
     requires recut { IsRecut kept.now from end (bytes_of_parts parts.now) }
+    requires possible_now { IsDocument (document kept.now.options (bytes_of (recut_document kept.now from end (bytes_of_parts parts.now)))) }
     requires labels { AllByRecursion (IsLabelled kept.now.options) parts.now }
-    ensures none { IfOk result (λ found. IfNone found ((label : List ℕ) → defines kept.now.machine.labels label ≡ is_label_of (recut_document kept.now from end (bytes_of_parts parts.now)) label)) }
-    ensures some { IfOk result (λ found. IfSome found (λ new. (label : List ℕ) → defines new.labels label ≡ is_label_of (recut_document kept.now from end (bytes_of_parts parts.now)) label)) }
-    ensures near { IfOk result (λ found. IfSome found (λ new. AreAllNear kept.now.machine.labels new.labels new.near)) }
+    ensures none { IfOk result (λ found. IfNone found ((key : Key) → knows kept.now.known key ≡ is_key_of (recut_document kept.now from end (bytes_of_parts parts.now)) key)) }
+    ensures some { IfOk result (λ found. IfSome found (λ new. (key : Key) → knows new.labels key ≡ is_key_of (recut_document kept.now from end (bytes_of_parts parts.now)) key)) }
+    ensures near { IfOk result (λ found. IfSome found (λ new. AreAllNear (knows kept.now.known) (knows new.labels) (knows new.near))) }
 {
     let sections = kept.sections.as_slice();
-    let mut gone = Labels::new(alloc);
+    let mut gone = Defined::new(alloc);
     define_sections(alloc, &mut gone, &kept.options, &sections[from..end])?;
-    let mut come = Labels::new(alloc);
+    let mut come = Defined::new(alloc);
     define_parts(alloc, &mut come, &kept.options, parts)?;
     if come.is_same(&gone) {
         return Ok(None);
     }
-    let mut labels = Labels::new(alloc);
+    let mut labels = Defined::new(alloc);
     define_sections(alloc, &mut labels, &kept.options, &sections[..from])?;
     labels.define_all(alloc, &come)?;
     define_sections(alloc, &mut labels, &kept.options, &sections[end..])?;
-    if labels.is_same(&kept.machine.labels) {
+    if labels.is_same(&kept.known) {
         return Ok(None);
     }
     gone.define_all(alloc, &come)?;
@@ -85,12 +85,12 @@ fn new_labels(
 /// Whether a section may look up a label that comes or goes.
 fn looks_up(
     alloc: Global,
-    old: &Labels,
-    new: &Labels,
-    near: &Labels,
+    old: &Defined,
+    new: &Defined,
+    near: &Defined,
     section: &Section,
 ) -> Result<bool, AllocError>
-    requires { AreAllNear old.now new.now near.now }
+    requires { AreAllNear (knows old.now) (knows new.now) (knows near.now) }
     ensures { IfOk result (λ looks. looks ≡ looks_up old.now new.now section.now) }
 {
     Ok(section.asks && may_ask(alloc, old, new, near, section.part.bytes.as_slice())?)
@@ -122,26 +122,26 @@ fn are_same(one: &Packed, other: &Packed) -> bool
     true
 }
 
-/// The events of a section, read again by this machine, which knows the new labels. `None` if they are those that it has.
+/// The events of a section, read again by the labels that are defined now. `None` if they are those that it has.
 fn new_events(
     alloc: Global,
     options: &ParseOptions,
-    old: &Labels,
-    near: &Labels,
-    machine: &Inlines,
+    old: &Defined,
+    near: &Defined,
+    known: &Defined,
     section: &Section,
 ) -> Result<Option<Read>, PackError>
-    requires read { IsReadDocument options.now (defines old.now) section.now }
-    requires near { AreAllNear old.now machine.now.labels near.now }
-    ensures none { IfOk result (λ found. IfNone found (HasEvents (events_by options.now (defines machine.now.labels)) section.now)) }
-    ensures some { IfOk result (λ found. IfSome found (λ read. ((read.events ≡ events_by options.now (defines machine.now.labels) section.now.part.bytes.items) × (read.linking ≡ linking section.now.part.bytes.items read.events)) × ¬ HasEvents (events_by options.now (defines machine.now.labels)) section.now)) }
-    ensures fits { IsPackable options.now (defines machine.now.labels) section.now.part.bytes.items → ¬ IsErrOf result PackError.TooLong }
+    requires read { IsReadDocument options.now (knows old.now) section.now }
+    requires near { AreAllNear (knows old.now) (knows known.now) (knows near.now) }
+    ensures none { IfOk result (λ found. IfNone found (HasEvents (part_events options.now (knows known.now)) section.now)) }
+    ensures some { IfOk result (λ found. IfSome found (λ read. ((read.events ≡ part_events options.now (knows known.now) section.now.part.bytes.items) × (read.linking ≡ linking section.now.part.bytes.items read.events)) × ¬ HasEvents (part_events options.now (knows known.now)) section.now)) }
+    ensures fits { IsPackable options.now (knows known.now) section.now.part.bytes.items → ¬ IsErrOf result PackError.TooLong }
 {
-    let asks = looks_up(alloc, old, &machine.labels, near, section)?;
+    let asks = looks_up(alloc, old, known, near, section)?;
     if !asks {
         return Ok(None);
     }
-    let read = read_of(alloc, options, machine, section.part.bytes.as_slice())?;
+    let read = read_of(alloc, options, known, section.part.bytes.as_slice())?;
     let same = are_same(&read.events, &section.events);
     if same {
         return Ok(None);
@@ -168,25 +168,25 @@ fn push_found(
     Ok(())
 }
 
-/// Those of the sections that have other events by this machine, which knows the new labels. The first of the sections has a number.
+/// Those of the sections that have other events by the labels that are defined now. The first of the sections has a number.
 fn read_again(
     alloc: Global,
     options: &ParseOptions,
-    old: &Labels,
-    near: &Labels,
-    machine: &Inlines,
+    old: &Defined,
+    near: &Defined,
+    known: &Defined,
     sections: &[Section],
     first: usize,
 ) -> Result<Vec<Reread>, PackError>
-    requires read { AllByRecursion (IsReadDocument options.now (defines old.now)) sections.now }
-    requires near { AreAllNear old.now machine.now.labels near.now }
+    requires read { AllByRecursion (IsReadDocument options.now (knows old.now)) sections.now }
+    requires near { AreAllNear (knows old.now) (knows known.now) (knows near.now) }
     requires numbers { first + length sections.now < 2 ^ 64 }
-    ensures others { IfOk result (λ others. AreReread (events_by options.now (defines machine.now.labels)) first sections.now others.items) }
-    ensures fits { AllByRecursion (λ section. IsPackable options.now (defines machine.now.labels) section.part.bytes.items) sections.now → ¬ IsErrOf result PackError.TooLong }
+    ensures others { IfOk result (λ others. AreReread (part_events options.now (knows known.now)) first sections.now others.items) }
+    ensures fits { AllByRecursion (λ section. IsPackable options.now (knows known.now) section.part.bytes.items) sections.now → ¬ IsErrOf result PackError.TooLong }
 {
     let mut others = Vec::new(alloc);
     for index in 0..sections.len() {
-        let found = new_events(alloc, options, old, near, machine, &sections[index])?;
+        let found = new_events(alloc, options, old, near, known, &sections[index])?;
         push_found(&mut others, first + index, found)?;
     }
     Ok(others)
@@ -197,6 +197,7 @@ pub(crate) fn put(alloc: Global, kept: &mut Kept, recut: Recut) -> Result<Change
     requires kept { IsKept kept.old }
     requires possible { IsDocument (document kept.old.options (bytes_of (divided_of kept.old))) }
     requires recut { IsRecut kept.old recut.from recut.end (items_of recut.parts.items) }
+    requires possible_now { IsDocument (document kept.old.options (bytes_of (recut_document kept.old recut.from recut.end (items_of recut.parts.items)))) }
     requires trimmed { AreTrimmed (bytes_of_sections kept.old.sections.items) recut.from recut.end (items_of recut.parts.items) }
     ensures kept { IsKept kept.new }
     ensures document { IfOk result (λ _. divided_of kept.new ≡ recut_document kept.old recut.from recut.end (items_of recut.parts.items)) }
@@ -210,7 +211,7 @@ pub(crate) fn put(alloc: Global, kept: &mut Kept, recut: Recut) -> Result<Change
     match new_labels(alloc, kept, from, end, parts.as_slice())? {
         None => put_same(alloc, kept, from, end, parts),
         Some(NewLabels { labels, near }) => {
-            put_other(alloc, kept, from, end, parts, Inlines { labels }, &near)
+            put_other(alloc, kept, from, end, parts, labels, &near)
         }
     }
 }
@@ -227,7 +228,7 @@ fn put_same(
     requires recut { IsRecut kept.old from end (bytes_of_parts parts.items) }
     requires trimmed { AreTrimmed (bytes_of_sections kept.old.sections.items) from end (bytes_of_parts parts.items) }
     requires labelled { AllByRecursion (IsLabelled kept.old.options) parts.items }
-    requires labels { (label : List ℕ) → defines kept.old.machine.labels label ≡ is_label_of (recut_document kept.old from end (bytes_of_parts parts.items)) label }
+    requires labels { (key : Key) → knows kept.old.known key ≡ is_key_of (recut_document kept.old from end (bytes_of_parts parts.items)) key }
     ensures kept { IsKept kept.new }
     ensures document { IfOk result (λ _. divided_of kept.new ≡ recut_document kept.old from end (bytes_of_parts parts.items)) }
     ensures change { IfOk result (IsChange (divided_of kept.old) (divided_of kept.new)) }
@@ -235,7 +236,7 @@ fn put_same(
     ensures range { ¬ IsErrOf result Refused.Range }
     ensures fits { ArePackable (recut_document kept.old from end (bytes_of_parts parts.items)) → ¬ IsErrOf result Refused.TooLong }
 {
-    let read = read_parts(alloc, &kept.options, &kept.machine, parts)?;
+    let read = read_parts(alloc, &kept.options, &kept.known, parts)?;
     kept.sections.are_few();
     let new_to = from + read.len();
     let others = tell_same(alloc, kept, from, end, read.as_slice())?;
@@ -248,23 +249,24 @@ fn put_same(
     })
 }
 
-/// As [`put`], where this machine knows the labels. Others that may look up one that comes or goes are read again, and those told that have other events.
+/// As [`put`], where labels came or went. Others that may look up one of them are read again by those that are defined now, and those told that have other
+/// events.
 fn put_other(
     alloc: Global,
     kept: &mut Kept,
     from: usize,
     end: usize,
     parts: Vec<Part>,
-    machine: Inlines,
-    near: &Labels,
+    known: Defined,
+    near: &Defined,
 ) -> Result<Change, Refused>
     requires kept { IsKept kept.old }
     requires possible { IsDocument (document kept.old.options (bytes_of (divided_of kept.old))) }
     requires recut { IsRecut kept.old from end (bytes_of_parts parts.items) }
     requires trimmed { AreTrimmed (bytes_of_sections kept.old.sections.items) from end (bytes_of_parts parts.items) }
     requires labelled { AllByRecursion (IsLabelled kept.old.options) parts.items }
-    requires labels { (label : List ℕ) → defines machine.labels label ≡ is_label_of (recut_document kept.old from end (bytes_of_parts parts.items)) label }
-    requires near { AreAllNear kept.old.machine.labels machine.labels near.now }
+    requires labels { (key : Key) → knows known key ≡ is_key_of (recut_document kept.old from end (bytes_of_parts parts.items)) key }
+    requires near { AreAllNear (knows kept.old.known) (knows known) (knows near.now) }
     ensures kept { IsKept kept.new }
     ensures document { IfOk result (λ _. divided_of kept.new ≡ recut_document kept.old from end (bytes_of_parts parts.items)) }
     ensures change { IfOk result (IsChange (divided_of kept.old) (divided_of kept.new)) }
@@ -272,14 +274,14 @@ fn put_other(
     ensures range { ¬ IsErrOf result Refused.Range }
     ensures fits { ArePackable (recut_document kept.old from end (bytes_of_parts parts.items)) → ¬ IsErrOf result Refused.TooLong }
 {
-    let read = read_parts(alloc, &kept.options, &machine, parts)?;
+    let read = read_parts(alloc, &kept.options, &known, parts)?;
     kept.sections.are_few();
     let new_to = from + read.len();
-    let rereads = read_others(alloc, kept, &machine, near, from, end, read.as_slice())?;
-    let others = tell_other(alloc, kept, &machine, from, end, read.as_slice(), &rereads)?;
+    let rereads = read_others(alloc, kept, &known, near, from, end, read.as_slice())?;
+    let others = tell_other(alloc, kept, &known, from, end, read.as_slice(), &rereads)?;
     let rereads = joined(rereads)?;
     kept.sections.splice(from, end, read)?;
-    kept.machine = machine;
+    kept.known = known;
     kept.sections.put_events(rereads);
     Ok(Change {
         from,
@@ -293,17 +295,17 @@ fn put_other(
 fn read_parts(
     alloc: Global,
     options: &ParseOptions,
-    machine: &Inlines,
+    known: &Defined,
     parts: Vec<Part>,
 ) -> Result<Vec<Section>, Refused>
     requires limit { AllByRecursion (IsWithinLimit options.now.tab_size) (bytes_of_parts parts.items) }
     requires labels { AllByRecursion (IsLabelled options.now) parts.items }
     ensures bytes { IfOk result (λ sections. bytes_of_sections sections.items ≡ bytes_of_parts parts.items) }
-    ensures read { IfOk result (λ sections. AllByRecursion (IsRead options.now (defines machine.now.labels)) sections.items) }
+    ensures read { IfOk result (λ sections. AllByRecursion (IsRead options.now (knows known.now)) sections.items) }
     ensures range { ¬ IsErrOf result Refused.Range }
-    ensures fits { AllByRecursion (IsPackable options.now (defines machine.now.labels)) (bytes_of_parts parts.items) → ¬ IsErrOf result Refused.TooLong }
+    ensures fits { AllByRecursion (IsPackable options.now (knows known.now)) (bytes_of_parts parts.items) → ¬ IsErrOf result Refused.TooLong }
 {
-    match sections_of(alloc, options, machine, parts) {
+    match sections_of(alloc, options, known, parts) {
         Ok(sections) => Ok(sections),
         Err(error) => Err(refused(error)),
     }
@@ -313,24 +315,24 @@ fn read_parts(
 fn read_side(
     alloc: Global,
     kept: &Kept,
-    machine: &Inlines,
-    near: &Labels,
+    known: &Defined,
+    near: &Defined,
     sections: &[Section],
     first: usize,
 ) -> Result<Vec<Reread>, Refused>
-    requires read { AllByRecursion (IsReadDocument kept.now.options (defines kept.now.machine.labels)) sections.now }
-    requires near { AreAllNear kept.now.machine.labels machine.now.labels near.now }
+    requires read { AllByRecursion (IsReadDocument kept.now.options (knows kept.now.known)) sections.now }
+    requires near { AreAllNear (knows kept.now.known) (knows known.now) (knows near.now) }
     requires numbers { first + length sections.now < 2 ^ 64 }
-    ensures others { IfOk result (λ others. AreReread (events_by kept.now.options (defines machine.now.labels)) first sections.now others.items) }
+    ensures others { IfOk result (λ others. AreReread (part_events kept.now.options (knows known.now)) first sections.now others.items) }
     ensures range { ¬ IsErrOf result Refused.Range }
-    ensures fits { AllByRecursion (λ section. IsPackable kept.now.options (defines machine.now.labels) section.part.bytes.items) sections.now → ¬ IsErrOf result Refused.TooLong }
+    ensures fits { AllByRecursion (λ section. IsPackable kept.now.options (knows known.now) section.part.bytes.items) sections.now → ¬ IsErrOf result Refused.TooLong }
 {
     match read_again(
         alloc,
         &kept.options,
-        &kept.machine.labels,
+        &kept.known,
         near,
-        machine,
+        known,
         sections,
         first,
     ) {
@@ -339,31 +341,31 @@ fn read_side(
     }
 }
 
-/// Those of the sections in front of some and behind them that have other events by this machine, which knows the new labels. As many sections as were
+/// Those of the sections in front of some and behind them that have other events by the labels that are defined now. As many sections as were
 /// read come between.
 fn read_others(
     alloc: Global,
     kept: &Kept,
-    machine: &Inlines,
-    near: &Labels,
+    known: &Defined,
+    near: &Defined,
     from: usize,
     end: usize,
     read: &[Section],
 ) -> Result<Rereads, Refused>
-    requires kept { AllByRecursion (IsReadDocument kept.now.options (defines kept.now.machine.labels)) kept.now.sections.items }
-    requires near { AreAllNear kept.now.machine.labels machine.now.labels near.now }
+    requires kept { AllByRecursion (IsReadDocument kept.now.options (knows kept.now.known)) kept.now.sections.items }
+    requires near { AreAllNear (knows kept.now.known) (knows known.now) (knows near.now) }
     requires order { from ≤ end }
     requires within { end ≤ length kept.now.sections.items }
     requires numbers { from + length read.now + length (drop end kept.now.sections.items) < 2 ^ 64 }
-    ensures front { IfOk result (λ others. AreReread (events_by kept.now.options (defines machine.now.labels)) 0 (take from kept.now.sections.items) others.front.items) }
-    ensures behind { IfOk result (λ others. AreReread (events_by kept.now.options (defines machine.now.labels)) (from + length read.now) (drop end kept.now.sections.items) others.behind.items) }
+    ensures front { IfOk result (λ others. AreReread (part_events kept.now.options (knows known.now)) 0 (take from kept.now.sections.items) others.front.items) }
+    ensures behind { IfOk result (λ others. AreReread (part_events kept.now.options (knows known.now)) (from + length read.now) (drop end kept.now.sections.items) others.behind.items) }
     ensures range { ¬ IsErrOf result Refused.Range }
-    ensures fits { let are_packable = AllByRecursion (λ section. IsPackable kept.now.options (defines machine.now.labels) section.part.bytes.items) in are_packable (take from kept.now.sections.items) → are_packable (drop end kept.now.sections.items) → ¬ IsErrOf result Refused.TooLong }
+    ensures fits { let are_packable = AllByRecursion (λ section. IsPackable kept.now.options (knows known.now) section.part.bytes.items) in are_packable (take from kept.now.sections.items) → are_packable (drop end kept.now.sections.items) → ¬ IsErrOf result Refused.TooLong }
 {
     let sections = kept.sections.as_slice();
-    let front = read_side(alloc, kept, machine, near, &sections[..from], 0)?;
+    let front = read_side(alloc, kept, known, near, &sections[..from], 0)?;
     let new_to = from + read.len();
-    let behind = read_side(alloc, kept, machine, near, &sections[end..], new_to)?;
+    let behind = read_side(alloc, kept, known, near, &sections[end..], new_to)?;
     Ok(Rereads { front, behind })
 }
 
@@ -379,28 +381,28 @@ fn joined(rereads: Rereads) -> Result<Vec<Reread>, AllocError>
     Ok(front)
 }
 
-/// Those of the sections in front of some and behind them of which something is new, if this machine knows the new labels. Sections that it read come
+/// Those of the sections in front of some and behind them of which something is new, by the labels that are defined now. Sections that it read come
 /// between.
 fn tell_other(
     alloc: Global,
     kept: &Kept,
-    machine: &Inlines,
+    known: &Defined,
     from: usize,
     end: usize,
     read: &[Section],
     rereads: &Rereads,
 ) -> Result<Vec<Other>, AllocError>
-    requires kept { AllByRecursion (IsRead kept.now.options (defines kept.now.machine.labels)) kept.now.sections.items }
+    requires kept { AllByRecursion (IsRead kept.now.options (knows kept.now.known)) kept.now.sections.items }
     requires order { from ≤ end }
     requires within { end ≤ length kept.now.sections.items }
-    requires read { AllByRecursion (IsRead kept.now.options (defines machine.now.labels)) read.now }
+    requires read { AllByRecursion (IsRead kept.now.options (knows known.now)) read.now }
     requires numbers { from + length read.now + length (drop end kept.now.sections.items) < 2 ^ 64 }
-    requires front { AreReread (events_by kept.now.options (defines machine.now.labels)) 0 (take from kept.now.sections.items) rereads.now.front.items }
-    requires behind { AreReread (events_by kept.now.options (defines machine.now.labels)) (from + length read.now) (drop end kept.now.sections.items) rereads.now.behind.items }
+    requires front { AreReread (part_events kept.now.options (knows known.now)) 0 (take from kept.now.sections.items) rereads.now.front.items }
+    requires behind { AreReread (part_events kept.now.options (knows known.now)) (from + length read.now) (drop end kept.now.sections.items) rereads.now.behind.items }
     ensures { let sections = kept.now.sections.items in
-        IfOk result (λ told. AreToldAround (events_by kept.now.options (defines machine.now.labels))
-        (first_said (events_by kept.now.options (defines kept.now.machine.labels)) (bytes_of_sections sections))
-        (first_said (events_by kept.now.options (defines machine.now.labels)) (bytes_of_sections (take from sections ++ (read.now ++ drop end sections))))
+        IfOk result (λ told. AreToldAround (part_events kept.now.options (knows known.now))
+        (first_said (part_events kept.now.options (knows kept.now.known)) (bytes_of_sections sections))
+        (first_said (part_events kept.now.options (knows known.now)) (bytes_of_sections (take from sections ++ (read.now ++ drop end sections))))
         (from + length read.now) (take from sections) (drop end sections) told.items) }
 {
     let sections = kept.sections.as_slice();
@@ -418,7 +420,7 @@ fn tell_other(
             rereads: rereads.behind.as_slice(),
         },
     };
-    tell(alloc, &kept.options, &kept.machine, machine, around)
+    tell(alloc, &kept.options, &kept.known, known, around)
 }
 
 /// The same, if the labels stay: none is read again.
@@ -429,22 +431,22 @@ fn tell_same(
     end: usize,
     read: &[Section],
 ) -> Result<Vec<Other>, AllocError>
-    requires kept { AllByRecursion (IsRead kept.now.options (defines kept.now.machine.labels)) kept.now.sections.items }
+    requires kept { AllByRecursion (IsRead kept.now.options (knows kept.now.known)) kept.now.sections.items }
     requires order { from ≤ end }
     requires within { end ≤ length kept.now.sections.items }
-    requires read { AllByRecursion (IsRead kept.now.options (defines kept.now.machine.labels)) read.now }
+    requires read { AllByRecursion (IsRead kept.now.options (knows kept.now.known)) read.now }
     requires numbers { from + length read.now + length (drop end kept.now.sections.items) < 2 ^ 64 }
-    ensures { let sections = kept.now.sections.items in let knows = defines kept.now.machine.labels in
-        IfOk result (λ told. AreToldAround (events_by kept.now.options knows)
-        (first_said (events_by kept.now.options knows) (bytes_of_sections sections))
-        (first_said (events_by kept.now.options knows) (bytes_of_sections (take from sections ++ (read.now ++ drop end sections))))
+    ensures { let sections = kept.now.sections.items in let known = knows kept.now.known in
+        IfOk result (λ told. AreToldAround (part_events kept.now.options known)
+        (first_said (part_events kept.now.options known) (bytes_of_sections sections))
+        (first_said (part_events kept.now.options known) (bytes_of_sections (take from sections ++ (read.now ++ drop end sections))))
         (from + length read.now) (take from sections) (drop end sections) told.items) }
 {
     let rereads = Rereads {
         front: Vec::new(alloc),
         behind: Vec::new(alloc),
     };
-    tell_other(alloc, kept, &kept.machine, from, end, read, &rereads)
+    tell_other(alloc, kept, &kept.known, from, end, read, &rereads)
 }
 
 /// Why a document is not edited, if events are not packed.

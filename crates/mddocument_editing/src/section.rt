@@ -3,22 +3,18 @@
 ghost use Rattle.std.specs.Prelude.{◌≡◌, IfOk, IsErrOf, MatchResult};
 ghost use Rattle.std.specs.List.{AllByRecursion};
 ghost use Rattle.markdown_base.specs.Virtual.{IsWithinLimit};
-ghost use Rattle.mdblock_definitions.specs.Labelled.{AreDefined};
-ghost use Rattle.mdinline_labels.specs.Defined.{defines};
-ghost use Rattle.mddocument_parts.specs.BothDocuments.{events_by};
 ghost use Rattle.mddocument_editing.specs.FirstRest.{items_of};
 ghost use Rattle.mddocument_editing.specs.Said.{linking};
-ghost use Rattle.mddocument_editing.specs.Kept.{IsLabelled, IsPackable, IsRead, bytes_of_parts, bytes_of_sections, has_end, labels_written};
+ghost use Rattle.mddocument_editing.specs.Kept.{IsLabelled, IsPackable, IsRead, bytes_of_parts, bytes_of_sections, has_end};
+ghost use Rattle.mddocument_editing.specs.Known.{knows, part_events};
 
+use crate::defined::Defined;
 use crate::linking::{Linking, linking_of};
 use crate::packed::{PackError, Packed};
 use crate::positions::line_endings;
 use markdown_base::configuration::ParseOptions;
 use markdown_base::owned::Boxed;
-use mdblock_definitions::parts::skeleton_with_definitions;
-use mddocument::documents::read_document_by;
-use mdinline_labels::labels::Labels;
-use mdinline_machine::inlines::Inlines;
+use mdgfm_sections::notes::gfm_events_of_part;
 use std::alloc::{AllocError, Global};
 
 /// A part of a document that begins at a rest, with the labels that it defines.
@@ -26,8 +22,8 @@ use std::alloc::{AllocError, Global};
 pub(crate) struct Part {
     /// Its bytes.
     pub(crate) bytes: Vec<u8>,
-    /// The labels that it defines.
-    pub(crate) labels: Labels,
+    /// The labels that it defines, of links and of footnotes.
+    pub(crate) defined: Defined,
 }
 
 /// A section: such a part, with its events.
@@ -54,15 +50,6 @@ pub(crate) struct Read {
     pub(crate) linking: Boxed<Linking>,
 }
 
-/// The labels that a part defines.
-fn labels_in(alloc: Global, options: &ParseOptions, bytes: &[u8]) -> Result<Labels, AllocError>
-    requires { IsWithinLimit options.now.tab_size bytes.now }
-    ensures { IfOk result (λ labels. AreDefined labels (labels_written options.now bytes.now)) }
-{
-    let skeleton = skeleton_with_definitions(alloc, bytes, options.tab_size, &options.constructs)?;
-    Ok(skeleton.labels)
-}
-
 /// The parts with these bytes.
 pub(crate) fn parts_of(
     alloc: Global,
@@ -75,8 +62,8 @@ pub(crate) fn parts_of(
 {
     let mut parts = Vec::with_capacity(alloc, cut.len())?;
     for bytes in cut {
-        let labels = labels_in(alloc, options, bytes.as_slice())?;
-        parts.push(Part { bytes, labels })?;
+        let defined = Defined::by(alloc, options, bytes.as_slice())?;
+        parts.push(Part { bytes, defined })?;
     }
     Ok(parts)
 }
@@ -85,14 +72,15 @@ pub(crate) fn parts_of(
 pub(crate) fn read_of(
     alloc: Global,
     options: &ParseOptions,
-    machine: &Inlines,
+    known: &Defined,
     bytes: &[u8],
 ) -> Result<Read, PackError>
     requires { IsWithinLimit options.now.tab_size bytes.now }
-    ensures events { MatchResult result (λ read. read.events ≡ events_by options.now (defines machine.now.labels) bytes.now) (λ error. error ≡ PackError.TooLong → ¬ IsPackable options.now (defines machine.now.labels) bytes.now) }
+    ensures events { MatchResult result (λ read. read.events ≡ part_events options.now (knows known.now) bytes.now) (λ error. error ≡ PackError.TooLong → ¬ IsPackable options.now (knows known.now) bytes.now) }
     ensures linking { IfOk result (λ read. read.linking ≡ linking bytes.now read.events) }
 {
-    let events = read_document_by(alloc, bytes, options, machine)?;
+    let Defined { machine, notes } = known;
+    let events = gfm_events_of_part(alloc, bytes, options, machine, notes)?;
     let linking = linking_of(alloc, bytes, events.as_slice())?;
     match Packed::of(alloc, events.as_slice()) {
         Ok(events) => Ok(Read { events, linking }),
@@ -111,17 +99,17 @@ fn has_end(bytes: &[u8]) -> bool
 fn section_of(
     alloc: Global,
     options: &ParseOptions,
-    machine: &Inlines,
+    known: &Defined,
     part: Part,
 ) -> Result<Section, PackError>
     requires limit { IsWithinLimit options.now.tab_size part.bytes.items }
     requires labels { IsLabelled options.now part }
     ensures part { IfOk result (λ section. section.part ≡ part) }
-    ensures read { IfOk result (IsRead options.now (defines machine.now.labels)) }
-    ensures fits { IsPackable options.now (defines machine.now.labels) part.bytes.items → ¬ IsErrOf result PackError.TooLong }
+    ensures read { IfOk result (IsRead options.now (knows known.now)) }
+    ensures fits { IsPackable options.now (knows known.now) part.bytes.items → ¬ IsErrOf result PackError.TooLong }
 {
     let bytes = part.bytes.as_slice();
-    let read = read_of(alloc, options, machine, bytes)?;
+    let read = read_of(alloc, options, known, bytes)?;
     let lines = line_endings(bytes);
     let asks = has_end(bytes);
     Ok(Section {
@@ -137,18 +125,18 @@ fn section_of(
 pub(crate) fn sections_of(
     alloc: Global,
     options: &ParseOptions,
-    machine: &Inlines,
+    known: &Defined,
     parts: Vec<Part>,
 ) -> Result<Vec<Section>, PackError>
     requires limit { AllByRecursion (IsWithinLimit options.now.tab_size) (bytes_of_parts parts.items) }
     requires labels { AllByRecursion (IsLabelled options.now) parts.items }
     ensures bytes { IfOk result (λ sections. bytes_of_sections sections.items ≡ bytes_of_parts parts.items) }
-    ensures read { IfOk result (λ sections. AllByRecursion (IsRead options.now (defines machine.now.labels)) sections.items) }
-    ensures fits { AllByRecursion (IsPackable options.now (defines machine.now.labels)) (bytes_of_parts parts.items) → ¬ IsErrOf result PackError.TooLong }
+    ensures read { IfOk result (λ sections. AllByRecursion (IsRead options.now (knows known.now)) sections.items) }
+    ensures fits { AllByRecursion (IsPackable options.now (knows known.now)) (bytes_of_parts parts.items) → ¬ IsErrOf result PackError.TooLong }
 {
     let mut sections = Vec::with_capacity(alloc, parts.len())?;
     for part in parts {
-        sections.push(section_of(alloc, options, machine, part)?)?;
+        sections.push(section_of(alloc, options, known, part)?)?;
     }
     Ok(sections)
 }

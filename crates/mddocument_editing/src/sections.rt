@@ -2,8 +2,7 @@
 
 ghost use Rattle.std.specs.Prelude.{◌≡◌, ◌+◌, ◌↔◌, ◌≤◌, ◌<◌, IfOk, IsErrOf, IsOk, OnErr, Some, length, slice_get, take, true};
 ghost use Rattle.markdown_base.specs.Virtual.{IsWithinLimit};
-ghost use Rattle.mddocument.specs.DocumentEvents.{document_events};
-ghost use Rattle.mddocument.specs.Documents.{AreDocumentEvents, document};
+ghost use Rattle.mdgfm_documents.specs.Documents.{gfm_events};
 ghost use Rattle.mddocument_parts.specs.Sections.{document_of};
 ghost use Rattle.mddocument_editing.specs.Divided.{Divided, IsDivided, bytes_of, events_between};
 ghost use Rattle.mddocument_editing.specs.Edits.{IsChange, IsInside, edited};
@@ -63,7 +62,7 @@ impl Sections {
         ensures bytes { IfOk result (λ sections. bytes_of sections ≡ bytes.now) }
         ensures options { IfOk result (λ sections. sections.options ≡ options.now) }
         ensures too_long { ¬ IsWithinLimit options.now.tab_size bytes.now → IsErrOf result PackError.TooLong }
-        ensures fits { IsWithinLimit options.now.tab_size bytes.now → events_fit (document_events (document options.now bytes.now)) ≡ true → ¬ IsErrOf result PackError.TooLong }
+        ensures fits { IsWithinLimit options.now.tab_size bytes.now → events_fit (gfm_events options.now bytes.now) ≡ true → ¬ IsErrOf result PackError.TooLong }
         ensures exact { CanBeEdited options.now bytes.now → ¬ IsErrOf result PackError.TooLong }
     {
         Ok(Sections {
@@ -167,9 +166,10 @@ impl Sections {
         offset_of(&self.kept, position, encoding)
     }
 
-    /// The events of the document. They are what reading its bytes anew gives. It fails only if it runs out of memory.
+    /// The events of the document, with checks of task list items, calls of footnotes and autolink literals, each if its option is on. They are what
+    /// [`read_gfm_document`](mdgfm_documents::documents::read_gfm_document) gives of its bytes. It fails only if it runs out of memory.
     pub fn events(&self, alloc: Global) -> Result<Vec<Event>, AllocError>
-        ensures { IfOk result (λ events. AreDocumentEvents self.now.options (bytes_of self.now) events.items) }
+        ensures { IfOk result (λ events. events.items ≡ gfm_events self.now.options (bytes_of self.now)) }
     {
         all_events(alloc, &self.kept)
     }
@@ -184,7 +184,7 @@ impl Sections {
     }
 
     /// The references of the sections from one up to another whose labels nothing in the document defines, in their order (see
-    /// [`undefined_in`](mddocument_references::references::undefined_in)). It copies the document's bytes. It fails only if it runs out of memory.
+    /// [`undefined_in`](mddocument_references::references::undefined_in)). A call of a footnote is none. It copies the document's bytes. It fails only if it runs out of memory.
     pub fn undefined(
         &self,
         alloc: Global,
@@ -209,7 +209,7 @@ impl Sections {
         ensures kept { OnErr result (self.new ≡ self.old) }
         ensures range { IsErrOf result Refused.Range ↔ ¬ IsInside edit.now (bytes_of self.old) }
         ensures too_long { IsInside edit.now (bytes_of self.old) → ¬ IsWithinLimit self.old.options.tab_size (edited edit.now (bytes_of self.old)) → IsErrOf result Refused.TooLong }
-        ensures fits { let new = edited edit.now (bytes_of self.old) in IsInside edit.now (bytes_of self.old) → IsWithinLimit self.old.options.tab_size new → events_fit (document_events (document self.old.options new)) ≡ true → ¬ IsErrOf result Refused.TooLong }
+        ensures fits { let new = edited edit.now (bytes_of self.old) in IsInside edit.now (bytes_of self.old) → IsWithinLimit self.old.options.tab_size new → events_fit (gfm_events self.old.options new) ≡ true → ¬ IsErrOf result Refused.TooLong }
         ensures exact { CanBeEdited self.old.options (edited edit.now (bytes_of self.old)) → ¬ IsErrOf result Refused.TooLong }
     {
         let Sections { kept, size } = self;

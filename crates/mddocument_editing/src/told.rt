@@ -3,21 +3,20 @@
 ghost use Rattle.std.specs.Option.{option_copied};
 ghost use Rattle.std.specs.Prelude.{◌≡◌, ◌↔◌, ◌<◌, ◌+◌, ◌++◌, ◌∷◌, [], ◌^◌, IfNone, IfOk, IfSome, List, None, OnOk, is_some, length, ℕ, true};
 ghost use Rattle.std.specs.List.{AllByRecursion};
-ghost use Rattle.mdinline_labels.specs.Defined.{defines};
-ghost use Rattle.mddocument_parts.specs.BothDocuments.{events_by};
 ghost use Rattle.mddocument_editing.specs.Kept.{bytes_of_sections};
+ghost use Rattle.mddocument_editing.specs.Known.{knows, part_events};
 ghost use Rattle.mddocument_editing.specs.Leading.{first_said};
 ghost use Rattle.mddocument_editing.specs.Put.{AreReread};
 ghost use Rattle.mddocument_editing.specs.Said.{said_by, said_of};
 ghost use Rattle.mddocument_editing.specs.Told.{ArePushed, AreToldAround, Goes, IsAgain, IsToldAs, IsToldNext, IsUntouched, all_saids, own_saids, read_next, saids_now, visit_of, visits_of};
 
+use crate::defined::Defined;
 use crate::edit::{Other, Why};
 use crate::leads::{Leads, lead_as_before, touch};
 use crate::reread::Reread;
 use crate::said::{Said, push_saids, same_saids};
 use crate::section::Section;
 use markdown_base::configuration::ParseOptions;
-use mdinline_machine::inlines::Inlines;
 use std::alloc::{AllocError, Global};
 
 /// Sections in a row, and which of them were read again. It goes over them.
@@ -191,20 +190,20 @@ fn push_rereads(all: &mut Vec<Said>, alloc: Global, side: Side) -> Result<(), Al
 fn touched(
     alloc: Global,
     options: &ParseOptions,
-    old: &Inlines,
-    new: &Inlines,
+    old: &Defined,
+    new: &Defined,
     around: &Around,
 ) -> Result<Leads, AllocError>
-    requires gone { AreReread (events_by options.now (defines old.now.labels)) 0 around.now.gone.now [] }
-    requires front { AreReread (events_by options.now (defines new.now.labels)) around.now.front.first around.now.front.sections.now around.now.front.rereads.now }
-    requires read { AreReread (events_by options.now (defines new.now.labels)) 0 around.now.read.now [] }
-    requires behind { AreReread (events_by options.now (defines new.now.labels)) around.now.behind.first around.now.behind.sections.now around.now.behind.rereads.now }
+    requires gone { AreReread (part_events options.now (knows old.now)) 0 around.now.gone.now [] }
+    requires front { AreReread (part_events options.now (knows new.now)) around.now.front.first around.now.front.sections.now around.now.front.rereads.now }
+    requires read { AreReread (part_events options.now (knows new.now)) 0 around.now.read.now [] }
+    requires behind { AreReread (part_events options.now (knows new.now)) around.now.behind.first around.now.behind.sections.now around.now.behind.rereads.now }
     requires few { around.now.front.first + length around.now.front.sections.now < 2 ^ 64 }
     requires numbers { around.now.behind.first + length around.now.behind.sections.now < 2 ^ 64 }
-    ensures gone { IfOk result (λ touched. (label : List ℕ) → said_by touched label ≡ None → said_of (all_saids (events_by options.now (defines old.now.labels)) (bytes_of_sections around.now.gone.now)) label ≡ None) }
-    ensures read { IfOk result (λ touched. (label : List ℕ) → said_by touched label ≡ None → said_of (all_saids (events_by options.now (defines new.now.labels)) (bytes_of_sections around.now.read.now)) label ≡ None) }
-    ensures front { IfOk result (λ touched. (label : List ℕ) → said_by touched label ≡ None → AllByRecursion (IsUntouched (events_by options.now (defines new.now.labels)) label) around.now.front.sections.now) }
-    ensures behind { IfOk result (λ touched. (label : List ℕ) → said_by touched label ≡ None → AllByRecursion (IsUntouched (events_by options.now (defines new.now.labels)) label) around.now.behind.sections.now) }
+    ensures gone { IfOk result (λ touched. (label : List ℕ) → said_by touched label ≡ None → said_of (all_saids (part_events options.now (knows old.now)) (bytes_of_sections around.now.gone.now)) label ≡ None) }
+    ensures read { IfOk result (λ touched. (label : List ℕ) → said_by touched label ≡ None → said_of (all_saids (part_events options.now (knows new.now)) (bytes_of_sections around.now.read.now)) label ≡ None) }
+    ensures front { IfOk result (λ touched. (label : List ℕ) → said_by touched label ≡ None → AllByRecursion (IsUntouched (part_events options.now (knows new.now)) label) around.now.front.sections.now) }
+    ensures behind { IfOk result (λ touched. (label : List ℕ) → said_by touched label ≡ None → AllByRecursion (IsUntouched (part_events options.now (knows new.now)) label) around.now.behind.sections.now) }
 {
     let mut all = Vec::new(alloc);
     push_own(&mut all, alloc, around.gone)?;
@@ -259,21 +258,21 @@ fn push_nears(
 fn near_leads(
     alloc: Global,
     options: &ParseOptions,
-    old: &Inlines,
-    new: &Inlines,
+    old: &Defined,
+    new: &Defined,
     around: &Around,
 ) -> Result<Leading, AllocError>
-    requires old_front { AreReread (events_by options.now (defines old.now.labels)) 0 around.now.front.sections.now [] }
-    requires gone { AreReread (events_by options.now (defines old.now.labels)) 0 around.now.gone.now [] }
-    requires old_behind { AreReread (events_by options.now (defines old.now.labels)) 0 around.now.behind.sections.now [] }
-    requires front { AreReread (events_by options.now (defines new.now.labels)) around.now.front.first around.now.front.sections.now around.now.front.rereads.now }
-    requires read { AreReread (events_by options.now (defines new.now.labels)) 0 around.now.read.now [] }
-    requires behind { AreReread (events_by options.now (defines new.now.labels)) around.now.behind.first around.now.behind.sections.now around.now.behind.rereads.now }
+    requires old_front { AreReread (part_events options.now (knows old.now)) 0 around.now.front.sections.now [] }
+    requires gone { AreReread (part_events options.now (knows old.now)) 0 around.now.gone.now [] }
+    requires old_behind { AreReread (part_events options.now (knows old.now)) 0 around.now.behind.sections.now [] }
+    requires front { AreReread (part_events options.now (knows new.now)) around.now.front.first around.now.front.sections.now around.now.front.rereads.now }
+    requires read { AreReread (part_events options.now (knows new.now)) 0 around.now.read.now [] }
+    requires behind { AreReread (part_events options.now (knows new.now)) around.now.behind.first around.now.behind.sections.now around.now.behind.rereads.now }
     requires few { around.now.front.first + length around.now.front.sections.now < 2 ^ 64 }
     requires numbers { around.now.behind.first + length around.now.behind.sections.now < 2 ^ 64 }
     ensures { let front = bytes_of_sections around.now.front.sections.now in let behind = bytes_of_sections around.now.behind.sections.now in
-        let before = first_said (events_by options.now (defines old.now.labels)) (front ++ (bytes_of_sections around.now.gone.now ++ behind)) in
-        let now = first_said (events_by options.now (defines new.now.labels)) (front ++ (bytes_of_sections around.now.read.now ++ behind)) in
+        let before = first_said (part_events options.now (knows old.now)) (front ++ (bytes_of_sections around.now.gone.now ++ behind)) in
+        let now = first_said (part_events options.now (knows new.now)) (front ++ (bytes_of_sections around.now.read.now ++ behind)) in
         IfOk result (λ leading. (label : List ℕ) → (said_by leading.new label ≡ said_by leading.old label) ↔ (now label ≡ before label)) }
 {
     let touched = touched(alloc, options, old, new, around)?;
@@ -296,13 +295,13 @@ fn near_leads(
 fn define_as_before(
     alloc: Global,
     options: &ParseOptions,
-    old: &Inlines,
-    new: &Inlines,
+    old: &Defined,
+    new: &Defined,
     around: &Around,
 ) -> Result<bool, AllocError>
-    requires gone { AreReread (events_by options.now (defines old.now.labels)) 0 around.now.gone.now [] }
-    requires read { AreReread (events_by options.now (defines new.now.labels)) 0 around.now.read.now [] }
-    ensures { IfOk result (λ same. same ≡ true → all_saids (events_by options.now (defines old.now.labels)) (bytes_of_sections around.now.gone.now) ≡ all_saids (events_by options.now (defines new.now.labels)) (bytes_of_sections around.now.read.now)) }
+    requires gone { AreReread (part_events options.now (knows old.now)) 0 around.now.gone.now [] }
+    requires read { AreReread (part_events options.now (knows new.now)) 0 around.now.read.now [] }
+    ensures { IfOk result (λ same. same ≡ true → all_saids (part_events options.now (knows old.now)) (bytes_of_sections around.now.gone.now) ≡ all_saids (part_events options.now (knows new.now)) (bytes_of_sections around.now.read.now)) }
 {
     let mut gone = Vec::new(alloc);
     push_own(&mut gone, alloc, around.gone)?;
@@ -315,15 +314,15 @@ fn define_as_before(
 fn lead_where_they_led(
     alloc: Global,
     options: &ParseOptions,
-    old: &Inlines,
-    new: &Inlines,
+    old: &Defined,
+    new: &Defined,
     around: &Around,
 ) -> Result<bool, AllocError>
-    requires gone { AreReread (events_by options.now (defines old.now.labels)) 0 around.now.gone.now [] }
-    requires read { AreReread (events_by options.now (defines new.now.labels)) 0 around.now.read.now [] }
+    requires gone { AreReread (part_events options.now (knows old.now)) 0 around.now.gone.now [] }
+    requires read { AreReread (part_events options.now (knows new.now)) 0 around.now.read.now [] }
     ensures front { IfOk result (λ same. same ≡ true → around.now.front.rereads.now ≡ []) }
     ensures behind { IfOk result (λ same. same ≡ true → around.now.behind.rereads.now ≡ []) }
-    ensures saids { IfOk result (λ same. same ≡ true → all_saids (events_by options.now (defines old.now.labels)) (bytes_of_sections around.now.gone.now) ≡ all_saids (events_by options.now (defines new.now.labels)) (bytes_of_sections around.now.read.now)) }
+    ensures saids { IfOk result (λ same. same ≡ true → all_saids (part_events options.now (knows old.now)) (bytes_of_sections around.now.gone.now) ≡ all_saids (part_events options.now (knows new.now)) (bytes_of_sections around.now.read.now)) }
 {
     if !around.front.rereads.is_empty() || !around.behind.rereads.is_empty() {
         return Ok(false);
@@ -336,23 +335,23 @@ fn lead_where_they_led(
 fn tell_sides(
     alloc: Global,
     options: &ParseOptions,
-    old: &Inlines,
-    new: &Inlines,
+    old: &Defined,
+    new: &Defined,
     around: Around,
 ) -> Result<Vec<Other>, AllocError>
-    requires old_front { AreReread (events_by options.now (defines old.now.labels)) 0 around.front.sections.now [] }
-    requires old_gone { AreReread (events_by options.now (defines old.now.labels)) 0 around.gone.now [] }
-    requires old_behind { AreReread (events_by options.now (defines old.now.labels)) 0 around.behind.sections.now [] }
-    requires front { AreReread (events_by options.now (defines new.now.labels)) 0 around.front.sections.now around.front.rereads.now }
+    requires old_front { AreReread (part_events options.now (knows old.now)) 0 around.front.sections.now [] }
+    requires old_gone { AreReread (part_events options.now (knows old.now)) 0 around.gone.now [] }
+    requires old_behind { AreReread (part_events options.now (knows old.now)) 0 around.behind.sections.now [] }
+    requires front { AreReread (part_events options.now (knows new.now)) 0 around.front.sections.now around.front.rereads.now }
     requires first { around.front.first ≡ 0 }
-    requires read { AreReread (events_by options.now (defines new.now.labels)) 0 around.read.now [] }
-    requires behind { AreReread (events_by options.now (defines new.now.labels)) around.behind.first around.behind.sections.now around.behind.rereads.now }
+    requires read { AreReread (part_events options.now (knows new.now)) 0 around.read.now [] }
+    requires behind { AreReread (part_events options.now (knows new.now)) around.behind.first around.behind.sections.now around.behind.rereads.now }
     requires few { length around.front.sections.now < 2 ^ 64 }
     requires numbers { around.behind.first + length around.behind.sections.now < 2 ^ 64 }
     ensures { let front = bytes_of_sections around.entry.front.sections.now in let behind = bytes_of_sections around.entry.behind.sections.now in
-        IfOk result (λ told. AreToldAround (events_by options.now (defines new.now.labels))
-        (first_said (events_by options.now (defines old.now.labels)) (front ++ (bytes_of_sections around.entry.gone.now ++ behind)))
-        (first_said (events_by options.now (defines new.now.labels)) (front ++ (bytes_of_sections around.entry.read.now ++ behind)))
+        IfOk result (λ told. AreToldAround (part_events options.now (knows new.now))
+        (first_said (part_events options.now (knows old.now)) (front ++ (bytes_of_sections around.entry.gone.now ++ behind)))
+        (first_said (part_events options.now (knows new.now)) (front ++ (bytes_of_sections around.entry.read.now ++ behind)))
         around.entry.behind.first around.entry.front.sections.now around.entry.behind.sections.now told.items) }
 {
     let leading = near_leads(alloc, options, old, new, &around)?;
@@ -367,23 +366,23 @@ fn tell_sides(
 pub(crate) fn tell(
     alloc: Global,
     options: &ParseOptions,
-    old: &Inlines,
-    new: &Inlines,
+    old: &Defined,
+    new: &Defined,
     around: Around,
 ) -> Result<Vec<Other>, AllocError>
-    requires old_front { AreReread (events_by options.now (defines old.now.labels)) 0 around.front.sections.now [] }
-    requires old_gone { AreReread (events_by options.now (defines old.now.labels)) 0 around.gone.now [] }
-    requires old_behind { AreReread (events_by options.now (defines old.now.labels)) 0 around.behind.sections.now [] }
-    requires front { AreReread (events_by options.now (defines new.now.labels)) 0 around.front.sections.now around.front.rereads.now }
+    requires old_front { AreReread (part_events options.now (knows old.now)) 0 around.front.sections.now [] }
+    requires old_gone { AreReread (part_events options.now (knows old.now)) 0 around.gone.now [] }
+    requires old_behind { AreReread (part_events options.now (knows old.now)) 0 around.behind.sections.now [] }
+    requires front { AreReread (part_events options.now (knows new.now)) 0 around.front.sections.now around.front.rereads.now }
     requires first { around.front.first ≡ 0 }
-    requires read { AreReread (events_by options.now (defines new.now.labels)) 0 around.read.now [] }
-    requires behind { AreReread (events_by options.now (defines new.now.labels)) around.behind.first around.behind.sections.now around.behind.rereads.now }
+    requires read { AreReread (part_events options.now (knows new.now)) 0 around.read.now [] }
+    requires behind { AreReread (part_events options.now (knows new.now)) around.behind.first around.behind.sections.now around.behind.rereads.now }
     requires few { length around.front.sections.now < 2 ^ 64 }
     requires numbers { around.behind.first + length around.behind.sections.now < 2 ^ 64 }
     ensures { let front = bytes_of_sections around.entry.front.sections.now in let behind = bytes_of_sections around.entry.behind.sections.now in
-        IfOk result (λ told. AreToldAround (events_by options.now (defines new.now.labels))
-        (first_said (events_by options.now (defines old.now.labels)) (front ++ (bytes_of_sections around.entry.gone.now ++ behind)))
-        (first_said (events_by options.now (defines new.now.labels)) (front ++ (bytes_of_sections around.entry.read.now ++ behind)))
+        IfOk result (λ told. AreToldAround (part_events options.now (knows new.now))
+        (first_said (part_events options.now (knows old.now)) (front ++ (bytes_of_sections around.entry.gone.now ++ behind)))
+        (first_said (part_events options.now (knows new.now)) (front ++ (bytes_of_sections around.entry.read.now ++ behind)))
         around.entry.behind.first around.entry.front.sections.now around.entry.behind.sections.now told.items) }
 {
     let same = lead_where_they_led(alloc, options, old, new, &around)?;

@@ -36,7 +36,7 @@ pub(crate) fn undefined_between(
     let events = events_between(alloc, kept, from, to)?;
     let bytes = all_bytes(alloc, kept)?;
     let on = &kept.options.constructs;
-    let labels = &kept.machine.labels;
+    let labels = &kept.known.machine.labels;
     let found = undefined_in(alloc, on, bytes.as_slice(), labels, events.as_slice())?;
     Ok(found)
 }

@@ -14,14 +14,27 @@ use mdconstructs::{
 };
 use std::alloc::{AllocError, Global};
 
-/// The events of a document with these constructs.
-fn nested_with(alloc: Global, bytes: &[u8], constructs: Constructs) -> Result<String, AllocError> {
+/// The events of a document with these constructs, and with one tilde counting or not.
+fn nested_by(
+    alloc: Global,
+    bytes: &[u8],
+    constructs: Constructs,
+    one_tilde: bool,
+) -> Result<String, AllocError> {
     if bytes.len() > limit_of(TabSize::default()) {
         return String::from_str(alloc, "too long");
     }
-    let options = options_with(constructs, TabSize::default());
+    let options = ParseOptions {
+        gfm_strikethrough_single_tilde: one_tilde,
+        ..options_with(constructs, TabSize::default())
+    };
     let events = read_document(alloc, bytes, &options)?;
     spans_of(alloc, bytes, events.as_slice())
+}
+
+/// The events of a document with these constructs.
+fn nested_with(alloc: Global, bytes: &[u8], constructs: Constructs) -> Result<String, AllocError> {
+    nested_by(alloc, bytes, constructs, true)
 }
 
 /// The same events, handed on to a list.
@@ -165,6 +178,31 @@ const STRUCK: &[(&[u8], &str)] = &[
     ),
 ];
 
+/// Documents with strikethrough on, and their spans as one tilde counts, and as it does not: one around a text, in emphasis, and around one that two
+/// strike.
+const ONE: &[(&[u8], &str, &str)] = &[
+    (
+        b"~a~ ~~b~~",
+        "Paragraph[GfmStrikethrough[GfmStrikethroughSequence\"~\" GfmStrikethroughText[Data\"a\"] GfmStrikethroughSequence\"~\"] Data\" \" \
+        GfmStrikethrough[GfmStrikethroughSequence\"~~\" GfmStrikethroughText[Data\"b\"] GfmStrikethroughSequence\"~~\"]]",
+        "Paragraph[Data\"~\" Data\"a\" Data\"~\" Data\" \" \
+        GfmStrikethrough[GfmStrikethroughSequence\"~~\" GfmStrikethroughText[Data\"b\"] GfmStrikethroughSequence\"~~\"]]",
+    ),
+    (
+        b"*~a~*",
+        "Paragraph[Emphasis[EmphasisSequence\"*\" EmphasisText[GfmStrikethrough[GfmStrikethroughSequence\"~\" GfmStrikethroughText[Data\"a\"] \
+        GfmStrikethroughSequence\"~\"]] EmphasisSequence\"*\"]]",
+        "Paragraph[Emphasis[EmphasisSequence\"*\" EmphasisText[Data\"~\" Data\"a\" Data\"~\"] EmphasisSequence\"*\"]]",
+    ),
+    (
+        b"~a ~~b~~ c~",
+        "Paragraph[GfmStrikethrough[GfmStrikethroughSequence\"~\" GfmStrikethroughText[Data\"a \" GfmStrikethrough[GfmStrikethroughSequence\"~~\" \
+        GfmStrikethroughText[Data\"b\"] GfmStrikethroughSequence\"~~\"] Data\" c\"] GfmStrikethroughSequence\"~\"]]",
+        "Paragraph[Data\"~\" Data\"a \" GfmStrikethrough[GfmStrikethroughSequence\"~~\" GfmStrikethroughText[Data\"b\"] \
+        GfmStrikethroughSequence\"~~\"] Data\" c\" Data\"~\"]",
+    ),
+];
+
 /// Documents, and how each is read without indented code and with it. Without it a quote's marker may stand behind any white space, in its first line
 /// and in its further ones. With it no marker stands behind four columns: they begin code, or text that goes on with a paragraph (CommonMark, 4.4, 4.8,
 /// 5.1).
@@ -220,6 +258,10 @@ fn documents_are_read_as_their_options_say(rt: HostRuntime) {
     }
     for row in STRUCK {
         assert_shown(&rt, nested_with(alloc, row.0, on), row.1);
+    }
+    for row in ONE {
+        assert_shown(&rt, nested_by(alloc, row.0, on, true), row.1);
+        assert_shown(&rt, nested_by(alloc, row.0, on, false), row.2);
     }
     let alone = Constructs {
         attention: false,

@@ -7,6 +7,8 @@ mod documents;
 #[cfg(test)]
 mod edits;
 #[cfg(test)]
+mod gfm_edits;
+#[cfg(test)]
 mod lists;
 #[cfg(test)]
 mod sections;

@@ -1,4 +1,4 @@
-use Rattle.mddocument_editing.proofs.Prelude.{◌≡◌, sym, ap, subst, ◌∙◌, arith, length, length-map, IfOk-weaker, Event, AreDocumentEvents, Section, bytes_of, events_between, divided_of}
+use Rattle.mddocument_editing.proofs.Prelude.{◌≡◌, ap, ◌∙◌, arith, length, length-map, IfOk-weaker, Event, Section, bytes_of, gfm_events, events_between, divided_of}
 use Rattle.std.proofs.Common.{Vec, Global}
 use Rattle.mddocument_editing.proofs.SectionEvents.{all-are-the-documents}
 use Rattle.mddocument_editing.proofs.moved.all_events.Goals as goal
@@ -10,5 +10,5 @@ returns c =
     let n = c.len.result in
     let all = all-are-the-documents d c.is_document.ensures c.requires.divided in
     let end : n ≡ length d.sections = omega (arith, c.len.ensures, length-map k.sections.items (λ (section : Section). section.part.bytes.items)) in
-    IfOk-weaker c.events_between.result (λ (events : Vec Event Global). events.items ≡ events_between d 0 n) (λ (events : Vec Event Global). AreDocumentEvents k.options (bytes_of d) events.items)
-    (λ events is. subst (AreDocumentEvents k.options (bytes_of d)) (sym (is ∙ ap (events_between d 0) end)) all) c.events_between.ensures
+    IfOk-weaker c.events_between.result (λ (events : Vec Event Global). events.items ≡ events_between d 0 n) (λ (events : Vec Event Global). events.items ≡ gfm_events k.options (bytes_of d))
+    (λ events is. is ∙ ap (events_between d 0) end ∙ all) c.events_between.ensures

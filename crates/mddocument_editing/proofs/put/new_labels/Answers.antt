@@ -1,7 +1,7 @@
-use Rattle.mddocument_editing.proofs.Prelude.{◌||◌, ◌-◌, length, drop, refl, sym, ap, ◌∙◌, or-false, every-drop, every-take, defines, IsLabelled, bytes_of_parts}
+use Rattle.mddocument_editing.proofs.Prelude.{◌||◌, ◌-◌, length, drop, refl, sym, ap, ◌∙◌, or-false, every-drop, every-take, IsLabelled, bytes_of_parts, knows, is_written}
 use Rattle.mddocument_editing.proofs.put.new_labels.Goals as goal
 use Rattle.mddocument_editing.proofs.AnyOf.{neither}
-use Rattle.mddocument_editing.proofs.NewLabels.{alike, defined-recut, is_written, kept-labelled, kept-recut}
+use Rattle.mddocument_editing.proofs.NewLabels.{alike, defined-recut, kept-labelled, kept-recut}
 
 pub define_sections-requires : goal.define_sections-requires
 define_sections-requires c =
@@ -25,34 +25,34 @@ define_sections-requires-3 c =
     (every-drop (λ section. IsLabelled options section.part) end xs (kept-labelled c.args.kept.now c.as_slice-sections.ensures.value c.requires.kept))
 
 pub returns-then-is_same-clause-none : goal.returns-then-is_same-clause-none
-returns-then-is_same-clause-none c label =
-    kept-recut c.args.kept.now c.as_slice-sections.ensures.value c.args.parts.now c.requires.recut label c.requires.kept
-    (alike _ _ _ _ _ _ (c.in_ok-define_sections.ensures label) (c.new-gone.ensures label) (c.in_ok-define_parts.ensures label) (c.new-come.ensures label) (c.if-is_same.ensures refl label))
+returns-then-is_same-clause-none c key =
+    kept-recut c.args.kept.now c.as_slice-sections.ensures.value c.args.parts.now c.requires.recut c.requires.possible_now key c.requires.possible c.requires.kept
+    (alike _ _ _ _ _ _ (c.in_ok-define_sections.ensures key) (c.new-gone.ensures key) (c.in_ok-define_parts.ensures key) (c.new-come.ensures key) (c.if-is_same.ensures refl key))
 
 pub returns-then-is_same-2-clause-none : goal.returns-then-is_same-2-clause-none
-returns-then-is_same-2-clause-none c label =
-    let first = defines c.define_sections-2.new.labels label in
-    let written = is_written c.args.kept.now.options (bytes_of_parts c.args.parts.now) label in
-    sym (c.if-is_same-2.ensures refl label)
-    ∙ defined-recut c.args.kept.now c.as_slice-sections.ensures.value c.args.parts.now c.requires.recut label (c.in_ok-define_sections-3.ensures label)
-    (c.in_ok-define_all.ensures label ∙ ap (λ b. b || first) (c.in_ok-define_parts.ensures label ∙ ap (λ b. written || b) (c.new-come.ensures label) ∙ or-false written)) (c.in_ok-define_sections-2.ensures label)
-    (c.new-labels.ensures label)
+returns-then-is_same-2-clause-none c key =
+    let first = knows c.define_sections-2.new.labels key in
+    let in_parts = is_written c.args.kept.now.options (bytes_of_parts c.args.parts.now) key in
+    sym (c.if-is_same-2.ensures refl key)
+    ∙ defined-recut c.args.kept.now c.as_slice-sections.ensures.value c.args.parts.now c.requires.recut c.requires.possible_now key (c.in_ok-define_sections-3.ensures key)
+    (c.in_ok-define_all.ensures key ∙ ap (λ b. b || first) (c.in_ok-define_parts.ensures key ∙ ap (λ b. in_parts || b) (c.new-come.ensures key) ∙ or-false in_parts)) (c.in_ok-define_sections-2.ensures key)
+    (c.new-labels.ensures key)
 
 pub returns-clause-some : goal.returns-clause-some
-returns-clause-some c label =
-    let first = defines c.define_sections-2.new.labels label in
-    let written = is_written c.args.kept.now.options (bytes_of_parts c.args.parts.now) label in
-    defined-recut c.args.kept.now c.as_slice-sections.ensures.value c.args.parts.now c.requires.recut label (c.in_ok-define_sections-3.ensures label)
-    (c.in_ok-define_all.ensures label ∙ ap (λ b. b || first) (c.in_ok-define_parts.ensures label ∙ ap (λ b. written || b) (c.new-come.ensures label) ∙ or-false written)) (c.in_ok-define_sections-2.ensures label)
-    (c.new-labels.ensures label)
+returns-clause-some c key =
+    let first = knows c.define_sections-2.new.labels key in
+    let in_parts = is_written c.args.kept.now.options (bytes_of_parts c.args.parts.now) key in
+    defined-recut c.args.kept.now c.as_slice-sections.ensures.value c.args.parts.now c.requires.recut c.requires.possible_now key (c.in_ok-define_sections-3.ensures key)
+    (c.in_ok-define_all.ensures key ∙ ap (λ b. b || first) (c.in_ok-define_parts.ensures key ∙ ap (λ b. in_parts || b) (c.new-come.ensures key) ∙ or-false in_parts)) (c.in_ok-define_sections-2.ensures key)
+    (c.new-labels.ensures key)
 
 pub returns-clause-near : goal.returns-clause-near
-returns-clause-near c label none =
-    let first = defines c.define_sections-2.new.labels label in
-    let written = is_written c.args.kept.now.options (bytes_of_parts c.args.parts.now) label in
-    let both = neither _ _ (sym (c.in_ok-define_all-2.ensures label) ∙ none) in
-    kept-recut c.args.kept.now c.as_slice-sections.ensures.value c.args.parts.now c.requires.recut label c.requires.kept
-    (alike _ _ _ _ _ _ (c.in_ok-define_sections.ensures label) (c.new-gone.ensures label) (c.in_ok-define_parts.ensures label) (c.new-come.ensures label) (both.0 ∙ sym both.1))
-    ∙ sym (defined-recut c.args.kept.now c.as_slice-sections.ensures.value c.args.parts.now c.requires.recut label (c.in_ok-define_sections-3.ensures label)
-    (c.in_ok-define_all.ensures label ∙ ap (λ b. b || first) (c.in_ok-define_parts.ensures label ∙ ap (λ b. written || b) (c.new-come.ensures label) ∙ or-false written)) (c.in_ok-define_sections-2.ensures label)
-    (c.new-labels.ensures label))
+returns-clause-near c key none =
+    let first = knows c.define_sections-2.new.labels key in
+    let in_parts = is_written c.args.kept.now.options (bytes_of_parts c.args.parts.now) key in
+    let both = neither _ _ (sym (c.in_ok-define_all-2.ensures key) ∙ none) in
+    kept-recut c.args.kept.now c.as_slice-sections.ensures.value c.args.parts.now c.requires.recut c.requires.possible_now key c.requires.possible c.requires.kept
+    (alike _ _ _ _ _ _ (c.in_ok-define_sections.ensures key) (c.new-gone.ensures key) (c.in_ok-define_parts.ensures key) (c.new-come.ensures key) (both.0 ∙ sym both.1))
+    ∙ sym (defined-recut c.args.kept.now c.as_slice-sections.ensures.value c.args.parts.now c.requires.recut c.requires.possible_now key (c.in_ok-define_sections-3.ensures key)
+    (c.in_ok-define_all.ensures key ∙ ap (λ b. b || first) (c.in_ok-define_parts.ensures key ∙ ap (λ b. in_parts || b) (c.new-come.ensures key) ∙ or-false in_parts)) (c.in_ok-define_sections-2.ensures key)
+    (c.new-labels.ensures key))

@@ -1,4 +1,4 @@
-use Rattle.mddocument_editing.proofs.Prelude.{◌+◌, ◌++◌, length, take, drop, refl, subst, sym, ap, ◌∙◌, arith, length-take-le, every-map, err_from_is_err_and, defines, events_by, IsRead, bytes_of_parts, bytes_of_sections, AreReread, HasEvents, HasLinking, Section}
+use Rattle.mddocument_editing.proofs.Prelude.{◌+◌, ◌++◌, length, take, drop, refl, subst, sym, ap, ◌∙◌, arith, length-take-le, every-map, err_from_is_err_and, part_events, IsRead, bytes_of_parts, bytes_of_sections, AreReread, HasEvents, HasLinking, Section, knows}
 use Rattle.mddocument_editing.specs.Leading.{first_said}
 use Rattle.mddocument_editing.specs.Told.{AreToldAround}
 use Rattle.mddocument_editing.proofs.PackedParts.{behind-fits, front-fits, parts-fit}
@@ -18,18 +18,18 @@ read_parts-requires-clause-limit c =
 pub read_others-requires-clause-kept : goal.read_others-requires-clause-kept
 read_others-requires-clause-kept c =
     let kept = c.args.kept.now in
-    read-documents kept.options (defines kept.machine.labels) kept.sections.items c.requires.possible c.requires.kept.read
+    read-documents kept.options (knows kept.known) kept.sections.items c.requires.possible c.requires.kept.read
 
 -- the sections that were read are put in the place of some
-put-in : (c : In_ok-splice) → ArePutIn c.args.kept.now c.args.machine c.args.from c.args.end (c.args.from + c.len.result) (bytes_of_parts c.args.parts.items) c.in_ok-read.read.items c.splice.new.self.items c.in_ok-rereads-2.rereads.items c.in_ok-others.others.items
+put-in : (c : In_ok-splice) → ArePutIn c.args.kept.now c.args.known c.args.from c.args.end (c.args.from + c.len.result) (bytes_of_parts c.args.parts.items) c.in_ok-read.read.items c.splice.new.self.items c.in_ok-rereads-2.rereads.items c.in_ok-others.others.items
 put-in c =
     let kept = c.args.kept.now in
     let read = c.in_ok-read.read in
-    let by = events_by kept.options (defines c.args.machine.labels) in
-    let old_leads = first_said (events_by kept.options (defines kept.machine.labels)) (bytes_of_sections kept.sections.items) in
+    let by = part_events kept.options (knows c.args.known) in
+    let old_leads = first_said (part_events kept.options (knows kept.known)) (bytes_of_sections kept.sections.items) in
     let xs = kept.sections.items in
     let ends = ap (λ n. c.args.from + n) (c.len.ensures ∙ read.ok.0) in
-    let has = every-map (IsRead kept.options (defines c.args.machine.labels)) (λ (s : Section). HasEvents by s × HasLinking s) (λ s is. (sym is.events, is.linking)) read.items c.in_ok-read.ensures.read in
+    let has = every-map (IsRead kept.options (knows c.args.known)) (λ (s : Section). HasEvents by s × HasLinking s) (λ s is. (sym is.events, is.linking)) read.items c.in_ok-read.ensures.read in
     let new_to = c.args.from + length read.items in
     let long = length-take-le c.args.from xs (omega (arith, c.requires.recut.order, c.requires.recut.within)) in
     record {
@@ -67,13 +67,13 @@ returns-clause-change c = then-change (put-in (goal.at.returns-clause-change c).
 pub returns-in_err-read-clause-fits : goal.returns-in_err-read-clause-fits
 returns-in_err-read-clause-fits c fits long =
     let p = err_from_is_err_and c.from_residual.result c.from_residual.ensures.1 in
-    c.in_err-read.ensures.fits (parts-fit c.args.kept.now c.args.from c.args.end (bytes_of_parts c.args.parts.items) (defines c.args.machine.labels) c.requires.labels fits) (cc (p.1, p.2, long))
+    c.in_err-read.ensures.fits (parts-fit c.args.kept.now c.args.from c.args.end (bytes_of_parts c.args.parts.items) (knows c.args.known) c.requires.labels fits) (cc (p.1, p.2, long))
 
 pub returns-in_err-rereads-clause-fits : goal.returns-in_err-rereads-clause-fits
 returns-in_err-rereads-clause-fits c fits long =
     let kept = c.args.kept.now in
     let parts = bytes_of_parts c.args.parts.items in
-    let defined = defines c.args.machine.labels in
+    let defined = knows c.args.known in
     let p = err_from_is_err_and c.from_residual-in_err-rereads.result c.from_residual-in_err-rereads.ensures.1 in
     c.in_err-rereads.ensures.fits (front-fits kept c.args.from c.args.end parts defined c.requires.labels fits)
     (behind-fits kept c.args.from c.args.end parts defined c.requires.labels fits) (cc (p.1, p.2, long))

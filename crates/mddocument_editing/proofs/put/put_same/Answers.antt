@@ -1,4 +1,4 @@
-use Rattle.mddocument_editing.proofs.Prelude.{◌+◌, ◌++◌, [], length, take, drop, refl, subst, sym, ap, ◌∙◌, err_from_is_err_and, defines, events_by, bytes_of_parts, bytes_of_sections, IsRead}
+use Rattle.mddocument_editing.proofs.Prelude.{◌+◌, ◌++◌, [], length, take, drop, refl, subst, sym, ap, ◌∙◌, err_from_is_err_and, part_events, bytes_of_parts, bytes_of_sections, IsRead, knows}
 use Rattle.mddocument_editing.specs.Leading.{first_said}
 use Rattle.mddocument_editing.specs.Told.{AreToldAround}
 use Rattle.mddocument_editing.proofs.PackedParts.{parts-fit}
@@ -15,12 +15,12 @@ read_parts-requires-clause-limit c =
     parts-within kept.options.tab_size (take c.args.from sections) (bytes_of_parts c.args.parts.items) (drop c.args.end sections) c.requires.recut.divided.limit
 
 -- the sections that were read are put in the place of some, and none was read again
-put-in : (c : In_ok-splice) → ArePutIn c.args.kept.now c.args.kept.now.machine c.args.from c.args.end (c.args.from + c.len.result) (bytes_of_parts c.args.parts.items) c.in_ok-read.read.items c.splice.new.self.items [] c.in_ok-others.others.items
+put-in : (c : In_ok-splice) → ArePutIn c.args.kept.now c.args.kept.now.known c.args.from c.args.end (c.args.from + c.len.result) (bytes_of_parts c.args.parts.items) c.in_ok-read.read.items c.splice.new.self.items [] c.in_ok-others.others.items
 put-in c =
     let kept = c.args.kept.now in
     let read = c.in_ok-read.read in
-    let knows = defines kept.machine.labels in
-    let by = events_by kept.options knows in
+    let defined = knows kept.known in
+    let by = part_events kept.options defined in
     let xs = kept.sections.items in
     let from = c.args.from in
     let end = c.args.end in
@@ -34,7 +34,7 @@ put-in c =
       bytes = c.in_ok-read.ensures.bytes;
       are_read = c.in_ok-read.ensures.read;
       ends = ends;
-      rereads_are = none-again kept.options knows 0 now (every-put (IsRead kept.options knows) from end xs read.items c.requires.kept.read c.in_ok-read.ensures.read);
+      rereads_are = none-again kept.options defined 0 now (every-put (IsRead kept.options defined) from end xs read.items c.requires.kept.read c.in_ok-read.ensures.read);
       sections_are = c.in_ok-splice.ensures.items;
       told_are =
           subst (λ n. AreToldAround by (first_said by (bytes_of_sections xs)) (first_said by (bytes_of_sections now)) n (take from xs) (drop end xs) c.in_ok-others.others.items) (sym ends)
@@ -55,4 +55,4 @@ pub returns-in_err-read-clause-fits : goal.returns-in_err-read-clause-fits
 returns-in_err-read-clause-fits c fits long =
     let kept = c.args.kept.now in
     let p = err_from_is_err_and c.from_residual.result c.from_residual.ensures.1 in
-    c.in_err-read.ensures.fits (parts-fit kept c.args.from c.args.end (bytes_of_parts c.args.parts.items) (defines kept.machine.labels) c.requires.labels fits) (cc (p.1, p.2, long))
+    c.in_err-read.ensures.fits (parts-fit kept c.args.from c.args.end (bytes_of_parts c.args.parts.items) (knows kept.known) c.requires.labels fits) (cc (p.1, p.2, long))

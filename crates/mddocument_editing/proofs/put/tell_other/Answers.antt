@@ -1,4 +1,4 @@
-use Rattle.mddocument_editing.proofs.Prelude.{◌≡◌, ℕ, ◌+◌, ◌-◌, ◌≤◌, List, ◌++◌, length, take, drop, subst, sym, ap, ◌∙◌, arith, length-drop, take_all, drop-drop, AllByRecursion, every-drop, every-take, IfOk, defines, events_by, IsRead, bytes_of_sections, Section}
+use Rattle.mddocument_editing.proofs.Prelude.{◌≡◌, ℕ, ◌+◌, ◌-◌, ◌≤◌, List, ◌++◌, length, take, drop, subst, sym, ap, ◌∙◌, arith, length-drop, take_all, drop-drop, AllByRecursion, every-drop, every-take, IfOk, part_events, IsRead, bytes_of_sections, Section, knows}
 use Rattle.std.proofs.lemmas.List.{take-append-drop}
 use Rattle.mddocument_editing.specs.Leading.{first_said}
 use Rattle.mddocument_editing.specs.Told.{AreToldAround}
@@ -17,34 +17,34 @@ in-three from end xs order =
 pub tell-requires-clause-old_front : goal.tell-requires-clause-old_front
 tell-requires-clause-old_front c =
     let kept = c.args.kept.now in
-    let P = IsRead kept.options (defines kept.machine.labels) in
+    let P = IsRead kept.options (knows kept.known) in
     let xs = c.as_slice-sections.result.now in
-    none-again kept.options (defines kept.machine.labels) 0 (take c.args.from xs) (every-take P c.args.from xs (subst (AllByRecursion P) (sym c.as_slice-sections.ensures.value) c.requires.kept))
+    none-again kept.options (knows kept.known) 0 (take c.args.from xs) (every-take P c.args.from xs (subst (AllByRecursion P) (sym c.as_slice-sections.ensures.value) c.requires.kept))
 
 pub tell-requires-clause-old_gone : goal.tell-requires-clause-old_gone
 tell-requires-clause-old_gone c =
     let kept = c.args.kept.now in
-    let P = IsRead kept.options (defines kept.machine.labels) in
+    let P = IsRead kept.options (knows kept.known) in
     let xs = c.as_slice-sections.result.now in
     let size = c.args.end - c.args.from in
-    none-again kept.options (defines kept.machine.labels) 0 (take size (drop c.args.from xs)) (every-take P size (drop c.args.from xs) (every-drop P c.args.from xs (subst (AllByRecursion P) (sym c.as_slice-sections.ensures.value) c.requires.kept)))
+    none-again kept.options (knows kept.known) 0 (take size (drop c.args.from xs)) (every-take P size (drop c.args.from xs) (every-drop P c.args.from xs (subst (AllByRecursion P) (sym c.as_slice-sections.ensures.value) c.requires.kept)))
 
 pub tell-requires-clause-old_behind : goal.tell-requires-clause-old_behind
 tell-requires-clause-old_behind c =
     let kept = c.args.kept.now in
-    let P = IsRead kept.options (defines kept.machine.labels) in
+    let P = IsRead kept.options (knows kept.known) in
     let xs = c.as_slice-sections.result.now in
     let size = length xs - c.args.end in
-    none-again kept.options (defines kept.machine.labels) 0 (take size (drop c.args.end xs)) (every-take P size (drop c.args.end xs) (every-drop P c.args.end xs (subst (AllByRecursion P) (sym c.as_slice-sections.ensures.value) c.requires.kept)))
+    none-again kept.options (knows kept.known) 0 (take size (drop c.args.end xs)) (every-take P size (drop c.args.end xs) (every-drop P c.args.end xs (subst (AllByRecursion P) (sym c.as_slice-sections.ensures.value) c.requires.kept)))
 
 pub tell-requires-clause-read : goal.tell-requires-clause-read
-tell-requires-clause-read c = none-again c.args.kept.now.options (defines c.args.machine.now.labels) 0 c.args.read.now c.requires.read
+tell-requires-clause-read c = none-again c.args.kept.now.options (knows c.args.known.now) 0 c.args.read.now c.requires.read
 
 pub returns : goal.returns
 returns c =
     let kept = c.args.kept.now in
-    let old = events_by kept.options (defines kept.machine.labels) in
-    let new = events_by kept.options (defines c.args.machine.now.labels) in
+    let old = part_events kept.options (knows kept.known) in
+    let new = part_events kept.options (knows c.args.known.now) in
     let from = c.args.from in
     let end = c.args.end in
     let n = from + length c.args.read.now in

@@ -1,4 +1,4 @@
-use Rattle.mddocument_editing.proofs.Prelude.{[], ◌++◌, refl, sym, ap, ◌∙◌, defines, events_by, bytes_of_sections}
+use Rattle.mddocument_editing.proofs.Prelude.{[], ◌++◌, refl, sym, ap, ◌∙◌, part_events, bytes_of_sections, knows}
 use Rattle.mddocument_editing.specs.Said.{said_by}
 use Rattle.mddocument_editing.specs.declared.told.Saids.{Saids}
 use Rattle.mddocument_editing.proofs.Touched.{AreAppended, leads-iff, near-all, own-are, untouched-same}
@@ -7,8 +7,8 @@ use Rattle.mddocument_editing.proofs.told.near_leads.Goals as goal
 pub returns : goal.returns
 returns c = λ label.
     let options = c.args.options.now in
-    let old = events_by options (defines c.args.old.now.labels) in
-    let new = events_by options (defines c.args.new.now.labels) in
+    let old = part_events options (knows c.args.old.now) in
+    let new = part_events options (knows c.args.new.now) in
     let around = c.args.around.now in
     let front = around.front.sections.now in
     let behind = around.behind.sections.now in

@@ -1,4 +1,4 @@
-use Rattle.mddocument_editing.proofs.Prelude.{[], ◌++◌, refl, defines, events_by, bytes_of_sections}
+use Rattle.mddocument_editing.proofs.Prelude.{[], ◌++◌, refl, part_events, bytes_of_sections, knows}
 use Rattle.mddocument_editing.specs.Leading.{first_said}
 use Rattle.mddocument_editing.proofs.SaidSides.{all-have, same-leads}
 use Rattle.mddocument_editing.proofs.ToldOthers.{told-none}
@@ -7,8 +7,8 @@ use Rattle.mddocument_editing.proofs.told.tell.Goals as goal
 pub returns-then-same : goal.returns-then-same
 returns-then-same c =
     let around = c.args.around in
-    let old = events_by c.args.options.now (defines c.args.old.now.labels) in
-    let new = events_by c.args.options.now (defines c.args.new.now.labels) in
+    let old = part_events c.args.options.now (knows c.args.old.now) in
+    let new = part_events c.args.options.now (knows c.args.new.now) in
     let front = around.front.sections.now in
     let behind = around.behind.sections.now in
     let gone = bytes_of_sections around.gone.now in

@@ -1,4 +1,4 @@
-use Rattle.mddocument_editing.proofs.Prelude.{ℕ, List, [], ◌++◌, subst, sym, defines, events_by, bytes_of_sections, AreReread}
+use Rattle.mddocument_editing.proofs.Prelude.{ℕ, List, [], ◌++◌, subst, sym, part_events, bytes_of_sections, AreReread, knows}
 use Rattle.mddocument_editing.specs.Leading.{first_said}
 use Rattle.mddocument_editing.specs.Said.{said_by}
 use Rattle.mddocument_editing.specs.Told.{AreTold}
@@ -9,8 +9,8 @@ use Rattle.mddocument_editing.proofs.told.tell_sides.Goals as goal
 pub returns : goal.returns
 returns c =
     let around = c.args.around in
-    let old = events_by c.args.options.now (defines c.args.old.now.labels) in
-    let new = events_by c.args.options.now (defines c.args.new.now.labels) in
+    let old = part_events c.args.options.now (knows c.args.old.now) in
+    let new = part_events c.args.options.now (knows c.args.new.now) in
     let front = around.front.sections.now in
     let behind = around.behind.sections.now in
     let before = first_said old (bytes_of_sections front ++ (bytes_of_sections around.gone.now ++ bytes_of_sections behind)) in

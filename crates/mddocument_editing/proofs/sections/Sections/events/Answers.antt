@@ -1,5 +1,5 @@
-use Rattle.mddocument_editing.proofs.Prelude.{IfOk, subst, AreDocumentEvents, Divided, bytes_of}
+use Rattle.mddocument_editing.proofs.Prelude.{◌≡◌, IfOk, subst, Divided, bytes_of, gfm_events}
 use Rattle.mddocument_editing.proofs.sections.Sections.events.Goals as goal
 
 pub returns : goal.returns
-returns c = subst (λ (d : Divided). IfOk c.all_events.result (λ events. AreDocumentEvents d.options (bytes_of d) events.items)) c.self.view_is c.all_events.ensures
+returns c = subst (λ (d : Divided). IfOk c.all_events.result (λ events. events.items ≡ gfm_events d.options (bytes_of d))) c.self.view_is c.all_events.ensures
