@@ -1,5 +1,6 @@
 -- laws
 pub mod Ahead
+pub mod Apart
 pub mod Brief
 pub mod Counted
 pub mod Distinct

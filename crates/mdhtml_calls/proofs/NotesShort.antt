@@ -4,6 +4,7 @@ use Rattle.std.proofs.lemmas.Bool.{false≢true}
 use Rattle.std.specs.Prelude.{◌&&◌, bytes_eq, codes, not}
 use Rattle.markdown_base.specs.declared.configuration.CompileOptions.{CompileOptions}
 use Rattle.markdown_base.specs.declared.event.Event.{Event}
+use Rattle.markdown_base.proofs.Facts.Bools.{and-left}
 use Rattle.mdblock_containers.specs.Lists.{is_loose, list_start}
 use Rattle.mdhtml_document.specs.declared.names.Block.{Block}
 use Rattle.mdhtml_document.specs.declared.names.Block.TheVariants as block
@@ -12,11 +13,11 @@ use Rattle.mdhtml_document.specs.Html.{Known, block_shape, columns_in, has_block
 use Rattle.mdhtml_document.specs.Names.{block_of}
 use Rattle.mdhtml_document.specs.Notes.{note_of}
 use Rattle.mdhtml_document.specs.Spans.{Nothing, Span, Spans, events_of}
-use Rattle.mdhtml_document.proofs.ShortShapes.{longs, longs-append}
+use Rattle.mdhtml_document.proofs.ShortShapes.{longs, longs-append, longs-span}
 use Rattle.mdhtml_markup.specs.declared.elements.Element.TheVariants.{Paragraph}
 use Rattle.mdhtml_markup.specs.Pieces.{Close, Feed, Fresh, Open, Piece, Text}
 use Rattle.mdhtml_calls.proofs.Distinct.{AreDistinct, once, sum}
-use Rattle.mdhtml_calls.proofs.OwnShort.{longs-span, total}
+use Rattle.mdhtml_calls.proofs.OwnShort.{total}
 
 paragraph-is : (b : Block) → is_paragraph b ≡ true → b ≡ block.Paragraph
 paragraph-is block.Paragraph h = refl
@@ -66,16 +67,12 @@ module _ (options : CompileOptions) (bytes : List ℕ) (known : Known) (tab : �
   blocks-by true xs ys most h k = h refl
   blocks-by false xs ys most h k = k
 
-  first-true : (a b : Bool) → (a && b) ≡ true → a ≡ true
-  first-true true b h = refl
-  first-true false b h = h
-
   joined-longs : (e f : Event) (s behind : Spans) → longs (the (Span e f s Nothing)) + longs (the behind) ≡ longs (the (Span e f s behind))
   joined-longs e f s behind =
       let here = shape options bytes known tab mode.Flow [] e f s in
       let ps = pieces options bytes known tab here.inside (columns_in (block_of e.name) [] (events_of s)) s in
-      let one = longs-span options bytes known tab here ps [] in
-      let all = longs-span options bytes known tab here ps (the behind) in
+      let one = longs-span here ps [] in
+      let all = longs-span here ps (the behind) in
       omega (arith, one, all)
 
   pub blocks-short : (backs : List Piece) (s : Spans) → longs (note_blocks options bytes known tab backs s) ≤ (longs (the s) + longs backs) + 2
@@ -86,7 +83,7 @@ module _ (options : CompileOptions) (bytes : List ℕ) (known : Known) (tab : �
       let a = longs-append first (note_blocks options bytes known tab backs behind) in
       let split = joined-longs e f s behind in
       blocks-by (is_paragraph (block_of e.name) && not (has_block behind)) _ _ _
-      (λ h. paragraph-longs backs e f s behind (first-true (is_paragraph (block_of e.name)) (not (has_block behind)) h)) (omega (arith, rest, a, split))
+      (λ h. paragraph-longs backs e f s behind (and-left (is_paragraph (block_of e.name)) (not (has_block behind)) h)) (omega (arith, rest, a, split))
 
   -- ---- definitions
 

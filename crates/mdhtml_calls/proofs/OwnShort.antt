@@ -21,7 +21,7 @@ use Rattle.mdhtml_document.specs.Notes.{is_container, is_note, label_in, notes_i
 use Rattle.mdhtml_document.specs.Spans.{Nothing, Span, Spans, events_of}
 use Rattle.mdhtml_document.proofs.Rooms.{room-append}
 use Rattle.mdhtml_document.proofs.Short.{apart, calls_room}
-use Rattle.mdhtml_document.proofs.ShortShapes.{container-short, left-short, line-short, longs, longs-append, spare, start-short, tag-long}
+use Rattle.mdhtml_document.proofs.ShortShapes.{container-short, left-short, line-short, longs, longs-append, longs-span, spare, start-short, tag-long}
 use Rattle.mdhtml_markup.specs.declared.elements.Element.TheVariants.{BlockQuote, ListItem, OrderedList, UnorderedList}
 use Rattle.mdhtml_markup.specs.Pieces.{Piece, attribute}
 
@@ -134,13 +134,6 @@ module _ (options : CompileOptions) (bytes : List ℕ) (known : Known) (tab : �
     container-small (mode.Cells head) b n c said alt = absurd (false≢true b)
     container-small mode.Paragraph b n c said alt = absurd (false≢true b)
     container-small mode.Text b n c said alt = absurd (false≢true b)
-
-  pub longs-span : (here : Shape) (inner rest : List Piece) → longs (here.opened ++ (inner ++ (here.closed ++ rest))) ≡ ((longs here.opened + longs here.closed) + longs inner) + longs rest
-  longs-span here inner rest =
-      let a = longs-append here.opened (inner ++ (here.closed ++ rest)) in
-      let b = longs-append inner (here.closed ++ rest) in
-      let c = longs-append here.closed rest in
-      omega (arith, a, b, c)
 
   -- what is written of definitions: their blocks, and so much around these
   abbrev pub total : List (List ℕ × Spans) → ℕ

@@ -1,8 +1,8 @@
 //! Laws of the HTML of documents. Each is a function that does nothing; its contract is the law.
 
-ghost use Rattle.mdhtml_calls.specs.Laws.{HtmlOfDocumentsIsLinear, HtmlWithoutCallsIsLinear, OtherOptionsDoNothing};
+ghost use Rattle.mdhtml_calls.specs.Laws.{DocumentsAreApart, HtmlOfDocumentsIsLinear, HtmlWithoutCallsIsLinear, OtherOptionsDoNothing};
 
-/// Of the options for HTML only `allow_any_img_src`, `allow_dangerous_html` and `allow_dangerous_protocol` do something.
+/// Of the options for HTML only `allow_any_img_src`, `allow_dangerous_html`, `allow_dangerous_protocol` and `gfm_tagfilter` do something.
 pub fn other_options_do_nothing()
     ensures { OtherOptionsDoNothing }
 {}
@@ -12,4 +12,9 @@ pub fn other_options_do_nothing()
 pub fn html_of_documents_is_linear()
     ensures calls { HtmlOfDocumentsIsLinear }
     ensures uncalled { HtmlWithoutCallsIsLinear }
+{}
+
+/// Calls of footnotes and autolink literals bring no link into a link. So in a document no link is in a link, but for an autolink that was there.
+pub fn documents_are_apart()
+    ensures { DocumentsAreApart }
 {}

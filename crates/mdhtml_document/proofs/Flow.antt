@@ -16,7 +16,7 @@ use Rattle.mdhtml_document.specs.declared.names.Inline.{Inline}
 use Rattle.mdhtml_document.specs.declared.names.Inline.TheVariants as inline
 use Rattle.mdhtml_document.specs.declared.shapes.Mode.{Mode}
 use Rattle.mdhtml_document.specs.declared.shapes.Mode.TheVariants as mode
-use Rattle.mdhtml_document.specs.Html.{Known, Shape, address_at, address_link, aligned, alignment_of, alone, autolink, behind_column, block_shape, blocks, call_shape, cell, cell_element, cell_shape, check, code, columns_behind, columns_in, container, empty_cell, empty_cells, heading, heading_shape, image_of, inline_shape, is_check, is_checked, is_in_cell, item_shape, items, language, lacking, length_of_first, line, link_to, literal, ordered, paragraph_shape, parts_in_link, pieces, raw, row_shape, setext_rank, shape, shape_by, table_shape, through, titled, within_line}
+use Rattle.mdhtml_document.specs.Html.{Known, Shape, address_at, address_link, aligned, alignment_of, alone, autolink, behind_column, block_shape, blocks, call_shape, cell, cell_element, cell_shape, check, code, columns_behind, columns_in, container, empty_cell, empty_cells, heading, heading_shape, image_of, inline_shape, is_check, is_checked, is_in_cell, item_shape, items, language, lacking, length_of_first, line, link_to, literal, ordered, paragraph_shape, parts_in_link, pieces, raw, raw_or, row_shape, setext_rank, shape, shape_by, table_shape, through, titled, within_line}
 use Rattle.mdhtml_document.specs.declared.notes.Called.{Called}
 use Rattle.mdhtml_document.specs.Notes.{call_id, classed, note_id, place_of_first}
 use Rattle.mdhtml_document.proofs.NoteIds.{call-id}
@@ -36,6 +36,7 @@ use Rattle.mdhtml_markup.specs.Flow.{AreGiven, BeforeCode, BehindCode, Blocks, C
 use Rattle.mdhtml_markup.specs.Pieces.{Aligned, Alt, Attribute, Checked, Classed, Close, Disabled, Feed, FootnoteCall, Fresh, Href, Id, InputType, Kept, Language, Open, Piece, Src, Start, Text, Title, Void, attribute, html_from, is_fresh}
 use Rattle.mdhtml_markup.specs.SafeHtml.{attributes_of, is_allowed, is_text, is_text_byte, is_void, open_tag}
 use Rattle.mdhtml_markup.specs.SafePieces.{IsAllowed, name_of_attribute}
+use Rattle.mdhtml_markup.specs.TagFilter.{filtered, first_filtered}
 use Rattle.mdhtml_markup.proofs.FlowSafe.{text-more}
 use Rattle.mdhtml_markup.proofs.Orders.{written-in-order}
 use Rattle.mdhtml_markup.proofs.SafeLemmas.{attribute-quoted, value-is, value_of}
@@ -523,8 +524,8 @@ code-flows m t s =
     }
 
 module _ (options : CompileOptions) (bytes : List ℕ) (known : Known) (tab : ℕ) (safe : AreSafeOptions options) where
-  raw-flows : (m : Model) (h : List ℕ) → IsText m → Flows m (raw options h ∷ [])
-  raw-flows m h s = subst (λ x. Flows m (cond x (Kept h) (Text h) ∷ [])) (sym safe.html) (text-flows m h s)
+  raw-flows : (m : Model) (f h : List ℕ) → IsText m → Flows m (raw_or options f h ∷ [])
+  raw-flows m f h s = subst (λ x. Flows m (cond x (Kept (cond options.gfm_tagfilter f h)) (Text h) ∷ [])) (sym safe.html) (text-flows m h s)
 
   link-around : (m : Model) (p : Option TargetParts) (linked : Bool) → IsText m → (in_link m ≡ true → true ≡ false) → linked ≡ false → Around m (link_to options p) linked
   link-around m None linked t h apart = through-around m mode.Text linked t (λ e. apart)
@@ -586,7 +587,7 @@ module _ (options : CompileOptions) (bytes : List ℕ) (known : Known) (tab : �
   inline-around m in_cell inline.Struck es said alt linked t h a =
       within-around m Deleted [] linked (in_link m) t refl ((phrase-by Deleted refl (λ l. refl)).stands m t) flow.AreGiven.none (phrases-hold m t) h
   inline-around m in_cell inline.Code es said alt linked t h a = alone-around m _ linked (code-flows m (cell_text in_cell (code_text bytes es)) t)
-  inline-around m in_cell inline.Html es said alt linked t h a = alone-around m _ linked (raw-flows m (cell_text in_cell (html_text bytes es)) t)
+  inline-around m in_cell inline.Html es said alt linked t h a = alone-around m _ linked (raw-flows m (first_filtered (cell_text in_cell (html_text bytes es))) (cell_text in_cell (html_text bytes es)) t)
   inline-around m in_cell inline.Autolink es said alt linked t h a = autolink-around m es linked t h
   inline-around m in_cell inline.Www es said alt linked t h a = literal-around m (codes "http://") said linked t h
   inline-around m in_cell inline.Email es said alt linked t h a = literal-around m (codes "mailto:") said linked t h
@@ -676,7 +677,7 @@ module _ (options : CompileOptions) (bytes : List ℕ) (known : Known) (tab : �
   block-around tight block.Indented es loose start linked = code-around [] _ linked (flow.AreGiven.missing _ [] refl flow.AreGiven.none)
   block-around tight block.Html es loose start linked =
       alone-around Blocks _ linked
-      (record { front = λ k rest. fresh-of Blocks (raw options (html_flow bytes tab es) ∷ Fresh ∷ k) refl ((raw-flows Blocks (html_flow bytes tab es) tt).front (Fresh ∷ k) (fresh-of Blocks k refl rest)) })
+      (record { front = λ k rest. fresh-of Blocks (raw options (html_flow bytes tab es) ∷ Fresh ∷ k) refl ((raw-flows Blocks (filtered (html_flow bytes tab es)) (html_flow bytes tab es) tt).front (Fresh ∷ k) (fresh-of Blocks k refl rest)) })
   block-around tight block.Rule es loose start linked =
       alone-around Blocks _ linked
       (record { front = λ k rest. fresh-of Blocks (Void ThematicBreak [] ∷ Feed ∷ k) refl (void-of Blocks ThematicBreak [] (Feed ∷ k) refl refl flow.AreGiven.none (feed-of Blocks k refl rest)) })

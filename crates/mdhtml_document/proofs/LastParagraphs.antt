@@ -1,6 +1,6 @@
 -- Links back stand in the last paragraph of a note: where that is found, and what is written in front of it.
 use Rattle.std.proofs.Common.{◌≡◌, ℕ, suc, ◌+◌, List, [], ◌∷◌, ◌++◌, length, ap, sym, refl, ◌∙◌, append_assoc, append-nil, Option, None, Some, arith}
-use Rattle.std.proofs.lemmas.Bool.{or_parts}
+use Rattle.std.proofs.lemmas.Bool.{cond_both, or_parts}
 use Rattle.std.proofs.lemmas.List.{length-append}
 use Rattle.std.specs.Prelude.{zero, ◌&&◌, ◌||◌, not, Bool, true, false, cond, codes}
 use Rattle.markdown_base.specs.declared.configuration.CompileOptions.{CompileOptions}
@@ -190,10 +190,6 @@ pub front-kinded : (s : Spans) → AreKinded s → AreKinded (front s)
 front-kinded Nothing h = tt
 front-kinded (Span e f s behind) h = front-by (is_last e behind) e f s (front behind) ((h.0, h.1, h.2, front-kinded behind h.3))
 
-last-by : (c : Bool) (a b : Spans) → AreKinded a → AreKinded b → AreKinded (cond c a b)
-last-by true a b h k = h
-last-by false a b h k = k
-
 pub last-kinded : (s : Spans) → AreKinded s → AreKinded (last_in s)
 last-kinded Nothing h = tt
-last-kinded (Span e f s behind) h = last-by (is_last e behind) (Span e f s behind) (last_in behind) h (last-kinded behind h.3)
+last-kinded (Span e f s behind) h = cond_both (is_last e behind) (Span e f s behind) (last_in behind) AreKinded (λ e. h) (λ e. last-kinded behind h.3)

@@ -25,7 +25,6 @@ pub mod NoteEnds
 pub mod NoteIds
 pub mod NoteSections
 pub mod Labels
-pub mod Lookups
 pub mod NoteWalks
 pub mod NotesWritten
 pub mod Numbering

@@ -11,10 +11,10 @@ use Rattle.std.specs.Option.{is_some}
 use Rattle.std.specs.Ordering.{nat_cmp}
 use Rattle.std.specs.Prelude.{bytes_eq, option_map, Vec}
 use Rattle.markdown_base.specs.declared.event.Event.{Event}
+use Rattle.mddocument_link_targets.proofs.Lookups.{added}
 use Rattle.mdhtml_document.specs.declared.note_section.Note.{Note}
 use Rattle.mdhtml_document.specs.Frames.{as_note, open_notes}
 use Rattle.mdhtml_document.specs.Walks.{first_note, first_of}
-use Rattle.mdhtml_document.proofs.Lookups.{added}
 
 abbrev pub Entries : Type 0
 Entries = List (Vec ℕ Global × Vec Event Global)

@@ -1,5 +1,6 @@
 -- The walk over events finds the footnote definitions of their spans.
 use Rattle.std.proofs.Common.{◌≡◌, ℕ, suc, List, [], ◌∷◌, ◌++◌, length, map, take, drop, ap, sym, refl, ◌∙◌, append_assoc, append-nil, length-append, Some, arith}
+use Rattle.std.proofs.lemmas.Bool.{cond_both}
 use Rattle.std.specs.Option.{unwrap_or}
 use Rattle.std.specs.Prelude.{⊤, zero, ◌&&◌, not, Bool, true, false, bytes_eq, cond}
 use Rattle.markdown_base.specs.declared.event.Event.{Event}
@@ -199,13 +200,9 @@ notes-kinded bytes (Span e f s behind) h =
     each-by (is_note e.name) (is_container e.name) (label_in bytes (events_of s)) (own s) (notes_in bytes s) (notes_in bytes behind) (own-kinded s h.2) (notes-kinded bytes s h.2)
     (notes-kinded bytes behind h.3)
 
-note-by : (c : Bool) (a b : Spans) → AreKinded a → AreKinded b → AreKinded (cond c a b)
-note-by true a b h k = h
-note-by false a b h k = k
-
 pub note-kinded : (label : List ℕ) (ns : List (List ℕ × Spans)) → EachKinded ns → AreKinded (note_of label ns)
 note-kinded label [] h = tt
-note-kinded label (n ∷ ns) h = note-by (bytes_eq label n.0) n.1 (note_of label ns) h.0 (note-kinded label ns h.1)
+note-kinded label (n ∷ ns) h = cond_both (bytes_eq label n.0) n.1 (note_of label ns) AreKinded (λ e. h.0) (λ e. note-kinded label ns h.1)
 
 pub all-kinded : (bytes : List ℕ) (events : List Event) (label : List ℕ) → AreKinded (note_of label (notes_in bytes (spans_of events)))
 all-kinded bytes events label = note-kinded label (notes_in bytes (spans_of events)) (notes-kinded bytes (spans_of events) (opened-kinded events).0)

@@ -14,7 +14,7 @@ use Rattle.mdhtml_document.specs.declared.names.Inline.{Inline}
 use Rattle.mdhtml_document.specs.declared.names.Inline.TheVariants as inline
 use Rattle.mdhtml_document.specs.declared.shapes.Mode.{Mode}
 use Rattle.mdhtml_document.specs.declared.shapes.Mode.TheVariants as mode
-use Rattle.mdhtml_document.specs.Html.{Known, Shape, address_at, address_link, aligned, alignment_of, autolink, behind_column, block_shape, blocks, call_shape, cell, cell_element, cell_shape, check, code, columns_behind, columns_in, container, empty_cell, empty_cells, heading, heading_shape, image_of, inline_shape, is_check, is_checked, is_in_cell, item_shape, items, language, lacking, length_of_first, line, link_to, literal, ordered, parts_in_link, pieces, raw, row_shape, setext_rank, shape, shape_by, table_shape, through, titled, told, alone, within_line}
+use Rattle.mdhtml_document.specs.Html.{Known, Shape, address_at, address_link, aligned, alignment_of, autolink, behind_column, block_shape, blocks, call_shape, cell, cell_element, cell_shape, check, code, columns_behind, columns_in, container, empty_cell, empty_cells, heading, heading_shape, image_of, inline_shape, is_check, is_checked, is_in_cell, item_shape, items, language, lacking, length_of_first, line, link_to, literal, ordered, parts_in_link, pieces, raw, raw_or, row_shape, setext_rank, shape, shape_by, table_shape, through, titled, told, alone, within_line}
 use Rattle.mdhtml_document.specs.declared.notes.Called.{Called}
 use Rattle.mdhtml_document.specs.Notes.{place_of_first}
 use Rattle.mdhtml_document.proofs.NoteIds.{call-id}
@@ -30,6 +30,7 @@ use Rattle.mdhtml_markup.specs.declared.elements.Alignment.{Alignment}
 use Rattle.mdhtml_markup.specs.declared.elements.Element.{Element}
 use Rattle.mdhtml_markup.specs.declared.elements.Element.TheVariants.{Anchor, BlockQuote, Code, Deleted, Emphasis, Image, ListItem, OrderedList, Paragraph, Strong, Table, TableBody, TableHead, TableRow, UnorderedList}
 use Rattle.mdhtml_markup.specs.Pieces.{Alt, Attribute, Close, Feed, Fresh, Href, Kept, Piece, Src, Start, Text}
+use Rattle.mdhtml_markup.specs.TagFilter.{filtered, first_filtered}
 use Rattle.mdhtml_markup.specs.SafeHtml.{holds_blocks, holds_cells, holds_items, holds_parts, holds_rows, holds_text, is_allowed, is_void, stands_in}
 use Rattle.mdhtml_markup.specs.SafePieces.{AreAllowed, AreSafe, IsTag}
 use Rattle.mdhtml_markup.proofs.SafeLemmas.{pieces-safe}
@@ -201,14 +202,14 @@ module _ (options : CompileOptions) (bytes : List ℕ) (known : Known) (tab : �
       ap (λ b. is_allowed place.Src (cond (b || options.allow_any_img_src) url (allowed place.Src url))) safe.protocol
       ∙ ap (λ b. is_allowed place.Src (cond b url (allowed place.Src url))) safe.images ∙ allowed-is place.Src url
 
-  raw-by : (m : Mode) (b : Bool) (h : List ℕ) → Texts m → b ≡ false → Keep m (cond b (Kept h) (Text h) ∷ [])
-  raw-by m b h t e = subst (λ x. Keep m (cond x (Kept h) (Text h) ∷ [])) (sym e) (record { keep = λ tags k s r. (t tags s, r) })
+  raw-by : (m : Mode) (b : Bool) (k h : List ℕ) → Texts m → b ≡ false → Keep m (cond b (Kept k) (Text h) ∷ [])
+  raw-by m b k h t e = subst (λ x. Keep m (cond x (Kept k) (Text h) ∷ [])) (sym e) (record { keep = λ tags rest s r. (t tags s, r) })
 
-  raw-safe : (m : Mode) (h : List ℕ) → Texts m → Keep m (raw options h ∷ [])
-  raw-safe m h t = raw-by m options.allow_dangerous_html h t safe.html
+  raw-safe : (m : Mode) (f h : List ℕ) → Texts m → Keep m (raw_or options f h ∷ [])
+  raw-safe m f h t = raw-by m options.allow_dangerous_html (cond options.gfm_tagfilter f h) h t safe.html
 
   raw-block : (m : Mode) (h : List ℕ) → Texts m → Keep m (Fresh ∷ raw options h ∷ Fresh ∷ [])
-  raw-block m h t = record { keep = λ tags k s r. (raw-safe m h t).keep tags (Fresh ∷ k) s r }
+  raw-block m h t = record { keep = λ tags k s r. (raw-safe m (filtered h) h t).keep tags (Fresh ∷ k) s r }
 
   link-keeps : (m : Mode) (p : Option Parts) → Texts m → KeepsShape m (link_to options p)
   link-keeps m None t = through-keeps m mode.Text t
@@ -436,7 +437,7 @@ module _ (options : CompileOptions) (bytes : List ℕ) (known : Known) (tab : �
   inline-keeps m in_cell inline.Strong es said alt t = within-keeps m Strong [] t (record { kind = refl; stands = λ tags. refl; holds = λ tags. refl }) tt
   inline-keeps m in_cell inline.Struck es said alt t = within-keeps m Deleted [] t (record { kind = refl; stands = λ tags. refl; holds = λ tags. refl }) tt
   inline-keeps m in_cell inline.Code es said alt t = alone-keeps m _ (record { keep = λ tags k s h. (record { kind = refl; stands = t tags s; allowed = tt }, (refl, (refl, h))) })
-  inline-keeps m in_cell inline.Html es said alt t = alone-keeps m _ (raw-safe m (cell_text in_cell (html_text bytes es)) t)
+  inline-keeps m in_cell inline.Html es said alt t = alone-keeps m _ (raw-safe m (first_filtered (cell_text in_cell (html_text bytes es))) (cell_text in_cell (html_text bytes es)) t)
   inline-keeps m in_cell inline.Autolink es said alt t = autolink-keeps m es t
   inline-keeps m in_cell inline.Www es said alt t = literal-keeps m (codes "http://") said t
   inline-keeps m in_cell inline.Email es said alt t = literal-keeps m (codes "mailto:") said t

@@ -35,7 +35,7 @@ use Rattle.mdhtml_document.specs.Values.{alt_of, behind_first_line, cell_text, c
 use Rattle.mdhtml_document.specs.Walks.{is_left}
 use Rattle.mdhtml_document.proofs.Both.{keep-events}
 use Rattle.mdhtml_document.proofs.Rooms.{address-le, alt-le, block-le, code-le, code-lines-le, lines-le, room-append, room-behind, room-first, room-line, room_in, said-le, string-le, take-le, text-le, titles-le}
-use Rattle.mdhtml_document.proofs.ShortShapes.{autolink-short, cell-short, code-short, container-short, cost_of, each-block, first-short, heading-short, html-longs, http-long, image-inside, image-short, IsShort, item-short, led, left-short, line-short, link-inside, link-short, literal-short, longs, longs-append, mailto-long, nothing-short, part-short, quoted-short, raw-short, row-short, row_room, spare, start-short, tag-long, thin, title-of-heading, unlinked, whole}
+use Rattle.mdhtml_document.proofs.ShortShapes.{autolink-short, cell-short, code-short, container-short, cost_of, each-block, first-short, heading-short, html-longs, http-long, image-inside, image-short, IsShort, item-short, led, left-short, line-short, link-inside, link-short, literal-short, longs, longs-append, longs-span, mailto-long, nothing-short, part-short, quoted-short, raw-short, raw-within-short, row-short, row_room, spare, start-short, tag-long, thin, title-of-heading, unlinked, whole}
 use Rattle.mdhtml_markup.specs.declared.elements.AttributeName.TheVariants as attr
 use Rattle.mdhtml_markup.specs.declared.elements.Element.TheVariants.{BlockQuote, OrderedList, Paragraph, Table, TableBody, UnorderedList}
 use Rattle.mdhtml_markup.specs.Escapes.{escaped}
@@ -206,7 +206,7 @@ module _ (options : CompileOptions) (bytes : List ℕ) (known : Known) (tab digi
       let short = escaped-short (cell_text in_cell (code_text bytes es)) in
       whole refl (omega (arith, text, less, short, r))
   inline-short in_cell inline.Html es said alt few all t f r a =
-      let h = raw-short options (cell_text in_cell (html_text bytes es)) in
+      let h = raw-within-short options (cell_text in_cell (html_text bytes es)) in
       let less = cell-le in_cell (html_text bytes es) in
       let text = lines-le bytes tab name.HtmlTextData 10 es in
       whole refl (omega (arith, h, less, text, r))
@@ -538,14 +538,6 @@ module _ (options : CompileOptions) (bytes : List ℕ) (known : Known) (tab digi
       let inner = none-written (within_of columns e s) s in
       let rest = none-written (behind_of columns e) behind in
       omega (arith, all, inner, rest)
-
-  longs-span : (here : Shape) (inner rest : List Piece)
-      → longs (here.opened ++ (inner ++ (here.closed ++ rest))) ≡ ((longs here.opened + longs here.closed) + longs inner) + longs rest
-  longs-span here inner rest =
-      let a = longs-append here.opened (inner ++ (here.closed ++ rest)) in
-      let b = longs-append inner (here.closed ++ rest) in
-      let c = longs-append here.closed rest in
-      omega (arith, a, b, c)
 
   span-room : (e f : Event) (s behind : Spans) → (first_of e f s behind + room_of s) + (room_of behind + 1) ≤ room_of (Span e f s behind)
   span-room e f s behind = let h = room-append tab (events_of s) (f ∷ events_of behind) in omega (arith, h)

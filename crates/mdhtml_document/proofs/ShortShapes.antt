@@ -4,6 +4,7 @@ use Rattle.std.proofs.lemmas.Bool.{and_parts, false≢true}
 use Rattle.std.proofs.lemmas.Bool.Decides.{nat_tests}
 use Rattle.std.proofs.lemmas.Fmt.{length-decimal-le}
 use Rattle.std.proofs.lemmas.List.{length-append}
+use Rattle.std.proofs.lemmas.List.Concat.{flat_map-append}
 use Rattle.std.specs.Fmt.{decimal}
 use Rattle.std.specs.List.{flat_map, list_all, list_any}
 use Rattle.std.specs.Option.{option_map_or}
@@ -24,7 +25,7 @@ use Rattle.mdhtml_document.specs.declared.names.Inline.{Inline}
 use Rattle.mdhtml_document.specs.declared.names.Inline.TheVariants as inline
 use Rattle.mdhtml_document.specs.declared.shapes.Mode.{Mode}
 use Rattle.mdhtml_document.specs.declared.shapes.Mode.TheVariants as mode
-use Rattle.mdhtml_document.specs.Html.{Shape, address_at, address_link, aligned, alignment_of, alone, autolink, behind_column, blocks, cell, cell_element, cell_shape, code, container, empty_cell, empty_cells, heading, heading_shape, image_of, item_shape, lacking, line, link_to, literal, ordered, raw, row_shape, table_shape, titled}
+use Rattle.mdhtml_document.specs.Html.{Shape, address_at, address_link, aligned, alignment_of, alone, autolink, behind_column, blocks, cell, cell_element, cell_shape, code, container, empty_cell, empty_cells, heading, heading_shape, image_of, item_shape, lacking, line, link_to, literal, ordered, raw, raw_within, row_shape, table_shape, titled}
 use Rattle.mdhtml_document.specs.HtmlLaws.{has_links_by, is_row}
 use Rattle.mdhtml_document.specs.Names.{block_of, blocks_by_name, inline_of}
 use Rattle.mdhtml_document.specs.Values.{autolink_address, is_email}
@@ -44,6 +45,7 @@ use Rattle.mdhtml_markup.specs.declared.elements.Element.TheVariants.{Anchor, Co
 use Rattle.mdhtml_markup.specs.Escapes.{escaped, kept, kept_byte, replacement}
 use Rattle.mdhtml_markup.specs.Pieces.{Alt, Attribute, Close, Feed, Fresh, Href, Kept, Open, Piece, Src, Start, Text, Title, Void, attribute, html_from, is_fresh, written}
 use Rattle.mdhtml_markup.specs.SafeHtml.{close_tag, is_allowed, name_of, open_tag, quoted, void_tag}
+use Rattle.mdhtml_markup.specs.TagFilter.{filtered, filtered_byte, first_filtered, is_filtered}
 use Rattle.mdhtml_markup.proofs.AddressLemmas.{addresses-short}
 use Rattle.mdhtml_markup.proofs.Texts.{escaped-short}
 
@@ -57,6 +59,13 @@ longs (p ∷ ps) = length (written false p) + longs ps
 pub longs-append : (ps qs : List Piece) → longs (ps ++ qs) ≡ longs ps + longs qs
 longs-append [] qs = omega arith
 longs-append (p ∷ ps) qs = let h = longs-append ps qs in omega (arith, h)
+
+pub longs-span : (here : Shape) (inner rest : List Piece) → longs (here.opened ++ (inner ++ (here.closed ++ rest))) ≡ ((longs here.opened + longs here.closed) + longs inner) + longs rest
+longs-span here inner rest =
+    let a = longs-append here.opened (inner ++ (here.closed ++ rest)) in
+    let b = longs-append inner (here.closed ++ rest) in
+    let c = longs-append here.closed rest in
+    omega (arith, a, b, c)
 
 piece-short : (fresh : Bool) (p : Piece) → length (written fresh p) ≤ length (written false p)
 piece-short fresh (Open e attributes) = omega arith
@@ -88,6 +97,27 @@ kept-short (b ∷ bs) =
     let rest = kept-short bs in
     let long = length-append (kept_byte b) (kept bs) in
     omega (arith, here, rest, long)
+
+-- of HTML whose tags are filtered, a byte becomes four at most
+filtered-byte-short : (t : Bool) (b : ℕ) → length (kept (cond t (codes "&lt;") (b ∷ []))) ≤ 4
+filtered-byte-short true b = omega arith
+filtered-byte-short false b = let short = kept-short (b ∷ []) in omega (arith, short)
+
+-- and those behind it no more than six
+filtered-behind : (b : ℕ) (bs others : List ℕ) → length (kept others) ≤ 6 * length bs → length (kept (filtered_byte b bs ++ others)) ≤ 6 * length (b ∷ bs)
+filtered-behind b bs others rest =
+    let here = filtered-byte-short (is_filtered (b ∷ bs)) b in
+    let all = ap length (flat_map-append kept_byte (filtered_byte b bs) others) in
+    let both = length-append (kept (filtered_byte b bs)) (kept others) in
+    omega (arith, here, all, both, rest)
+
+filtered-short : (h : List ℕ) → length (kept (filtered h)) ≤ 6 * length h
+filtered-short [] = omega arith
+filtered-short (b ∷ bs) = filtered-behind b bs (filtered bs) (filtered-short bs)
+
+first-filtered-short : (h : List ℕ) → length (kept (first_filtered h)) ≤ 6 * length h
+first-filtered-short [] = omega arith
+first-filtered-short (b ∷ bs) = let rest = kept-short bs in filtered-behind b bs bs (omega (arith, rest))
 
 -- one of two addresses
 chosen : (c : Bool) (x y : List ℕ) (n : ℕ) → length (written_address x) ≤ n → length (written_address y) ≤ n → length (written_address (cond c x y)) ≤ n
@@ -300,12 +330,16 @@ pub image-inside : (options : CompileOptions) (alt : List ℕ) (p : Option Parts
 image-inside options alt None = refl
 image-inside options alt (Some p) = refl
 
-raw-by : (c : Bool) (h : List ℕ) → length (written false (cond c (Kept h) (Text h))) ≤ 6 * length h
-raw-by true h = let short = kept-short h in omega (arith, short)
-raw-by false h = escaped-short h
+raw-by : (c f : Bool) (k h : List ℕ) → length (kept k) ≤ 6 * length h → length (written false (cond c (Kept (cond f k h)) (Text h))) ≤ 6 * length h
+raw-by true true k h short = short
+raw-by true false k h short = let kept = kept-short h in omega (arith, kept)
+raw-by false f k h short = escaped-short h
 
 pub raw-short : (options : CompileOptions) (h : List ℕ) → length (written false (raw options h)) ≤ 6 * length h
-raw-short options h = raw-by options.allow_dangerous_html h
+raw-short options h = raw-by options.allow_dangerous_html options.gfm_tagfilter (filtered h) h (filtered-short h)
+
+pub raw-within-short : (options : CompileOptions) (h : List ℕ) → length (written false (raw_within options h)) ≤ 6 * length h
+raw-within-short options h = raw-by options.allow_dangerous_html options.gfm_tagfilter (first_filtered h) h (first-filtered-short h)
 
 address-link-short : (url t : List ℕ) → longs (address_link url t).opened ≤ (length (written_address url) + 6 * length t) + 16
 address-link-short url t =

@@ -27,6 +27,7 @@ use Rattle.mdhtml_markup.specs.declared.elements.Alignment.TheVariants as alignm
 use Rattle.mdhtml_markup.specs.declared.elements.Element.{Element}
 use Rattle.mdhtml_markup.specs.declared.elements.Element.TheVariants.{Anchor, BlockQuote, Break, Checkbox, Code, DataCell, Deleted, Emphasis, HeaderCell, Heading1, Heading2, Heading3, Heading4, Heading5, Heading6, Image, ListItem, OrderedList, Paragraph, Preformatted, Section, Strong, Table, TableBody, TableHead, TableRow, ThematicBreak, UnorderedList}
 use Rattle.mdhtml_markup.specs.Pieces.{Aligned, Alt, Attribute, Checked, Close, Disabled, Feed, Footnotes, Fresh, Href, Id, InputType, Kept, Language, Open, Piece, Src, Start, Text, Title, Void, html}
+use Rattle.mdhtml_markup.specs.TagFilter.{filtered, first_filtered}
 use Rattle.mddocument_link_targets.specs.declared.targets.Parts.{Parts}
 use Rattle.mddocument_link_targets.specs.declared.targets.Target.{Target}
 use Rattle.mddocument_link_targets.specs.declared.targets.Target.TheVariants as target
@@ -111,9 +112,16 @@ abbrev pub address_at : CompileOptions → Place → List ℕ → List ℕ
 address_at options place.Href url = cond options.allow_dangerous_protocol url (allowed place.Href url)
 address_at options place.Src url = cond (options.allow_dangerous_protocol || options.allow_any_img_src) url (allowed place.Src url)
 
--- HTML of the document: as it is, or as text
+-- HTML of the document: as it is, or with its tags filtered; or as text
+abbrev pub raw_or : CompileOptions → (filtered raw : List ℕ) → Piece
+raw_or options f h = cond options.allow_dangerous_html (Kept (cond options.gfm_tagfilter f h)) (Text h)
+
+-- in lines of its own, and within text
 abbrev pub raw : CompileOptions → List ℕ → Piece
-raw options h = cond options.allow_dangerous_html (Kept h) (Text h)
+raw options h = raw_or options (filtered h) h
+
+abbrev pub raw_within : CompileOptions → List ℕ → Piece
+raw_within options h = raw_or options (first_filtered h) h
 
 -- ---- links and images
 
@@ -329,7 +337,7 @@ module _ (options : CompileOptions) (bytes : List ℕ) (known : Known) (tab : �
   inline_shape in_cell inline.Strong es said alt = within_line Strong []
   inline_shape in_cell inline.Struck es said alt = within_line Deleted []
   inline_shape in_cell inline.Code es said alt = alone (Open Code [] ∷ Text (cell_text in_cell (code_text bytes es)) ∷ Close Code ∷ [])
-  inline_shape in_cell inline.Html es said alt = alone (raw options (cell_text in_cell (html_text bytes es)) ∷ [])
+  inline_shape in_cell inline.Html es said alt = alone (raw_within options (cell_text in_cell (html_text bytes es)) ∷ [])
   inline_shape in_cell inline.Autolink es said alt = autolink options bytes es
   inline_shape in_cell inline.Www es said alt = literal options (codes "http://") said
   inline_shape in_cell inline.Email es said alt = literal options (codes "mailto:") said

@@ -28,6 +28,7 @@ use mddocument_link_targets::spans::enters;
 use mddocument_link_targets::targets::decoded_inside;
 use mdhtml_markup::elements::Element;
 use mdhtml_markup::escape::{push_escaped, push_kept};
+use mdhtml_markup::tag_filter::push_filtered;
 use std::alloc::{AllocError, Global};
 
 /// The length of the first span of a name among events.
@@ -163,18 +164,16 @@ fn open_numbers(
     })
 }
 
-/// Adds HTML of the document: as it is, or as text.
-pub(crate) fn push_raw(
-    out: &mut Vec<u8>,
-    options: &CompileOptions,
-    html: &[u8],
-) -> Result<(), AllocError>
+/// Adds HTML of the document in lines of its own: as it is, or with its tags filtered; or as text.
+fn push_raw(out: &mut Vec<u8>, options: &CompileOptions, html: &[u8]) -> Result<(), AllocError>
     ensures { OnOk result (out.new.items ≡ after out.old.items (raw options.now html.now ∷ [])) }
 {
-    if options.allow_dangerous_html {
-        push_kept(out, html)
-    } else {
+    if !options.allow_dangerous_html {
         push_escaped(out, html)
+    } else if options.gfm_tagfilter {
+        push_filtered(out, html)
+    } else {
+        push_kept(out, html)
     }
 }
 

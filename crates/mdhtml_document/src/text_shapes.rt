@@ -3,25 +3,27 @@
 ghost use Rattle.std.specs.Prelude.{◌≡◌, ◌++◌, ◌∷◌, [], IfOk, OnOk, true};
 ghost use Rattle.mddocument_link_targets.specs.Spans.{inside};
 ghost use Rattle.mdhtml_document.specs.Frames.{Opens, known_of};
-ghost use Rattle.mdhtml_document.specs.Html.{alone, task_box, check, inline_shape, is_check, is_checked, literal, paragraph_shape, raw, told};
+ghost use Rattle.mdhtml_document.specs.Html.{alone, task_box, check, inline_shape, is_check, is_checked, literal, paragraph_shape, raw_within, told};
+ghost use Rattle.mdhtml_document.specs.Written.{after};
 ghost use Rattle.mdhtml_document.specs.Values.{cell_text, code_text, html_text};
 ghost use Rattle.mdhtml_document.specs.Walks.{alt_from, inner_bytes, said_at, says_bytes};
 ghost use Rattle.mdhtml_markup.specs.Escapes.{escaped};
 ghost use Rattle.mdhtml_markup.specs.Pieces.{Close, Open, Text, written};
 ghost use Rattle.mdhtml_markup.specs.declared.elements.Element.TheVariants as element;
 
-use crate::block_shapes::push_raw;
 use crate::lines::{cell_text, code_in, code_text, html_text};
 use crate::links::{Whole, autolink, image, literal, open_link};
 use crate::names::Inline;
 use crate::notes::open_call;
 use crate::shapes::{DONE, Frame, Mode, open_within_line, through};
 use crate::spans::{inside, push_said};
+use markdown_base::configuration::CompileOptions;
 use markdown_base::event::{Event, Kind, Name};
 use mddocument_link_targets::spans::enters;
 use mddocument_link_targets::strings::slice;
 use mdhtml_markup::elements::Element;
-use mdhtml_markup::escape::push_escaped;
+use mdhtml_markup::escape::{push_escaped, push_kept};
+use mdhtml_markup::tag_filter::push_first_filtered;
 use std::alloc::{AllocError, Global};
 
 /// Writes code within text.
@@ -54,6 +56,19 @@ fn code(
     }
 }
 
+/// Adds HTML of the document within text: as it is, or with its tag filtered; or as text.
+fn push_raw(out: &mut Vec<u8>, options: &CompileOptions, html: &[u8]) -> Result<(), AllocError>
+    ensures { OnOk result (out.new.items ≡ after out.old.items (raw_within options.now html.now ∷ [])) }
+{
+    if !options.allow_dangerous_html {
+        push_escaped(out, html)
+    } else if options.gfm_tagfilter {
+        push_first_filtered(out, html)
+    } else {
+        push_kept(out, html)
+    }
+}
+
 /// Writes HTML within text, by the events in it.
 fn html(
     alloc: Global,
@@ -62,7 +77,7 @@ fn html(
     is_in_cell: bool,
     inner: &[Event],
 ) -> Result<Frame, AllocError>
-    ensures { IfOk result (λ frame. Opens (alone (raw whole.now.options.now (cell_text is_in_cell (html_text whole.now.bytes.now inner.now)) ∷ [])) out.old.items out.new.items frame) }
+    ensures { IfOk result (λ frame. Opens (alone (raw_within whole.now.options.now (cell_text is_in_cell (html_text whole.now.bytes.now inner.now)) ∷ [])) out.old.items out.new.items frame) }
 {
     let html = html_text(alloc, whole.bytes, inner)?;
     let html = cell_text(alloc, is_in_cell, html)?;

@@ -1,13 +1,13 @@
 -- Bytes of ids are written as they are, in texts and in addresses.
-use Rattle.std.proofs.Common.{◌≡◌, ℕ, List, [], ◌∷◌, ◌++◌, ap, sym, refl, ◌∙◌}
+use Rattle.std.proofs.Common.{◌≡◌, ℕ, List, [], ◌∷◌, ◌++◌, ap, refl, ◌∙◌}
 use Rattle.std.proofs.lemmas.List.Folds.{list_all-append}
 use Rattle.std.proofs.lemmas.Bool.{and_from, and_parts, eqb-true}
 use Rattle.std.specs.Char.{is_ascii_alphanumeric, is_ascii_digit}
 use Rattle.std.specs.Fmt.{decimal}
 use Rattle.std.specs.Int.{is_in_range}
 use Rattle.std.specs.List.{flat_map, list_all}
-use Rattle.std.specs.Prelude.{◌==◌, ◌&&◌, ◌||◌, ◌/◌, ◌%◌, Bool, true, false, cond, codes}
-use Rattle.mdhtml_markup.specs.Addresses.{address_byte, hex_digit, quoted_byte, written_address, written_byte}
+use Rattle.std.specs.Prelude.{◌==◌, ◌||◌, ◌/◌, ◌%◌, Bool, true, false, cond, codes}
+use Rattle.mdhtml_markup.specs.Addresses.{hex_digit, quoted_byte, written_address, written_byte}
 use Rattle.mdhtml_markup.specs.Escapes.{escaped, escaped_byte, replacement}
 use Rattle.mdhtml_markup.specs.SafeHtml.{is_address_byte, is_id_byte}
 use Rattle.mdhtml_markup.proofs.AddressLemmas.{alnum-has}

@@ -6,6 +6,8 @@ pub mod Behind
 pub mod Bools
 -- safe HTML
 pub mod CheckSteps
+-- raw HTML
+pub mod Filtered
 -- content models
 pub mod FlowSafe
 -- ids: ids of footnotes and addresses of these are what safe HTML may have

@@ -18,3 +18,5 @@ pub mod SafeHtml
 pub mod SafePieces
 -- text
 pub mod ShownText
+-- raw HTML
+pub mod TagFilter

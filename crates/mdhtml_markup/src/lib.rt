@@ -11,3 +11,5 @@ pub mod elements;
 pub mod escape;
 // laws: of safe HTML, of its test, and of pieces
 pub mod laws;
+// raw HTML: the filter of its tags
+pub mod tag_filter;

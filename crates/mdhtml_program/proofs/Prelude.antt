@@ -8,6 +8,6 @@ pub use Rattle.std.specs.List.{list_any}
 pub use Rattle.std.specs.Option.{option_and_then, option_map}
 pub use Rattle.std.specs.Prelude.{map, string_bytes}
 pub use Rattle.markdown_base.specs.declared.configuration.Options.{Options}
-pub use Rattle.mdhtml_program.specs.Arguments.{asks_gfm, choice_of_words, chosen_after, lets_all, nothing_chosen, once, options_of, stands_alone, tab_of, with_value, with_word}
+pub use Rattle.mdhtml_program.specs.Arguments.{asks_gfm, asks_two_tildes, choice_of_words, chosen_after, lets_all, nothing_chosen, once, options_of, stands_alone, tab_of, with_value, with_word}
 pub use Rattle.mdhtml_program.specs.Program.{IsHtmlOfRead, html_by}
 pub use Rattle.mdhtml_program.specs.declared.arguments.Choice.{Choice}

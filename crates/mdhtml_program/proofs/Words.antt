@@ -1,7 +1,7 @@
 -- Words among which `--unsafe` is not choose safe HTML.
 use Rattle.std.specs.Prelude.{◌||◌, IfSome}
 use Rattle.mdprograms.specs.Numbers.{decimal_of, tab_size_of}
-use Rattle.mdhtml_program.proofs.Prelude.{◌≡◌, ℕ, Bool, true, false, true≢false, cond, List, [], ◌∷◌, Option, None, Some, option_and_then, option_map, refl, list_any, Choice, choice_of_words, chosen_after, lets_all, asks_gfm, nothing_chosen, once, stands_alone, with_value, with_word, or_parts}
+use Rattle.mdhtml_program.proofs.Prelude.{◌≡◌, ℕ, Bool, true, false, true≢false, cond, List, [], ◌∷◌, Option, None, Some, option_and_then, option_map, refl, list_any, Choice, choice_of_words, chosen_after, lets_all, asks_gfm, asks_two_tildes, nothing_chosen, once, stands_alone, with_value, with_word, or_parts}
 
 -- a choice is safe, if there is one
 abbrev IsSafeIfSome : Option Choice → Type 0
@@ -25,10 +25,10 @@ not-first true c x y h k = absurd (true≢false h)
 not-first false c x y h k = k
 
 -- an option without a value, if it did not come before
-new : (given had : Bool) (next : Choice) → next.is_unsafe ≡ false → IsSafeIfSome (cond given (cond had None (Some next)) None)
-new true true next is = tt
-new true false next is = is
-new false had next is = tt
+new : (given had : Bool) (next : Choice) (other : Option Choice) → next.is_unsafe ≡ false → IsSafeIfSome other → IsSafeIfSome (cond given (cond had None (Some next)) other)
+new true true next other is h = tt
+new true false next other is h = is
+new false had next other is h = h
 
 -- one choice or another
 either : (b : Bool) (x y : Option Choice) → IsSafeIfSome x → IsSafeIfSome y → IsSafeIfSome (cond b x y)
@@ -36,7 +36,9 @@ either true x y h k = h
 either false x y h k = k
 
 word-safe : (choice : Choice) (word : List ℕ) (others : Bool) → choice.is_unsafe ≡ false → lets_all word || others ≡ false → IsSafeIfSome (with_word choice word)
-word-safe choice word others is h = not-first (lets_all word) others _ _ h (new (asks_gfm word) choice.is_gfm (record choice { is_gfm = true }) is)
+word-safe choice word others is h =
+    let two = new (asks_two_tildes word) choice.needs_two_tildes (record choice { needs_two_tildes = true }) None is tt in
+    not-first (lets_all word) others _ _ h (new (asks_gfm word) choice.is_gfm (record choice { is_gfm = true }) _ is two)
 
 value-safe : (choice : Choice) (name value : List ℕ) → choice.is_unsafe ≡ false → IsSafeIfSome (with_value choice name value)
 value-safe choice name value is =

@@ -1,5 +1,5 @@
 -- The program's command-line arguments, each a list of bytes.
-use Rattle.std.specs.Prelude.{ℕ, ◌||◌, Bool, true, false, List, [], ◌∷◌, Option, Some, None, codes, cond, unwrap_or}
+use Rattle.std.specs.Prelude.{ℕ, ◌||◌, Bool, true, false, List, [], ◌∷◌, Option, Some, None, codes, cond, not, unwrap_or}
 use Rattle.std.specs.Option.{option_and_then, option_map}
 use Rattle.std.specs.Str.{bytes_eq}
 use Rattle.markdown_base.specs.declared.configuration.Constructs.{Constructs}
@@ -16,15 +16,20 @@ lets_all word = bytes_eq word (codes "--unsafe")
 abbrev pub asks_gfm : List ℕ → Bool
 asks_gfm word = bytes_eq word (codes "--gfm")
 
+-- an argument is `--strikethrough-double-tilde`, as cmark-gfm has it
+abbrev pub asks_two_tildes : List ℕ → Bool
+asks_two_tildes word = bytes_eq word (codes "--strikethrough-double-tilde")
+
 -- an argument is an option without a value
 abbrev pub stands_alone : List ℕ → Bool
-stands_alone word = lets_all word || asks_gfm word
+stands_alone word = lets_all word || (asks_gfm word || asks_two_tildes word)
 
--- A choice with an option without a value, if it did not come before: `--unsafe` or `--gfm`
+-- A choice with an option without a value, if it did not come before: `--unsafe`, `--gfm` or `--strikethrough-double-tilde`
 abbrev pub with_word : Choice → (word : List ℕ) → Option Choice
 with_word choice word =
     cond (lets_all word) (cond choice.is_unsafe None (Some (record choice { is_unsafe = true })))
-    (cond (asks_gfm word) (cond choice.is_gfm None (Some (record choice { is_gfm = true }))) None)
+    (cond (asks_gfm word) (cond choice.is_gfm None (Some (record choice { is_gfm = true })))
+    (cond (asks_two_tildes word) (cond choice.needs_two_tildes None (Some (record choice { needs_two_tildes = true }))) None))
 
 -- a value, if there was none before
 abbrev pub once : {A : Type 0} → Option A → Option A → Option A
@@ -48,7 +53,7 @@ chosen_after choice (name ∷ value ∷ words) =
 -- What arguments choose, if they are accepted: each option at most once, in any order. Without them the HTML is safe, of CommonMark, the tab size 4, and there
 -- is no limit of depth
 abbrev pub nothing_chosen : Choice
-nothing_chosen = record { is_unsafe = false; is_gfm = false; tab = None; depth = None }
+nothing_chosen = record { is_unsafe = false; is_gfm = false; needs_two_tildes = false; tab = None; depth = None }
 
 abbrev pub choice_of_words : List (List ℕ) → Option Choice
 choice_of_words words = chosen_after nothing_chosen words
@@ -62,9 +67,10 @@ abbrev pub constructs_of : Choice → Constructs
 constructs_of choice =
     record default_constructs { gfm_autolink_literal = choice.is_gfm; gfm_footnote_definition = choice.is_gfm; gfm_label_start_footnote = choice.is_gfm; gfm_strikethrough = choice.is_gfm; gfm_table = choice.is_gfm; gfm_task_list_item = choice.is_gfm }
 
--- The options of a choice: these constructs, and this tab size; and as cmark's `--unsafe` raw HTML and addresses with any scheme, if the choice is unsafe
+-- The options of a choice: these constructs, this tab size, and how many tildes strike through; as cmark's `--unsafe` raw HTML and addresses with any scheme, if the choice is unsafe; and GFM's
+-- filter of tags, if the choice has GFM
 abbrev pub options_of : Choice → Options
 options_of choice = record {
-  parse = record default_parse_options { constructs = constructs_of choice; tab_size = tab_of choice };
-  compile = record default_compile_options { allow_dangerous_html = choice.is_unsafe; allow_dangerous_protocol = choice.is_unsafe };
+  parse = record default_parse_options { constructs = constructs_of choice; gfm_strikethrough_single_tilde = not choice.needs_two_tildes; tab_size = tab_of choice };
+  compile = record default_compile_options { allow_dangerous_html = choice.is_unsafe; allow_dangerous_protocol = choice.is_unsafe; gfm_tagfilter = choice.is_gfm };
 }

@@ -1,29 +1,32 @@
 //! The program's command-line arguments.
 
 ghost use Rattle.std.specs.Prelude.{◌≡◌, map, string_bytes};
-ghost use Rattle.mdhtml_program.specs.Arguments.{asks_gfm, choice_of_words, chosen_after, lets_all, once, options_of, stands_alone, tab_of, with_value, with_word};
+ghost use Rattle.mdhtml_program.specs.Arguments.{asks_gfm, asks_two_tildes, choice_of_words, chosen_after, lets_all, once, options_of, stands_alone, tab_of, with_value, with_word};
 
 use markdown_base::configuration::{Options, TabSize};
 use mdprograms::numbers::{read_number, read_tab_size};
 
 /// The usage line. It is shown if the arguments are not accepted.
-pub const USAGE: &str = "usage: mdhtml [--unsafe] [--gfm] [--tab n] [--depth n]";
+pub const USAGE: &str =
+    "usage: mdhtml [--unsafe] [--gfm] [--strikethrough-double-tilde] [--tab n] [--depth n]";
 
 /// How HTML is written.
 #[derive(Debug, Clone, Copy, PartialEq, Eq)]
 pub struct Choice {
     /// Raw HTML and addresses with any scheme are written as they stand.
     pub is_unsafe: bool,
-    /// Strikethrough, tables, footnotes, autolink literals and checks of tasks, as GFM has them, are read.
+    /// Strikethrough, tables, footnotes, autolink literals and checks of tasks, as GFM has them, are read, and tags of raw HTML are filtered.
     pub is_gfm: bool,
+    /// Two tildes alone strike through, where strikethrough is read.
+    pub needs_two_tildes: bool,
     /// The tab size, if it is not 4.
     pub tab: Option<TabSize>,
     /// The limit of depth, if there is one.
     pub depth: Option<usize>,
 }
 
-/// Reads the arguments after the program's name: `--unsafe`, `--gfm`, `--tab` with a number from 1 to 16, and `--depth` with a number from 1 on.
-/// They come in any order, each at most once. Without them the HTML is safe, of CommonMark, the tab size 4, and there is no limit of depth.
+/// Reads the arguments after the program's name: `--unsafe`, `--gfm`, `--strikethrough-double-tilde`, `--tab` with a number from 1 to 16, and `--depth`
+/// with a number from 1 on. They come in any order, each at most once. Without them the HTML is safe, of CommonMark, the tab size 4, and there is no limit of depth.
 /// Returns `None` if the arguments are not accepted; [`USAGE`] is then shown.
 pub fn read_words(words: &[String]) -> Option<Choice>
     ensures { result ≡ choice_of_words (map string_bytes words.now) }
@@ -31,6 +34,7 @@ pub fn read_words(words: &[String]) -> Option<Choice>
     let nothing = Choice {
         is_unsafe: false,
         is_gfm: false,
+        needs_two_tildes: false,
         tab: None,
         depth: None,
     };
@@ -71,6 +75,14 @@ fn with_word(so_far: Choice, word: &String) -> Option<Choice>
         }
         Some(Choice {
             is_gfm: true,
+            ..so_far
+        })
+    } else if asks_two_tildes(word) {
+        if so_far.needs_two_tildes {
+            return None;
+        }
+        Some(Choice {
+            needs_two_tildes: true,
             ..so_far
         })
     } else {
@@ -123,11 +135,18 @@ fn asks_gfm(word: &String) -> bool
     word.as_str() == "--gfm"
 }
 
+/// Whether an argument is `--strikethrough-double-tilde`.
+fn asks_two_tildes(word: &String) -> bool
+    ensures { result ≡ asks_two_tildes (string_bytes word.now) }
+{
+    word.as_str() == "--strikethrough-double-tilde"
+}
+
 /// Whether an argument is an option without a value.
 fn stands_alone(word: &String) -> bool
     ensures { result ≡ stands_alone (string_bytes word.now) }
 {
-    lets_all(word) || asks_gfm(word)
+    lets_all(word) || asks_gfm(word) || asks_two_tildes(word)
 }
 
 /// The tab size of a choice.
@@ -146,6 +165,7 @@ pub fn options_of(choice: &Choice) -> Options
 {
     let mut options = Options::default();
     options.parse.tab_size = tab_of(choice);
+    options.parse.gfm_strikethrough_single_tilde = !choice.needs_two_tildes;
     options.parse.constructs.gfm_autolink_literal = choice.is_gfm;
     options.parse.constructs.gfm_footnote_definition = choice.is_gfm;
     options.parse.constructs.gfm_label_start_footnote = choice.is_gfm;
@@ -154,5 +174,6 @@ pub fn options_of(choice: &Choice) -> Options
     options.parse.constructs.gfm_task_list_item = choice.is_gfm;
     options.compile.allow_dangerous_html = choice.is_unsafe;
     options.compile.allow_dangerous_protocol = choice.is_unsafe;
+    options.compile.gfm_tagfilter = choice.is_gfm;
     options
 }

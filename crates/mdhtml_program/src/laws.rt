@@ -6,5 +6,5 @@ use crate::arguments::USAGE;
 
 /// The text of the usage line.
 pub fn usage_line_stays()
-    ensures { USAGE.now ≡ codes "usage: mdhtml [--unsafe] [--gfm] [--tab n] [--depth n]" }
+    ensures { USAGE.now ≡ codes "usage: mdhtml [--unsafe] [--gfm] [--strikethrough-double-tilde] [--tab n] [--depth n]" }
 {}

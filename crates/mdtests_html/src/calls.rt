@@ -82,6 +82,46 @@ fn documents_are_html(rt: HostRuntime) {
     }
 }
 
+/// Documents with raw HTML, which is let through, and their HTML with tags filtered.
+const FILTERED: &[(&[u8], &[u8])] = &[
+    (b"<script>a</script>", b"&lt;script>a&lt;/script>\n"),
+    (
+        b"a <b></STYLE ></b> <scripty>",
+        b"<p>a <b>&lt;/STYLE ></b> <scripty></p>\n",
+    ),
+    (b"a <title/>", b"<p>a &lt;title/></p>\n"),
+    (b"<!-- <title> -->", b"<!-- &lt;title> -->\n"),
+    (b"a <!-- <title> -->", b"<p>a <!-- <title> --></p>\n"),
+    (
+        b"> <div>\n> <xmp",
+        b"<blockquote>\n<div>\n&lt;xmp\n</blockquote>\n",
+    ),
+    (
+        b"![<xmp>](a) `<xmp>` \\<xmp>",
+        b"<p><img src=\"a\" alt=\"&lt;xmp&gt;\" /> <code>&lt;xmp&gt;</code> &lt;xmp&gt;</p>\n",
+    ),
+];
+
+/// Whether a document is written so with tags filtered; and, if its raw HTML is not let through, as without.
+fn is_filtered(alloc: Global, document: &[u8], wanted: &[u8]) -> Result<bool, AllocError>
+    requires { IsWithinLimit 4 document.now }
+{
+    let mut options = Options::default();
+    options.compile.gfm_tagfilter = true;
+    let safe = to_html_with_options(alloc, document, &options)?;
+    options.compile.allow_dangerous_html = true;
+    let html = to_html_with_options(alloc, document, &options)?;
+    Ok(html.as_slice() == wanted && safe.as_slice() == to_html(alloc, document)?.as_slice())
+}
+
+#[test]
+fn tags_are_filtered(rt: HostRuntime) {
+    for &(document, wanted) in FILTERED {
+        let found = is_filtered(rt.alloc(), document, wanted);
+        assert!(rt; found.expect(&rt, "memory"), "{wanted:?}");
+    }
+}
+
 /// Documents, limits of depth, and their HTML.
 const WITHIN: &[(&[u8], usize, &[u8])] = &[
     (

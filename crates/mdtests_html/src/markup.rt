@@ -3,6 +3,7 @@
 use mdhtml_markup::addresses::push_address;
 use mdhtml_markup::checks::is_safe_html;
 use mdhtml_markup::escape::{push_escaped, push_kept};
+use mdhtml_markup::tag_filter::{push_filtered, push_first_filtered};
 use std::alloc::{AllocError, Global};
 
 /// How bytes are written.
@@ -10,6 +11,8 @@ use std::alloc::{AllocError, Global};
 enum How {
     Escaped,
     Kept,
+    Filtered,
+    FirstFiltered,
     Address,
 }
 
@@ -34,6 +37,49 @@ const WRITTEN: &[(How, &[u8], &[u8])] = &[
         b"x\xEF\xBF\xBD<i>\xEF\xBF\xBD\xEF\xBF\xBD</i>\xEF\xBF\xBD",
     ),
     (How::Kept, b"\x1B\xFF", b"x\x1B\xFF"),
+    // HTML whose tags are filtered: each name in any case, that opens or closes; what ends it; other names; in a comment, a value, and another tag; NUL
+    (How::Filtered, b"", b"x"),
+    (How::Filtered, b"<script>", b"x&lt;script>"),
+    (How::Filtered, b"a</STYLE >b", b"xa&lt;/STYLE >b"),
+    (How::Filtered, b"<scripty><ascript>", b"x<scripty><ascript>"),
+    (
+        How::Filtered,
+        b"<title/><title/ >",
+        b"x&lt;title/><title/ >",
+    ),
+    (How::Filtered, b"<!-- <xmp> -->", b"x<!-- &lt;xmp> -->"),
+    (
+        How::Filtered,
+        b"<a b=\"<iframe\t\">< style>",
+        b"x<a b=\"&lt;iframe\t\">< style>",
+    ),
+    (
+        How::Filtered,
+        b"<tExTaReA\n><NoEmbed ></noframes></noframes",
+        b"x&lt;tExTaReA\n>&lt;NoEmbed >&lt;/noframes>&lt;/noframes",
+    ),
+    (
+        How::Filtered,
+        b"<<plaintext></</script><script",
+        b"x<&lt;plaintext></&lt;/script>&lt;script",
+    ),
+    (
+        How::Filtered,
+        b"<xmp\x0C><xmp\x0B><xmp\x00><b>",
+        b"x<xmp\x0C><xmp\x0B><xmp\xEF\xBF\xBD><b>",
+    ),
+    // within text the first byte alone is looked at
+    (How::FirstFiltered, b"", b"x"),
+    (How::FirstFiltered, b"<script>", b"x&lt;script>"),
+    (How::FirstFiltered, b"</STYLE >", b"x&lt;/STYLE >"),
+    (How::FirstFiltered, b"<scripty>", b"x<scripty>"),
+    (How::FirstFiltered, b"<title/>", b"x&lt;title/>"),
+    (How::FirstFiltered, b"<!-- <xmp> -->", b"x<!-- <xmp> -->"),
+    (
+        How::FirstFiltered,
+        b"<xmp a=\"\x00<xmp>\">",
+        b"x&lt;xmp a=\"\xEF\xBF\xBD<xmp>\">",
+    ),
     // addresses: bytes that stand for themselves, also `%` before what is no number; entities; NUL; and bytes as two hexadecimal digits, at the
     // limits of both
     (How::Address, b"", b"x"),
@@ -63,6 +109,8 @@ fn is_written(alloc: Global, how: How, bytes: &[u8], want: &[u8]) -> Result<bool
     match how {
         How::Escaped => push_escaped(&mut out, bytes)?,
         How::Kept => push_kept(&mut out, bytes)?,
+        How::Filtered => push_filtered(&mut out, bytes)?,
+        How::FirstFiltered => push_first_filtered(&mut out, bytes)?,
         How::Address => push_address(&mut out, bytes)?,
     }
     Ok(out.as_slice() == want)

@@ -21,7 +21,8 @@ const UNSAFE: &[u8] = b"<ul>\n<li>\n<b>\n</li>\n</ul>\n";
 const SAFE_CODE: &[u8] =
     b"<ul>\n<li>\n<pre><code>          &lt;b&gt;\n</code></pre>\n</li>\n</ul>\n";
 
-const USAGE_SHOWN: &[u8] = b"usage: mdhtml [--unsafe] [--gfm] [--tab n] [--depth n]\n";
+const USAGE_SHOWN: &[u8] =
+    b"usage: mdhtml [--unsafe] [--gfm] [--strikethrough-double-tilde] [--tab n] [--depth n]\n";
 
 /// Calls the program with these arguments, over the document, and fakes.
 fn call(
@@ -74,6 +75,18 @@ const CALLS: &[(&[&[u8]], u8, &[u8], &[u8])] = &[
     (&[b"mdhtml", b"--tab", b"+1"], 2, b"", USAGE_SHOWN),
     (&[b"mdhtml", b"--unsafe", b"--unsafe"], 2, b"", USAGE_SHOWN),
     (&[b"mdhtml", b"--gfm", b"--gfm"], 2, b"", USAGE_SHOWN),
+    (&[b"mdhtml", b"--strikethrough-double-tilde"], 0, SAFE, b""),
+    (
+        &[
+            b"mdhtml",
+            b"--strikethrough-double-tilde",
+            b"--unsafe",
+            b"--strikethrough-double-tilde",
+        ],
+        2,
+        b"",
+        USAGE_SHOWN,
+    ),
     (
         &[b"mdhtml", b"--gfm", b"--unsafe", b"--gfm"],
         2,
@@ -111,6 +124,10 @@ const WITH_GFM: &[(&[&[u8]], &[u8])] = &[
     (
         &[b"mdhtml", b"--gfm"],
         b"<blockquote>\n<ul>\n<li><input type=\"checkbox\" checked=\"\" disabled=\"\" /> <del>a</del> <a href=\"http://www.b.c\">www.b.c</a></li>\n</ul>\n</blockquote>\n<table>\n<thead>\n<tr>\n<th>a</th>\n<th align=\"center\">b</th>\n</tr>\n</thead>\n<tbody>\n<tr>\n<td><em>c</em></td>\n<td align=\"center\">d | e</td>\n</tr>\n</tbody>\n</table>\n",
+    ),
+    (
+        &[b"mdhtml", b"--strikethrough-double-tilde", b"--gfm"],
+        b"<blockquote>\n<ul>\n<li><input type=\"checkbox\" checked=\"\" disabled=\"\" /> ~a~ <a href=\"http://www.b.c\">www.b.c</a></li>\n</ul>\n</blockquote>\n<table>\n<thead>\n<tr>\n<th>a</th>\n<th align=\"center\">b</th>\n</tr>\n</thead>\n<tbody>\n<tr>\n<td><em>c</em></td>\n<td align=\"center\">d | e</td>\n</tr>\n</tbody>\n</table>\n",
     ),
     (
         &[b"mdhtml", b"--depth", b"3", b"--gfm"],

@@ -3,8 +3,8 @@ use Rattle.std.specs.Global.{Global}
 use Rattle.std.specs.Option.{is_some}
 use Rattle.std.specs.Prelude.{not, Vec}
 use Rattle.markdown_base.specs.declared.event.Event.{Event}
+use Rattle.mddocument_link_targets.proofs.Lookups.{found}
 use Rattle.mdhtml_document.specs.Walks.{first_note, first_of}
-use Rattle.mdhtml_document.proofs.Lookups.{found}
 use Rattle.mdhtml_document.proofs.NoteEnds.{end-again, end-new, innermost, kept, known, mapped-some}
 use Rattle.mdhtml_document.proofs.note_section.Notes.end.Goals as goal
 

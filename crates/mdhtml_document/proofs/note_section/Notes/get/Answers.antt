@@ -1,7 +1,7 @@
 use Rattle.std.proofs.Common.{[], ap, sym, ◌∙◌}
 use Rattle.std.specs.Option.{option_copied, unwrap_or}
 use Rattle.std.specs.Prelude.{option_map}
-use Rattle.mdhtml_document.proofs.Lookups.{found}
+use Rattle.mddocument_link_targets.proofs.Lookups.{found}
 use Rattle.mdhtml_document.proofs.note_section.Notes.get.Goals as goal
 
 pub returns-in-None : goal.returns-in-None

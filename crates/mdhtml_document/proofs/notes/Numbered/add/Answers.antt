@@ -4,11 +4,11 @@ use Rattle.std.specs.Global.{Global}
 use Rattle.std.specs.Map.{lookup}
 use Rattle.std.specs.Ordering.{is_eq, nat_cmp}
 use Rattle.std.specs.Prelude.{Vec, bytes_eq, cond}
+use Rattle.mddocument_link_targets.proofs.Lookups.{added}
 use Rattle.mdhtml_document.specs.declared.notes.Called.{Called}
 use Rattle.mdhtml_document.specs.declared.notes.Calls.{Calls}
 use Rattle.mdhtml_document.specs.Frames.{call_at, last_known}
 use Rattle.mdhtml_document.specs.Notes.{next_call}
-use Rattle.mdhtml_document.proofs.Lookups.{added}
 use Rattle.mdhtml_document.proofs.Numbers.{more-numbered, texts, texts_with}
 use Rattle.mdhtml_document.proofs.notes.Numbered.add.Goals as goal
 

@@ -1,5 +1,5 @@
 use Rattle.std.proofs.Common.{◌∙◌}
-use Rattle.mdhtml_document.proofs.Lookups.{found}
+use Rattle.mddocument_link_targets.proofs.Lookups.{found}
 use Rattle.mdhtml_document.proofs.notes.Numbered.last_of.Goals as goal
 
 pub returns : goal.returns
