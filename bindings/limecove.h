@@ -86,22 +86,25 @@ enum limecove_construct {
     LIMECOVE_COMMONMARK = 1048575,        /* all of these: the constructs of CommonMark */
     LIMECOVE_GFM_STRIKETHROUGH = 1048576, /* strikethrough of GFM, which is on only if it is asked for */
     LIMECOVE_ALL_CONSTRUCTS = 2097151,    /* all that each call takes */
-    /* of GFM, for limecove_html, and for limecove_read and limecove_open by LIMECOVE_DOCUMENT with deep: elsewhere, as for texts and for
-     * documents that are edited, there is no such construct. Off unless it is asked for */
+    /* of GFM, for limecove_html and limecove_document_new, and for limecove_read and limecove_open by LIMECOVE_DOCUMENT with deep: elsewhere,
+     * as for texts, there is no such construct. Off unless it is asked for */
     LIMECOVE_GFM_AUTOLINK_LITERAL = 2097152, /* autolink literals */
     LIMECOVE_GFM_TASK_LIST_ITEM = 4194304,   /* checks of task list items */
     LIMECOVE_GFM_TABLE = 8388608,            /* tables */
     LIMECOVE_GFM_FOOTNOTE_DEFINITION = 16777216,  /* definitions of footnotes */
     LIMECOVE_GFM_LABEL_START_FOOTNOTE = 33554432, /* calls of footnotes */
-    LIMECOVE_HTML_CONSTRUCTS = 67108863           /* all of these and those before */
+    LIMECOVE_HTML_CONSTRUCTS = 67108863,          /* all of these and those before */
+    /* no construct, and taken where these are: one tilde is text, and two strike through */
+    LIMECOVE_GFM_STRIKETHROUGH_DOUBLE_TILDE = 67108864
 };
 
-/* What HTML may let through, as bits. If none is set, the HTML is safe, whatever the document is. */
+/* What HTML may let through, as bits. If none of LIMECOVE_ALLOW_ALL is set, the HTML is safe, whatever the document is. */
 enum limecove_permission {
     LIMECOVE_ALLOW_DANGEROUS_HTML = 1,     /* HTML in the document is kept as HTML; without it, it is shown as text */
     LIMECOVE_ALLOW_DANGEROUS_PROTOCOL = 2, /* links and images have addresses of any protocol */
     LIMECOVE_ALLOW_ANY_IMG_SRC = 4,        /* images alone have addresses of any protocol */
-    LIMECOVE_ALLOW_ALL = 7
+    LIMECOVE_ALLOW_ALL = 7,
+    LIMECOVE_GFM_TAGFILTER = 8 /* in HTML that is kept, tags that GFM disallows are text: no protection */
 };
 
 /* Whether a span begins or ends. */
@@ -452,7 +455,7 @@ struct limecove_html_options {
     size_t size;         /* sizeof(struct limecove_html_options) */
     size_t tab_size;     /* how many columns tab stops are apart, from 1 to 16; 0 is 4 */
     uint64_t constructs; /* the sum of the bits of limecove_construct that are on */
-    uint64_t allow;      /* the sum of the bits of limecove_permission that are set; if it is 0, the HTML is safe */
+    uint64_t allow;      /* the sum of the bits of limecove_permission that are set; if it has none of LIMECOVE_ALLOW_ALL, the HTML is safe */
 };
 
 /* A range of a document. Ranges can be read as one text if none runs backwards or past the end, and each begins where the one before it

@@ -251,7 +251,7 @@ def differences():
     c = numbers(HEADER, r"#define LIMECOVE_(VERSION) (\d+)")
     c |= enum_numbers("code") | enum_numbers("construct") | enum_numbers("permission")
     for other, theirs in [(FOREIGN, rust), (HEADER, c)]:
-        if len(root) != 13 or len(bits) != 31 or theirs != root | bits:
+        if len(root) != 13 or len(bits) != 35 or theirs != root | bits:
             lines.append(f"{other}: the numbers are {theirs}, and {root | bits} in code.rt and choose.rt")
     contents = numbers(LIMECOVE / "specs/Records.antt", r"(?m)^content_number (\w+) = (\d+)$")
     contents["CONTENT"] = contents.pop("CONTENTOFCONTENT", None)

@@ -381,7 +381,7 @@ int main(int argc, char **argv) {
         }
         text = random_text_options();
         if (below(4))
-            text.constructs = LIMECOVE_ALL_CONSTRUCTS;
+            text.constructs = LIMECOVE_HTML_CONSTRUCTS + below(2) * LIMECOVE_GFM_STRIKETHROUGH_DOUBLE_TILDE;
         edit_all(edits);
         free(bytes);
         free(expected);

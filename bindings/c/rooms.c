@@ -50,7 +50,7 @@ static void refused(void) {
         texts[i] = limecove_default_text_options();
     options[0].size = texts[0].size = 32;
     options[1].tab_size = texts[1].tab_size = 17;
-    options[2].constructs = LIMECOVE_HTML_CONSTRUCTS + 1;
+    options[2].constructs = 2 * LIMECOVE_GFM_STRIKETHROUGH_DOUBLE_TILDE;
     texts[2].constructs = LIMECOVE_ALL_CONSTRUCTS + 1;
     options[3].machine = 9;
     options[4].machine = UINT32_MAX;
@@ -162,6 +162,10 @@ static void documents_are_html(void) {
     is_html(document, &options, "<p>&lt;b&gt; <a href=\"\">c</a> <img src=\"d:g\" alt=\"f\" /></p>\n");
     options.allow = LIMECOVE_ALLOW_ALL;
     is_html(document, &options, "<p><b> <a href=\"d:e\">c</a> <img src=\"d:g\" alt=\"f\" /></p>\n");
+    options.allow = LIMECOVE_ALLOW_DANGEROUS_HTML + LIMECOVE_GFM_TAGFILTER;
+    is_html("<b></STYLE ><scripty>", &options, "<p><b>&lt;/STYLE ><scripty></p>\n");
+    options.allow = LIMECOVE_GFM_TAGFILTER;
+    is_html("<b></STYLE >", &options, "<p>&lt;b&gt;&lt;/STYLE &gt;</p>\n");
     options = limecove_default_html_options();
     options.constructs -= LIMECOVE_ATTENTION;
     is_html("*a*", &options, "<p>*a*</p>\n");
@@ -186,8 +190,8 @@ static void html_is_refused(void) {
         options[i] = limecove_default_html_options();
     options[0].size = 24;
     options[1].tab_size = 17;
-    options[2].constructs = LIMECOVE_HTML_CONSTRUCTS + 1;
-    options[2].allow = options[3].allow = LIMECOVE_ALLOW_ALL + 1;
+    options[2].constructs = 2 * LIMECOVE_GFM_STRIKETHROUGH_DOUBLE_TILDE;
+    options[2].allow = options[3].allow = 2 * LIMECOVE_GFM_TAGFILTER;
     for (size_t i = 0; i < 4; i++) {
         struct limecove_answer answer = limecove_html((const uint8_t *)"a", 1, &options[i], out, sizeof out);
         CHECK(answer.code == codes[i] && answer.count == 0 && untouched(out, sizeof out));
@@ -265,6 +269,9 @@ static void constructs_have_bits(void) {
     CHECK(!has("- [x] a", LIMECOVE_ALL_CONSTRUCTS, LIMECOVE_NAME_GFM_TASK_LIST_ITEM_CHECK));
     CHECK(!has("a\n:-", LIMECOVE_ALL_CONSTRUCTS, LIMECOVE_NAME_GFM_TABLE));
     CHECK(!has("[^a]: b", LIMECOVE_ALL_CONSTRUCTS, LIMECOVE_NAME_GFM_FOOTNOTE_DEFINITION));
+    bits = LIMECOVE_HTML_CONSTRUCTS + LIMECOVE_GFM_STRIKETHROUGH_DOUBLE_TILDE;
+    CHECK(!has("~a~", bits, LIMECOVE_NAME_GFM_STRIKETHROUGH));
+    CHECK(has("~~a~~", bits, LIMECOVE_NAME_GFM_STRIKETHROUGH));
 }
 
 /* Without quotes, lists and definitions, a document without links is read as its leaf blocks are. */

@@ -177,11 +177,15 @@ GFM_TABLE = 8388608
 # definitions of footnotes, and their calls
 GFM_FOOTNOTE_DEFINITION = 16777216
 GFM_LABEL_START_FOOTNOTE = 33554432
+# no construct: with it one tilde is text, and two strike through
+GFM_STRIKETHROUGH_DOUBLE_TILDE = 67108864
 
-# Bits of what HTML may let through. If none is set, the HTML is safe, whatever the document is.
+# Bits of what HTML may let through. If none of these three is set, the HTML is safe, whatever the document is.
 ALLOW_DANGEROUS_HTML = 1
 ALLOW_DANGEROUS_PROTOCOL = 2
 ALLOW_ANY_IMG_SRC = 4
+# of HTML that is let through, tags that GFM disallows are text: no protection
+GFM_TAGFILTER = 8
 
 _DOCUMENT = 8
 _OUT_OF_MEMORY, _NO_SUCH_TAB_SIZE, _NO_SUCH_CONSTRUCT, _NO_SUCH_PERMISSION = 1, 4, 5, 11

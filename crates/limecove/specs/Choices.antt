@@ -3,6 +3,7 @@ use Rattle.std.specs.Prelude.{ℕ, ◌&&◌, ◌||◌, not, true, Bool, List, Op
 use Rattle.std.specs.declared.result.Result.TheVariants.{Ok, Err}
 use Rattle.std.specs.Option.{option_map_or}
 use Rattle.markdown.specs.declared.configuration.Constructs.{Constructs}
+use Rattle.markdown.specs.declared.configuration.ParseOptions.{ParseOptions}
 use Rattle.markdown.specs.Engine.{given_by}
 use Rattle.markdown.specs.Presets.{default_constructs}
 use Rattle.markdown.specs.Text.{Given}
@@ -38,11 +39,15 @@ is_yes n = not (nat_eq n 0)
 abbrev pub are_constructs : ℕ → Bool
 are_constructs bits = nat_lt bits 2097152
 
--- the same of those that HTML has
+-- the same of those that HTML has, and the one that leaves one tilde out
 abbrev pub are_html_constructs : ℕ → Bool
-are_html_constructs bits = nat_lt bits 67108864
+are_html_constructs bits = nat_lt bits 134217728
 
--- tables, literals, checks or footnotes are on: a sum of bits is greater than that of all constructs that events have by each machine
+-- one tilde strikes through, as two do: the greatest of these bits is not there
+abbrev pub counts_one_tilde : ℕ → Bool
+counts_one_tilde bits = nat_lt bits 67108864
+
+-- tables, literals, checks or footnotes are on, or one tilde is left out: a sum of bits is greater than that of all constructs that events have by each machine
 abbrev pub has_rewritten : ℕ → Bool
 has_rewritten bits = nat_lt 2097151 bits
 
@@ -86,16 +91,21 @@ choice_of options =
     (option_map_or (λ t. cond (have_constructs options) (together options t) (Err no_such_construct)) (tab_of options.tab_size) (Err no_such_tab_size))
     (Err other_size)
 
--- the tab size that options of text choose, or such a code
-abbrev pub text_choice_of : TextOptions → Result ℕ ℕ
-text_choice_of options =
-    cond (nat_eq options.size 24)
-    (option_map_or (λ t. cond (are_constructs options.constructs) (Ok t) (Err no_such_construct)) (tab_of options.tab_size) (Err no_such_tab_size))
-    (Err other_size)
+-- the tab size that options of text choose, or such a code, by whether their constructs are some that there are
+abbrev pub tab_by : (are : Bool) → TextOptions → Result ℕ ℕ
+tab_by are options =
+    cond (nat_eq options.size 24) (option_map_or (λ t. cond are (Ok t) (Err no_such_construct)) (tab_of options.tab_size) (Err no_such_tab_size)) (Err other_size)
 
--- a sum of bits has alone the bits of what HTML may let through
+abbrev pub text_choice_of : TextOptions → Result ℕ ℕ
+text_choice_of options = tab_by (are_constructs options.constructs) options
+
+-- the same of an edited document, which has all that HTML has
+abbrev pub document_choice_of : TextOptions → Result ℕ ℕ
+document_choice_of options = tab_by (are_html_constructs options.constructs) options
+
+-- a sum of bits has alone the bits of what HTML may let through, and that of the filter of tags
 abbrev pub are_permissions : ℕ → Bool
-are_permissions bits = nat_lt bits 8
+are_permissions bits = nat_lt bits 16
 
 -- the tab size that options of HTML choose, or the code of the first thing that there is not: their size, tab size, constructs, permissions
 abbrev pub html_choice_of : HtmlOptions → Result ℕ ℕ
@@ -139,6 +149,10 @@ constructs_of bits = record default_constructs {
   list_item = has_bit bits 32768;
   thematic_break = has_bit bits 8192;
 }
+
+-- how a document is read by a sum of bits, with this tab size
+abbrev pub parse_options_of : (bits tab : ℕ) → ParseOptions
+parse_options_of bits tab = record (options_with (constructs_of bits) tab) { gfm_strikethrough_single_tilde = counts_one_tilde bits }
 
 -- the constructs that have a bit: CommonMark's, and GFM's strikethrough; in HTML and whole documents its tables, literals, checks and footnotes too
 abbrev pub constructs_with_bits : Constructs

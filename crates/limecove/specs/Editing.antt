@@ -6,7 +6,6 @@ use Rattle.std.specs.Option.{option_map_or}
 use Rattle.mdconstructs.specs.declared.positions.Encoding.{Encoding}
 use Rattle.mdconstructs.specs.declared.positions.Encoding.TheVariants.{Utf8, Utf16}
 use Rattle.mdconstructs.specs.Divided.{Divided, bytes_of, events_between}
-use Rattle.mdconstructs.specs.Documents.{options_with}
 use Rattle.mdconstructs.specs.declared.edit.Other.{Other}
 use Rattle.mdconstructs.specs.declared.edit.Why.{Why}
 use Rattle.mdconstructs.specs.declared.edit.Why.TheVariants as why
@@ -20,7 +19,7 @@ use Rattle.limecove.specs.declared.edits.Named.{Named}
 use Rattle.limecove.specs.declared.edits.Place.{Place}
 use Rattle.limecove.specs.declared.held.Held.{Held}
 use Rattle.limecove.specs.declared.record.Record.{Record}
-use Rattle.limecove.specs.Choices.{constructs_of, text_choice_of}
+use Rattle.limecove.specs.Choices.{document_choice_of, parse_options_of}
 use Rattle.limecove.specs.Records.{filled}
 
 -- A document that is not open
@@ -30,9 +29,9 @@ IsNotOpen document = (document.is_open ≡ 0) × (document.kept.held ≡ None)
 -- A document has these bytes, and is read with the constructs and the tab size of the options
 pub record IsOf (options : TextOptions) (bytes : List ℕ) (d : Divided) : Type 0 where
   pub tab : ℕ
-  pub chosen : text_choice_of options ≡ Ok tab
+  pub chosen : document_choice_of options ≡ Ok tab
   pub are : bytes_of d ≡ bytes
-  pub read : d.options ≡ options_with (constructs_of options.constructs) tab
+  pub read : d.options ≡ parse_options_of options.constructs tab
 
 -- What is kept was made of bytes: it has this many sections, and no edit read any again
 pub record IsMade (options : TextOptions) (bytes : List ℕ) (n : ℕ) (held : Held) : Type 0 where

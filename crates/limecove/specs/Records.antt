@@ -20,7 +20,7 @@ use Rattle.limecove.specs.declared.choose.HtmlOptions.{HtmlOptions}
 use Rattle.limecove.specs.declared.choose.Options.{Options}
 use Rattle.limecove.specs.declared.choose.TextOptions.{TextOptions}
 use Rattle.limecove.specs.declared.record.Record.{Record}
-use Rattle.limecove.specs.Choices.{choice_of, constructs_of, has_rewritten, text_choice_of, text_document}
+use Rattle.limecove.specs.Choices.{choice_of, constructs_of, has_rewritten, parse_options_of, text_choice_of, text_document}
 use Rattle.limecove.specs.Names.{number_of}
 
 -- the number of a kind
@@ -57,12 +57,12 @@ record_of event = record {
 abbrev pub filled : List Record → List Event → List Record
 filled old events = take (length old) (map record_of events) ++ drop (length events) old
 
--- Events are those of a document by a choice. If tables, literals or checks are on, they are those of the whole document with these
+-- Events are those of a document by a choice. If tables, literals, checks or footnotes are on, or one tilde is left out, they are those of the whole document with these
 abbrev pub AreEventsBy : (with_these : Bool) → Choice → ParseOptions → List ℕ → List Event → Type 0
 AreEventsBy false choice options bytes events = AreEventsOf choice.deep choice.machine options bytes events
 AreEventsBy true choice options bytes events = events ≡ gfm_events options bytes
 
--- Options that choose something with tables, literals or checks choose the machine of documents, with its texts
+-- Options that choose something with tables, literals, checks, footnotes or without one tilde choose the machine of documents, with its texts
 abbrev pub RewrittenAreDocuments : Type 0
 RewrittenAreDocuments = (options : Options) (choice : Choice) → choice_of options ≡ Ok choice → has_rewritten options.constructs ≡ true → (choice.machine ≡ Document) × (choice.deep ≡ true)
 
@@ -70,7 +70,7 @@ RewrittenAreDocuments = (options : Options) (choice : Choice) → choice_of opti
 pub record AreRead (options : Options) (bytes : List ℕ) (n : ℕ) (events : List Event) : Type 0 where
   pub choice : Choice
   pub chosen : choice_of options ≡ Ok choice
-  pub are : AreEventsBy (has_rewritten options.constructs) choice (options_with (constructs_of options.constructs) choice.tab) bytes events
+  pub are : AreEventsBy (has_rewritten options.constructs) choice (parse_options_of options.constructs choice.tab) bytes events
   pub count : n ≡ length events
 
 -- Events that are this many, and that are those of a document, read as text with the constructs and the tab size of the options

@@ -2,14 +2,15 @@
 
 ghost use Rattle.std.specs.Prelude.{◌≡◌, ◌<◌, ◌≤◌, ◌⊎◌, IfErr, IfOk};
 ghost use Rattle.mdconstructs.specs.Choices.{CanCut};
-ghost use Rattle.limecove.specs.Choices.{choice_of, constructs_of, has_rewritten, have_constructs, html_choice_of, machine_of, tab_of, text_choice_of};
+ghost use Rattle.limecove.specs.Choices.{choice_of, constructs_of, document_choice_of, has_rewritten, have_constructs, html_choice_of, machine_of, parse_options_of, tab_by, tab_of, text_choice_of};
 
 use crate::code::{
     LINKS_NO_TEXT, NO_SUCH_CONSTRUCT, NO_SUCH_MACHINE, NO_SUCH_PERMISSION, NO_SUCH_TAB_SIZE,
     OTHER_SIZE, TOO_LONG,
 };
-use markdown::configuration::{Constructs, TabSize};
+use markdown::configuration::{Constructs, ParseOptions, TabSize};
 use mdconstructs::choice::{Choice, Which, links_text};
+use mdconstructs::options_with;
 
 /// The bit of code spans.
 pub const CODE_TEXT: u64 = 1;
@@ -69,6 +70,10 @@ pub const GFM_FOOTNOTE_DEFINITION: u64 = 16777216;
 pub const GFM_LABEL_START_FOOTNOTE: u64 = 33554432;
 /// The bits of all constructs that HTML has, and whole documents with their texts.
 pub const HTML_CONSTRUCTS: u64 = 67108863;
+/// The bit that leaves one tilde out: two alone strike through. In HTML, and in whole documents with their texts.
+pub const GFM_STRIKETHROUGH_DOUBLE_TILDE: u64 = 67108864;
+/// All bits that constructs of HTML may have.
+const HTML_BITS: u64 = 134217727;
 
 /// The bit of HTML in the document, which is kept as HTML. Without it, it is shown as text.
 pub const ALLOW_DANGEROUS_HTML: u64 = 1;
@@ -78,6 +83,10 @@ pub const ALLOW_DANGEROUS_PROTOCOL: u64 = 2;
 pub const ALLOW_ANY_IMG_SRC: u64 = 4;
 /// The bits of all that HTML may let through.
 pub const ALLOW_ALL: u64 = 7;
+/// The bit of GFM's filter of tags, for HTML that is kept. It is no protection.
+pub const GFM_TAGFILTER: u64 = 8;
+/// All bits that stand beside what HTML may let through.
+const ALLOW_BITS: u64 = 15;
 
 /// How many bytes `TextOptions` has.
 pub const TEXT_OPTIONS_SIZE: usize = 24;
@@ -89,7 +98,7 @@ pub const HTML_OPTIONS_SIZE: usize = 32;
 /// The number of the machine of documents.
 const DOCUMENT: u32 = 8;
 
-/// How text is read.
+/// How text is read, or a document that is edited.
 #[repr(C)]
 #[derive(Clone, Copy, Debug, PartialEq, Eq)]
 pub struct TextOptions {
@@ -97,7 +106,7 @@ pub struct TextOptions {
     pub size: usize,
     /// The distance from one tab stop to the next, from 1 to 16 columns. 0 is 4.
     pub tab_size: usize,
-    /// The constructs that are on: the sum of their bits.
+    /// The constructs that are on: the sum of their bits, of [`ALL_CONSTRUCTS`]; of a document that is edited as in [`HtmlOptions`].
     pub constructs: u64,
 }
 
@@ -109,7 +118,8 @@ pub struct Options {
     pub size: usize,
     /// The distance from one tab stop to the next, from 1 to 16 columns. 0 is 4.
     pub tab_size: usize,
-    /// The constructs that are on: the sum of their bits, of [`ALL_CONSTRUCTS`]; of [`HTML_CONSTRUCTS`], if the machine is document and `deep` is not 0.
+    /// The constructs that are on: the sum of their bits, of [`ALL_CONSTRUCTS`]; of [`HTML_CONSTRUCTS`], perhaps with
+    /// [`GFM_STRIKETHROUGH_DOUBLE_TILDE`], if the machine is document and `deep` is not 0.
     pub constructs: u64,
     /// After how many virtual bytes the document is cut each time. If it is 0, the document is not cut.
     pub cut: usize,
@@ -129,9 +139,9 @@ pub struct HtmlOptions {
     pub size: usize,
     /// The distance from one tab stop to the next, from 1 to 16 columns. 0 is 4.
     pub tab_size: usize,
-    /// The constructs that are on: the sum of their bits, of [`HTML_CONSTRUCTS`].
+    /// The constructs that are on: the sum of their bits, of [`HTML_CONSTRUCTS`], perhaps with [`GFM_STRIKETHROUGH_DOUBLE_TILDE`].
     pub constructs: u64,
-    /// What the HTML may let through: the sum of the bits. If it is 0, the HTML is safe.
+    /// What the HTML may let through: the sum of the bits, perhaps with [`GFM_TAGFILTER`]. If no bit of [`ALLOW_ALL`] is there, the HTML is safe.
     pub allow: u64,
 }
 
@@ -175,11 +185,10 @@ fn have_constructs(options: &Options) -> bool
     ensures { result ≡ have_constructs options.now }
 {
     let is_of_document = options.machine == DOCUMENT && options.deep != 0;
-    options.constructs <= ALL_CONSTRUCTS
-        || (is_of_document && options.constructs <= HTML_CONSTRUCTS)
+    options.constructs <= ALL_CONSTRUCTS || (is_of_document && options.constructs <= HTML_BITS)
 }
 
-/// Whether tables, literals, checks or footnotes are on, by a sum of bits.
+/// Whether tables, literals, checks or footnotes are on, or one tilde is left out, by a sum of bits.
 pub(crate) fn has_rewritten(bits: u64) -> bool
     ensures { result ≡ has_rewritten bits }
 {
@@ -191,13 +200,29 @@ pub(crate) fn choose_text(options: &TextOptions) -> Result<TabSize, u32>
     ensures chosen { result ≡ text_choice_of options.now }
     ensures codes { IfErr result (λ code. (TOO_LONG < code) × (code ≤ LINKS_NO_TEXT)) }
 {
+    tab_by(options.constructs <= ALL_CONSTRUCTS, options)
+}
+
+/// The tab size that options of an edited document choose. If they choose nothing, it returns the code that says why.
+pub(crate) fn choose_document(options: &TextOptions) -> Result<TabSize, u32>
+    ensures chosen { result ≡ document_choice_of options.now }
+    ensures codes { IfErr result (λ code. (TOO_LONG < code) × (code ≤ LINKS_NO_TEXT)) }
+{
+    tab_by(options.constructs <= HTML_BITS, options)
+}
+
+/// The tab size of options of text, by whether their constructs are some that there are. If they choose nothing, it returns the code that says why.
+fn tab_by(are_constructs: bool, options: &TextOptions) -> Result<TabSize, u32>
+    ensures chosen { result ≡ tab_by are_constructs options.now }
+    ensures codes { IfErr result (λ code. (TOO_LONG < code) × (code ≤ LINKS_NO_TEXT)) }
+{
     if options.size != TEXT_OPTIONS_SIZE {
         return Err(OTHER_SIZE);
     }
     let Some(tab) = tab_of(options.tab_size) else {
         return Err(NO_SUCH_TAB_SIZE);
     };
-    if options.constructs > ALL_CONSTRUCTS {
+    if !are_constructs {
         return Err(NO_SUCH_CONSTRUCT);
     }
     Ok(tab)
@@ -214,10 +239,10 @@ pub(crate) fn choose_html(options: &HtmlOptions) -> Result<TabSize, u32>
     let Some(tab) = tab_of(options.tab_size) else {
         return Err(NO_SUCH_TAB_SIZE);
     };
-    if options.constructs > HTML_CONSTRUCTS {
+    if options.constructs > HTML_BITS {
         return Err(NO_SUCH_CONSTRUCT);
     }
-    if options.allow > ALLOW_ALL {
+    if options.allow > ALLOW_BITS {
         return Err(NO_SUCH_PERMISSION);
     }
     Ok(tab)
@@ -255,6 +280,16 @@ pub(crate) fn constructs_of(bits: u64) -> Constructs
         list_item: bits & LIST_ITEM != 0,
         thematic_break: bits & THEMATIC_BREAK != 0,
         ..Constructs::default()
+    }
+}
+
+/// How a document is read by a sum of bits, with this tab size.
+pub(crate) fn parse_options_of(bits: u64, tab: TabSize) -> ParseOptions
+    ensures { result ≡ parse_options_of bits tab }
+{
+    ParseOptions {
+        gfm_strikethrough_single_tilde: bits < GFM_STRIKETHROUGH_DOUBLE_TILDE,
+        ..options_with(constructs_of(bits), tab)
     }
 }
 

@@ -3,12 +3,11 @@
 ghost use Rattle.std.specs.Prelude.{◌≡◌, ◌≢◌, ◌<◌, ◌≤◌, ◌↔◌, ◌⊎◌, [], Err, None, IfErr, IfOk, IfSome, IsSomeAnd, drop, length, min};
 ghost use Rattle.markdown.specs.Virtual.{IsWithinLimit};
 ghost use Rattle.mdconstructs.specs.Divided.{bytes_of};
-ghost use Rattle.mdconstructs.specs.Documents.{options_with};
 ghost use Rattle.mdconstructs.specs.Fits.{CanBeEdited};
-ghost use Rattle.limecove.specs.Choices.{constructs_of, text_choice_of};
+ghost use Rattle.limecove.specs.Choices.{document_choice_of, parse_options_of};
 ghost use Rattle.limecove.specs.Editing.{HoldsSections, IsEdited, IsFoundAt, IsMade, IsNotOpen, IsOf, index_in, named_over, others_in, place_in, replaced, start_in};
 
-use crate::choose::{TextOptions, choose_text, constructs_of};
+use crate::choose::{TextOptions, choose_document, parse_options_of};
 use crate::code::{
     LINKS_NO_TEXT, NO_SUCH_BYTES, NO_SUCH_RANGES, NOT_OPEN, OUT_OF_MEMORY, READ, TOO_LONG, VERSION,
 };
@@ -18,9 +17,9 @@ use crate::held::Held;
 use crate::record::{Record, write_records};
 use crate::{Answer, ended};
 use mdconstructs::edit::Edit;
+use mdconstructs::limit_of;
 use mdconstructs::packed::PackError;
 use mdconstructs::sections::Sections;
-use mdconstructs::{limit_of, options_with};
 use std::alloc::Global;
 
 /// Reads a whole document with the constructs and the tab size of the options, and keeps it for edits, until [`limecove_document_close`].
@@ -35,10 +34,10 @@ pub extern "C" fn limecove_document_new(
     ensures read { result.code ≡ READ → IsSomeAnd document.new.kept.held (IsMade options.now bytes.now result.count) }
     ensures closed { result.code ≢ READ → IsNotOpen document.new }
     ensures none { result.code ≢ READ → result.count ≡ 0 }
-    ensures options { IfErr (text_choice_of options.now) (λ code. result.code ≡ code) }
-    ensures chosen { IfOk (text_choice_of options.now) (λ _. result.code ≤ TOO_LONG) }
-    ensures too_long { IfOk (text_choice_of options.now) (λ tab. ¬ IsWithinLimit tab bytes.now → result.code ≡ TOO_LONG) }
-    ensures exact { IfOk (text_choice_of options.now) (λ tab. CanBeEdited (options_with (constructs_of options.now.constructs) tab) bytes.now → result.code ≢ TOO_LONG) }
+    ensures options { IfErr (document_choice_of options.now) (λ code. result.code ≡ code) }
+    ensures chosen { IfOk (document_choice_of options.now) (λ _. result.code ≤ TOO_LONG) }
+    ensures too_long { IfOk (document_choice_of options.now) (λ tab. ¬ IsWithinLimit tab bytes.now → result.code ≡ TOO_LONG) }
+    ensures exact { IfOk (document_choice_of options.now) (λ tab. CanBeEdited (parse_options_of options.now.constructs tab) bytes.now → result.code ≢ TOO_LONG) }
     ensures codes { result.code ≤ LINKS_NO_TEXT }
     ensures version { result.version ≡ VERSION }
 {
@@ -241,17 +240,17 @@ pub extern "C" fn limecove_document_close(alloc: Global, document: &mut Document
 /// A document that is read so. If there is none, the code that says why.
 fn sections(alloc: Global, bytes: &[u8], options: &TextOptions) -> Result<Sections, u32>
     ensures read { IfOk result (IsOf options.now bytes.now) }
-    ensures options { IfErr (text_choice_of options.now) (λ code. result ≡ Err code) }
-    ensures chosen { IfOk (text_choice_of options.now) (λ _. IfErr result (λ code. code ≤ TOO_LONG)) }
-    ensures too_long { IfOk (text_choice_of options.now) (λ tab. ¬ IsWithinLimit tab bytes.now → result ≡ Err TOO_LONG) }
-    ensures exact { IfOk (text_choice_of options.now) (λ tab. CanBeEdited (options_with (constructs_of options.now.constructs) tab) bytes.now → result ≢ Err TOO_LONG) }
+    ensures options { IfErr (document_choice_of options.now) (λ code. result ≡ Err code) }
+    ensures chosen { IfOk (document_choice_of options.now) (λ _. IfErr result (λ code. code ≤ TOO_LONG)) }
+    ensures too_long { IfOk (document_choice_of options.now) (λ tab. ¬ IsWithinLimit tab bytes.now → result ≡ Err TOO_LONG) }
+    ensures exact { IfOk (document_choice_of options.now) (λ tab. CanBeEdited (parse_options_of options.now.constructs tab) bytes.now → result ≢ Err TOO_LONG) }
     ensures codes { IfErr result (λ code. (READ < code) × (code ≤ LINKS_NO_TEXT)) }
 {
-    let tab = choose_text(options)?;
+    let tab = choose_document(options)?;
     if bytes.len() > limit_of(tab) {
         return Err(TOO_LONG);
     }
-    let options = options_with(constructs_of(options.constructs), tab);
+    let options = parse_options_of(options.constructs, tab);
     match Sections::new(alloc, bytes, &options) {
         Ok(sections) => Ok(sections),
         Err(PackError::Memory) => Err(OUT_OF_MEMORY),

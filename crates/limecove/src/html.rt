@@ -1,6 +1,6 @@
 //! What programs in C and in Rust call to make a document HTML.
 
-ghost use Rattle.std.specs.Prelude.{◌≡◌, ◌≢◌, ◌<◌, ◌≤◌, ◌↔◌, ◌⊎◌, [], Err, IfErr, IfOk, IsOkAnd, length, take};
+ghost use Rattle.std.specs.Prelude.{◌≡◌, ◌≢◌, ◌<◌, ◌≤◌, ◌↔◌, ◌⊎◌, [], Err, IfErr, IfOk, IsOkAnd, bit_and, length, take};
 ghost use Rattle.markdown.specs.Virtual.{IsWithinLimit};
 ghost use Rattle.mdhtml_markup.specs.SafeHtml.{IsSafeHtml};
 ghost use Rattle.limecove.specs.Choices.{html_choice_of};
@@ -8,13 +8,13 @@ ghost use Rattle.limecove.specs.Editing.{written};
 ghost use Rattle.limecove.specs.Html.{HoldsHtml, IsHtml, options_of};
 
 use crate::choose::{
-    ALLOW_ANY_IMG_SRC, ALLOW_DANGEROUS_HTML, ALLOW_DANGEROUS_PROTOCOL, HtmlOptions, choose_html,
-    constructs_of,
+    ALLOW_ALL, ALLOW_ANY_IMG_SRC, ALLOW_DANGEROUS_HTML, ALLOW_DANGEROUS_PROTOCOL, GFM_TAGFILTER,
+    HtmlOptions, choose_html, parse_options_of,
 };
 use crate::code::{NO_SUCH_CONSTRUCT, NO_SUCH_PERMISSION, OUT_OF_MEMORY, READ, TOO_LONG, VERSION};
 use crate::{Answer, ended};
 use markdown_base::configuration::{CompileOptions, Options, TabSize};
-use mdconstructs::{limit_of, options_with};
+use mdconstructs::limit_of;
 use mdhtml_calls::html::to_html_with_options;
 use std::alloc::Global;
 use std::cmp;
@@ -29,7 +29,7 @@ pub extern "C" fn limecove_html(
     out: &mut [u8],
 ) -> Answer
     ensures read { result.code ≡ READ → HoldsHtml options.now bytes.now result.count out.old out.new }
-    ensures safe { result.code ≡ READ → options.now.allow ≡ 0 → result.count ≤ length out.old → IsSafeHtml [] (take result.count out.new) }
+    ensures safe { result.code ≡ READ → bit_and options.now.allow ALLOW_ALL ≡ 0 → result.count ≤ length out.old → IsSafeHtml [] (take result.count out.new) }
     ensures kept { result.code ≢ READ → out.new ≡ out.old }
     ensures none { result.code ≢ READ → result.count ≡ 0 }
     ensures options { IfErr (html_choice_of options.now) (λ code. result.code ≡ code) }
@@ -47,7 +47,7 @@ pub extern "C" fn limecove_html(
 /// The HTML of a document. If there is none, the code that says why.
 fn html_of(alloc: Global, bytes: &[u8], options: &HtmlOptions) -> Result<Vec<u8>, u32>
     ensures read { IfOk result (λ html. IsHtml options.now bytes.now html.items) }
-    ensures safe { options.now.allow ≡ 0 → IfOk result (λ html. IsSafeHtml [] html.items) }
+    ensures safe { bit_and options.now.allow ALLOW_ALL ≡ 0 → IfOk result (λ html. IsSafeHtml [] html.items) }
     ensures options { IfErr (html_choice_of options.now) (λ code. result ≡ Err code) }
     ensures chosen { IfOk (html_choice_of options.now) (λ _. IfErr result (λ code. code ≤ TOO_LONG)) }
     ensures too_long { (result ≡ Err TOO_LONG) ↔ IsOkAnd (html_choice_of options.now) (λ tab. ¬ IsWithinLimit tab bytes.now) }
@@ -69,11 +69,12 @@ fn options_of(options: &HtmlOptions, tab: TabSize) -> Options
 {
     let allow = options.allow;
     Options {
-        parse: options_with(constructs_of(options.constructs), tab),
+        parse: parse_options_of(options.constructs, tab),
         compile: CompileOptions {
             allow_any_img_src: allow & ALLOW_ANY_IMG_SRC != 0,
             allow_dangerous_html: allow & ALLOW_DANGEROUS_HTML != 0,
             allow_dangerous_protocol: allow & ALLOW_DANGEROUS_PROTOCOL != 0,
+            gfm_tagfilter: allow & GFM_TAGFILTER != 0,
             ..CompileOptions::default()
         },
     }

@@ -41,13 +41,13 @@ ghost use Rattle.std.specs.Prelude.{◌≡◌, ◌≢◌, ◌<◌, ◌≤◌, �
 ghost use Rattle.markdown.specs.Virtual.{IsWithinLimit};
 ghost use Rattle.mdconstructs.specs.ByteRanges.{AreRanges};
 ghost use Rattle.mdconstructs.specs.Choices.{CanCut};
-ghost use Rattle.mdconstructs.specs.Documents.{options_with};
-ghost use Rattle.limecove.specs.Choices.{choice_of, constructs_of, has_rewritten, text_choice_of};
+ghost use Rattle.limecove.specs.Choices.{choice_of, has_rewritten, parse_options_of, text_choice_of};
 ghost use Rattle.limecove.specs.Readings.{IsClosed, events_in};
 ghost use Rattle.limecove.specs.Records.{AreEventsBy, AreRead, AreReadAsText, AreReadInRanges, HoldsEventsOf, HoldsTextIn, HoldsTextOf, echoed, echoed_html, echoed_range, echoed_text, filled, numbered};
 
 use crate::choose::{
     HtmlOptions, Options, TextOptions, choose, choose_text, constructs_of, has_rewritten,
+    parse_options_of,
 };
 use crate::code::{LINKS_NO_TEXT, NO_SUCH_RANGES, OUT_OF_MEMORY, READ, TOO_LONG, VERSION};
 use crate::echo::{echo_of, echo_of_html, echo_of_range, echo_of_text, numbered};
@@ -373,7 +373,7 @@ fn events(alloc: Global, bytes: &[u8], options: &Options) -> Result<Vec<Event>, 
     }
 }
 
-/// The events of a document that is read by a choice, with the constructs of these bits. With bits of tables, of literals or of checks the whole document is read.
+/// The events of a document that is read by a choice and these bits. With those of tables, literals, checks or footnotes, or without one tilde, the whole document is read.
 fn events_by(
     alloc: Global,
     bytes: &[u8],
@@ -382,13 +382,12 @@ fn events_by(
 ) -> Result<Vec<Event>, AllocError>
     requires limit { IsWithinLimit choice.now.tab bytes.now }
     requires cut { CanCut choice.now }
-    ensures { IfOk result (λ list. AreEventsBy (has_rewritten bits) choice.now (options_with (constructs_of bits) choice.now.tab) bytes.now list.items) }
+    ensures { IfOk result (λ list. AreEventsBy (has_rewritten bits) choice.now (parse_options_of bits choice.now.tab) bytes.now list.items) }
 {
-    let constructs = constructs_of(bits);
     if has_rewritten(bits) {
-        read_gfm_document(alloc, bytes, &options_with(constructs, choice.tab))
+        read_gfm_document(alloc, bytes, &parse_options_of(bits, choice.tab))
     } else {
-        events_of(alloc, bytes, constructs, choice)
+        events_of(alloc, bytes, constructs_of(bits), choice)
     }
 }
 

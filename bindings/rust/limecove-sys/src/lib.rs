@@ -99,6 +99,8 @@ pub const GFM_FOOTNOTE_DEFINITION: u64 = 16777216;
 pub const GFM_LABEL_START_FOOTNOTE: u64 = 33554432;
 /// The bits of all constructs that HTML has, and whole documents with their texts.
 pub const HTML_CONSTRUCTS: u64 = 67108863;
+/// The bit that leaves one tilde out: two alone strike through. It is no construct, and is taken in HTML, and in whole documents with their texts.
+pub const GFM_STRIKETHROUGH_DOUBLE_TILDE: u64 = 67108864;
 
 /// The bit of HTML in the document, which is kept as HTML. Without it, it is shown as text.
 pub const ALLOW_DANGEROUS_HTML: u64 = 1;
@@ -108,6 +110,8 @@ pub const ALLOW_DANGEROUS_PROTOCOL: u64 = 2;
 pub const ALLOW_ANY_IMG_SRC: u64 = 4;
 /// The bits of all that HTML may let through.
 pub const ALLOW_ALL: u64 = 7;
+/// The bit of GFM's filter of tags, for HTML that is kept. It is no protection.
+pub const GFM_TAGFILTER: u64 = 8;
 
 /// An index in a record's link that there is not.
 pub const NO_INDEX: usize = usize::MAX;
@@ -144,7 +148,8 @@ pub struct Options {
     pub size: usize,
     /// The distance from one tab stop to the next, from 1 to 16 columns. 0 is 4.
     pub tab_size: usize,
-    /// The constructs that are on: the sum of their bits, of [`ALL_CONSTRUCTS`]; of [`HTML_CONSTRUCTS`], if the machine is 8 and `deep` is not 0.
+    /// The constructs that are on: the sum of their bits, of [`ALL_CONSTRUCTS`]; of [`HTML_CONSTRUCTS`], perhaps with
+    /// [`GFM_STRIKETHROUGH_DOUBLE_TILDE`], if the machine is 8 and `deep` is not 0.
     pub constructs: u64,
     /// After how many virtual bytes the document is cut each time. If it is 0, the document is not cut.
     pub cut: usize,
@@ -162,7 +167,7 @@ pub struct HtmlOptions {
     pub size: usize,
     /// The distance from one tab stop to the next, from 1 to 16 columns. 0 is 4.
     pub tab_size: usize,
-    /// The constructs that are on: the sum of their bits, of [`HTML_CONSTRUCTS`].
+    /// The constructs that are on: the sum of their bits, of [`HTML_CONSTRUCTS`], perhaps with [`GFM_STRIKETHROUGH_DOUBLE_TILDE`].
     pub constructs: u64,
     /// What the HTML may let through: the sum of the bits. If it is 0, the HTML is safe.
     pub allow: u64,

@@ -186,7 +186,7 @@ impl Document {
         let options = limecove_sys::TextOptions {
             size: size_of::<limecove_sys::TextOptions>(),
             tab_size: text.tab_size.get(),
-            constructs: text.constructs | options.blocks,
+            constructs: text.constructs | options.blocks | options.extensions,
         };
         let mut made = Document {
             document: UnsafeCell::new(NO_DOCUMENT),

@@ -121,6 +121,28 @@ impl HtmlOptions {
         self.with(limecove_sys::ALLOW_ANY_IMG_SRC, is_on)
     }
 
+    /// The same, with or without GFM's filter of tags, as cmark-gfm has it: in HTML that is kept, `<` of a tag such as `<script>` is `&lt;`. The
+    /// default is without. It is no protection.
+    ///
+    /// ```
+    /// use limecove::{to_html_with_options, HtmlOptions};
+    ///
+    /// let options = HtmlOptions::default().allow_dangerous_html(true).gfm_tagfilter(true);
+    /// assert_eq!(to_html_with_options("<b><xmp></b>", &options)?, "<p><b>&lt;xmp></b></p>\n");
+    /// # Ok::<(), limecove::Error>(())
+    /// ```
+    #[must_use]
+    pub const fn gfm_tagfilter(self, is_on: bool) -> HtmlOptions {
+        self.with(limecove_sys::GFM_TAGFILTER, is_on)
+    }
+
+    /// The same, where one tilde strikes through, or two alone do. The default is that one does.
+    #[must_use]
+    pub const fn gfm_strikethrough_single_tilde(mut self, is_on: bool) -> HtmlOptions {
+        self.parse = self.parse.gfm_strikethrough_single_tilde(is_on);
+        self
+    }
+
     /// The same, with something let through or not.
     const fn with(mut self, bit: u64, is_on: bool) -> HtmlOptions {
         self.allow = if is_on {

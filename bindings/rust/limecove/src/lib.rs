@@ -356,7 +356,7 @@ impl Options {
 
     /// The same, with or without autolink literals of GFM: `www.a.b`, `https://a.b` and `a@b.c` in a text are links. The default is without.
     ///
-    /// [`Machine::Document`] finds them, if it is deep. If another machine reads, it makes no difference, nor in a [`Document`].
+    /// [`Machine::Document`] finds them, if it is deep, and a [`Document`] does. If another machine reads, it makes no difference.
     ///
     /// ```
     /// use limecove::{Name, Options, Tree};
@@ -428,6 +428,13 @@ impl Options {
     #[must_use]
     pub const fn gfm_label_start_footnote(self, is_on: bool) -> Options {
         self.extended(limecove_sys::GFM_LABEL_START_FOOTNOTE, is_on)
+    }
+
+    /// The same, where one tilde strikes through, or two alone do. The default is that one does. It makes a difference
+    /// where [`gfm_autolink_literal`](Options::gfm_autolink_literal) does, with strikethrough on.
+    #[must_use]
+    pub const fn gfm_strikethrough_single_tilde(self, is_on: bool) -> Options {
+        self.extended(limecove_sys::GFM_STRIKETHROUGH_DOUBLE_TILDE, !is_on)
     }
 
     /// The bits of its constructs, as its machine takes them.

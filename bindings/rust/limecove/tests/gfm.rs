@@ -311,12 +311,44 @@ fn only_documents_have_them() {
         );
         assert_eq!(on, off, "{:?}", options);
     }
-    let kept = |options| {
-        Document::new(document, &options)
-            .expect("it is read")
-            .events()
+}
+
+/// A document that is edited has them as one that is read anew.
+#[test]
+fn edited_documents_have_them() {
+    let options = Options::default()
+        .gfm_autolink_literal(true)
+        .gfm_task_list_item(true)
+        .gfm_table(true)
+        .gfm_footnote_definition(true)
+        .gfm_label_start_footnote(true);
+    let mut document =
+        Document::new("- [x] a@b.c\n\n|a|\n|-|\n\nd[^e]\n", &options).expect("it is read");
+    let end = document.bytes().len();
+    let change = document.replace(end..end, "\n[^e]: f www.g.h\n");
+    change.expect("it is edited");
+    let anew = tokenize(document.bytes(), &options).expect("it is read");
+    assert!(anew
+        .iter()
+        .any(|event| event.name() == Name::GfmFootnoteCall));
+    assert_eq!(document.events().expect("there is memory"), anew);
+}
+
+/// A call of a footnote is no reference that nothing defines, nor is a check.
+#[test]
+fn calls_and_checks_are_defined() {
+    let (bytes, options) = ("- [x] [a] [^b]\n\n[^b]: [c]\n", Options::default());
+    let on = options
+        .gfm_task_list_item(true)
+        .gfm_footnote_definition(true);
+    let told = |options: Options| -> Vec<String> {
+        let document = Document::new(bytes, &options).expect("it is read");
+        let found = document.undefined(0..document.sections());
+        let text = |it: &limecove::Undefined| bytes[it.label.clone()].to_string();
+        found.expect("there is memory").iter().map(text).collect()
     };
-    assert_eq!(kept(both(Options::default())), kept(Options::default()));
+    assert_eq!(told(on.gfm_label_start_footnote(true)), ["a", "c"]);
+    assert_eq!(told(on), ["a", "^b", "c"]);
 }
 
 /// HTML has what the options of reading have on, and what is turned on before or after these.
@@ -354,14 +386,15 @@ fn notes(document: &str) -> (Vec<String>, Vec<String>) {
             .map(|node| String::from_utf8(node.text().to_vec()).expect("it is UTF-8"))
             .collect()
     };
-    (
-        all(Name::GfmFootnoteDefinition),
-        all(Name::GfmFootnoteCall),
-    )
+    (all(Name::GfmFootnoteDefinition), all(Name::GfmFootnoteCall))
 }
 
 /// A document, its definitions of footnotes, and its calls.
-type Notes = (&'static str, &'static [&'static str], &'static [&'static str]);
+type Notes = (
+    &'static str,
+    &'static [&'static str],
+    &'static [&'static str],
+);
 
 const NOTES: &[Notes] = &[
     ("a[^b]\n\n[^b]: c", &["[^b]: c"], &["[^b]"]),
@@ -386,5 +419,34 @@ fn footnotes_are_called() {
         assert_eq!(found.1, *calls, "{}", document);
     }
     let off = Tree::read("a[^b]\n\n[^b]: c", &Options::default()).expect("it is read");
-    assert!(off.nodes().all(|node| node.name() != Name::GfmFootnoteDefinition));
+    assert!(off
+        .nodes()
+        .all(|node| node.name() != Name::GfmFootnoteDefinition));
+}
+
+/// Two tildes strike through, and so does one, unless it is left out; in events, in HTML and in documents that are edited.
+#[test]
+fn one_tilde_strikes_through_unless_it_is_left_out() {
+    let options = Options::default().text(TextOptions::default().gfm_strikethrough(true));
+    let two = options.gfm_strikethrough_single_tilde(false);
+    let document = "~a~ ~~b~~";
+    for (options, count, want) in [
+        (options, 2, "<p><del>a</del> <del>b</del></p>\n"),
+        (two, 1, "<p>~a~ <del>b</del></p>\n"),
+        (
+            two.gfm_strikethrough_single_tilde(true),
+            2,
+            "<p><del>a</del> <del>b</del></p>\n",
+        ),
+    ] {
+        let tree = Tree::read(document, &options).expect("it is read");
+        let struck = tree
+            .nodes()
+            .filter(|node| node.name() == Name::GfmStrikethrough);
+        assert_eq!(struck.count(), count);
+        let kept = Document::new(document, &options).expect("it is read");
+        assert_eq!(kept.events(), tokenize(document, &options));
+        let html = limecove::to_html_with_options(document, &HtmlOptions::default().parse(options));
+        assert_eq!(html.as_deref(), Ok(want));
+    }
 }
