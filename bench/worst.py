@@ -7,7 +7,8 @@ read no further.
 With --count the rows have instructions (callgrind's counts, the same in each run, less those of a run over nothing), for texts of a
 twentieth of those lengths. With --quoted each text is the paragraph of a quote in an item, in lines of 60 bytes.
 
-With --gfm the program is mdhtml, which reads texts that are bad for tables; cmark-gfm has its extension for tables on.
+With --gfm the program is mdhtml, which reads texts that are bad for tables, strikethrough, tasks, autolink literals or footnotes; cmark-gfm has all its
+extensions on.
 
 usage: worst.py [--count] [--quoted] [--only NAME] MDEVENTS [CMARK]. CMARK is a program that makes HTML of standard input, timed beside it.
        worst.py --gfm [--count] [--only NAME] MDHTML [CMARK-GFM]
@@ -70,6 +71,80 @@ TABLES = {
     "labels that are defined behind all tables": lambda size: "|[a]|\n|-|\n\n" * (size // 11) + "[a]: /u\n",
     "a definition for each table": lambda size: "".join(f"[{10_000 + n}]: /u\n\n|[{10_000 + n}]|\n|-|\n\n" for n in range(size // 27)),
 }
+
+TILDES = {
+    "openers of tildes, none closed": again("~a ~~b "),
+    "closers of tildes without openers": again("a~ b~~ "),
+    "tildes of another size": again("~~a b~ "),
+    "tildes of all sizes": growing("~", "a "),
+    "tildes and stars that cross": again("~~a *b~~ c* "),
+}
+
+TASKS = {
+    "items with checks": again("- [x] a\n", ""),
+    "checks in vain": again("- [ ]\n", ""),
+    "checks behind much white space": again("- [ ]" + " " * 60 + "\n", ""),
+    "checks in lists in lists": again("- [x] " * 8 + "a\n", ""),
+    "an item of many lines with brackets": again("  [x] a\n", "- [x] a\n"),
+    "checks that are links": lambda size: "[x]: /u\n\n" + "- [x] a\n" * (size // 8),
+    "definitions before a check": lambda size: "- [a]: /u\n" + "  [a]: /u\n" * (size // 10) + "  [x] a\n",
+}
+
+LITERALS = {
+    "domains with underscores": again("_www._www.", ""),
+    "one domain that underscores spoil": lambda size: "www." + "a." * (size // 2) + "a_b.c",
+    "domains behind underscores, spoilt at the end": lambda size: "_www.a" * (size // 6) + "_.a",
+    "protocols": again("http://", ""),
+    "protocols and domains with underscores": again("http://a_b.c", ""),
+    "protocols that are spoilt at the end": lambda size: "http://a." * (size // 9) + "a_b.c",
+    "literals beside literals": again("www.a.b "),
+    "literals of one run": again("www.a.b", ""),
+    "opening parentheses": again("(", "www.a.b/"),
+    "closing parentheses": again(")", "www.a.b/"),
+    "parentheses both ways, in a literal each": again("www.a.b/(()) "),
+    "closing parentheses, in one run": again("www.a.b))))", ""),
+    "punctuation behind a literal": again("?!.,:*_~'\"", "www.a.b/"),
+    "periods behind a literal": again(".", "www.a.b/"),
+    "references behind a literal": again("&a;", "www.a.b/"),
+    "semicolons behind a literal": again("a;", "www.a.b/"),
+    "a long name of a reference": lambda size: "www.a.b/&" + "a" * size + ";",
+    "long names of references": again("www.a.b/" + "a" * 50 + ";;; "),
+    "addresses in addresses": again("a@", ""),
+    "addresses that end with a hyphen": again("a@b-", ""),
+    "addresses that end with a digit": again("a@b.1 ", ""),
+    "one long address in vain": lambda size: "a" * (size // 2) + "@" + "b." * (size // 4) + "1",
+    "one local part": again("a.", ""),
+    "addresses behind plus signs": again("+a@b.c", ""),
+    "schemes of addresses": again("mailto:", ""),
+    "schemes of addresses, and addresses in vain": again("mailto:xmpp:a@b-", ""),
+    "schemes behind hyphens": again("-mailto:a_", ""),
+    "addresses in literals": again("www.a@b.c", ""),
+    "letters of the signs": again("wwhttp:/", ""),
+    "escapes and addresses": again("\\.a@b_", ""),
+    "literals in brackets": again("[www.a.b"),
+    "literals in links": again("[www.a.b](c)"),
+    "literals in emphasis": again("*www.a.b* "),
+    "literals and references": again("www.a.b&amp;a@b.c&amp;", ""),
+    "a literal in each line": again("www.a.b\n", ""),
+}
+
+NOTES = {
+    "calls that do not end": again("[^a", "[^a]: b\n\n"),
+    "calls": again("[^a]", "[^a]: b\n\n"),
+    "calls of nothing": again("[^b]", "[^a]: b\n\n"),
+    "calls in brackets": lambda size: "[^a]: b\n\n" + "[" * (size // 6) + "[^a]" + "]" * (size // 6),
+    "escaped brackets in a call": again("\\[", "[^a]: b\n\n[^"),
+    "a long label in vain": again("a", "[^a]: b\n\n[^"),
+    "long labels": again(f"[^{'x' * 997}]", "[^a]: b\n\n"),
+    "definitions of footnotes": lambda size: "".join(f"[^{10_000 + number}]: b\n\n" for number in range(size // 13)),
+    "definitions of footnotes, and a call of each": lambda size: "".join(f"[^{10_000 + number}]: b\n\n" for number in range(size // 21)) + "".join(f"[^{10_000 + number}]" for number in range(size // 21)),
+    "definitions in definitions": again("[^a]: ", ""),
+    "one definition, again and again": again("[^a]: b\n\n", ""),
+    "a definition of many lines": again("    b\n", "[^a]: b\n"),
+    "a note that calls itself": again("[^a]", "[^a]: b"),
+}
+
+GFM = {**TABLES, **TILDES, **TASKS, **LITERALS, **NOTES}
 
 TEXTS = {
     "openers, none closed": again("*a _b "),
@@ -180,7 +255,7 @@ def wrong():
 
 
 def main(words):
-    counted, in_quote, of_tables = "--count" in words, "--quoted" in words, "--gfm" in words
+    counted, in_quote, of_gfm = "--count" in words, "--quoted" in words, "--gfm" in words
     words = [word for word in words if word not in ("--count", "--quoted", "--gfm")]
     only = ""
     if "--only" in words:
@@ -192,15 +267,15 @@ def main(words):
     if not os.path.isfile(words[0]):
         sys.exit(f"bench: {words[0]} is not there")
     commands = [[words[0], "--machine", "document", "--deep"], *[[other] for other in words[1:]]]
-    if of_tables:
-        commands = [[words[0], "--gfm"], *[[other, "-e", "table"] for other in words[1:]]]
+    if of_gfm:
+        commands = [[words[0], "--gfm"], *[[other, "-e", "table", "-e", "strikethrough", "-e", "tasklist", "-e", "autolink", "-e", "footnotes"] for other in words[1:]]]
     lengths = [f"{length // 20 if counted else length:,}" for length in LENGTHS]
     heads = lengths + ["Times as much"]
     print(f"| Text | {' | '.join(heads * len(commands))} |")
     print("|" + "---|" * (1 + len(heads) * len(commands)))
     with tempfile.TemporaryDirectory() as scratch:
         document = os.path.join(scratch, "document")
-        for name, text in (TABLES if of_tables else TEXTS).items():
+        for name, text in (GFM if of_gfm else TEXTS).items():
             if only in name:
                 made = (lambda size, text=text: quoted(text(size))) if in_quote else text
                 row(name, made, commands, counted, document)

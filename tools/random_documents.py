@@ -181,9 +181,14 @@ class Beside:
             size //= 2
         return b"".join(parts)
 
-    def cause(self, smallest):
-        """The cause of a smallest document, if it has a name."""
-        fit = (it for it in CAUSES if re.search(it.shape, smallest) and not self.differ(it.mended(smallest)))
+    causes = CAUSES
+
+    def cause(self, smallest, others):
+        """The cause of a smallest document, if it has a name: nothing differs without it and the others."""
+        rest = smallest
+        for it in others:
+            rest = it.mended(rest)
+        fit = (it for it in self.causes if it not in others and re.search(it.shape, smallest) and not self.differ(it.mended(rest)))
         return next(fit, None)
 
     def explained(self, document):
@@ -195,7 +200,7 @@ class Beside:
         document = plain
         while self.differ(document):
             smallest = self.smallest(document, others)
-            cause = self.cause(smallest)
+            cause = self.cause(smallest, others)
             if cause is None:
                 return [*causes, (None, smallest)]
             rest = cause.mended(document)
