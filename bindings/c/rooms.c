@@ -67,7 +67,7 @@ static void refused(void) {
     }
 }
 
-/* Literals, checks and tables are only in whole documents with their texts: elsewhere there is no such construct, and nothing is written. */
+/* Literals, checks and tables are only in whole documents with their texts, and in edited ones: elsewhere there is no such construct, and nothing is written. */
 static void literals_need_documents(void) {
     static const uint64_t bits[] = {LIMECOVE_GFM_AUTOLINK_LITERAL, LIMECOVE_GFM_TASK_LIST_ITEM, LIMECOVE_GFM_TABLE};
     struct limecove_record record;
@@ -92,7 +92,8 @@ static void literals_need_documents(void) {
         answer = limecove_read_text((const uint8_t *)"a", 1, &text, &record, 1);
         CHECK(answer.code == LIMECOVE_NO_SUCH_CONSTRUCT && answer.count == 0 && untouched(&record, sizeof record));
         answer = limecove_document_new((const uint8_t *)"a", 1, &text, &document);
-        CHECK(answer.code == LIMECOVE_NO_SUCH_CONSTRUCT && answer.count == 0 && document.is_open == 0);
+        CHECK(answer.code == LIMECOVE_READ && document.is_open == 1);
+        limecove_document_close(&document);
     }
 }
 
